@@ -1,0 +1,11 @@
+pub mod Recipes
+pub mod Bools
+pub mod Texts
+pub mod Images
+pub mod Stores
+pub mod Read
+pub mod Arith
+pub mod Split
+pub mod Safe
+pub mod Answers
+pub mod Quoted

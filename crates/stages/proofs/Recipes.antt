@@ -1,0 +1,154 @@
+-- Document 01, "Spoiled recipes": C1 to C12 by one statement over one table, and the edges beside them. Every row computes. Assumes nothing.
+use Prim.Native.Nat.{ℕ, zero, suc, _+_}
+use Prim.Native.String.{String}
+use mathlib.Core.Path.{_≡_, refl}
+use mathlib.Core.Bool.{Bool, true, false, _&&_}
+use mathlib.Core.List.{List, [], _∷_, _++_}
+use lib.Dec.{eqb}
+use lib.ListN.{length, replicate}
+use Rattle.stages.specs.Bytes.{Text, text, eqText}
+use Rattle.stages.specs.Outcome.{Placed, refusedAt, doneAt, choose}
+use Rattle.stages.specs.Images.{Pairs, image}
+use Rattle.stages.specs.Line.{Around, Fields, expandLine}
+use Rattle.stages.specs.Quote.{quotedLine}
+
+-- what is set, in order of name
+abbrev Settings : Type 0
+Settings = List (String × String)
+
+-- a row: the line, the variables, homes and paths that it meets, and the answer, with all variables as they are behind it
+record Case : Type 0 where
+  line : String
+  vars : Settings
+  homes : Settings
+  paths : List String
+  answer : Placed (List String × Settings)
+
+abbrev textsOf : List String → List Text
+textsOf [] = []
+textsOf (s ∷ l) = text s ∷ textsOf l
+
+abbrev pairsOf : Settings → Pairs
+pairsOf [] = []
+pairsOf (p ∷ l) = (text (p .0), text (p .1)) ∷ pairsOf l
+
+abbrev eqTexts : List Text → List Text → Bool
+eqTexts [] [] = true
+eqTexts [] (t ∷ l) = false
+eqTexts (t ∷ l) [] = false
+eqTexts (t ∷ l) (u ∷ m) = eqText t u && eqTexts l m
+
+abbrev eqPairs : Pairs → Pairs → Bool
+eqPairs [] [] = true
+eqPairs [] (t ∷ l) = false
+eqPairs (t ∷ l) [] = false
+eqPairs (t ∷ l) (u ∷ m) = eqText (t .0) (u .0) && (eqText (t .1) (u .1) && eqPairs l m)
+
+same : Placed (Fields × Pairs) → Placed (List String × Settings) → Bool
+same (refusedAt n o) (refusedAt m p) = eqb n m && eqb o p
+same (refusedAt n o) (doneAt b) = false
+same (doneAt a) (refusedAt m p) = false
+same (doneAt a) (doneAt b) = eqTexts (a .0) (textsOf (b .0)) && eqPairs (a .1) (pairsOf (b .1))
+
+around : Case → Around
+around c = record { room = 8192; out = 8192; homes = pairsOf (c .homes); paths = textsOf (c .paths) }
+
+passes : Case → Bool
+unfolding same around expandLine choose
+passes c = same (expandLine (around c) (text (c .line)) (pairsOf (c .vars))) (c .answer)
+
+allPass : List Case → Bool
+unfolding passes
+allPass [] = true
+allPass (c ∷ l) = passes c && allPass l
+
+-- "Set: `job` = `north field`, `note` empty, `tilt` unset, HOME = `/home/crew`, no homes, IFS unset, paths .."
+abbrev season : Settings
+season = ("HOME", "/home/crew") ∷ ("job", "north field") ∷ ("note", "") ∷ []
+
+abbrev card : List String
+card = ".hid.raw" ∷ "a b.raw" ∷ "n/p1.raw" ∷ "p1.raw" ∷ "p2.raw" ∷ []
+
+-- a row among these tables whose line stores nothing
+abbrev gives : String → List String → Case
+gives s fs = record { line = s; vars = season; homes = []; paths = card; answer = doneAt (fs, season) }
+
+table : List Case
+table =
+    gives "cp \"$job\" $job" ("cp" ∷ "north field" ∷ "north" ∷ "field" ∷ [])
+    ∷ gives "*.raw" ("a b.raw" ∷ "p1.raw" ∷ "p2.raw" ∷ [])
+    ∷ gives "\"*\".raw" ("*.raw" ∷ [])
+    ∷ gives "$tilt \"$tilt\"" ("" ∷ [])
+    ∷ gives "${tilt:-\"a b\" c}" ("a b" ∷ "c" ∷ [])
+    ∷ record {
+      line = "${tilt:=\"a b\"}";
+      vars = season;
+      homes = [];
+      paths = card;
+      answer = doneAt ("a" ∷ "b" ∷ [], ("HOME", "/home/crew") ∷ ("job", "north field") ∷ ("note", "") ∷ ("tilt", "a b") ∷ []);
+    }
+    ∷ record {
+      line = "$x";
+      vars = ("HOME", "/home/crew") ∷ ("IFS", ":") ∷ ("job", "north field") ∷ ("note", "") ∷ ("x", ":a::b:") ∷ [];
+      homes = [];
+      paths = card;
+      answer = doneAt ("" ∷ "a" ∷ "" ∷ "b" ∷ [], ("HOME", "/home/crew") ∷ ("IFS", ":") ∷ ("job", "north field") ∷ ("note", "") ∷ ("x", ":a::b:") ∷ []);
+    }
+    ∷ gives "${job%% *} ${job##*o}" ("north" ∷ "rth" ∷ "field" ∷ [])
+    ∷ gives "$((7/-2)) $((-7%3))" ("-3" ∷ "-1" ∷ [])
+    ∷ gives "~/out '~'/out ~nobody" ("/home/crew/out" ∷ "~/out" ∷ "~nobody" ∷ [])
+    ∷ record { line = "${note:?}"; vars = season; homes = []; paths = card; answer = refusedAt 13 0 }
+    ∷ gives "''" ("" ∷ [])
+    ∷ []
+
+-- C1 to C12
+recipes : allPass table ≡ true
+unfolding allPass table
+recipes = refl
+
+-- "C1's whole image in hexadecimal .. 32 bytes"
+image-of-c1 : image (textsOf ("cp" ∷ "north field" ∷ "north" ∷ "field" ∷ []))
+    ≡ 1 ∷ 0 ∷ 2 ∷ 99 ∷ 112 ∷ 0 ∷ 11 ∷ 110 ∷ 111 ∷ 114 ∷ 116 ∷ 104 ∷ 32 ∷ 102 ∷ 105 ∷ 101 ∷ 108 ∷ 100
+    ∷ 0 ∷ 5 ∷ 110 ∷ 111 ∷ 114 ∷ 116 ∷ 104 ∷ 0 ∷ 5 ∷ 102 ∷ 105 ∷ 101 ∷ 108 ∷ 100 ∷ []
+unfolding image
+image-of-c1 = refl
+
+-- "Fields `it's`, empty, `a b` quote to `'it'\''s' '' 'a b'`."
+quoted-example : quotedLine (textsOf ("it's" ∷ "" ∷ "a b" ∷ [])) ≡ text "'it'\\''s' '' 'a b'"
+unfolding quotedLine
+quoted-example = refl
+
+-- the number that a line is refused with, or 100 and the count of its fields
+verdict : Placed (Fields × Pairs) → ℕ
+verdict (refusedAt n o) = n
+verdict (doneAt r) = 100 + length (r .0)
+
+alone : Text → Pairs → ℕ
+unfolding expandLine verdict choose
+alone t v = verdict (expandLine (record { room = 8192; out = 8192; homes = []; paths = [] }) t v)
+
+record Edge : Type 0 where
+  line : Text
+  vars : Pairs
+  comes : ℕ
+
+abbrev edgesPass : List Edge → Bool
+unfolding alone
+edgesPass [] = true
+edgesPass (e ∷ l) = eqb (alone (e .line) (e .vars)) (e .comes) && edgesPass l
+
+-- "`"$v"` with 2,047 bytes in v passes, with 2,048 it is 14; `$((9223372036854775807))` passes, with `+1` it is 17"; a line of 2,048 bytes
+-- passes, one of 2,049 is 5
+edges : List Edge
+edges =
+    record { line = text "\"$v\""; vars = (text "v", replicate 2047 97) ∷ []; comes = 101 }
+    ∷ record { line = text "\"$v\""; vars = (text "v", replicate 2048 97) ∷ []; comes = 14 }
+    ∷ record { line = text "$((9223372036854775807))"; vars = []; comes = 101 }
+    ∷ record { line = text "$((9223372036854775807+1))"; vars = []; comes = 17 }
+    ∷ record { line = replicate 2048 97; vars = []; comes = 101 }
+    ∷ record { line = replicate 2049 97; vars = []; comes = 5 }
+    ∷ []
+
+edges-hold : edgesPass edges ≡ true
+unfolding alone edges
+edges-hold = refl

@@ -1,0 +1,111 @@
+-- Document 01, "What a call gives back": the three jobs, from all that is given to all that comes back. Assumes nothing.
+use Prim.Native.Nat.{ℕ, zero, suc, _+_}
+use mathlib.Core.Bool.{Bool, true, false, _&&_}
+use mathlib.Core.List.{List, [], _∷_, _++_}
+use mathlib.Core.Option.{Option, none, some}
+use lib.Dec.{leb}
+use lib.ListN.{length, take, drop, replicate}
+use Rattle.stages.specs.Numbers.{accepted, workTooSmall, badVariables, badHomes, badPaths, outputRoom, badFields, workLeast, lineLimit, imageLimit}
+use Rattle.stages.specs.Bytes.{Text}
+use Rattle.stages.specs.Outcome.{Placed, refusedAt, doneAt, _then_, require}
+use Rattle.stages.specs.Images.{Pairs, flat, image, variables, homes, pathsOf, fieldsOf}
+use Rattle.stages.specs.Line.{Around, Fields, expandLine}
+use Rattle.stages.specs.Quote.{quotedLine}
+
+-- what an expander or normaliser is handed: the buffers with the bytes in them, and the variables' used length
+pub record Given : Type 0 where
+  pub work : Text
+  pub vars : Text
+  pub used : ℕ
+  pub homes : Text
+  pub paths : Text
+  pub line : Text
+  pub out : Text
+
+-- "The answer is a number, a place, the output length and the variables' used length."; and what the buffers hold then
+pub record Answer : Type 0 where
+  pub number : ℕ
+  pub place : ℕ
+  pub outLength : ℕ
+  pub used : ℕ
+  pub out : Text
+  pub vars : Text
+  pub work : Text
+
+-- an image, or a line, at the front of a buffer: "bytes behind either new image are unchanged, so too behind a quoted line"
+unfoldable pub over : Text → Text → Text
+over t buffer = t ++ drop (length t) buffer
+
+unfoldable pub orRefused : {A : Type 0} → ℕ → Option A → Placed A
+orRefused n none = refusedAt n 0
+orRefused n (some a) = doneAt a
+
+-- "Order: 1 to 6 as numbered": the fields and the variables, for an output of so many bytes
+unfoldable pub expanded : Given → ℕ → Placed (Fields × Pairs)
+unfolding orRefused variables homes pathsOf expandLine
+expanded g out =
+    require (leb workLeast (length (g .work))) workTooSmall 0 then λ _.
+    require (leb (g .used) (length (g .vars))) badVariables 0 then λ _.
+    orRefused badVariables (variables (take (g .used) (g .vars))) then λ v.
+    orRefused badHomes (homes (g .homes)) then λ h.
+    orRefused badPaths (pathsOf (g .paths)) then λ p.
+    expandLine (record { room = length (g .vars); out = out; homes = h; paths = p }) (g .line) v
+
+-- "The work area is zero throughout after every call of expander or normaliser, number 1 included."
+unfoldable pub cleared : Text → Text
+cleared work = replicate (length work) 0
+
+-- the answer, by what is to be written and the variables: "On refusal the output length is 0, the used length is the one given, and output
+-- and variable buffers hold their old bytes."
+unfoldable pub answered : Given → Placed (Text × Pairs) → Answer
+unfolding over image cleared
+answered g (refusedAt n place) = record {
+  number = n;
+  place = place;
+  outLength = 0;
+  used = g .used;
+  out = g .out;
+  vars = g .vars;
+  work = cleared (g .work);
+}
+answered g (doneAt r) = record {
+  number = accepted;
+  place = 0;
+  outLength = length (r .0);
+  used = length (image (flat (r .1)));
+  out = over (r .0) (g .out);
+  vars = over (image (flat (r .1))) (g .vars);
+  work = cleared (g .work);
+}
+
+-- "the expander turns a line into fields"
+unfoldable pub expander : Given → Answer
+unfolding expanded answered image
+expander g = answered g (expanded g (length (g .out)) then λ r. doneAt (image (r .0), r .1))
+
+-- "Above 2,048 bytes or the buffer is 21.": place 0 "for 21 from the quoter"
+unfoldable pub quotedIn : ℕ → Fields → Placed Text
+unfolding quotedLine
+quotedIn out l = require (leb (length (quotedLine l)) lineLimit && leb (length (quotedLine l)) out) outputRoom 0 then λ _. doneAt (quotedLine l)
+
+-- "the normaliser does both in one call"; "In the normaliser the expander's output room is 8,192."
+unfoldable pub normaliser : Given → Answer
+unfolding expanded answered quotedIn
+normaliser g = answered g (expanded g imageLimit then λ r. quotedIn (length (g .out)) (r .0) then λ t. doneAt (t, r .1))
+
+-- "The quoter has neither variables nor work area."
+pub record Quoting : Type 0 where
+  pub number : ℕ
+  pub place : ℕ
+  pub outLength : ℕ
+  pub out : Text
+
+unfoldable pub quoting : Text → Placed Text → Quoting
+unfolding over
+quoting out (refusedAt n place) = record { number = n; place = place; outLength = 0; out = out }
+quoting out (doneAt t) = record { number = accepted; place = 0; outLength = length t; out = over t out }
+
+-- "the quoter fields into a line"; "The check for 22 precedes it."
+unfoldable pub quoter : Text → Text → Quoting
+unfolding quoting fieldsOf quotedIn orRefused
+quoter fields out = quoting out (orRefused badFields (fieldsOf fields) then λ l. quotedIn (length out) l)

@@ -1,0 +1,216 @@
+-- Document 01, "Reading a line": what stands at the head of a text. Every rule of reading is here, and nothing here recurs. Assumes nothing.
+use Prim.Native.Nat.{ℕ, zero, suc, _+_, _-_}
+use Prim.Native.Char.{code}
+use mathlib.Core.Bool.{Bool, true, false, _&&_, _||_, not}
+use mathlib.Core.List.{List, [], _∷_}
+use lib.Dec.{eqb, leb, ltb}
+use lib.ListN.{length}
+use Rattle.stages.specs.Numbers.{unended, bareOperator, substitution, unserved, badSyntax, tooDeep}
+use Rattle.stages.specs.Bytes.{Text, text, isIn, span, isNameStart, isNameByte, isDigit, isBlank, isOperator}
+use Rattle.stages.specs.Outcome.{pick}
+use Rattle.stages.specs.Syntax.{Form, Mode, word, bare, single, double, operand, arith}
+use Rattle.stages.specs.Syntax.{plain, minus, equals, query, plus, suffix, prefix}
+
+-- what a byte is where it stands
+pub data Sort : Type 0 where
+  backquote closes operator quotes quotes2 backslash dollar bad opening closing literal : Sort
+
+-- "Bare blank, tab, newline separate words." "A backquote outside single quotes .. is 9 before any other fault there." "`'` runs to the next
+-- `'`." "The operand ends at the first `}` not quoted or in an inner expansion." "a plain `"` is 11"; "a quote or backslash anywhere in the
+-- text outside operands, is 11". "All other bare bytes are literal."
+unfoldable pub sort : Mode → ℕ → Sort
+unfolding isBlank isOperator
+sort word b =
+    pick (eqb b (code "`")) backquote (pick (isBlank b) closes (pick (isOperator b) operator (pick (eqb b (code "'")) quotes
+    (pick (eqb b (code "\"")) quotes2 (pick (eqb b (code "\\")) backslash (pick (eqb b (code "$")) dollar literal))))))
+sort bare b =
+    pick (eqb b (code "`")) backquote (pick (eqb b (code "}")) closes (pick (eqb b (code "'")) quotes
+    (pick (eqb b (code "\"")) quotes2 (pick (eqb b (code "\\")) backslash (pick (eqb b (code "$")) dollar literal)))))
+sort single b = pick (eqb b (code "'")) closes literal
+sort double b =
+    pick (eqb b (code "`")) backquote (pick (eqb b (code "\"")) closes
+    (pick (eqb b (code "\\")) backslash (pick (eqb b (code "$")) dollar literal)))
+sort operand b =
+    pick (eqb b (code "`")) backquote (pick (eqb b (code "}")) closes (pick (eqb b (code "\"")) bad
+    (pick (eqb b (code "\\")) backslash (pick (eqb b (code "$")) dollar literal))))
+sort (arith n) b =
+    pick (eqb b (code "`")) backquote (pick (isIn b (text "'\"\\")) bad (pick (eqb b (code "(")) opening
+    (pick (eqb b (code ")")) closing (pick (eqb b (code "$")) dollar literal))))
+
+-- What stands at the head of a text. A number k last: so many bytes behind the first one belong to it.
+pub data Item : Type 0 where
+  fault : ℕ → Item  -- refused with the number
+  stop : ℕ → Item  -- the text ends here, and so many bytes are taken
+  byte : Bool → ℕ → ℕ → Item  -- a byte; whether a backslash quotes it
+  paren : ℕ → ℕ → Item  -- a parenthesis of an arithmetic text; how many are open behind it
+  quote : Mode → Item  -- a quote opens
+  value : Text → ℕ → Item  -- $name, ${name}
+  count : Text → ℕ → Item  -- ${#name}
+  inner : Text → Form → Mode → ℕ → Item  -- ${name FORM, and the operand's mode
+  sum : Item  -- $((
+
+-- a byte that does not fit: "line ends inside a .. brace", "A backquote .. is 9 before any other fault there", else the number
+unfoldable pub wrong : ℕ → Text → Item
+wrong n [] = fault unended
+wrong n (b ∷ t) = pick (eqb b (code "`")) (fault substitution) (fault n)
+
+-- "A bare backslash quotes the next byte"; "Within `"..."` a backslash quotes only `$`, backquote, `"`, `\`"; "`\}` gives `}`"
+unfoldable pub quotable : Mode → ℕ → Bool
+quotable word b = true
+quotable bare b = true
+quotable single b = false
+quotable double b = isIn b (text "$`\"\\")
+quotable operand b = isIn b (text "$`\"\\}")
+quotable (arith n) b = false
+
+-- behind a backslash: "before a newline it is 11, also in double quotes"; "otherwise it is itself"
+unfoldable pub escaped : Mode → Text → Item
+unfolding quotable
+escaped m [] = fault unended
+escaped m (b ∷ t) = pick (eqb b (code "\n")) (fault badSyntax) (pick (quotable m b) (byte true b 1) (byte false (code "\\") 0))
+
+-- "inside double quotes or arithmetic, the operands of `-=?+` are read as double-quoted text"
+unfoldable pub operandMode : Mode → Mode
+operandMode word = bare
+operandMode bare = bare
+operandMode single = bare
+operandMode double = operand
+operandMode operand = operand
+operandMode (arith n) = operand
+
+-- the form of one of `-=?+`
+unfoldable pub signForm : ℕ → Bool → Form
+signForm b colon = pick (eqb b (code "-")) (minus colon) (pick (eqb b (code "=")) (equals colon) (pick (eqb b (code "?")) (query colon) (plus colon)))
+
+-- behind `${name:`, k bytes with the next one: "`:` and one of `-=?+`"
+unfoldable pub behindColon : Mode → Text → ℕ → Text → Item
+unfolding wrong operandMode signForm
+behindColon m x k [] = wrong badSyntax []
+behindColon m x k (b ∷ t) = pick (isIn b (text "-=?+")) (inner x (signForm b true) (operandMode m) k) (wrong badSyntax (b ∷ t))
+
+-- behind `${name%` or `${name#`: "the longer of `%%`, `%`, or of `##`, `#`"; "Operands of the four removals are always read as bare text"
+unfoldable pub removal : Text → (Bool → Form) → ℕ → ℕ → Text → Item
+removal x f sign k [] = inner x (f false) bare k
+removal x f sign k (b ∷ t) = pick (eqb b sign) (inner x (f true) bare (suc k)) (inner x (f false) bare k)
+
+-- behind `${name`, k bytes with the next one: "After `${name` comes `}`, or `:` and one of `-=?+`, or one of these alone, or the longer of
+-- `%%`, `%`, or of `##`, `#`; anything else is 11."
+unfoldable pub behindName : Mode → Text → ℕ → Text → Item
+unfolding wrong operandMode signForm behindColon removal
+behindName m x k [] = wrong badSyntax []
+behindName m x k (b ∷ t) =
+    pick (eqb b (code "}")) (value x k)
+    (pick (eqb b (code ":")) (behindColon m x (suc k) t)
+    (pick (isIn b (text "-=?+")) (inner x (signForm b false) (operandMode m) k)
+    (pick (eqb b (code "%")) (removal x suffix b k t)
+    (pick (eqb b (code "#")) (removal x prefix b k t) (wrong badSyntax (b ∷ t))))))
+
+-- behind `${#name`: "only `}` may come"
+unfoldable pub behindLength : Text → ℕ → Text → Item
+unfolding wrong
+behindLength x k [] = wrong badSyntax []
+behindLength x k (b ∷ t) = pick (eqb b (code "}")) (count x k) (wrong badSyntax (b ∷ t))
+
+-- a name, and what it is followed by: "a byte that cannot begin the name is 10"
+unfoldable pub named : (Text → Text → Item) → Text → Item
+unfolding wrong isNameStart isNameByte span
+named behind [] = wrong unserved []
+named behind (b ∷ t) = pick (isNameStart b) (behind (span isNameByte (b ∷ t) .0) (span isNameByte (b ∷ t) .1)) (wrong unserved (b ∷ t))
+
+-- behind `${`, where d expansions may still open: "`${` takes a name, or `#` and a name for the length"
+unfoldable pub braced : Mode → ℕ → Text → Item
+unfolding wrong named behindName behindLength
+braced m zero t = fault tooDeep
+braced m (suc d) [] = wrong unserved []
+braced m (suc d) (b ∷ t) =
+    pick (eqb b (code "#"))
+    (named (λ x u. behindLength x (length x + 3) u) t)
+    (named (λ x u. behindName m x (length x + 2) u) (b ∷ t))
+
+-- behind `$(`: "`$((` opens arithmetic; `$(` otherwise is 9"
+unfoldable pub parenthesis : ℕ → Text → Item
+parenthesis d [] = fault substitution
+parenthesis zero (b ∷ t) = pick (eqb b (code "(")) (fault tooDeep) (fault substitution)
+parenthesis (suc d) (b ∷ t) = pick (eqb b (code "(")) sum (fault substitution)
+
+-- "`$` before a digit or one of `@*#?-$!` is 10, and so is `$'` in bare text"
+unfoldable pub notServed : Mode → ℕ → Bool
+unfolding isDigit
+notServed word b = isDigit b || isIn b (text "@*#?-$!'")
+notServed bare b = isDigit b || isIn b (text "@*#?-$!'")
+notServed single b = false
+notServed double b = isDigit b || isIn b (text "@*#?-$!")
+notServed operand b = isDigit b || isIn b (text "@*#?-$!")
+notServed (arith n) b = isDigit b || isIn b (text "@*#?-$!")
+
+-- behind `$`: "`$` before a letter or `_` takes the longest name." "Any other `$` is literal."
+unfoldable pub expansion : Mode → ℕ → Text → Item
+unfolding isNameStart isNameByte span parenthesis braced notServed
+expansion m d [] = byte false (code "$") 0
+expansion m d (b ∷ t) =
+    pick (isNameStart b) (value (span isNameByte (b ∷ t) .0) (length (span isNameByte (b ∷ t) .0)))
+    (pick (eqb b (code "(")) (parenthesis d t)
+    (pick (eqb b (code "{")) (braced m d t)
+    (pick (notServed m b) (fault unserved) (byte false (code "$") 0))))
+
+-- behind an outer `)`: "ends at `))`; an outer `)` followed by another byte or the line's end .. is 11"
+unfoldable pub outer : Text → Item
+outer [] = fault badSyntax
+outer (b ∷ t) = pick (eqb b (code ")")) (stop 2) (pick (eqb b (code "`")) (fault substitution) (fault badSyntax))
+
+-- "Arithmetic text balances its parentheses"
+unfoldable pub opened : Mode → ℕ → Item
+opened word b = byte false b 0
+opened bare b = byte false b 0
+opened single b = byte false b 0
+opened double b = byte false b 0
+opened operand b = byte false b 0
+opened (arith n) b = paren b (suc n)
+
+unfoldable pub closed : Mode → ℕ → Text → Item
+unfolding outer
+closed word b t = byte false b 0
+closed bare b t = byte false b 0
+closed single b t = byte false b 0
+closed double b t = byte false b 0
+closed operand b t = byte false b 0
+closed (arith zero) b t = outer t
+closed (arith (suc n)) b t = paren b n
+
+-- how many bytes end a text: a word's blank is not part of it
+unfoldable pub closerLength : Mode → ℕ
+closerLength word = 0
+closerLength bare = 1
+closerLength single = 1
+closerLength double = 1
+closerLength operand = 1
+closerLength (arith n) = 1
+
+-- "line ends inside a quote, brace or arithmetic"
+unfoldable pub ended : Mode → Item
+ended word = stop 0
+ended bare = fault unended
+ended single = fault unended
+ended double = fault unended
+ended operand = fault unended
+ended (arith n) = fault unended
+
+unfoldable pub itemOf : Sort → Mode → ℕ → ℕ → Text → Item
+unfolding closerLength escaped expansion opened closed
+itemOf backquote m d b t = fault substitution
+itemOf closes m d b t = stop (closerLength m)
+itemOf operator m d b t = fault bareOperator
+itemOf quotes m d b t = quote single
+itemOf quotes2 m d b t = quote double
+itemOf backslash m d b t = escaped m t
+itemOf dollar m d b t = expansion m d t
+itemOf bad m d b t = fault badSyntax
+itemOf opening m d b t = opened m b
+itemOf closing m d b t = closed m b t
+itemOf literal m d b t = byte false b 0
+
+-- what stands at the head of a text, where d expansions may still open
+unfoldable pub item : Mode → ℕ → Text → Item
+unfolding ended itemOf sort
+item m d [] = ended m
+item m d (b ∷ t) = itemOf (sort m b) m d b t

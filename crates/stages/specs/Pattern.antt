@@ -1,0 +1,175 @@
+-- Document 01, "Patterns": what a pattern's units are read as, and which texts it matches. Assumes nothing.
+use Prim.Native.Nat.{ℕ, zero, suc, _+_}
+use Prim.Native.Char.{code}
+use mathlib.Core.Bool.{Bool, true, false, _&&_, _||_, not, xor}
+use mathlib.Core.List.{List, [], _∷_, _++_}
+use lib.Dec.{eqb, leb, ltb}
+use lib.ListN.{length, take, drop}
+use Rattle.stages.specs.Numbers.{bracketClass}
+use Rattle.stages.specs.Bytes.{Text, text, isIn, between}
+use Rattle.stages.specs.Outcome.{Outcome, refused, done, pick}
+use Rattle.stages.specs.Units.{Mark, L, E, Q, Cell, cell, N, Row}
+
+-- a unit as patterns see it: whether it is active, and its byte
+pub record Sign : Type 0 where
+  pub live : Bool
+  pub byte : ℕ
+
+abbrev pub Signs : Type 0
+Signs = List Sign
+
+-- "L and E bytes are active, Q bytes stand for themselves, N vanishes."
+unfoldable pub signs : Row → Signs
+signs [] = []
+signs (cell L b ∷ r) = record { live = true; byte = b } ∷ signs r
+signs (cell E b ∷ r) = record { live = true; byte = b } ∷ signs r
+signs (cell Q b ∷ r) = record { live = false; byte = b } ∷ signs r
+signs (N ∷ r) = signs r
+
+-- the unit is this byte, and active
+abbrev pub isLive : ℕ → Sign → Bool
+isLive b s = s .live && eqb (s .byte) b
+
+-- "`*` is any bytes, `?` one byte. A bracket stands for a set of the 256 byte values": its members, or all other bytes
+pub data Element : Type 0 where
+  star one : Element
+  byte : ℕ → Element
+  set : Bool → Signs → Element
+
+-- what the search for a bracket's end finds: a class, no end, or the end behind so many members
+pub data Found : Type 0 where
+  class unclosed : Found
+  closedAfter : ℕ → Found
+
+abbrev pub oneMore : Found → Found
+oneMore class = class
+oneMore unclosed = unclosed
+oneMore (closedAfter n) = closedAfter (suc n)
+
+-- "A later active `[` directly before active `:`, `.` or `=`"
+unfoldable pub opensClass : Sign → Signs → Bool
+opensClass s [] = false
+opensClass s (u ∷ r) = isLive (code "[") s && (u .live && isIn (u .byte) (text ":.="))
+
+-- "members up to an active `]` that is not the first member"; for paths "a bracket whose search meets a slash, quoted or not, is not one"
+unfoldable pub find : Bool → Bool → Signs → Found
+unfolding opensClass
+find path first [] = unclosed
+find path first (s ∷ r) =
+    pick (not first && isLive (code "]") s) (closedAfter 0)
+    (pick (path && eqb (s .byte) (code "/")) unclosed
+    (pick (opensClass s r) class (oneMore (find path false r))))
+
+-- behind an active `[`: "optional active `!` for all others"
+unfoldable pub others : Signs → Bool
+others [] = false
+others (s ∷ r) = isLive (code "!") s
+
+-- how many units the `!` takes, and what the search behind it finds
+abbrev pub skipped : Signs → ℕ
+unfolding others
+skipped r = pick (others r) 1 0
+
+unfoldable pub bracket : Bool → Signs → Found
+unfolding find others
+bracket path r = find path true (drop (skipped r) r)
+
+-- the element of a bracket, by what its search finds: "Unclosed, `[` is itself."
+unfoldable pub bracketed : Signs → Found → Element
+unfolding others
+bracketed r class = byte (code "[")
+bracketed r unclosed = byte (code "[")
+bracketed r (closedAfter n) = set (others r) (take n (drop (skipped r) r))
+
+-- how many units behind its `[` a bracket has
+unfoldable pub bracketLength : Signs → Found → ℕ
+unfolding others
+bracketLength r class = 0
+bracketLength r unclosed = 0
+bracketLength r (closedAfter n) = skipped r + suc n
+
+-- the element that begins with the unit s, r behind it, and how many units it has besides s
+unfoldable pub element : Bool → Sign → Signs → Element
+unfolding bracket bracketed
+element path s r =
+    pick (isLive (code "*") s) star
+    (pick (isLive (code "?") s) one
+    (pick (isLive (code "[") s) (bracketed r (bracket path r)) (byte (s .byte))))
+
+unfoldable pub extra : Bool → Sign → Signs → ℕ
+unfolding bracket bracketLength
+extra path s r = pick (isLive (code "[") s) (bracketLength r (bracket path r)) 0
+
+-- the elements of a pattern behind k units that belong to the element before
+unfoldable pub elements : Bool → ℕ → Signs → List Element
+unfolding element extra
+elements path k [] = []
+elements path zero (s ∷ r) = element path s r ∷ elements path (extra path s r) r
+elements path (suc k) (s ∷ r) = elements path k r
+
+abbrev pub isClass : Found → Bool
+isClass class = true
+isClass unclosed = false
+isClass (closedAfter n) = false
+
+-- "met in that search is 19, closed or not, whatever the text"
+unfoldable pub hasClass : Bool → ℕ → Signs → Bool
+unfolding bracket extra
+hasClass path k [] = false
+hasClass path zero (s ∷ r) = (isLive (code "[") s && isClass (bracket path r)) || hasClass path (extra path s r) r
+hasClass path (suc k) (s ∷ r) = hasClass path k r
+
+-- the pattern that a row's units make, the one place of 19
+unfoldable pub pattern : Bool → Row → Outcome (List Element)
+unfolding signs hasClass elements
+pattern path r = elim (hasClass path 0 (signs r)) [ true ↦ refused bracketClass | false ↦ done (elements path 0 (signs r)) ]
+
+-- "An active `-` between two members is a range; falling ranges are empty and `[a-c-e]` is a to c, `-`, e."
+unfoldable pub listed : Signs → ℕ → Bool
+listed [] b = false
+listed (m ∷ []) b = eqb (m .byte) b
+listed (m ∷ s ∷ []) b = eqb (m .byte) b || eqb (s .byte) b
+listed (m ∷ s ∷ n ∷ r) b =
+    elim (isLive (code "-") s) [
+      | true ↦ between (m .byte) b (n .byte) || listed r b
+      | false ↦ eqb (m .byte) b || listed (s ∷ n ∷ r) b
+    ]
+
+unfoldable pub inSet : Bool → Signs → ℕ → Bool
+unfolding listed xor
+inSet negative members b = xor negative (listed members b)
+
+-- for paths: "a slash is matched only by a pattern's slash", "a `.` at the start of a path or after a slash only by a `.` first in the pattern
+-- or right after its slash". `first`: a path or a part of it starts here. What `*`, `?` and brackets may take:
+unfoldable pub passes : Bool → Bool → ℕ → Bool
+passes path first b = not path || (not (eqb b (code "/")) && not (first && eqb b (code ".")))
+
+-- `head`: the pattern's place is its first or right behind its slash. What a byte of the pattern may take:
+unfoldable pub takes : Bool → Bool → Bool → ℕ → ℕ → Bool
+takes path head first c b = eqb c b && (not path || (head || not (first && eqb b (code "."))))
+
+-- some end of the text passes, before which only bytes stand that a star may take
+unfoldable pub someEnd : Bool → (Bool → Text → Bool) → Bool → Text → Bool
+unfolding passes
+someEnd path f first [] = f first []
+someEnd path f first (b ∷ t) =
+    elim (f first (b ∷ t)) [ true ↦ true | false ↦ elim (passes path first b) [ true ↦ someEnd path f false t | false ↦ false ] ]
+
+-- "The whole text must match."
+unfoldable pub matchesFrom : Bool → List Element → Bool → Bool → Text → Bool
+unfolding passes takes someEnd inSet
+matchesFrom path [] head first [] = true
+matchesFrom path [] head first (b ∷ t) = false
+matchesFrom path (star ∷ p) head first t = someEnd path (λ f u. matchesFrom path p false f u) first t
+matchesFrom path (one ∷ p) head first [] = false
+matchesFrom path (one ∷ p) head first (b ∷ t) = elim (passes path first b) [ true ↦ matchesFrom path p false false t | false ↦ false ]
+matchesFrom path (byte c ∷ p) head first [] = false
+matchesFrom path (byte c ∷ p) head first (b ∷ t) =
+    elim (takes path head first c b) [ true ↦ matchesFrom path p (eqb c (code "/")) (eqb c (code "/")) t | false ↦ false ]
+matchesFrom path (set negative members ∷ p) head first [] = false
+matchesFrom path (set negative members ∷ p) head first (b ∷ t) =
+    elim (passes path first b && inSet negative members b) [ true ↦ matchesFrom path p false false t | false ↦ false ]
+
+unfoldable pub matches : Bool → List Element → Text → Bool
+unfolding matchesFrom
+matches path p t = matchesFrom path p true true t

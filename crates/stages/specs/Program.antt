@@ -1,0 +1,75 @@
+-- Document 01, "The program": what it writes for what it reads. Assumes nothing.
+use Prim.Native.Nat.{ℕ, zero, suc, _+_, _-_}
+use Prim.Native.Char.{code}
+use mathlib.Core.Bool.{Bool, true, false}
+use mathlib.Core.List.{List, [], _∷_, _++_}
+use mathlib.Core.Option.{Option, none, some}
+use lib.Dec.{eqb}
+use lib.ListN.{length, take, drop, replicate}
+use Rattle.stages.specs.Numbers.{workLeast, imageLimit}
+use Rattle.stages.specs.Bytes.{Text, text}
+use Rattle.stages.specs.Images.{image}
+use Rattle.stages.specs.Units.{decimal}
+use Rattle.stages.specs.Call.{Given, Answer, normaliser}
+
+-- a byte in front of the first line
+unfoldable pub longerLine : ℕ → List Text → List Text
+longerLine b [] = (b ∷ []) ∷ []
+longerLine b (l ∷ ls) = (b ∷ l) ∷ ls
+
+-- "lines from standard input, an unended last one too if not empty"
+unfoldable pub linesOf : Text → List Text
+unfolding longerLine
+linesOf [] = []
+linesOf (b ∷ t) = elim (eqb b (code "\n")) [ true ↦ [] ∷ linesOf t | false ↦ longerLine b (linesOf t) ]
+
+-- "(absent: no records)"
+unfoldable pub tableOr : Option Text → Text
+unfolding image
+tableOr none = image []
+tableOr (some t) = t
+
+-- "they and the output get 8,192 bytes": a file at the front of a buffer of zeros, as much of it as the buffer takes
+unfoldable pub buffered : Text → Text
+buffered t = take imageLimit t ++ replicate (imageLimit - length t) 0
+
+-- the variables' buffer and its used length
+pub record Variables : Type 0 where
+  pub bytes : Text
+  pub used : ℕ
+
+unfoldable pub givenLine : Text → Text → Text → Variables → Given
+givenLine homes paths line v = record {
+  work = replicate workLeast 0;
+  vars = v .bytes;
+  used = v .used;
+  homes = homes;
+  paths = paths;
+  line = line;
+  out = replicate imageLimit 0;
+}
+
+-- "it writes `ok `, the quoted line, newline, or `no `, number, blank, place, newline"
+unfoldable pub said : Answer → Text
+unfolding decimal
+said a =
+    elim (eqb (a .number) 0) [
+      | true ↦ text "ok " ++ (take (a .outLength) (a .out) ++ text "\n")
+      | false ↦ text "no " ++ (decimal (a .number) ++ (text " " ++ (decimal (a .place) ++ text "\n")))
+    ]
+
+-- "Variables carry over"
+unfoldable pub saidOf : Text → Text → Variables → List Text → Text
+unfolding givenLine normaliser said
+saidOf homes paths v [] = []
+saidOf homes paths v (l ∷ ls) =
+    said (normaliser (givenLine homes paths l v))
+    ++ saidOf homes paths (record { bytes = normaliser (givenLine homes paths l v) .vars; used = normaliser (givenLine homes paths l v) .used }) ls
+
+-- what the program writes: the files `vars.tab`, `homes.tab`, `paths.tab` where they are there, and standard input
+unfoldable pub program : Option Text → Option Text → Option Text → Text → Text
+unfolding tableOr buffered saidOf linesOf
+program vars homes paths input =
+    saidOf (tableOr homes) (tableOr paths)
+    (record { bytes = buffered (tableOr vars); used = length (tableOr vars) })
+    (linesOf input)

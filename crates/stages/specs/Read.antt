@@ -1,0 +1,92 @@
+-- Document 01, "Reading a line": a text's parts, item by item, and the words of a line. Assumes nothing.
+use Prim.Native.Nat.{ℕ, zero, suc, _+_, _-_}
+use Prim.Native.Char.{code}
+use mathlib.Core.Bool.{Bool, true, false, _||_}
+use mathlib.Core.List.{List, [], _∷_}
+use lib.Dec.{eqb}
+use lib.ListN.{length, drop}
+use Rattle.stages.specs.Recur.{fix}
+use Rattle.stages.specs.Numbers.{bareOperator, depthLimit}
+use Rattle.stages.specs.Bytes.{Text, isBlank, isOperator}
+use Rattle.stages.specs.Outcome.{Outcome, refused, done, _>>=_, Placed, refusedAt, doneAt, at, _then_, cases}
+use Rattle.stages.specs.Syntax.{Parts, Mode, Word, plain, word, arith, end, lit, quo, par, len, ari}
+use Rattle.stages.specs.Items.{Item, item, fault, stop, byte, paren, quote, value, count, inner, sum}
+
+-- a text's parts, and what is behind the text
+abbrev pub Taken : Type 0
+Taken = Outcome (Parts × Text)
+
+-- how texts are read: their mode, how many expansions may still open, the bytes
+abbrev pub Reader : Type 0
+Reader = Mode → ℕ → Text → Taken
+
+-- a part in front of what is read next
+abbrev pub put : (Parts → Parts) → Taken → Taken
+put f r = r >>= λ p. done (f (p .0), p .1)
+
+-- a part made of an inner text, in front of what is read next
+abbrev pub nest : (Parts → Parts → Parts) → Taken → (Text → Taken) → Taken
+nest f r more = r >>= λ p. put (f (p .0)) (more (p .1))
+
+-- a text with this item at its head, and the rest by `rec`
+unfoldable pub readItem : Reader → Mode → ℕ → Text → Item → Taken
+readItem rec m d t (fault n) = refused n
+readItem rec m d t (stop k) = done (end, drop k t)
+readItem rec m d t (byte q b k) = put (lit q b) (rec m d (drop (suc k) t))
+readItem rec m d t (paren b n) = put (lit false b) (rec (arith n) d (drop 1 t))
+readItem rec m d t (quote n) = nest quo (rec n d (drop 1 t)) (rec m d)
+readItem rec m d t (value x k) = put (par x plain end) (rec m d (drop (suc k) t))
+readItem rec m d t (count x k) = put (len x) (rec m d (drop (suc k) t))
+readItem rec m d t (inner x f n k) = nest (par x f) (rec n (d - 1) (drop (suc k) t)) (rec m d)
+readItem rec m d t sum = nest ari (rec (arith 0) (d - 1) (drop 3 t)) (rec m d)
+
+-- a question to the reader, and its size
+abbrev pub Ask : Type 0
+Ask = Mode × ℕ × Text
+
+abbrev pub askSize : Ask → ℕ
+askSize a = length (a .2)
+
+unfoldable pub askStep : (Ask → Taken) → Ask → Taken
+unfolding readItem item
+askStep rec a = readItem (λ m d t. rec (m, d, t)) (a .0) (a .1) (a .2) (item (a .0) (a .1) (a .2))
+
+-- the parts of a text in a mode, where d expansions may still open, and what is behind the text
+unfoldable pub parts : Reader
+unfolding askStep fix
+parts m d t = fix askSize (refused 0) askStep (m, d, t)
+
+abbrev pub Words : Type 0
+Words = Placed (List Word)
+
+-- a word whose first byte is at `place`, and the words behind it
+unfoldable pub wordAt : (ℕ × Text → Words) → ℕ → Text → Words
+unfolding parts
+wordAt rec place t =
+    at place (parts word depthLimit t) then λ p.
+    rec (place + (length t - length (p .1)), p .1) then λ ws.
+    doneAt (record { place = place; parts = p .0 } ∷ ws)
+
+-- "Bare blank, tab, newline separate words. Bare `|&;<>()` and `#` at a word's start are 8."; the place is that "of the operator itself if
+-- no word is open"
+unfoldable pub wordsStep : (ℕ × Text → Words) → ℕ × Text → Words
+unfolding wordAt isBlank isOperator
+wordsStep rec (place, []) = doneAt []
+wordsStep rec (place, b ∷ t) =
+    cases (
+    (isBlank b, λ _. rec (suc place, t))
+    ∷ (isOperator b || eqb b (code "#"), λ _. refusedAt bareOperator place)
+    ∷ []) λ _. wordAt rec place (b ∷ t)
+
+abbrev pub wordsSize : ℕ × Text → ℕ
+wordsSize p = length (p .1)
+
+-- the words of a text that begins at `place` of the line
+unfoldable pub words : ℕ × Text → Words
+unfolding wordsStep fix
+words p = fix wordsSize (refusedAt 0 0) wordsStep p
+
+-- "then the whole line is read"
+unfoldable pub readLine : Text → Words
+unfolding words
+readLine t = words (0, t)

@@ -1,0 +1,57 @@
+-- Document 01, "Units and expansion": rows of units, and the shortest decimal text. Assumes nothing.
+use Prim.Native.Nat.{ℕ, zero, suc, _+_, _/_, _%_}
+use Prim.Native.Char.{code}
+use mathlib.Core.Bool.{Bool, true, false}
+use mathlib.Core.List.{List, [], _∷_, _++_}
+use lib.Dec.{leb, ltb}
+use Rattle.stages.specs.Numbers.{rowLimit, tooManyUnits}
+use Rattle.stages.specs.Bytes.{Text}
+use Rattle.stages.specs.Outcome.{Outcome, refused, done}
+
+-- "L (literal), E (from an expansion, bare) or Q (quoted)"
+pub data Mark : Type 0 where
+  L E Q : Mark
+
+-- "Each is a byte marked .. or the empty mark N."
+pub data Cell : Type 0 where
+  cell : Mark → ℕ → Cell
+  N : Cell
+
+-- "A word becomes a row of units."
+abbrev pub Row : Type 0
+Row = List Cell
+
+unfoldable pub marked : Mark → Text → Row
+marked m [] = []
+marked m (b ∷ t) = cell m b ∷ marked m t
+
+-- "At last marks go and N vanishes."
+unfoldable pub bytes : Row → Text
+bytes [] = []
+bytes (cell m b ∷ r) = b ∷ bytes r
+bytes (N ∷ r) = bytes r
+
+-- the mark of what is expanded where literal bytes have the mark m: "within double quotes everything is Q"
+abbrev pub expanded : Mark → Mark
+expanded L = E
+expanded E = E
+expanded Q = Q
+
+-- the mark of a byte that a backslash quotes, or not
+abbrev pub litMark : Bool → Mark → Mark
+litMark true m = Q
+litMark false m = m
+
+-- "holds at most 2,048 units": the count behind n with k more, the one place of 14
+unfoldable pub fit : ℕ → ℕ → Outcome ℕ
+fit n k = elim (leb (n + k) rowLimit) [ true ↦ done (n + k) | false ↦ refused tooManyUnits ]
+
+-- the decimal digits of n, which has at most k
+unfoldable pub digits : ℕ → ℕ → Text
+digits zero n = []
+digits (suc k) n = elim (ltb n 10) [ true ↦ (code "0" + n) ∷ [] | false ↦ digits k (n / 10) ++ ((code "0" + n % 10) ∷ []) ]
+
+-- "the shortest decimal text"; nothing here has more than 20 digits
+unfoldable pub decimal : ℕ → Text
+unfolding digits
+decimal n = digits 20 n

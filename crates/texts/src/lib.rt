@@ -1,0 +1,1 @@
+// Bytes and slices: the classes of bytes, longest runs, comparing, copying, moving and clearing.
