@@ -9,3 +9,4 @@ pub mod Split
 pub mod Safe
 pub mod Answers
 pub mod Quoted
+pub mod RoundTrip
