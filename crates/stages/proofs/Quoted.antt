@@ -82,7 +82,7 @@ escaped-quote t d =
     parts-eq word d (92 ∷ 39 ∷ t) ∙ rw (shorter-ok (suc (suc (length t))) word d t k)
 
 -- what ends a quoted field: the line's end, or a blank
-pub data EndsField : Text → Type 0 where
+data EndsField : Text → Type 0 where
   line : EndsField []
   blank : (t : Text) → EndsField (32 ∷ t)
 
@@ -90,6 +90,11 @@ word-end : (t : Text) (d : ℕ) → EndsField t → parts word d t ≡ done (end
 unfolding item readItem
 word-end t d line = parts-eq word d []
 word-end t d (blank u) = parts-eq word d (32 ∷ u)
+
+-- a quoted field in front of a text
+field-append : (t rest : Text) → quotedField t ++ rest ≡ 39 ∷ quotedBytes t ++ 39 ∷ rest
+unfolding quotedField
+field-append t rest = ap {B = Text} (λ u. 39 ∷ u) (append-assoc (quotedBytes t) (39 ∷ []) rest)
 
 -- the text behind the first run of a quoted field
 abbrev behind : Text → Text → Text
@@ -127,14 +132,11 @@ module _ (rest : Text) (d : ℕ) (ends : EndsField rest) where
   run t = by-quotes (λ u. Run u) (record { first = run-end rest d; others = word-end rest d ends; shortens = omega arith }) run-quote run-other t
 
   -- a quoted field is one word
-  pub field-reads : (t : Text) → parts word d (quotedField t ++ rest) ≡ done (fieldParts t, rest)
-  unfolding quotedField
+  field-reads : (t : Text) → parts word d (quotedField t ++ rest) ≡ done (fieldParts t, rest)
   field-reads t =
-      rw (
-        append-assoc,
-        run-opens (quotedBytes t ++ 39 ∷ rest) (behind t rest) (runs t .0) d (run t .first) (run t .shortens),
-        run t .others,
-      )
+      ap (parts word d) (field-append t rest)
+      ∙ run-opens (quotedBytes t ++ 39 ∷ rest) (behind t rest) (runs t .0) d (run t .first) (run t .shortens)
+      ∙ rw (run t .others)
 
 -- READING THE LINE
 
@@ -154,8 +156,8 @@ blank-words : (place : ℕ) (t : Text) → words (place, 32 ∷ t) ≡ words (su
 unfolding wordsStep choose
 blank-words place t = words-eq place (32 ∷ t) ∙ shorter-words (suc (length t)) (suc place) t (tail-shorter t)
 
-field-length : (t rest : Text) → length (quotedField t ++ rest) - length rest ≡ length (quotedField t)
-field-length t rest = simp length-append (omega arith)
+field-behind : (t rest : Text) → length (quotedField t ++ rest) - length rest ≡ length (quotedField t)
+field-behind t rest = simp length-append (omega arith)
 
 -- a quoted field in front of what is read behind it
 field-words : (place : ℕ) (t rest : Text) (ws : List Word) → EndsField rest → words (place + length (quotedField t), rest) ≡ doneAt ws
@@ -166,7 +168,7 @@ field-words place t rest ws ends e =
     words-eq place (quotedField t ++ rest)
     ∙ rw (
       field-reads rest 8 ends t,
-      field-length t rest,
+      field-behind t rest,
       shorter-words (length (quotedField t ++ rest)) (place + length (quotedField t)) rest k,
       e,
     )
