@@ -3,6 +3,7 @@ pub mod Bools
 pub mod Texts
 pub mod Images
 pub mod Stores
+pub mod Items
 pub mod Read
 pub mod Arith
 pub mod Split
