@@ -4,6 +4,7 @@ pub mod Texts
 pub mod Images
 pub mod Tables
 pub mod Stores
+pub mod Items
 pub mod Read
 pub mod Arith
 pub mod Split
