@@ -5,7 +5,7 @@ pub mod Images
 pub mod Stores
 pub mod Read
 pub mod Arith
-pub mod Good
+pub mod Outcomes
 pub mod Split
 pub mod Safe
 pub mod Answers

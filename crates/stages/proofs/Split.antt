@@ -10,7 +10,7 @@ use Rattle.stages.specs.Bytes.{Text, text}
 use Rattle.stages.specs.Images.{Pairs, lookup}
 use Rattle.stages.specs.Units.{Cell, Row}
 use Rattle.stages.specs.Split.{Delimiter, white, hard, other, delimiter, dropWhite, dropHard, otherRun, fieldsStep, fieldsFrom, split, ifsOr, fieldsOfRow}
-use Rattle.stages.proofs.Good.{Each, by-fix}
+use Rattle.stages.proofs.Outcomes.{Each, by-fix}
 
 -- what is behind a field and its delimiters
 abbrev pub behindField : Text → Row → Row
