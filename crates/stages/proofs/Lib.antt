@@ -7,6 +7,7 @@ pub mod Stores
 pub mod Items
 pub mod Read
 pub mod Arith
+pub mod Outcomes
 pub mod Split
 pub mod Safe
 pub mod Answers
