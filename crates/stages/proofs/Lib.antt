@@ -13,3 +13,4 @@ pub mod Safe
 pub mod Answers
 pub mod Quoted
 pub mod RoundTrip
+pub mod Demand

@@ -24,6 +24,7 @@ use Rattle.stages.specs.Quote.{quotedBytes, quotedField, quotedLine, bla
 use Rattle.stages.specs.Line.{Around, Fields, wordFields, expandWords, expandLine, outFits}
 use Rattle.stages.proofs.Bools.{and-left, and-right, and-both}
 use Rattle.stages.proofs.Texts.{all-append}
+use Rattle.stages.proofs.Images.{Fine}
 use Rattle.stages.proofs.Quoted.{by-quotes, runs, fieldParts, fieldWords, quoted-reads}
 
 -- THE ROW OF A FIELD
@@ -193,9 +194,6 @@ words-expand a (t ∷ l) place n v b h k =
     )
 
 -- no zero byte comes into the line
-abbrev pub Fine : List Text → Type 0
-Fine [] = Unit {0}
-Fine (t ∷ l) = (all notZero t ≡ true) × Fine l
 
 no-zero : (t : Text) → all notZero t ≡ true → isIn 0 t ≡ false
 no-zero [] e = refl
