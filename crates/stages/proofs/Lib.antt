@@ -5,6 +5,7 @@ pub mod Images
 pub mod Stores
 pub mod Items
 pub mod Read
+pub mod Words
 pub mod Arith
 pub mod Split
 pub mod Safe
