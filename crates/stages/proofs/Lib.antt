@@ -6,6 +6,7 @@ pub mod Tables
 pub mod Stores
 pub mod Items
 pub mod Read
+pub mod Words
 pub mod Arith
 pub mod Outcomes
 pub mod Split
