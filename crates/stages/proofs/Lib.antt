@@ -11,6 +11,7 @@ pub mod Arith
 pub mod Outcomes
 pub mod Split
 pub mod Safe
+pub mod SafeSums
 pub mod Answers
 pub mod Quoted
 pub mod RoundTrip

@@ -41,11 +41,18 @@ pub safe-bind : {A B : Type 0} {P : A → Type 0} {Q : B → Type 0} {o : Outcom
 safe-bind f (refuses e) h = refuses e
 safe-bind f (gives {a = a} p) h = h a p
 
--- one of two outcomes that are safe
-pub safe-choose : {A : Type 0} {P : A → Type 0} (x : Bool) (f g : Unit {0} → Outcome A) → Safe P (f tt) → Safe P (g tt) → Safe P (choose x f g)
+pub safe-weaker : {A : Type 0} {P Q : A → Type 0} {o : Outcome A} → ((a : A) → P a → Q a) → Safe P o → Safe Q o
+safe-weaker f (refuses e) = refuses e
+safe-weaker f (gives {a = a} p) = gives (f a p)
+
+-- one of two outcomes that are safe, the first where its test passes
+pub safe-where : {A : Type 0} {P : A → Type 0} (x : Bool) (f g : Unit {0} → Outcome A) → (x ≡ true → Safe P (f tt)) → Safe P (g tt) → Safe P (choose x f g)
 unfolding choose
-safe-choose true f g p q = p
-safe-choose false f g p q = q
+safe-where true f g p q = p refl
+safe-where false f g p q = q
+
+pub safe-choose : {A : Type 0} {P : A → Type 0} (x : Bool) (f g : Unit {0} → Outcome A) → Safe P (f tt) → Safe P (g tt) → Safe P (choose x f g)
+safe-choose x f g p q = safe-where x f g (λ e. p) q
 
 -- the numbers 1 to 6, of what is looked at before the line is read
 abbrev pub isEarly : ℕ → Bool
