@@ -2,10 +2,17 @@ pub mod Recipes
 pub mod Bools
 pub mod Texts
 pub mod Images
+pub mod Tables
 pub mod Stores
+pub mod Items
 pub mod Read
+pub mod Words
 pub mod Arith
+pub mod Outcomes
 pub mod Split
 pub mod Safe
+pub mod SafeSums
 pub mod Answers
 pub mod Quoted
+pub mod RoundTrip
+pub mod Demand

@@ -1,0 +1,149 @@
+-- Demand 3 over the calls: an accepted line's fields, written as a quoted line, come back from any other call, which changes no variable, and quote to the same
+-- bytes. The calls do nothing but what the stages do, and a well-formed table is the image of what it holds. Assumes nothing.
+use Prim.Native.Nat.{ℕ, zero, suc, _+_, _≤_, _<_}
+use native.Mathlib.Omega.{arith}
+use mathlib.Core.Path.{_≡_, refl, sym, ap, _∙_}
+use mathlib.Core.Bool.{Bool, true, false, _&&_}
+use mathlib.Core.List.{List, [], _∷_, _++_}
+use mathlib.Core.Option.{Option, none, some}
+use lib.Dec.{leb}
+use lib.ListN.{length, take, drop, getD, take-append-drop}
+use lib.Seq.{length-take-le, take-append-seam, take-nil}
+use borrow.Author.Tests.{le-leb}
+use Rattle.stages.specs.Numbers.{accepted, workLeast, lineLimit, imageLimit}
+use Rattle.stages.specs.Bytes.{Text}
+use Rattle.stages.specs.Outcome.{Placed, refusedAt, doneAt, _then_, require}
+use Rattle.stages.specs.Images.{Pairs, flat, image, imageLength, variables, homes, pathsOf, fieldsOf, held, heldTexts, isSome}
+use Rattle.stages.specs.Line.{Around, Fields, expandLine}
+use Rattle.stages.specs.Quote.{quotedLine}
+use Rattle.stages.specs.Call.{Given, Answer, Quoting, over, orRefused, expanded, cleared, answered, expander, quotedIn, normaliser, quoting, quoter}
+use Rattle.stages.proofs.Images.{Bytes, Fine, length-image, heldTexts-image}
+use Rattle.stages.proofs.Tables.{Vars, table-canonical, vars-of, variables-are, homes-of, homes-are, paths-of, paths-are, fields-held, fields-image, fields-are, texts-held-fine}
+use Rattle.stages.proofs.RoundTrip.{quoted-image, quoted-expands}
+
+-- a call whose tables are well formed and whose work area is large enough; the variables' buffer holds bytes, which is known of a slice
+pub record Ready (h : Given) : Type 0 where
+  pub work : workLeast ≤ length (h .work)
+  pub used : h .used ≤ length (h .vars)
+  pub bytes : Bytes (h .vars)
+  pub vars : isSome (variables (take (h .used) (h .vars))) ≡ true
+  pub homes : isSome (homes (h .homes)) ≡ true
+  pub paths : isSome (pathsOf (h .paths)) ≡ true
+
+-- the answer that accepts, writes this text to the output and these bytes to the variables' buffer
+abbrev pub writes : Given → Text → Text → Answer
+writes h t w = record {
+  number = accepted;
+  place = 0;
+  outLength = length t;
+  used = length w;
+  out = over t (h .out);
+  vars = over w (h .vars);
+  work = cleared (h .work);
+}
+
+-- the same, all variables being as they were
+abbrev pub unchanged : Given → Text → Answer
+unchanged h t = record {
+  number = accepted;
+  place = 0;
+  outLength = length t;
+  used = h .used;
+  out = over t (h .out);
+  vars = h .vars;
+  work = cleared (h .work);
+}
+
+bytes-take : (n : ℕ) (t : Text) → Bytes t → Bytes (take n t)
+bytes-take zero t b i = omega arith
+bytes-take (suc n) [] b i = omega arith
+bytes-take (suc n) (c ∷ t) b zero = b 0
+bytes-take (suc n) (c ∷ t) b (suc i) = bytes-take n t (λ j. b (suc j)) i
+
+-- a buffer's own front, put over it, leaves it as it was
+over-front : (n : ℕ) (t : Text) → n ≤ length t → over (take n t) t ≡ t
+unfolding over
+over-front n t h = rw (length-take-le n t h) (take-append-drop n t)
+
+-- a quoted line that has room is written
+quoted-in : (l : Fields) (out : ℕ) → length (quotedLine l) ≤ lineLimit → length (quotedLine l) ≤ out → quotedIn out l ≡ doneAt (quotedLine l)
+unfolding quotedIn
+quoted-in l out short o = rw (le-leb (length (quotedLine l)) lineLimit short, le-leb (length (quotedLine l)) out o)
+
+-- fields of an image hold no zero byte
+fields-fine : (t : Text) (l : Fields) → fieldsOf t ≡ some l → Fine l
+fields-fine t l e = rw (fields-held t l e .0) at (texts-held-fine t (fields-held t l e .1 .table))
+
+module _ (h : Given) (r : Ready h) where
+  -- the variables that are given
+  abbrev given : Pairs
+  given = held (take (h .used) (h .vars))
+
+  given-image : image (flat given) ≡ take (h .used) (h .vars)
+  given-image = sym (table-canonical _ (take (h .used) (h .vars)) (vars-of (take (h .used) (h .vars)) (r .vars)) (bytes-take (h .used) (h .vars) (r .bytes)))
+
+  -- written again, they leave the buffer as it was
+  kept : (t : Text) → answered h (doneAt (t, given)) ≡ unchanged h t
+  unfolding answered
+  kept t = ap (writes h t) given-image ∙ rw (over-front (h .used) (h .vars) (r .used), length-take-le (h .used) (h .vars) (r .used))
+
+  -- the quoted line of fields without a zero byte, expanded
+  module _ (l : Fields) (f : Fine l) (e : h .line ≡ quotedLine l) (short : length (quotedLine l) ≤ lineLimit) where
+    line-returns : (out : ℕ) → imageLength l ≤ out → expanded h out ≡ doneAt (l, given)
+    unfolding expanded orRefused
+    line-returns out o =
+        rw (
+          le-leb workLeast (length (h .work)) (r .work),
+          le-leb (h .used) (length (h .vars)) (r .used),
+          variables-are (take (h .used) (h .vars)) (vars-of (take (h .used) (h .vars)) (r .vars)),
+          homes-are (h .homes) (homes-of (h .homes) (r .homes)),
+          paths-are (h .paths) (paths-of (h .paths) (r .paths)),
+          e,
+        )
+        (quoted-expands _ l given f short o)
+
+    expander-returns : length (image l) ≤ length (h .out) → expander h ≡ unchanged h (image l)
+    unfolding expander
+    expander-returns o = ap (λ p. answered h (p then λ r. doneAt (image (r .0), r .1))) (line-returns (length (h .out)) (rw (← length-image l) o)) ∙ kept (image l)
+
+    normaliser-returns : length (quotedLine l) ≤ length (h .out) → normaliser h ≡ unchanged h (quotedLine l)
+    unfolding normaliser
+    normaliser-returns o =
+        ap (λ p. answered h (p then λ r. quotedIn (length (h .out)) (r .0) then λ t. doneAt (t, r .1))) (line-returns imageLimit (omega (arith, quoted-image l)))
+        ∙ ap (λ q. answered h (q then λ t. doneAt (t, given))) (quoted-in l (length (h .out)) short o)
+        ∙ kept (quotedLine l)
+
+-- the fields' image quotes to their line
+quoter-returns : (l : Fields) (out : Text) → Fine l → length (quotedLine l) ≤ lineLimit → length (quotedLine l) ≤ length out
+    → quoter (image l) out ≡ quoting out (doneAt (quotedLine l))
+unfolding quoter orRefused
+quoter-returns l out f short o =
+    let k : imageLength l ≤ imageLimit = omega (arith, quoted-image l) in
+    rw (fields-are (image l) (fields-image l f k), heldTexts-image l f, quoted-in l (length out) short o)
+
+-- What comes back from calls on the quoted line of these fields, and on their image.
+pub record Returned (l : Fields) : Type 0 where
+  pub expands : (h : Given) → Ready h → h .line ≡ quotedLine l → length (image l) ≤ length (h .out) → expander h ≡ unchanged h (image l)
+  pub quotes : (out : Text) → length (quotedLine l) ≤ length out → quoter (image l) out ≡ quoting out (doneAt (quotedLine l))
+  pub normalises : (h : Given) → Ready h → h .line ≡ quotedLine l → length (quotedLine l) ≤ length (h .out) → normaliser h ≡ unchanged h (quotedLine l)
+
+pub returned : (l : Fields) → Fine l → length (quotedLine l) ≤ lineLimit → Returned l
+returned l f short = record {
+  expands = λ h r e o. expander-returns h r l f e short o;
+  quotes = λ out o. quoter-returns l out f short o;
+  normalises = λ h r e o. normaliser-returns h r l f e short o;
+}
+
+-- the bytes that a call wrote to its output
+abbrev pub output : Answer → Text
+output a = take (a .outLength) (a .out)
+
+-- what is written is the output
+pub output-writes : (h : Given) (t : Text) → output (unchanged h t) ≡ t
+unfolding over
+output-writes h t = take-append-seam t (drop (length t) (h .out))
+
+-- DEMAND 3: "Any accepted line's fields, written as a quoted line of at most 2,048 bytes, expand under any other well-formed tables to exactly those fields,
+-- change no variable, and quote to the same bytes."
+pub demand-3 : (g : Given) (l : Fields) → expander g .number ≡ accepted → fieldsOf (output (expander g)) ≡ some l → length (quotedLine l) ≤ lineLimit → Returned l
+demand-3 g l a e short = returned l (fields-fine (output (expander g)) l e) short

@@ -1,0 +1,81 @@
+-- What the laws on whole calls share: what holds of every element, of an outcome, and of a recursion on what is shorter. Assumes nothing.
+use Prim.Native.Nat.{ℕ, zero, suc, _<_, _≤_, _-_}
+use mathlib.Core.Path.{_≡_, refl}
+use mathlib.Core.Bool.{Bool, true, false}
+use mathlib.Core.List.{List, [], _∷_, _++_}
+use Rattle.stages.specs.Numbers.{workTooSmall, zeroByte, unended, outputRoom}
+use Rattle.stages.specs.Bytes.{between}
+use Rattle.stages.specs.Recur.{below, below-ok, fix, fix-eq, by-size}
+use Rattle.stages.specs.Outcome.{Outcome, refused, done, _>>=_, Placed, refusedAt, doneAt, at, _then_, require, pick, choose}
+
+-- what holds of every element of a list
+abbrev pub Each : {A : Type 0} → (A → Type 0) → List A → Type 0
+Each P [] = Unit {0}
+Each P (a ∷ l) = P a × Each P l
+
+pub each-append : {A : Type 0} (P : A → Type 0) (l m : List A) → Each P l → Each P m → Each P (l ++ m)
+each-append P [] m h k = k
+each-append P (a ∷ l) m h k = (h .0, each-append P l m (h .1) k)
+
+-- what a step makes of answers that P holds of, it holds of the whole recursion
+module _ {A R : Type 0} (size : A → ℕ) (stuck : R) (step : (A → R) → A → R) (P : A → R → Type 0)
+    (h : (a : A) (rec : A → R) → ((b : A) → size b < size a → P b (rec b)) → P a (step rec a)) where
+  pub by-fix : (a : A) → P a (fix size stuck step a)
+  by-fix a = by-size size (λ b. P b (fix size stuck step b)) one a
+    where
+      one : (a : A) → ((b : A) → size b < size a → P b (fix size stuck step b)) → P a (fix size stuck step a)
+      one a ih =
+          rw (fix-eq size stuck step a)
+          (h a (below size stuck (size a) (fix size stuck step)) (λ b l. rw (below-ok size stuck (size a) (fix size stuck step) b l) (ih b l)))
+
+-- the numbers from 7 on, with which reading and expanding refuse; 0, the answer of a recursion that is stuck, is none of them
+abbrev pub isFault : ℕ → Bool
+isFault n = between unended n outputRoom
+
+-- refused with one of these numbers, or done with what P holds of
+pub data Safe {A : Type 0} (P : A → Type 0) : Outcome A → Type 0 where
+  refuses : {n : ℕ} → isFault n ≡ true → Safe P (refused n)
+  gives : {a : A} → P a → Safe P (done a)
+
+pub safe-bind : {A B : Type 0} {P : A → Type 0} {Q : B → Type 0} {o : Outcome A} (f : A → Outcome B) → Safe P o → ((a : A) → P a → Safe Q (f a)) → Safe Q (o >>= f)
+safe-bind f (refuses e) h = refuses e
+safe-bind f (gives {a = a} p) h = h a p
+
+pub safe-weaker : {A : Type 0} {P Q : A → Type 0} {o : Outcome A} → ((a : A) → P a → Q a) → Safe P o → Safe Q o
+safe-weaker f (refuses e) = refuses e
+safe-weaker f (gives {a = a} p) = gives (f a p)
+
+-- one of two outcomes that are safe, the first where its test passes
+pub safe-where : {A : Type 0} {P : A → Type 0} (x : Bool) (f g : Unit {0} → Outcome A) → (x ≡ true → Safe P (f tt)) → Safe P (g tt) → Safe P (choose x f g)
+unfolding choose
+safe-where true f g p q = p refl
+safe-where false f g p q = q
+
+pub safe-choose : {A : Type 0} {P : A → Type 0} (x : Bool) (f g : Unit {0} → Outcome A) → Safe P (f tt) → Safe P (g tt) → Safe P (choose x f g)
+safe-choose x f g p q = safe-where x f g (λ e. p) q
+
+-- the numbers 1 to 6, of what is looked at before the line is read
+abbrev pub isEarly : ℕ → Bool
+isEarly n = between workTooSmall n zeroByte
+
+-- the same for a line of so many bytes: 1 to 6 at place 0, or one of the other numbers at the place of a byte of the line, or at 0
+pub data SafeAt {A : Type 0} (size : ℕ) (P : A → Type 0) : Placed A → Type 0 where
+  early : {n : ℕ} → isEarly n ≡ true → SafeAt size P (refusedAt n 0)
+  refusesAt : {n place : ℕ} → isFault n ≡ true → place ≤ size - 1 → SafeAt size P (refusedAt n place)
+  givesAt : {a : A} → P a → SafeAt size P (doneAt a)
+
+module _ {A B : Type 0} {size : ℕ} {P : A → Type 0} {Q : B → Type 0} where
+  pub safe-then : {o : Placed A} (f : A → Placed B) → SafeAt size P o → ((a : A) → P a → SafeAt size Q (f a)) → SafeAt size Q (o then f)
+  safe-then f (early e) h = early e
+  safe-then f (refusesAt e l) h = refusesAt e l
+  safe-then f (givesAt {a = a} p) h = h a p
+
+pub safe-at : {A : Type 0} {size : ℕ} {P : A → Type 0} {o : Outcome A} (place : ℕ) → place ≤ size - 1 → Safe P o → SafeAt size P (at place o)
+safe-at place l (refuses e) = refusesAt e l
+safe-at place l (gives p) = givesAt p
+
+-- a test that passes or refuses
+pub safe-require : {size : ℕ} (x : Bool) (n place : ℕ) → SafeAt size (λ (u : Unit {0}). Unit {0}) (refusedAt n place) → SafeAt size (λ u. x ≡ true) (require x n place)
+safe-require true n place h = givesAt refl
+safe-require false n place (early e) = early e
+safe-require false n place (refusesAt e l) = refusesAt e l
