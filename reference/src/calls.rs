@@ -142,6 +142,7 @@ impl Given<'_> {
         let mut expander = Expander {
             variables: Variables::new(variables, self.variables.len().min(limits::IMAGE)),
             homes: &homes,
+            most_stars: 0,
         };
         let out = expand_words(&words, &mut expander, &paths, out_length)?;
         let variables = expander.variables.image();

@@ -78,8 +78,8 @@ impl Call {
         lent(&words[1..]).map(|lent| Call::Lines(job, lent))
     }
 
-    /// The number the call gives, and the words behind the `=`, or what was wrong in a buffer.
-    pub fn answer(&self) -> Result<(u8, String), String> {
+    /// The answer of the call and its words behind the `=`, or what was wrong in a buffer.
+    pub fn answer(&self) -> Result<(Answer, String), String> {
         match self {
             Call::Lines(job, lent) => lines_answer(*job, lent),
             Call::Quote { fields, out } => {
@@ -87,16 +87,16 @@ impl Call {
                 let answer = quote(fields, &mut buffer);
                 check_behind(&buffer, answer.length, &vec![OUT_FILL; *out])?;
                 let out = hex::write(&buffer[..answer.length]);
-                Ok((answer.number, head(&answer, &out)))
+                Ok((answer, head(&answer, &out)))
             }
         }
     }
 }
 
 /// The case as a line of text with the answer, or what was wrong in a buffer.
-pub fn case(call: &Call) -> Result<(u8, String), String> {
-    let (number, answer) = call.answer()?;
-    Ok((number, format!("{} = {answer}", call.words())))
+pub fn case(call: &Call) -> Result<String, String> {
+    let (_, words) = call.answer()?;
+    Ok(format!("{} = {words}", call.words()))
 }
 
 /// Whether a line of a case file holds; what differs otherwise.
@@ -126,7 +126,7 @@ fn lent(words: &[&str]) -> Option<Lent> {
     })
 }
 
-fn lines_answer(job: Job, lent: &Lent) -> Result<(u8, String), String> {
+fn lines_answer(job: Job, lent: &Lent) -> Result<(Answer, String), String> {
     let mut variables = lent.variables.clone();
     variables.resize(lent.variables_buffer, VARIABLES_FILL);
     let given = variables.clone();
@@ -155,7 +155,7 @@ fn lines_answer(job: Job, lent: &Lent) -> Result<(u8, String), String> {
     let out = hex::write(&out[..answer.length]);
     let variables = hex::write(&variables[..changed]);
     let head = head(&answer, &out);
-    Ok((answer.number, format!("{head} {} {variables}", answer.used)))
+    Ok((answer, format!("{head} {} {variables}", answer.used)))
 }
 
 fn head(answer: &Answer, out: &str) -> String {

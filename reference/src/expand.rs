@@ -13,6 +13,8 @@ use crate::variables::Variables;
 pub struct Expander<'a> {
     pub variables: Variables,
     pub homes: &'a [Pair],
+    /// The most stars a removal's pattern has had; it decides nothing here, but lets a generator keep cases cheap.
+    pub most_stars: usize,
 }
 
 impl Expander<'_> {
@@ -85,6 +87,7 @@ impl Expander<'_> {
             } => {
                 let operand = self.row(operand)?;
                 let pattern = pattern::read(operand.units(), Purpose::Removal)?;
+                self.most_stars = self.most_stars.max(pattern::stars(&pattern));
                 let value = self.value(name);
                 Ok(marked(remaining(&pattern, value, *end, *extent), mark))
             }

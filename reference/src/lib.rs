@@ -6,6 +6,7 @@ pub mod case;
 mod constant;
 mod dollar;
 mod expand;
+pub mod generate;
 mod hex;
 pub mod image;
 pub mod limits;

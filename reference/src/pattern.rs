@@ -54,6 +54,12 @@ pub fn read(units: &[Unit], purpose: Purpose) -> Result<Vec<Element>, Number> {
     Ok(elements)
 }
 
+/// How many stars the pattern has.
+pub fn stars(pattern: &[Element]) -> usize {
+    let star = |element: &&Element| **element == Element::Any;
+    pattern.iter().filter(star).count()
+}
+
 fn sign(unit: &Unit) -> Option<Sign> {
     match *unit {
         Unit::Byte(byte, mark) => Some(Sign {

@@ -3,6 +3,7 @@
 mod arithmetic;
 mod calls;
 mod expansion;
+mod generator;
 mod patterns;
 mod program;
 mod reading;
