@@ -16,6 +16,7 @@ mod pattern;
 pub mod program;
 mod read;
 mod row;
+pub mod shells;
 mod split;
 mod tree;
 mod variables;
