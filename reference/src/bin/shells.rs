@@ -1,0 +1,95 @@
+//! Compares the reference with dash and bash on lines where document 01 and POSIX agree.
+
+use std::process::ExitCode;
+
+use reference::generate::random::Random;
+use reference::shells::{lines, reference, Folder, Outcome, Shell, Table};
+
+fn main() -> ExitCode {
+    let words: Vec<String> = std::env::args().skip(1).collect();
+    let [seed, count] = &words[..] else {
+        return usage();
+    };
+    let (Ok(seed), Ok(count)) = (seed.parse(), count.parse()) else {
+        return usage();
+    };
+    let missing: Vec<&str> = Shell::ALL
+        .into_iter()
+        .filter(|shell| !shell.is_installed())
+        .map(Shell::name)
+        .collect();
+    if !missing.is_empty() {
+        eprintln!(
+            "not installed, so nothing is compared: {}",
+            missing.join(", ")
+        );
+        return ExitCode::FAILURE;
+    }
+    match compare(seed, count) {
+        Ok(0) => ExitCode::SUCCESS,
+        Ok(_) => ExitCode::FAILURE,
+        Err(error) => {
+            eprintln!("shells: {error}");
+            ExitCode::FAILURE
+        }
+    }
+}
+
+fn usage() -> ExitCode {
+    eprintln!("usage: shells SEED COUNT");
+    ExitCode::FAILURE
+}
+
+/// Compares so many accepted lines and says how many differ.
+fn compare(seed: u64, count: usize) -> std::io::Result<usize> {
+    let folder = Folder::new()?;
+    let (mut compared, mut differ, mut case) = (0, 0, 0);
+    while compared < count {
+        let random = &mut Random::new(seed, case);
+        case += 1;
+        let variables = lines::variables(random);
+        let line = lines::line(random);
+        let wanted = match reference(&line, &variables) {
+            Ok(wanted) if lines::stays_in_table(&wanted) => wanted,
+            _ => continue,
+        };
+        compared += 1;
+        for shell in Shell::ALL {
+            let given = shell.outcome(&folder, &line, &variables)?;
+            if given.as_ref() != Some(&wanted) {
+                differ += 1;
+                report(shell, &line, &variables, &wanted, given.as_ref());
+            }
+        }
+    }
+    println!("{compared} lines, {differ} differ");
+    Ok(differ)
+}
+
+fn report(shell: Shell, line: &[u8], before: &Table, wanted: &Outcome, given: Option<&Outcome>) {
+    println!("{}: {}", shell.name(), line.escape_ascii());
+    println!("  variables {}", shown(before));
+    println!(
+        "  reference {} {}",
+        fields(wanted),
+        shown(&wanted.variables)
+    );
+    match given {
+        Some(given) => println!("  shell     {} {}", fields(given), shown(&given.variables)),
+        None => println!("  shell     fails"),
+    }
+}
+
+fn fields(outcome: &Outcome) -> String {
+    let fields = outcome.fields.iter();
+    fields
+        .map(|field| format!("<{}>", field.escape_ascii()))
+        .collect()
+}
+
+fn shown(table: &Table) -> String {
+    let pair = |(name, value): (&Vec<u8>, &Vec<u8>)| {
+        format!("{}={} ", name.escape_ascii(), value.escape_ascii())
+    };
+    table.iter().map(pair).collect()
+}

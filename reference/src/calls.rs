@@ -1,0 +1,229 @@
+//! The three calls of document 01 over lent buffers. Each works on copies; buffers are written once it is accepted.
+
+use crate::expand::Expander;
+use crate::image;
+use crate::limits;
+use crate::matching::matches_path;
+use crate::number::{Number, Refusal, ACCEPTED};
+use crate::pattern::{self, Element, Purpose};
+use crate::read::read;
+use crate::row::{bytes, Unit};
+use crate::split::split;
+use crate::tree::Word;
+use crate::variables::Variables;
+
+/// What a call gives back; the quoter's used length is always 0, as it has no variables.
+#[derive(Clone, Copy, Debug, PartialEq, Eq)]
+pub struct Answer {
+    pub number: u8,
+    pub place: usize,
+    pub length: usize,
+    pub used: usize,
+}
+
+/// What the expander and the normaliser read; the variables are the whole buffer.
+struct Given<'a> {
+    line: &'a [u8],
+    variables: &'a [u8],
+    used: usize,
+    homes: &'a [u8],
+    paths: &'a [u8],
+    work: usize,
+}
+
+/// What an accepted call writes.
+struct Written {
+    out: Vec<u8>,
+    variables: Vec<u8>,
+}
+
+/// The expander: a line into an image of fields.
+pub fn expand(
+    line: &[u8],
+    variables: &mut [u8],
+    used: usize,
+    homes: &[u8],
+    paths: &[u8],
+    work: &mut [u8],
+    out: &mut [u8],
+) -> Answer {
+    work.fill(0);
+    let given = Given {
+        line,
+        variables,
+        used,
+        homes,
+        paths,
+        work: work.len(),
+    };
+    let written = given.expand(out.len());
+    answer(written, variables, used, out)
+}
+
+/// The normaliser: a line into a quoted line.
+pub fn normalise(
+    line: &[u8],
+    variables: &mut [u8],
+    used: usize,
+    homes: &[u8],
+    paths: &[u8],
+    work: &mut [u8],
+    out: &mut [u8],
+) -> Answer {
+    work.fill(0);
+    let given = Given {
+        line,
+        variables,
+        used,
+        homes,
+        paths,
+        work: work.len(),
+    };
+    let written = given.expand(limits::IMAGE).and_then(|written| {
+        let out = quoted(&written.out, out.len())?;
+        Ok(Written { out, ..written })
+    });
+    answer(written, variables, used, out)
+}
+
+/// The quoter: an image of fields into a quoted line.
+pub fn quote(fields: &[u8], out: &mut [u8]) -> Answer {
+    let written = quoted(fields, out.len()).map(|line| Written {
+        out: line,
+        variables: Vec::new(),
+    });
+    answer(written, &mut [], 0, out)
+}
+
+/// Writes what was accepted over the beginnings of the buffers, or leaves them as they are.
+fn answer(
+    written: Result<Written, Refusal>,
+    variables: &mut [u8],
+    used: usize,
+    out: &mut [u8],
+) -> Answer {
+    match written {
+        Ok(written) => {
+            out[..written.out.len()].copy_from_slice(&written.out);
+            variables[..written.variables.len()].copy_from_slice(&written.variables);
+            Answer {
+                number: ACCEPTED,
+                place: 0,
+                length: written.out.len(),
+                used: written.variables.len(),
+            }
+        }
+        Err(refusal) => Answer {
+            number: refusal.number as u8,
+            place: refusal.place,
+            length: 0,
+            used,
+        },
+    }
+}
+
+impl Given<'_> {
+    /// The numbers 1 to 6 in order, then reading, then the words from left to right.
+    fn expand(&self, out_length: usize) -> Result<Written, Refusal> {
+        if self.work < limits::WORK_AREA {
+            return Err(Number::WorkArea.at(0));
+        }
+        let variables = self.variables.get(..self.used).and_then(image::variables);
+        let variables = variables.ok_or(Number::Variables.at(0))?;
+        let homes = image::homes(self.homes).ok_or(Number::Homes.at(0))?;
+        let paths = image::paths(self.paths).ok_or(Number::Paths.at(0))?;
+        if self.line.len() > limits::LINE {
+            return Err(Number::LineTooLong.at(0));
+        }
+        if self.line.contains(&0) {
+            return Err(Number::ZeroByte.at(0));
+        }
+        let words = read(self.line)?;
+        let mut expander = Expander {
+            variables: Variables::new(variables, self.variables.len().min(limits::IMAGE)),
+            homes: &homes,
+            most_stars: 0,
+        };
+        let out = expand_words(&words, &mut expander, &paths, out_length)?;
+        let variables = expander.variables.image();
+        Ok(Written { out, variables })
+    }
+}
+
+/// The image of all fields, or the first word's fault.
+fn expand_words(
+    words: &[Word],
+    expander: &mut Expander,
+    paths: &[Vec<u8>],
+    out_length: usize,
+) -> Result<Vec<u8>, Refusal> {
+    let room = out_length.min(limits::IMAGE);
+    let mut out = image::empty();
+    if out.len() > room {
+        return Err(Number::NoRoomForOutput.at(0));
+    }
+    for word in words {
+        let fields = expand_word(word, expander, paths);
+        for field in fields.map_err(|number| number.at(word.place))? {
+            image::add_text(&mut out, &field);
+        }
+        if out.len() > room {
+            return Err(Number::NoRoomForOutput.at(word.place));
+        }
+    }
+    Ok(out)
+}
+
+/// The fields of one word; every field is checked for 19 before any goes to the output.
+fn expand_word(
+    word: &Word,
+    expander: &mut Expander,
+    paths: &[Vec<u8>],
+) -> Result<Vec<Vec<u8>>, Number> {
+    let row = expander.row(&word.parts)?;
+    let mut fields = Vec::new();
+    for field in split(row.units(), expander.variables.value(b"IFS")) {
+        fields.extend(found(field, paths)?);
+    }
+    Ok(fields)
+}
+
+/// All matching paths in order, or the field's own bytes if it has nothing active or nothing matches.
+fn found(field: &[Unit], paths: &[Vec<u8>]) -> Result<Vec<Vec<u8>>, Number> {
+    let pattern = pattern::read(field, Purpose::Paths)?;
+    let mut found: Vec<Vec<u8>> = Vec::new();
+    if pattern
+        .iter()
+        .any(|element| !matches!(element, Element::Byte(_)))
+    {
+        let matching = paths.iter().filter(|path| matches_path(&pattern, path));
+        found.extend(matching.cloned());
+    }
+    if found.is_empty() {
+        found.push(bytes(field));
+    }
+    Ok(found)
+}
+
+/// The quoted line of an image of fields.
+fn quoted(fields: &[u8], out_length: usize) -> Result<Vec<u8>, Refusal> {
+    let fields = image::fields(fields).ok_or(Number::Fields.at(0))?;
+    let fields: Vec<Vec<u8>> = fields.iter().map(|field| quoted_field(field)).collect();
+    let line = fields.join(&b' ');
+    if line.len() > out_length.min(limits::LINE) {
+        return Err(Number::NoRoomForOutput.at(0));
+    }
+    Ok(line)
+}
+
+fn quoted_field(field: &[u8]) -> Vec<u8> {
+    let mut quoted = vec![b'\''];
+    for &byte in field {
+        match byte {
+            b'\'' => quoted.extend_from_slice(b"'\\''"),
+            _ => quoted.push(byte),
+        }
+    }
+    quoted.push(b'\'');
+    quoted
+}

@@ -1,0 +1,155 @@
+//! Cases made from a seed: lines and tables of every kind, to be answered by the reference and by what is held against it.
+
+mod damage;
+mod expression;
+pub mod grammar;
+pub mod random;
+mod sizes;
+mod stars;
+pub mod tables;
+pub mod tally;
+
+use self::random::Random;
+use self::tables::Kind;
+use crate::calls::Answer;
+use crate::case::{Call, Job, Lent};
+use crate::image::of_texts;
+use crate::limits;
+
+const MOST_STARS: usize = 3;
+
+/// The call of this case; the same for the same seed and case.
+pub fn call(seed: u64, case: u64) -> Call {
+    let random = &mut Random::new(seed, case);
+    let call = match random.below(100) {
+        0..=2 => sizes::call(random),
+        3..=8 => quote(random),
+        9..=12 => malformed(random),
+        13..=17 => storing(random),
+        _ => lines(random),
+    };
+    match call {
+        Call::Lines(job, mut lent) => {
+            stars::thin(&mut lent, MOST_STARS);
+            tighten(random, job, &mut lent);
+            Call::Lines(job, lent)
+        }
+        quote => quote,
+    }
+}
+
+/// Good tables, an empty line and room for everything.
+pub fn ordinary(random: &mut Random) -> Lent {
+    let variables = tables::image(&tables::variables(random));
+    Lent {
+        line: Vec::new(),
+        used: variables.len(),
+        variables_buffer: variables.len() + 200,
+        variables,
+        homes: tables::image(&tables::homes(random)),
+        paths: of_texts(&tables::paths(random)),
+        work: limits::WORK_AREA,
+        out: limits::IMAGE,
+    }
+}
+
+fn job(random: &mut Random) -> Job {
+    *random.pick(&[Job::Expand, Job::Expand, Job::Normalise])
+}
+
+fn lines(random: &mut Random) -> Call {
+    let mut lent = ordinary(random);
+    lent.line = match random.below(20) {
+        0..=1 => damage::damaged(random),
+        2 => damage::random_bytes(random),
+        3..=4 => [b"$((".to_vec(), expression::text(random, 0), b"))".to_vec()].concat(),
+        _ => grammar::line(random),
+    };
+    if random.once_in(60) && !lent.line.is_empty() {
+        let at = random.below(lent.line.len());
+        lent.line[at] = 0;
+    }
+    if random.once_in(80) {
+        lent.work = *random.pick(&[0, 1, 8_192, 65_535, 65_535]);
+    } else if random.once_in(40) {
+        lent.work = *random.pick(&[65_537, 70_000]);
+    }
+    Call::Lines(job(random), lent)
+}
+
+fn storing(random: &mut Random) -> Call {
+    let mut lent = ordinary(random);
+    lent.line = damage::storing(random);
+    lent.variables_buffer = lent.variables.len() + random.below(60);
+    Call::Lines(job(random), lent)
+}
+
+/// One table malformed, or now and then several.
+fn malformed(random: &mut Random) -> Call {
+    let mut lent = ordinary(random);
+    lent.line = grammar::line(random);
+    let which = random.below(7);
+    if matches!(which, 0 | 3) {
+        lent.variables = tables::malformed(random, Kind::Pairs);
+        lent.used = lent.variables.len();
+        lent.variables_buffer = lent.used + random.below(30);
+    }
+    if matches!(which, 1 | 3 | 4) {
+        lent.homes = tables::malformed(random, Kind::Pairs);
+    }
+    if matches!(which, 2 | 4) {
+        lent.paths = tables::malformed(random, Kind::Paths);
+    }
+    if which > 4 {
+        lent.used = wrong_used(random, &lent);
+    }
+    Call::Lines(job(random), lent)
+}
+
+/// A used length that is not the image's, mostly beyond the buffer.
+fn wrong_used(random: &mut Random, lent: &Lent) -> usize {
+    match random.below(6) {
+        0 => 0,
+        1 => random.below(lent.variables.len() + 1),
+        2 => lent.variables.len() + 1,
+        3 => lent.variables_buffer + 1,
+        4 => usize::MAX,
+        _ => lent.variables_buffer + random.below(9_000),
+    }
+}
+
+/// Sometimes gives just the room the call needs, one byte less or more, or hardly any.
+fn tighten(random: &mut Random, job: Job, lent: &mut Lent) {
+    if random.once_in(5) {
+        lent.out = match random.below(3) {
+            0 => random.below(12),
+            _ => about(random, answered(job, lent).length),
+        };
+    }
+    if random.once_in(8) && lent.used <= lent.variables_buffer {
+        let needed = about(random, answered(job, lent).used);
+        lent.variables_buffer = needed.max(lent.variables.len());
+    }
+}
+
+fn about(random: &mut Random, length: usize) -> usize {
+    (length + random.below(3)).saturating_sub(1)
+}
+
+/// What the call answers as it stands.
+fn answered(job: Job, lent: &Lent) -> Answer {
+    let answered = Call::Lines(job, lent.clone()).answer();
+    answered.expect("buffers kept as promised").0
+}
+
+fn quote(random: &mut Random) -> Call {
+    let fields = if random.once_in(8) {
+        tables::malformed(random, Kind::Fields)
+    } else {
+        let count = random.below(5);
+        let fields: Vec<Vec<u8>> = (0..count).map(|_| tables::value(random)).collect();
+        of_texts(&fields)
+    };
+    let out = *random.pick(&[0, 1, 2, 5, 9, 20, 40, 100, 2_048, 8_192]);
+    Call::Quote { fields, out }
+}

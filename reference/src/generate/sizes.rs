@@ -1,0 +1,170 @@
+//! Cases about the limits: lines and rows of 2,047 to 2,049, images of 8,191 to 8,193, paths of 32,768 and one more.
+
+use super::ordinary;
+use super::random::Random;
+use super::tables::{filled, image, Kind, Table};
+use crate::case::{Call, Job, Lent};
+use crate::image::of_texts;
+use crate::limits;
+
+pub fn call(random: &mut Random) -> Call {
+    let mut lent = ordinary(random);
+    match random.below(24) {
+        0..=5 => lent.line = line(random),
+        6..=13 => row(random, &mut lent),
+        14..=15 => variables(random, &mut lent),
+        16 => lent.homes = filled(Kind::Pairs, about(random, limits::IMAGE)),
+        17..=18 => output(random, &mut lent),
+        19 => store(random, &mut lent),
+        20..=21 => return quoter(random),
+        22 => quoted(random, &mut lent),
+        _ => paths(random, &mut lent),
+    }
+    let job = *random.pick(&[Job::Expand, Job::Expand, Job::Normalise]);
+    Call::Lines(job, lent)
+}
+
+/// The limit, one less or one more.
+fn about(random: &mut Random, limit: usize) -> usize {
+    random.between(limit - 1, limit + 1)
+}
+
+/// A line of bytes about the limit.
+fn line(random: &mut Random) -> Vec<u8> {
+    let length = about(random, limits::LINE);
+    let (open, fill, close) = *random.pick(&[
+        ("", "x", ""),
+        ("", " ", ""),
+        ("'", "x", "'"),
+        ("\"", "x", "\""),
+        ("${e+", "x", "}"),
+        ("", "''", ""),
+        ("", "$u", ""),
+        ("$((1", " ", "))"),
+        ("a ", "\\x", ""),
+        ("'", "x", ""),
+        ("~", "a", "/"),
+    ]);
+    let mut line = open.as_bytes().to_vec();
+    while line.len() + close.len() < length {
+        line.extend_from_slice(fill.as_bytes());
+    }
+    line.extend_from_slice(close.as_bytes());
+    line
+}
+
+/// A value of a length about the limit, and lines that make rows of it.
+fn row(random: &mut Random, lent: &mut Lent) {
+    let length = random.between(limits::ROW - 2, limits::ROW + 1);
+    let fill = *random.pick(b"xxx :1");
+    let mut table = Table::from([(b"e".to_vec(), vec![]), (b"v".to_vec(), vec![fill; length])]);
+    lent.line = random.text(&[
+        "$v",
+        "\"$v\"",
+        "a$v",
+        "$v$e",
+        "$v''",
+        "$v\"\"",
+        "$v\\a",
+        "a ${u-$v}",
+        "${u-\"$v\"}",
+        "${u=$v}$u",
+        "${u=${v}a}",
+        "${v%x}$e",
+        "$v${v%%x*}",
+        "x$v${v##*}",
+        "$(( 1$v ))",
+        "$((0$v))",
+        "$v$((1/0))",
+        "$v${u?}",
+        "${#v}$v",
+        "${v+a$v}",
+        "\"${u:-$v}\"a",
+        "${e:=a}$v",
+        "${v#${v}}a",
+        "${v%%\"$v\"}a",
+    ]);
+    if random.once_in(6) {
+        let value = table.remove(b"v".as_slice()).unwrap_or_default();
+        table.insert(b"HOME".to_vec(), value);
+        lent.line = random.text(&["~", "~/", "a ~", "~ b"]);
+    }
+    given(lent, image(&table));
+}
+
+/// Lends an image of variables in a buffer with room for more.
+fn given(lent: &mut Lent, image: Vec<u8>) {
+    lent.used = image.len();
+    lent.variables_buffer = image.len().max(limits::IMAGE);
+    lent.variables = image;
+}
+
+/// An image of variables about the limit, in a buffer just as long or longer.
+fn variables(random: &mut Random, lent: &mut Lent) {
+    let length = about(random, limits::IMAGE);
+    given(lent, filled(Kind::Pairs, length));
+    lent.variables_buffer = length + random.pick(&[0, 0, 1, 900]);
+    lent.line = random.text(&["${#f}", "a", "${f%x}", "${u=}", "|", ""]);
+}
+
+/// Fields whose image is about the limit, and an output that has room for it or just about.
+fn output(random: &mut Random, lent: &mut Lent) {
+    let length = about(random, limits::IMAGE);
+    let value = 1_000;
+    given(
+        lent,
+        image(&Table::from([(b"v".to_vec(), vec![b'x'; value])])),
+    );
+    let last = length - 1 - 8 * (value + 2) - 2;
+    lent.line = [b"$v ".repeat(8), vec![b'y'; last]].concat();
+    lent.out = *random.pick(&[8_191, 8_192, 8_193, 9_000]);
+}
+
+/// A store that makes the variables' image about its limit or its buffer's.
+fn store(random: &mut Random, lent: &mut Lent) {
+    let table = filled(Kind::Pairs, limits::IMAGE - 20);
+    given(lent, table);
+    lent.variables_buffer = *random.pick(&[8_191, 8_192, 8_193, 9_000]);
+    lent.line = format!("a ${{u={}}}", "x".repeat(random.between(13, 16))).into_bytes();
+}
+
+/// Fields whose quoted line is about its limit, or an image of fields about its own.
+fn quoter(random: &mut Random) -> Call {
+    let out = *random.pick(&[2_047, 2_048, 2_049, 9_000, 0]);
+    let length = about(random, limits::LINE);
+    let fields = match random.below(4) {
+        0 => of_texts(&["x".repeat(length - 2)]),
+        1 => of_texts(&["'".to_string(), "x".repeat(length - 9)]),
+        2 => of_texts(&vec![""; length / 3 + 1]),
+        _ => filled(Kind::Fields, about(random, limits::IMAGE)),
+    };
+    Call::Quote { fields, out }
+}
+
+/// One field whose quoted line is about the limit.
+fn quoted(random: &mut Random, lent: &mut Lent) {
+    let length = about(random, limits::LINE) - 2;
+    let table = Table::from([(b"v".to_vec(), vec![b'x'; length - 1])]);
+    given(lent, image(&table));
+    lent.line = random.text(&["$v\\y", "${v}z", "\"$v\"y", "${w=}$v\\y"]);
+    lent.out = *random.pick(&[2_047, 2_048, 2_049, 9_000]);
+}
+
+/// Paths whose image is 32,768 bytes or one more: one long path, or many of one byte more each.
+fn paths(random: &mut Random, lent: &mut Lent) {
+    let length = limits::PATHS_IMAGE + random.below(2);
+    lent.paths = if random.once_in(2) {
+        filled(Kind::Paths, length)
+    } else {
+        many_paths(length)
+    };
+    lent.line = random.text(&["a*", "*", "[x]?*", "x*y", "q", "0?", "00[0-3]?"]);
+}
+
+/// Paths of four bytes counting up, then one that fills the image.
+fn many_paths(length: usize) -> Vec<u8> {
+    let mut paths: Vec<String> = (0..5_000).map(|number| format!("{number:04}")).collect();
+    let rest = length - 1 - 6 * paths.len() - 2;
+    paths.push("x".repeat(rest));
+    of_texts(&paths)
+}

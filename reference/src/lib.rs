@@ -1,0 +1,24 @@
+//! The independent program Drunquill's word expander is held against: document 01 in plain Rust, as simply as it can be said.
+
+mod arithmetic;
+mod calls;
+pub mod case;
+mod constant;
+mod dollar;
+mod expand;
+pub mod generate;
+mod hex;
+pub mod image;
+pub mod limits;
+mod matching;
+pub mod number;
+mod pattern;
+pub mod program;
+mod read;
+mod row;
+pub mod shells;
+mod split;
+mod tree;
+mod variables;
+
+pub use calls::{expand, normalise, quote, Answer};

@@ -1,0 +1,50 @@
+//! The numbers of document 01's table, each with its name, and the refusal that pairs one with a place.
+
+/// Why a call is refused. The discriminant is the number document 01 gives.
+#[derive(Clone, Copy, Debug, PartialEq, Eq)]
+#[repr(u8)]
+pub enum Number {
+    WorkArea = 1,
+    Variables = 2,
+    Homes = 3,
+    Paths = 4,
+    LineTooLong = 5,
+    ZeroByte = 6,
+    LineEnds = 7,
+    Operator = 8,
+    CommandSubstitution = 9,
+    NotServed = 10,
+    Syntax = 11,
+    TooDeep = 12,
+    Missing = 13,
+    TooManyUnits = 14,
+    NotANumber = 15,
+    ArithmeticSyntax = 16,
+    Overflow = 17,
+    ZeroDivisor = 18,
+    BracketClass = 19,
+    NoRoomForVariable = 20,
+    NoRoomForOutput = 21,
+    Fields = 22,
+}
+
+/// The number of an accepted call, and the last number of the table.
+pub const ACCEPTED: u8 = 0;
+pub const LAST_NUMBER: u8 = Number::Fields as u8;
+
+/// A number and the place it was met at.
+#[derive(Clone, Copy, Debug, PartialEq, Eq)]
+pub struct Refusal {
+    pub number: Number,
+    pub place: usize,
+}
+
+impl Number {
+    /// The refusal of this number at a word's place.
+    pub fn at(self, place: usize) -> Refusal {
+        Refusal {
+            number: self,
+            place,
+        }
+    }
+}

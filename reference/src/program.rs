@@ -1,0 +1,77 @@
+//! The program of document 01: tables from a folder, lines from a reader, one answer to a line.
+
+use std::fs;
+use std::io::{self, BufRead, ErrorKind, Write};
+use std::path::Path;
+
+use crate::calls::{normalise, Answer};
+use crate::image;
+use crate::limits;
+use crate::number::ACCEPTED;
+
+/// The tables of a folder, and the variables as the lines so far have left them.
+struct Program {
+    variables: Vec<u8>,
+    used: usize,
+    homes: Vec<u8>,
+    paths: Vec<u8>,
+}
+
+/// Answers every line; a table that is there and cannot be read is an error before any answer.
+pub fn run(folder: &Path, mut lines: impl BufRead, mut out: impl Write) -> io::Result<()> {
+    let mut program = Program::new(folder)?;
+    let mut line = Vec::new();
+    while lines.read_until(b'\n', &mut line)? > 0 {
+        out.write_all(&program.answer(line.strip_suffix(b"\n").unwrap_or(&line)))?;
+        out.flush()?;
+        line.clear();
+    }
+    Ok(())
+}
+
+impl Program {
+    fn new(folder: &Path) -> io::Result<Self> {
+        let mut variables = table(folder, "vars.tab")?;
+        let used = variables.len();
+        variables.resize(limits::IMAGE, 0);
+        Ok(Program {
+            variables,
+            used,
+            homes: table(folder, "homes.tab")?,
+            paths: table(folder, "paths.tab")?,
+        })
+    }
+
+    fn answer(&mut self, line: &[u8]) -> Vec<u8> {
+        let mut out = vec![0; limits::IMAGE];
+        let answer = normalise(
+            line,
+            &mut self.variables,
+            self.used,
+            &self.homes,
+            &self.paths,
+            &mut vec![0; limits::WORK_AREA],
+            &mut out,
+        );
+        self.used = answer.used;
+        out.truncate(answer.length);
+        said(&answer, &out)
+    }
+}
+
+/// The answer as the program writes it.
+fn said(answer: &Answer, line: &[u8]) -> Vec<u8> {
+    if answer.number == ACCEPTED {
+        return [b"ok ", line, b"\n"].concat();
+    }
+    format!("no {} {}\n", answer.number, answer.place).into_bytes()
+}
+
+/// A table's file, or no records if it is absent.
+fn table(folder: &Path, name: &str) -> io::Result<Vec<u8>> {
+    match fs::read(folder.join(name)) {
+        Err(error) if error.kind() == ErrorKind::NotFound => Ok(image::empty()),
+        Err(error) => Err(io::Error::new(error.kind(), format!("{name}: {error}"))),
+        Ok(image) => Ok(image),
+    }
+}

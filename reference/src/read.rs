@@ -1,0 +1,233 @@
+//! Reading a line: one function for each kind of text (bare, double-quoted, arithmetic), each up to its own end.
+//! All of them read the same `$` (see `dollar`); a place is added once, where the word is known.
+
+use crate::image::is_login_byte;
+use crate::limits;
+use crate::number::{Number, Refusal};
+use crate::tree::{Part, Word};
+
+/// Where a text stands; an expansion in it is read and marked by that.
+#[derive(Clone, Copy, Debug, PartialEq, Eq)]
+pub enum Setting {
+    Bare,
+    Double,
+    Arithmetic,
+}
+
+/// Where a bare text ends.
+#[derive(Clone, Copy, PartialEq, Eq)]
+pub enum BareEnd {
+    /// Before a separator or at the line's end.
+    Word,
+    /// At `}`.
+    Operand,
+}
+
+/// Where a double-quoted text ends.
+#[derive(Clone, Copy, PartialEq, Eq)]
+pub enum DoubleEnd {
+    Quote = b'"' as isize,
+    Operand = b'}' as isize,
+}
+
+/// A line, how far it has been read, and how many expansions are open.
+pub struct Reader<'a> {
+    pub(crate) line: &'a [u8],
+    pub(crate) at: usize,
+    pub(crate) open: usize,
+}
+
+/// All words of the line, or the first fault met from the left.
+pub fn read(line: &[u8]) -> Result<Vec<Word>, Refusal> {
+    let mut reader = Reader {
+        line,
+        at: 0,
+        open: 0,
+    };
+    let mut words = Vec::new();
+    while let Some(byte) = reader.peek(0) {
+        if is_separator(byte) {
+            reader.at += 1;
+            continue;
+        }
+        let place = reader.at;
+        let parts = reader.word().map_err(|number| number.at(place))?;
+        words.push(Word { place, parts });
+    }
+    Ok(words)
+}
+
+fn is_separator(byte: u8) -> bool {
+    matches!(byte, b' ' | b'\t' | b'\n')
+}
+
+fn is_operator(byte: u8) -> bool {
+    matches!(byte, b'|' | b'&' | b';' | b'<' | b'>' | b'(' | b')')
+}
+
+impl Reader<'_> {
+    /// The byte `ahead` of the next one, if the line has it.
+    pub(crate) fn peek(&self, ahead: usize) -> Option<u8> {
+        self.line.get(self.at + ahead).copied()
+    }
+
+    fn word(&mut self) -> Result<Vec<Part>, Number> {
+        if self.peek(0) == Some(b'#') {
+            return Err(Number::Operator);
+        }
+        let mut parts: Vec<Part> = self.tilde().into_iter().collect();
+        parts.extend(self.bare(BareEnd::Word)?);
+        Ok(parts)
+    }
+
+    /// The tilde the word starts with, by the bytes of the line as written.
+    fn tilde(&mut self) -> Option<Part> {
+        let behind = self.line[self.at..].strip_prefix(b"~")?;
+        let length = behind.iter().take_while(|&&b| is_login_byte(b)).count();
+        let next = behind.get(length).copied();
+        if !next.is_none_or(|byte| byte == b'/' || is_separator(byte)) {
+            return None;
+        }
+        self.at += 1 + length;
+        Some(Part::Tilde(behind[..length].to_vec()))
+    }
+
+    /// Bare text to its end; the `}` of an operand is passed over.
+    pub(crate) fn bare(&mut self, end: BareEnd) -> Result<Vec<Part>, Number> {
+        let mut parts = Vec::new();
+        loop {
+            let Some(byte) = self.peek(0) else {
+                return match end {
+                    BareEnd::Word => Ok(parts),
+                    BareEnd::Operand => Err(Number::LineEnds),
+                };
+            };
+            match byte {
+                b'`' => return Err(Number::CommandSubstitution),
+                b'\'' => self.single(&mut parts)?,
+                b'"' => {
+                    self.at += 1;
+                    parts.push(Part::OpeningQuote);
+                    parts.extend(self.double(DoubleEnd::Quote)?);
+                }
+                b'\\' => parts.push(self.bare_backslash()?),
+                b'$' => parts.push(self.dollar(Setting::Bare)?),
+                b'}' if end == BareEnd::Operand => {
+                    self.at += 1;
+                    return Ok(parts);
+                }
+                _ if end == BareEnd::Word && is_separator(byte) => return Ok(parts),
+                _ if end == BareEnd::Word && is_operator(byte) => return Err(Number::Operator),
+                _ => {
+                    self.at += 1;
+                    parts.push(Part::Literal(byte));
+                }
+            }
+        }
+    }
+
+    fn single(&mut self, parts: &mut Vec<Part>) -> Result<(), Number> {
+        let text = &self.line[self.at + 1..];
+        let length = text.iter().position(|&byte| byte == b'\'');
+        let length = length.ok_or(Number::LineEnds)?;
+        parts.push(Part::OpeningQuote);
+        parts.extend(text[..length].iter().map(|&byte| Part::Quoted(byte)));
+        self.at += length + 2;
+        Ok(())
+    }
+
+    fn bare_backslash(&mut self) -> Result<Part, Number> {
+        match self.peek(1) {
+            None => Err(Number::LineEnds),
+            Some(b'\n') => Err(Number::Syntax),
+            Some(byte) => {
+                self.at += 2;
+                Ok(Part::Quoted(byte))
+            }
+        }
+    }
+
+    /// Double-quoted text to its end, which is passed over.
+    pub(crate) fn double(&mut self, end: DoubleEnd) -> Result<Vec<Part>, Number> {
+        let mut parts = Vec::new();
+        loop {
+            match self.peek(0).ok_or(Number::LineEnds)? {
+                byte if byte == end as u8 => {
+                    self.at += 1;
+                    return Ok(parts);
+                }
+                b'"' => return Err(Number::Syntax),
+                b'`' => return Err(Number::CommandSubstitution),
+                b'\\' => parts.push(self.double_backslash(end)?),
+                b'$' => parts.push(self.dollar(Setting::Double)?),
+                byte => {
+                    self.at += 1;
+                    parts.push(Part::Quoted(byte));
+                }
+            }
+        }
+    }
+
+    /// The byte a backslash quotes, or the backslash itself before any other byte.
+    fn double_backslash(&mut self, end: DoubleEnd) -> Result<Part, Number> {
+        let next = self.peek(1).ok_or(Number::LineEnds)?;
+        if next == b'\n' {
+            return Err(Number::Syntax);
+        }
+        let quotes = matches!(next, b'$' | b'`' | b'"' | b'\\')
+            || (end == DoubleEnd::Operand && next == b'}');
+        self.at += if quotes { 2 } else { 1 };
+        Ok(Part::Quoted(if quotes { next } else { b'\\' }))
+    }
+
+    /// Arithmetic text to its `))`, which is passed over.
+    pub(crate) fn arithmetic(&mut self) -> Result<Vec<Part>, Number> {
+        let mut parts = Vec::new();
+        let mut parentheses = 0;
+        loop {
+            let byte = self.peek(0).ok_or(Number::LineEnds)?;
+            match byte {
+                b'`' => return Err(Number::CommandSubstitution),
+                b'\'' | b'"' | b'\\' => return Err(Number::Syntax),
+                b'$' => {
+                    parts.push(self.dollar(Setting::Arithmetic)?);
+                    continue;
+                }
+                b')' if parentheses == 0 => {
+                    self.arithmetic_end()?;
+                    return Ok(parts);
+                }
+                b'(' => parentheses += 1,
+                b')' => parentheses -= 1,
+                _ => {}
+            }
+            self.at += 1;
+            parts.push(Part::Literal(byte));
+        }
+    }
+
+    fn arithmetic_end(&mut self) -> Result<(), Number> {
+        match self.peek(1) {
+            Some(b')') => {
+                self.at += 2;
+                Ok(())
+            }
+            Some(b'`') => Err(Number::CommandSubstitution),
+            _ => Err(Number::Syntax),
+        }
+    }
+
+    /// Reads the inside of `${` or `$((` with one more expansion open.
+    pub(crate) fn opened<T>(
+        &mut self,
+        inside: impl FnOnce(&mut Self) -> Result<T, Number>,
+    ) -> Result<T, Number> {
+        if self.open == limits::OPEN_EXPANSIONS {
+            return Err(Number::TooDeep);
+        }
+        self.open += 1;
+        let read = inside(self)?;
+        self.open -= 1;
+        Ok(read)
+    }
+}

@@ -1,0 +1,247 @@
+//! Lines on which document 01 and POSIX agree: nested like those of the grammar, without what docs/SHELLS.md lists.
+
+use super::{Outcome, Table};
+use crate::generate::random::Random;
+
+const DEEPEST: usize = 4;
+
+const NAMES: [&str; 9] = ["x", "y", "v", "e", "n", "A1", "_a", "name_9", "IFS"];
+const UNSET: [&str; 2] = ["u", "w"];
+const NUMBERS: [&str; 2] = ["n", "A1"];
+
+const IFS: [&str; 9] = ["", " ", ":", " :", " \t\n", "0", "1,", ",", "x:"];
+const VALUES: [&str; 20] = [
+    "", "a", "a b", " a  b ", ":a::b:", " : a :", "*", "?", "[a-c]", "a*", "d/*", "a/b", "x.y",
+    "'", "\"a\"", "$x", "}", "a\tb\nc", "-1", "a:b c",
+];
+const NUMBER_VALUES: [&str; 8] = [
+    "",
+    "0",
+    "-1",
+    "+7",
+    "0x10",
+    "010",
+    "9223372036854775807",
+    "12",
+];
+
+const LITERALS: [&str; 16] = [
+    "a", "b", "c", "x", "1", "-", "=", ":", "!", "%", "@", "abc", "d/", ",", "+", "x.y",
+];
+const WILD: [&str; 14] = [
+    "*", "?", "[a-c]", "[!a]", "[abc]", "a*", "?b", "d/*", "[a-]", "*b", ".h*", "d/.[e]", "[]a]",
+    "*/?",
+];
+const QUOTED: [&str; 12] = [
+    "", "a", " ", "a b", "*", "?", "[a]", ":", "#", "~", "}", "$x",
+];
+const ESCAPES: [&str; 8] = ["\\a", "\\$", "\\\"", "\\\\", "\\*", "\\ ", "\\'", "\\~"];
+const DOUBLE_ESCAPES: [&str; 5] = ["\\a", "\\$", "\\\"", "\\\\", "\\*"];
+const CHOICES: [&str; 7] = ["-", ":-", "+", ":+", "?", "=", ":="];
+/// The choices that store nothing stand first; a removal's operand has only these.
+const STORELESS: usize = 5;
+const REMOVALS: [&str; 4] = ["%", "%%", "#", "##"];
+const CONSTANTS: [&str; 12] = [
+    "0",
+    "1",
+    "2",
+    "3",
+    "7",
+    "10",
+    "010",
+    "0x1F",
+    "2147483648",
+    "9223372036854775807",
+    "0x7fffffffffffffff",
+    "100",
+];
+const OPERATORS: [&str; 11] = ["*", "/", "%", "+", "-", "<", "<=", ">", ">=", "==", "!="];
+
+/// Where pieces stand.
+#[derive(Clone, Copy, PartialEq, Eq)]
+enum Place {
+    Word,
+    Operand,
+    Double,
+    DoubleOperand,
+}
+
+pub fn variables(random: &mut Random) -> Table {
+    let mut table = Table::from([(b"HOME".to_vec(), b"/home/crew".to_vec())]);
+    for name in NAMES {
+        let value = match name {
+            "IFS" if random.once_in(2) => continue,
+            "IFS" => random.text(&IFS),
+            _ if random.once_in(4) => continue,
+            _ if NUMBERS.contains(&name) => random.text(&NUMBER_VALUES),
+            _ => random.text(&VALUES),
+        };
+        table.insert(name.into(), value);
+    }
+    table
+}
+
+pub fn line(random: &mut Random) -> Vec<u8> {
+    let words = random.between(1, 4);
+    let mut lines = Lines {
+        random,
+        depth: 0,
+        in_removal: false,
+    };
+    let mut line = Vec::new();
+    for _ in 0..words {
+        line.extend(lines.word());
+    }
+    line
+}
+
+/// Whether no slash stands where a shell would leave the table: a field with a wildcard that found nothing, and a
+/// slash at its start, at its end or next to another.
+pub fn stays_in_table(outcome: &Outcome) -> bool {
+    let wild = |field: &[u8]| field.iter().any(|byte| b"*?[".contains(byte));
+    let slash = |field: &[u8]| {
+        field.starts_with(b"/") || field.ends_with(b"/") || field.windows(2).any(|two| two == b"//")
+    };
+    !outcome
+        .fields
+        .iter()
+        .any(|field| wild(field) && slash(field))
+}
+
+/// How deep the line being made is, and whether inside a removal's operand, where nothing is stored.
+struct Lines<'a> {
+    random: &'a mut Random,
+    depth: usize,
+    in_removal: bool,
+}
+
+impl Lines<'_> {
+    fn word(&mut self) -> Vec<u8> {
+        let mut word = Vec::new();
+        if self.random.once_in(10) {
+            word.extend(self.random.text(&["~ ", "~/a ", "~/ ", "~nologin9/x "]));
+        }
+        word.extend(self.pieces(Place::Word));
+        word.extend(self.random.text(&[" ", "  ", "\t"]));
+        word
+    }
+
+    fn pieces(&mut self, place: Place) -> Vec<u8> {
+        let most = if self.depth == 0 { 4 } else { 3 };
+        let count = self.random.between(0, most);
+        (0..count).flat_map(|_| self.piece(place)).collect()
+    }
+
+    fn piece(&mut self, place: Place) -> Vec<u8> {
+        let quoted = matches!(place, Place::Double | Place::DoubleOperand);
+        match self.random.below(24) {
+            5..=7 if !quoted => self.random.text(&WILD),
+            8..=10 if !quoted => self.quotes(),
+            11 if quoted => self.random.text(&DOUBLE_ESCAPES),
+            11 => self.random.text(&ESCAPES),
+            12..=15 => [b"$".to_vec(), self.name()].concat(),
+            16..=21 if self.depth < DEEPEST => self.brace(quoted),
+            22 if self.depth < DEEPEST => self.arithmetic(),
+            _ => self.literal(place),
+        }
+    }
+
+    fn name(&mut self) -> Vec<u8> {
+        match self.random.below(4) {
+            0 => self.random.text(&UNSET),
+            _ => self.random.text(&NAMES),
+        }
+    }
+
+    fn literal(&mut self, place: Place) -> Vec<u8> {
+        let special = self.random.once_in(4);
+        match place {
+            Place::Operand if special => self.random.text(&[" ", "  ", "a b", "#"]),
+            Place::Double | Place::DoubleOperand if special => {
+                self.random.text(&["'", " ", "*", "?"])
+            }
+            _ => self.random.text(&LITERALS),
+        }
+    }
+
+    fn quotes(&mut self) -> Vec<u8> {
+        if self.random.once_in(2) {
+            return between("'", self.random.text(&QUOTED), "'");
+        }
+        between("\"", self.pieces(Place::Double), "\"")
+    }
+
+    fn brace(&mut self, quoted: bool) -> Vec<u8> {
+        let name = self.name();
+        self.depth += 1;
+        let inside = match self.random.below(10) {
+            0 => [b"#".to_vec(), name].concat(),
+            1 => name,
+            2..=6 => self.choice(name, quoted),
+            _ => [name, self.removal()].concat(),
+        };
+        self.depth -= 1;
+        between("${", inside, "}")
+    }
+
+    /// One of `-=?+`; IFS is stored only with bytes that no pattern here holds, since bash spoils those.
+    fn choice(&mut self, name: Vec<u8>, quoted: bool) -> Vec<u8> {
+        let choices = if self.in_removal {
+            &CHOICES[..STORELESS]
+        } else {
+            &CHOICES
+        };
+        let choice = self.random.text(choices);
+        if name == b"IFS" && choice.ends_with(b"=") {
+            return [name, choice, self.random.text(&[":", ", ", "", "x"])].concat();
+        }
+        let place = if quoted {
+            Place::DoubleOperand
+        } else {
+            Place::Operand
+        };
+        [name, choice, self.pieces(place)].concat()
+    }
+
+    fn removal(&mut self) -> Vec<u8> {
+        let outer = std::mem::replace(&mut self.in_removal, true);
+        let removal = [self.random.text(&REMOVALS), self.pieces(Place::Operand)].concat();
+        self.in_removal = outer;
+        removal
+    }
+
+    fn arithmetic(&mut self) -> Vec<u8> {
+        self.depth += 1;
+        let text = self.sum(2);
+        self.depth -= 1;
+        between("$((", text, "))")
+    }
+
+    /// A sum whose signs stand apart, since bash reads two together as one.
+    fn sum(&mut self, size: usize) -> Vec<u8> {
+        let mut text = self.operand(size);
+        for _ in 0..self.random.below(size + 1) {
+            let operator = self.random.text(&OPERATORS);
+            text.extend(between(" ", operator, " "));
+            text.extend(self.operand(size));
+        }
+        text
+    }
+
+    fn operand(&mut self, size: usize) -> Vec<u8> {
+        match self.random.below(12) {
+            0 => [self.random.text(&["- ", "+ "]), self.operand(size)].concat(),
+            1..=2 if size > 0 => between("(", self.sum(size - 1), ")"),
+            3..=4 => self.random.text(&NUMBERS),
+            5 => [b"$".to_vec(), self.random.text(&NUMBERS)].concat(),
+            6 if self.depth < DEEPEST && size > 0 => self.arithmetic(),
+            7 if !self.in_removal => self.random.text(&["${w:=5}", "${u=7}"]),
+            8 => self.random.text(&["${u-3}", "${#x}", "${n:-4}", "u", "w"]),
+            _ => self.random.text(&CONSTANTS),
+        }
+    }
+}
+
+fn between(open: &str, inside: Vec<u8>, close: &str) -> Vec<u8> {
+    [open.as_bytes(), &inside, close.as_bytes()].concat()
+}

@@ -1,0 +1,74 @@
+//! The syntax tree of a line: words of parts. Reading builds it; expanding walks it and never looks at the line again.
+
+/// A word and its place in the line.
+#[derive(Debug)]
+pub struct Word {
+    pub place: usize,
+    pub parts: Vec<Part>,
+}
+
+/// One step of a row: a unit that stands in the line, or an expansion.
+#[derive(Debug)]
+pub enum Part {
+    /// A bare byte.
+    Literal(u8),
+    /// A byte behind a bare backslash or inside quotes.
+    Quoted(u8),
+    /// An opening quote, single or double.
+    OpeningQuote,
+    /// A `~` at the start of a word, and the login behind it.
+    Tilde(Vec<u8>),
+    Parameter {
+        name: Vec<u8>,
+        form: Form,
+        quoted: bool,
+    },
+    Arithmetic {
+        text: Vec<Part>,
+        quoted: bool,
+    },
+}
+
+/// What `${name...}` asks for.
+#[derive(Debug)]
+pub enum Form {
+    Plain,
+    Length,
+    /// One of `-=?+`; with the colon an empty value is missing too.
+    Choice {
+        choice: Choice,
+        colon: bool,
+        operand: Vec<Part>,
+    },
+    Removal {
+        end: End,
+        extent: Extent,
+        operand: Vec<Part>,
+    },
+}
+
+#[derive(Clone, Copy, Debug, PartialEq, Eq)]
+pub enum Choice {
+    /// `-`
+    Default,
+    /// `=`
+    Store,
+    /// `?`
+    Demand,
+    /// `+`
+    Alternative,
+}
+
+#[derive(Clone, Copy, Debug, PartialEq, Eq)]
+pub enum End {
+    /// `#`
+    Prefix,
+    /// `%`
+    Suffix,
+}
+
+#[derive(Clone, Copy, Debug, PartialEq, Eq)]
+pub enum Extent {
+    Shortest,
+    Longest,
+}

@@ -1,0 +1,55 @@
+//! The generator: the same cases for the same seed, every number, every limit, and a replay that agrees.
+
+use std::collections::BTreeSet;
+
+use reference::case::{case, replay, Call};
+use reference::generate::{call, tally::Tally};
+use reference::limits;
+
+const SEED: u64 = 2_001;
+const CASES: u64 = 20_000;
+
+#[test]
+fn every_number_comes_up() {
+    let tally = Tally::of(SEED, CASES);
+    for (number, count) in tally.numbers.iter().enumerate() {
+        assert!(*count >= 20, "{number} comes up {count} times");
+    }
+    assert!(tally.expand.min(tally.normalise).min(tally.quote) > 1_000);
+    assert!(tally.bytes < 2_000 * CASES as usize);
+}
+
+#[test]
+fn limits_come_up() {
+    let [mut lines, mut variables, mut homes, mut paths, mut fields] =
+        <[BTreeSet<usize>; 5]>::default();
+    for number in 0..CASES {
+        match call(SEED, number) {
+            Call::Lines(_, lent) => {
+                lines.insert(lent.line.len());
+                variables.insert(lent.used);
+                homes.insert(lent.homes.len());
+                paths.insert(lent.paths.len());
+            }
+            Call::Quote { fields: image, .. } => drop(fields.insert(image.len())),
+        }
+    }
+    for about in 0..3 {
+        assert!(lines.contains(&(limits::LINE - 1 + about)));
+        for lengths in [&variables, &homes, &fields] {
+            assert!(lengths.contains(&(limits::IMAGE - 1 + about)));
+        }
+    }
+    assert!(paths.contains(&limits::PATHS_IMAGE) && paths.contains(&(limits::PATHS_IMAGE + 1)));
+}
+
+#[test]
+fn cases_replay() {
+    for number in 0..2_000 {
+        let text = case(&call(SEED, number)).expect("buffers kept as promised");
+        assert_eq!(Ok(text.clone()), case(&call(SEED, number)));
+        assert_eq!(replay(&text), Ok(()));
+    }
+    assert!(replay("quote 01 0 = 0 0 1 01").is_err());
+    assert!(replay("quote 01 0").is_err());
+}

@@ -1,0 +1,85 @@
+//! The program: tables absent, empty, too long and unreadable; unended lines; variables that carry over.
+
+use std::fs;
+use std::path::{Path, PathBuf};
+
+use reference::image::of_texts;
+use reference::program::run;
+
+/// A folder of its own for one test, removed at its end.
+struct Folder(PathBuf);
+
+impl Folder {
+    fn new(test: &str) -> Folder {
+        let folder = format!("reference-{}-{test}", std::process::id());
+        let folder = std::env::temp_dir().join(folder);
+        fs::create_dir_all(&folder).expect("a folder");
+        Folder(folder)
+    }
+
+    fn write(&self, name: &str, bytes: &[u8]) {
+        fs::write(self.0.join(name), bytes).expect("a file");
+    }
+
+    fn says(&self, lines: &[u8]) -> String {
+        said(&self.0, lines).expect("tables that can be read")
+    }
+}
+
+impl Drop for Folder {
+    fn drop(&mut self) {
+        let _ = fs::remove_dir_all(&self.0);
+    }
+}
+
+fn said(folder: &Path, lines: &[u8]) -> std::io::Result<String> {
+    let mut out = Vec::new();
+    run(folder, lines, &mut out).map(|()| String::from_utf8_lossy(&out).into_owned())
+}
+
+#[test]
+fn lines_and_answers() {
+    let folder = Folder::new("lines");
+    assert_eq!(folder.says(b""), "");
+    assert_eq!(folder.says(b"\n"), "ok \n");
+    assert_eq!(folder.says(b"a b\n\n|"), "ok 'a' 'b'\nok \nno 8 0\n");
+    assert_eq!(folder.says(b"a ${x\r\n"), "no 11 2\n");
+    assert_eq!(folder.says(b"\0\n''"), "no 6 0\nok ''\n");
+    let long = [&[b'x'; 2_049][..], b"\nx"].concat();
+    assert_eq!(folder.says(&long), "no 5 0\nok 'x'\n");
+}
+
+#[test]
+fn variables_carry_over_on_acceptance_only() {
+    let folder = Folder::new("variables");
+    folder.write("vars.tab", &of_texts(&["v", "1"]));
+    let lines = b"${u=a}\n${v+$u}\n${w=x}${n?}\n${w-none}\n${v}\n";
+    assert_eq!(
+        folder.says(lines),
+        "ok 'a'\nok 'a'\nno 13 0\nok 'none'\nok '1'\n"
+    );
+}
+
+#[test]
+fn tables() {
+    let folder = Folder::new("tables");
+    folder.write("homes.tab", &of_texts(&["crew", "/c"]));
+    folder.write("paths.tab", &of_texts(&["a", "b"]));
+    assert_eq!(folder.says(b"* ~crew"), "ok 'a' 'b' '/c'\n");
+    folder.write("paths.tab", &[1; 32_769]);
+    assert_eq!(folder.says(b"a\nb"), "no 4 0\nno 4 0\n");
+    folder.write("homes.tab", b"");
+    assert_eq!(folder.says(b"a"), "no 3 0\n");
+    folder.write("vars.tab", &of_texts(&["v".into(), "x".repeat(8_187)]));
+    assert_eq!(folder.says(b"a"), "no 2 0\n");
+    folder.write("vars.tab", b"");
+    assert_eq!(folder.says(b"a"), "no 2 0\n");
+}
+
+#[test]
+fn a_table_that_cannot_be_read() {
+    let folder = Folder::new("unreadable");
+    fs::create_dir_all(folder.0.join("paths.tab")).expect("a folder");
+    let error = said(&folder.0, b"a\n").expect_err("an error");
+    assert!(error.to_string().starts_with("paths.tab: "));
+}

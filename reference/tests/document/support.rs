@@ -1,0 +1,145 @@
+//! A world of tables to expand lines in, and the three things a test says of a line: what it gives, refuses or stores.
+
+use std::collections::{BTreeMap, BTreeSet};
+
+use reference::image::{self, of_texts};
+use reference::limits;
+use reference::number::{Number, ACCEPTED};
+
+#[derive(Clone)]
+pub struct World {
+    variables: BTreeMap<Vec<u8>, Vec<u8>>,
+    homes: BTreeMap<Vec<u8>, Vec<u8>>,
+    paths: BTreeSet<Vec<u8>>,
+    variables_buffer: usize,
+    out: usize,
+}
+
+pub struct Outcome {
+    pub fields: Vec<Vec<u8>>,
+    pub variables: Vec<image::Pair>,
+}
+
+impl World {
+    pub fn empty() -> World {
+        World {
+            variables: BTreeMap::new(),
+            homes: BTreeMap::new(),
+            paths: BTreeSet::new(),
+            variables_buffer: limits::IMAGE,
+            out: limits::IMAGE,
+        }
+    }
+
+    /// The set of document 01's spoiled recipes.
+    pub fn recipes() -> World {
+        let world = World::empty()
+            .set("job", "north field")
+            .set("note", "")
+            .set("HOME", "/home/crew");
+        [".hid.raw", "a b.raw", "n/p1.raw", "p1.raw", "p2.raw"]
+            .iter()
+            .fold(world, |world, path| world.path(path))
+    }
+
+    pub fn set(mut self, name: &str, value: impl AsRef<[u8]>) -> World {
+        let value = value.as_ref().to_vec();
+        self.variables.insert(name.into(), value);
+        self
+    }
+
+    pub fn home(mut self, login: &str, directory: &str) -> World {
+        self.homes.insert(login.into(), directory.into());
+        self
+    }
+
+    pub fn path(mut self, path: &str) -> World {
+        self.paths.insert(path.into());
+        self
+    }
+
+    pub fn variables_buffer(mut self, length: usize) -> World {
+        self.variables_buffer = length;
+        self
+    }
+
+    pub fn out(mut self, length: usize) -> World {
+        self.out = length;
+        self
+    }
+
+    pub fn variables_image(&self) -> Vec<u8> {
+        pairs(&self.variables)
+    }
+
+    /// The outcome of the expander, or the number and place of its refusal.
+    pub fn expand(&self, line: impl AsRef<[u8]>) -> Result<Outcome, (u8, usize)> {
+        let mut variables = self.variables_image();
+        let used = variables.len();
+        variables.resize(self.variables_buffer, 0);
+        let mut out = vec![0; self.out];
+        let answer = reference::expand(
+            line.as_ref(),
+            &mut variables,
+            used,
+            &pairs(&self.homes),
+            &of_texts(&self.paths.iter().collect::<Vec<_>>()),
+            &mut vec![0; limits::WORK_AREA],
+            &mut out,
+        );
+        if answer.number != ACCEPTED {
+            return Err((answer.number, answer.place));
+        }
+        Ok(Outcome {
+            fields: image::fields(&out[..answer.length]).expect("a fields image"),
+            variables: image::variables(&variables[..answer.used]).expect("a variables image"),
+        })
+    }
+}
+
+fn pairs(table: &BTreeMap<Vec<u8>, Vec<u8>>) -> Vec<u8> {
+    let texts: Vec<&Vec<u8>> = table.iter().flat_map(|(key, value)| [key, value]).collect();
+    of_texts(&texts)
+}
+
+fn shown(bytes: &[u8]) -> String {
+    String::from_utf8_lossy(bytes).into_owned()
+}
+
+/// The line is accepted and these are its fields.
+#[track_caller]
+pub fn gives(world: &World, line: impl AsRef<[u8]>, fields: &[&str]) {
+    let line = line.as_ref();
+    match world.expand(line) {
+        Ok(outcome) => {
+            let given: Vec<String> = outcome.fields.iter().map(|field| shown(field)).collect();
+            assert_eq!(given, fields, "{}", shown(line));
+        }
+        Err(refusal) => panic!("{}: {refusal:?}", shown(line)),
+    }
+}
+
+/// The line is refused with this number at this place.
+#[track_caller]
+pub fn refuses(world: &World, line: impl AsRef<[u8]>, number: Number, place: usize) {
+    let line = line.as_ref();
+    let given = world.expand(line).map(|outcome| outcome.fields);
+    assert_eq!(given, Err((number as u8, place)), "{}", shown(line));
+}
+
+/// The line is accepted and leaves the variable with this value.
+#[track_caller]
+pub fn stores(world: &World, line: &str, name: &str, value: &str) {
+    let outcome = world
+        .expand(line)
+        .unwrap_or_else(|refusal| panic!("{line}: {refusal:?}"));
+    let stored = outcome
+        .variables
+        .iter()
+        .find(|(known, _)| known == name.as_bytes());
+    assert_eq!(
+        stored.map(|(_, value)| shown(value)),
+        Some(value.to_string()),
+        "{line}"
+    );
+}
