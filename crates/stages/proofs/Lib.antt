@@ -10,5 +10,6 @@ pub mod Outcomes
 pub mod Split
 pub mod Safe
 pub mod SafeSums
+pub mod SafeRows
 pub mod Answers
 pub mod Quoted
