@@ -4,7 +4,9 @@ pub mod Texts
 pub mod Images
 pub mod Tables
 pub mod Stores
+pub mod Items
 pub mod Read
+pub mod Words
 pub mod Arith
 pub mod Outcomes
 pub mod Split
