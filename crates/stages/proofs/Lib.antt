@@ -13,5 +13,6 @@ pub mod Split
 pub mod Safe
 pub mod SafeSums
 pub mod SafeRows
+pub mod SafeLines
 pub mod Answers
 pub mod Quoted
