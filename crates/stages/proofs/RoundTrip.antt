@@ -1,30 +1,29 @@
 -- Demand 3 over the stages, its expansion: a quoted line of at most 2,048 bytes expands under any tables to exactly its fields and changes no variable. Each
 -- word's row has only quoted bytes and empty marks: no more units than the field has bytes in the line, nothing to split at, nothing active. Assumes nothing.
-use Prim.Native.Nat.{ℕ, zero, suc, _+_, _-_, _≤_, _<_}
+use Prim.Native.Nat.{ℕ, suc, _+_, _≤_}
 use native.Mathlib.Omega.{arith}
-use mathlib.Core.Path.{_≡_, refl, sym, ap, _∙_}
-use mathlib.Core.Bool.{Bool, true, false, _&&_, _||_, not}
+use mathlib.Core.Path.{_≡_, refl, ap, _∙_}
+use mathlib.Core.Bool.{true, false}
 use mathlib.Core.List.{List, [], _∷_, _++_}
-use mathlib.Core.Option.{Option, none, some}
-use lib.Dec.{eqb, leb}
+use lib.Dec.{eqb}
 use lib.ListN.{length, length-append}
 use borrow.Author.Tests.{le-leb, leb-true, ne-eqb}
-use Rattle.stages.specs.Recur.{below-ok, fix-eq}
 use Rattle.stages.specs.Bytes.{Text, text, isIn, all, notZero}
-use Rattle.stages.specs.Outcome.{Outcome, refused, done, _>>=_, Placed, refusedAt, doneAt, at, _then_, pick}
-use Rattle.stages.specs.Images.{Pairs, lookup, allTexts, recordBytes, imageLength}
-use Rattle.stages.specs.Syntax.{Parts, Word, end, lit, quo}
+use Rattle.stages.specs.Outcome.{done, doneAt, pick}
+use Rattle.stages.specs.Images.{Pairs, lookup, recordBytes, imageLength}
+use Rattle.stages.specs.Syntax.{Parts, Word}
 use Rattle.stages.specs.Read.{readLine}
-use Rattle.stages.specs.Units.{Mark, L, E, Q, Cell, cell, N, Row, fit, bytes}
+use Rattle.stages.specs.Units.{L, Q, cell, N, Row, fit, bytes}
 use Rattle.stages.specs.Expand.{expand, tilde, rowOf, wordRow}
 use Rattle.stages.specs.Split.{dropWhite, dropHard, otherRun, fieldsStep, fieldsFrom, split, ifsOr, fieldsOfRow}
-use Rattle.stages.specs.Pattern.{signs, elements, element, extra, hasClass, pattern}
+use Rattle.stages.specs.Pattern.{signs, elements, hasClass, pattern}
 use Rattle.stages.specs.Paths.{active, pathsFor, named}
 use Rattle.stages.specs.Quote.{quotedBytes, quotedField, quotedLine, blanked}
 use Rattle.stages.specs.Line.{Around, Fields, wordFields, expandWords, expandLine, outFits}
 use Rattle.stages.proofs.Bools.{and-left, and-right, and-both}
 use Rattle.stages.proofs.Texts.{all-append}
 use Rattle.stages.proofs.Images.{Fine}
+use Rattle.stages.proofs.Split.{fields-from}
 use Rattle.stages.proofs.Quoted.{by-quotes, runs, fieldParts, fieldWords, quoted-reads}
 
 -- THE ROW OF A FIELD
@@ -122,9 +121,7 @@ quiet-run ifs (a-byte q) = rw (quiet-run ifs q)
 -- a row that begins with an empty mark is one field
 quiet-split : (ifs : Text) {r : Row} → Quiet r → split ifs (N ∷ r) ≡ (N ∷ r) ∷ []
 unfolding split fieldsFrom fieldsStep otherRun dropWhite dropHard
-quiet-split ifs {r} q =
-    let k : 0 < suc (length r) = omega arith in
-    fix-eq length [] (fieldsStep ifs) (N ∷ r) ∙ rw (quiet-run ifs q, below-ok length [] (suc (length r)) (fieldsFrom ifs) [] k)
+quiet-split ifs {r} q = fields-from ifs (N ∷ r) ∙ rw (quiet-run ifs q)
 
 quiet-field : (v : Pairs) {r : Row} → Quiet r → fieldsOfRow v (N ∷ r) ≡ (N ∷ r) ∷ []
 unfolding fieldsOfRow
