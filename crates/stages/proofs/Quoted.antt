@@ -1,5 +1,6 @@
 -- Demand 3 over the stages, its reading: a quoted line is read as one word for each field, whatever its length, and two lists have one quoted line only if
--- they are the same list. By induction on a field's bytes, its quotes told apart. Assumes nothing.
+-- they are the same list. By induction on a field's bytes, its quotes told apart. The byte 39
+-- is `'`, 92 a backslash, 32 a blank. Assumes nothing.
 use Prim.Native.Nat.{ℕ, suc, _+_, _-_}
 use native.Mathlib.Omega.{arith}
 use mathlib.Core.Path.{_≡_, refl, sym, ap, _∙_}
@@ -7,6 +8,7 @@ use mathlib.Core.Bool.{Bool, true, false}
 use mathlib.Core.List.{List, [], _∷_, _++_, append-assoc}
 use lib.Dec.{eqb, eqb→eq}
 use lib.ListN.{length, length-append}
+use Rattle.stages.specs.Numbers.{depthLimit}
 use Rattle.stages.specs.Bytes.{Text, text, isBlank, isOperator}
 use Rattle.stages.specs.Outcome.{done, doneAt, pick}
 use Rattle.stages.specs.Syntax.{Parts, Word, end, lit, quo, par, len, ari, word, single}
@@ -117,7 +119,7 @@ field-words : (place : ℕ) (t rest : Text) (ws : List Word) → EndsField rest 
 unfolding wordAt quotedField isBlank isOperator
 field-words place t rest ws ends e =
     let k : length (quotedField t ++ rest) - length rest ≡ length (quotedField t) = simp length-append (omega arith) in
-    words-word place 39 (quotedBytes t ++ 39 ∷ [] ++ rest) refl refl ∙ rw (field-reads rest 8 ends t, k, e)
+    words-word place 39 (quotedBytes t ++ 39 ∷ [] ++ rest) refl refl ∙ rw (field-reads rest depthLimit ends t, k, e)
 
 blanked-ends : (l : List Text) → EndsField (blanked l)
 unfolding blanked
