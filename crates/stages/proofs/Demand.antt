@@ -1,24 +1,23 @@
 -- Demand 3 over the calls: an accepted line's fields, written as a quoted line, come back from any other call, which changes no variable, and quote to the same
 -- bytes. The calls do nothing but what the stages do, and a well-formed table is the image of what it holds. Assumes nothing.
-use Prim.Native.Nat.{ℕ, zero, suc, _+_, _≤_, _<_}
+use Prim.Native.Nat.{ℕ, zero, suc, _≤_}
 use native.Mathlib.Omega.{arith}
-use mathlib.Core.Path.{_≡_, refl, sym, ap, _∙_}
-use mathlib.Core.Bool.{Bool, true, false, _&&_}
-use mathlib.Core.List.{List, [], _∷_, _++_}
-use mathlib.Core.Option.{Option, none, some}
-use lib.Dec.{leb}
-use lib.ListN.{length, take, drop, getD, take-append-drop}
-use lib.Seq.{length-take-le, take-append-seam, take-nil}
+use mathlib.Core.Path.{_≡_, sym, ap, _∙_}
+use mathlib.Core.Bool.{true}
+use mathlib.Core.List.{[], _∷_}
+use mathlib.Core.Option.{some}
+use lib.ListN.{length, take, drop, take-append-drop}
+use lib.Seq.{length-take-le, take-append-seam}
 use borrow.Author.Tests.{le-leb}
 use Rattle.stages.specs.Numbers.{accepted, workLeast, lineLimit, imageLimit}
 use Rattle.stages.specs.Bytes.{Text}
-use Rattle.stages.specs.Outcome.{Placed, refusedAt, doneAt, _then_, require}
-use Rattle.stages.specs.Images.{Pairs, flat, image, imageLength, variables, homes, pathsOf, fieldsOf, held, heldTexts, isSome}
-use Rattle.stages.specs.Line.{Around, Fields, expandLine}
+use Rattle.stages.specs.Outcome.{doneAt, _then_}
+use Rattle.stages.specs.Images.{Pairs, flat, image, imageLength, variables, homes, pathsOf, fieldsOf, held, isSome}
+use Rattle.stages.specs.Line.{Fields}
 use Rattle.stages.specs.Quote.{quotedLine}
-use Rattle.stages.specs.Call.{Given, Answer, Quoting, over, orRefused, expanded, cleared, answered, expander, quotedIn, normaliser, quoting, quoter}
+use Rattle.stages.specs.Call.{Given, Answer, over, orRefused, expanded, cleared, answered, expander, quotedIn, normaliser, quoting, quoter}
 use Rattle.stages.proofs.Images.{Bytes, Fine, length-image, heldTexts-image}
-use Rattle.stages.proofs.Tables.{Vars, table-canonical, vars-of, variables-are, homes-of, homes-are, paths-of, paths-are, fields-held, fields-image, fields-are, texts-held-fine}
+use Rattle.stages.proofs.Tables.{table-canonical, vars-of, variables-are, homes-of, homes-are, paths-of, paths-are, fields-held, fields-image, fields-are, texts-held-fine}
 use Rattle.stages.proofs.RoundTrip.{quoted-image, quoted-expands}
 
 -- a call whose tables are well formed and whose work area is large enough; the variables' buffer holds bytes, which is known of a slice

@@ -1,20 +1,22 @@
 -- Demand 3 over the stages, its reading: a quoted line is read as one word for each field, whatever its length, and two lists have one quoted line only if
--- they are the same list. By induction on a field's bytes, its quotes told apart. Assumes nothing.
-use Prim.Native.Nat.{ℕ, zero, suc, _+_, _-_, _≤_, _<_}
-use Prim.Native.Char.{code}
+-- they are the same list. By induction on a field's bytes, its quotes told apart. The byte 39
+-- is `'`, 92 a backslash, 32 a blank. Assumes nothing.
+use Prim.Native.Nat.{ℕ, suc, _+_, _-_}
 use native.Mathlib.Omega.{arith}
 use mathlib.Core.Path.{_≡_, refl, sym, ap, _∙_}
-use mathlib.Core.Bool.{Bool, true, false, _||_}
+use mathlib.Core.Bool.{Bool, true, false}
 use mathlib.Core.List.{List, [], _∷_, _++_, append-assoc}
-use lib.Dec.{T, eqb, eqb→eq}
-use lib.ListN.{length, drop, length-append}
-use Rattle.stages.specs.Recur.{fix, below, below-ok, fix-eq}
-use Rattle.stages.specs.Bytes.{Text, text}
-use Rattle.stages.specs.Outcome.{Outcome, refused, done, _>>=_, Placed, refusedAt, doneAt, at, _then_, choose, pick}
-use Rattle.stages.specs.Syntax.{Parts, Mode, Word, end, lit, quo, par, len, ari, word, single}
-use Rattle.stages.specs.Items.{item}
-use Rattle.stages.specs.Read.{parts, put, nest, words, readLine, readItem, askSize, askStep, Reader, Words, wordAt, wordsStep, wordsSize}
+use lib.Dec.{eqb, eqb→eq}
+use lib.ListN.{length, length-append}
+use Rattle.stages.specs.Numbers.{depthLimit}
+use Rattle.stages.specs.Bytes.{Text, text, isBlank, isOperator}
+use Rattle.stages.specs.Outcome.{done, doneAt, pick}
+use Rattle.stages.specs.Syntax.{Parts, Word, end, lit, quo, par, len, ari, word, single}
+use Rattle.stages.specs.Items.{item, byte}
+use Rattle.stages.specs.Read.{parts, put, nest, readItem, words, wordAt, readLine}
 use Rattle.stages.specs.Quote.{quotedBytes, quotedField, quotedLine, blanked}
+use Rattle.stages.proofs.Read.{parts-item}
+use Rattle.stages.proofs.Words.{words-end, words-blank, words-word}
 
 -- induction on a text whose quotes are told apart from its other bytes
 module _ (P : Text → Type 0) (none : P []) (quote : (t : Text) → P t → P (39 ∷ t)) (other : (b : ℕ) (t : Text) → eqb b 39 ≡ false → P t → P (b ∷ t)) where
@@ -42,44 +44,25 @@ fieldWords place (t ∷ l) = record { place = place; parts = fieldParts t } ∷ 
 
 -- READING A FIELD
 
--- the reader's own equation, shorter texts read by `shorter`
-abbrev shorter : ℕ → Reader
-shorter k m d t = below askSize (refused 0) k (λ a. parts (a .0) (a .1) (a .2)) (m, d, t)
-
-shorter-ok : (k : ℕ) (m : Mode) (d : ℕ) (t : Text) → length t < k → shorter k m d t ≡ parts m d t
-shorter-ok k m d t h = below-ok askSize (refused 0) k (λ a. parts (a .0) (a .1) (a .2)) (m, d, t) h
-
-parts-eq : (m : Mode) (d : ℕ) (t : Text) → parts m d t ≡ readItem (shorter (length t)) m d t (item m d t)
-unfolding parts askStep
-parts-eq m d t = fix-eq askSize (refused 0) askStep (m, d, t)
-
--- a text whose tail is read next
-tail-shorter : (t : Text) → length t < suc (length t)
-tail-shorter t = omega arith
-
 -- a byte of a run
 run-byte : (b : ℕ) (t : Text) (d : ℕ) → eqb b 39 ≡ false → parts single d (b ∷ t) ≡ put (lit false b) (parts single d t)
 unfolding item readItem
-run-byte b t d e = parts-eq single d (b ∷ t) ∙ rw (e, item, shorter-ok (suc (length t)) single d t (tail-shorter t))
+run-byte b t d e = parts-item single d (b ∷ t) {i = byte false b 0} (rw (e, item))
 
 -- the quote that closes a run
 run-end : (t : Text) (d : ℕ) → parts single d (39 ∷ t) ≡ done (end, t)
 unfolding item readItem
-run-end t d = parts-eq single d (39 ∷ t)
+run-end t d = parts-item single d (39 ∷ t) refl
 
--- a quote that opens a run
-run-opens : (t u : Text) (p : Parts) (d : ℕ) → parts single d t ≡ done (p, u) → length u ≤ length t → parts word d (39 ∷ t) ≡ put (quo p) (parts word d u)
+-- the quote that opens one
+run-opens : (t : Text) (d : ℕ) → parts word d (39 ∷ t) ≡ nest quo (parts single d t) (parts word d)
 unfolding item readItem
-run-opens t u p d e h =
-    let k : length u < suc (length t) = omega arith in
-    parts-eq word d (39 ∷ t) ∙ rw (shorter-ok (suc (length t)) single d t (tail-shorter t), e, shorter-ok (suc (length t)) word d u k)
+run-opens t d = parts-item word d (39 ∷ t) refl
 
 -- a quote behind a backslash
 escaped-quote : (t : Text) (d : ℕ) → parts word d (92 ∷ 39 ∷ t) ≡ put (lit true 39) (parts word d t)
 unfolding item readItem
-escaped-quote t d =
-    let k : length t < suc (suc (length t)) = omega arith in
-    parts-eq word d (92 ∷ 39 ∷ t) ∙ rw (shorter-ok (suc (suc (length t))) word d t k)
+escaped-quote t d = parts-item word d (92 ∷ 39 ∷ t) refl
 
 -- what ends a quoted field: the line's end, or a blank
 data EndsField : Text → Type 0 where
@@ -88,8 +71,8 @@ data EndsField : Text → Type 0 where
 
 word-end : (t : Text) (d : ℕ) → EndsField t → parts word d t ≡ done (end, t)
 unfolding item readItem
-word-end t d line = parts-eq word d []
-word-end t d (blank u) = parts-eq word d (32 ∷ u)
+word-end t d line = parts-item word d [] refl
+word-end t d (blank u) = parts-item word d (32 ∷ u) refl
 
 -- a quoted field in front of a text
 field-append : (t rest : Text) → quotedField t ++ rest ≡ 39 ∷ quotedBytes t ++ 39 ∷ rest
@@ -105,94 +88,55 @@ module _ (rest : Text) (d : ℕ) (ends : EndsField rest) where
   record Run (t : Text) : Type 0 where
     first : parts single d (quotedBytes t ++ 39 ∷ rest) ≡ done (runs t .0, behind t rest)
     others : parts word d (behind t rest) ≡ done (runs t .1, rest)
-    shortens : length (behind t rest) ≤ length (quotedBytes t ++ 39 ∷ rest)
+
+  -- a field whose runs are read is read
+  whole : (t : Text) → Run t → parts word d (39 ∷ quotedBytes t ++ 39 ∷ rest) ≡ done (fieldParts t, rest)
+  whole t r = run-opens (quotedBytes t ++ 39 ∷ rest) d ∙ rw (r .first, r .others)
 
   run-quote : (t : Text) → Run t → Run (39 ∷ t)
   unfolding quotedBytes
   run-quote t r = record {
     first = run-end (text "\\''" ++ quotedBytes t ++ 39 ∷ rest) d;
-    others = rw (
-      escaped-quote (39 ∷ quotedBytes t ++ 39 ∷ rest) d,
-      run-opens (quotedBytes t ++ 39 ∷ rest) (behind t rest) (runs t .0) d (r .first) (r .shortens),
-      r .others,
-    );
-    shortens = omega arith;
+    others = escaped-quote (39 ∷ quotedBytes t ++ 39 ∷ rest) d ∙ rw (whole t r);
   }
 
   run-other : (b : ℕ) (t : Text) → eqb b 39 ≡ false → Run t → Run (b ∷ t)
   unfolding quotedBytes
-  run-other b t e r = record {
-    first = rw (e, quotedBytes, run-byte b (quotedBytes t ++ 39 ∷ rest) d e, r .first);
-    others = rw (e, r .others);
-    shortens = rw (e, quotedBytes) (omega (arith, r .shortens));
-  }
-
-  run : (t : Text) → Run t
-  unfolding quotedBytes
-  run t = by-quotes (λ u. Run u) (record { first = run-end rest d; others = word-end rest d ends; shortens = omega arith }) run-quote run-other t
+  run-other b t e r = record { first = rw (e, quotedBytes, run-byte b (quotedBytes t ++ 39 ∷ rest) d e, r .first); others = rw (e, r .others) }
 
   -- a quoted field is one word
   field-reads : (t : Text) → parts word d (quotedField t ++ rest) ≡ done (fieldParts t, rest)
+  unfolding quotedBytes
   field-reads t =
       ap (parts word d) (field-append t rest)
-      ∙ run-opens (quotedBytes t ++ 39 ∷ rest) (behind t rest) (runs t .0) d (run t .first) (run t .shortens)
-      ∙ rw (run t .others)
+      ∙ whole t (by-quotes Run (record { first = run-end rest d; others = word-end rest d ends }) run-quote run-other t)
 
 -- READING THE LINE
-
--- the words of shorter texts
-abbrev shorterWords : ℕ → ℕ × Text → Words
-shorterWords k p = below wordsSize (refusedAt 0 0) k (λ q. words q) p
-
-words-eq : (place : ℕ) (t : Text) → words (place, t) ≡ wordsStep (shorterWords (length t)) (place, t)
-unfolding words
-words-eq place t = fix-eq wordsSize (refusedAt 0 0) wordsStep (place, t)
-
-shorter-words : (k place : ℕ) (t : Text) → length t < k → shorterWords k (place, t) ≡ words (place, t)
-shorter-words k place t h = below-ok wordsSize (refusedAt 0 0) k (λ q. words q) (place, t) h
-
--- a blank between words
-blank-words : (place : ℕ) (t : Text) → words (place, 32 ∷ t) ≡ words (suc place, t)
-unfolding wordsStep choose
-blank-words place t = words-eq place (32 ∷ t) ∙ shorter-words (suc (length t)) (suc place) t (tail-shorter t)
-
-field-behind : (t rest : Text) → length (quotedField t ++ rest) - length rest ≡ length (quotedField t)
-field-behind t rest = simp length-append (omega arith)
 
 -- a quoted field in front of what is read behind it
 field-words : (place : ℕ) (t rest : Text) (ws : List Word) → EndsField rest → words (place + length (quotedField t), rest) ≡ doneAt ws
     → words (place, quotedField t ++ rest) ≡ doneAt (record { place = place; parts = fieldParts t } ∷ ws)
-unfolding wordsStep choose wordAt quotedField
+unfolding wordAt quotedField isBlank isOperator
 field-words place t rest ws ends e =
-    let k : length rest < length (quotedField t ++ rest) = simp length-append (omega arith) in
-    words-eq place (quotedField t ++ rest)
-    ∙ rw (
-      field-reads rest 8 ends t,
-      field-behind t rest,
-      shorter-words (length (quotedField t ++ rest)) (place + length (quotedField t)) rest k,
-      e,
-    )
+    let k : length (quotedField t ++ rest) - length rest ≡ length (quotedField t) = simp length-append (omega arith) in
+    words-word place 39 (quotedBytes t ++ 39 ∷ [] ++ rest) refl refl ∙ rw (field-reads rest depthLimit ends t, k, e)
 
 blanked-ends : (l : List Text) → EndsField (blanked l)
 unfolding blanked
 blanked-ends [] = line
 blanked-ends (t ∷ l) = blank (quotedField t ++ blanked l)
 
-no-words : (place : ℕ) → words (place, []) ≡ doneAt []
-unfolding wordsStep
-no-words place = words-eq place []
-
 blanked-reads : (place : ℕ) (l : List Text) → words (place, blanked l) ≡ doneAt (fieldWords (suc place) l)
-unfolding blanked
-blanked-reads place [] = no-words place
+unfolding blanked isBlank
+blanked-reads place [] = words-end place
 blanked-reads place (t ∷ l) =
-    blank-words place (quotedField t ++ blanked l)
+    words-blank place 32 (quotedField t ++ blanked l) refl
     ∙ field-words (suc place) t (blanked l) (fieldWords (suc (suc place + length (quotedField t))) l) (blanked-ends l) (blanked-reads (suc place + length (quotedField t)) l)
 
 -- THE READING: a quoted line is read as its fields' words
 pub quoted-reads : (l : List Text) → readLine (quotedLine l) ≡ doneAt (fieldWords 0 l)
 unfolding readLine quotedLine
-quoted-reads [] = no-words 0
+quoted-reads [] = words-end 0
 quoted-reads (t ∷ l) =
     field-words 0 t (blanked l) (fieldWords (suc (0 + length (quotedField t))) l) (blanked-ends l) (blanked-reads (0 + length (quotedField t)) l)
 

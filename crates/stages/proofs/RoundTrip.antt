@@ -1,30 +1,30 @@
 -- Demand 3 over the stages, its expansion: a quoted line of at most 2,048 bytes expands under any tables to exactly its fields and changes no variable. Each
 -- word's row has only quoted bytes and empty marks: no more units than the field has bytes in the line, nothing to split at, nothing active. Assumes nothing.
-use Prim.Native.Nat.{ℕ, zero, suc, _+_, _-_, _≤_, _<_}
+use Prim.Native.Nat.{ℕ, suc, _+_, _≤_}
 use native.Mathlib.Omega.{arith}
-use mathlib.Core.Path.{_≡_, refl, sym, ap, _∙_}
-use mathlib.Core.Bool.{Bool, true, false, _&&_, _||_, not}
+use mathlib.Core.Path.{_≡_, refl, ap, _∙_}
+use mathlib.Core.Bool.{true, false}
 use mathlib.Core.List.{List, [], _∷_, _++_}
-use mathlib.Core.Option.{Option, none, some}
-use lib.Dec.{eqb, leb}
+use lib.Dec.{eqb}
 use lib.ListN.{length, length-append}
 use borrow.Author.Tests.{le-leb, leb-true, ne-eqb}
-use Rattle.stages.specs.Recur.{below-ok, fix-eq}
+use Rattle.stages.specs.Numbers.{rowLimit, lineLimit, imageLimit}
 use Rattle.stages.specs.Bytes.{Text, text, isIn, all, notZero}
-use Rattle.stages.specs.Outcome.{Outcome, refused, done, _>>=_, Placed, refusedAt, doneAt, at, _then_, pick}
-use Rattle.stages.specs.Images.{Pairs, lookup, allTexts, recordBytes, imageLength}
-use Rattle.stages.specs.Syntax.{Parts, Word, end, lit, quo}
+use Rattle.stages.specs.Outcome.{done, doneAt, pick}
+use Rattle.stages.specs.Images.{Pairs, lookup, recordBytes, imageLength}
+use Rattle.stages.specs.Syntax.{Parts, Word}
 use Rattle.stages.specs.Read.{readLine}
-use Rattle.stages.specs.Units.{Mark, L, E, Q, Cell, cell, N, Row, fit, bytes}
+use Rattle.stages.specs.Units.{L, Q, cell, N, Row, fit, bytes}
 use Rattle.stages.specs.Expand.{expand, tilde, rowOf, wordRow}
 use Rattle.stages.specs.Split.{dropWhite, dropHard, otherRun, fieldsStep, fieldsFrom, split, ifsOr, fieldsOfRow}
-use Rattle.stages.specs.Pattern.{signs, elements, element, extra, hasClass, pattern}
+use Rattle.stages.specs.Pattern.{signs, elements, hasClass, pattern}
 use Rattle.stages.specs.Paths.{active, pathsFor, named}
 use Rattle.stages.specs.Quote.{quotedBytes, quotedField, quotedLine, blanked}
 use Rattle.stages.specs.Line.{Around, Fields, wordFields, expandWords, expandLine, outFits}
 use Rattle.stages.proofs.Bools.{and-left, and-right, and-both}
 use Rattle.stages.proofs.Texts.{all-append}
 use Rattle.stages.proofs.Images.{Fine}
+use Rattle.stages.proofs.Split.{fields-from}
 use Rattle.stages.proofs.Quoted.{by-quotes, runs, fieldParts, fieldWords, quoted-reads}
 
 -- THE ROW OF A FIELD
@@ -37,17 +37,17 @@ rows (b ∷ t) = pick (eqb b 39) ([], cell Q b ∷ N ∷ rows t .0 ++ rows t .1)
 abbrev fieldRow : Text → Row
 fieldRow t = N ∷ rows t .0 ++ rows t .1
 
-fit-ok : (n k : ℕ) → n + k ≤ 2048 → fit n k ≡ done (n + k)
+fit-ok : (n k : ℕ) → n + k ≤ rowLimit → fit n k ≡ done (n + k)
 unfolding fit
-fit-ok n k h = rw (le-leb (n + k) 2048 h, fit)
+fit-ok n k h = rw (le-leb (n + k) rowLimit h, fit)
 
 -- a field's parts expand to its row, behind n units
 module _ (room : ℕ) (v : Pairs) where
   record Gives (t : Text) : Type 0 where
-    first : (n : ℕ) → n + length (rows t .0) ≤ 2048 → expand room (runs t .0) Q n v ≡ done (rows t .0, v)
-    others : (n : ℕ) → n + length (rows t .1) ≤ 2048 → expand room (runs t .1) L n v ≡ done (rows t .1, v)
+    first : (n : ℕ) → n + length (rows t .0) ≤ rowLimit → expand room (runs t .0) Q n v ≡ done (rows t .0, v)
+    others : (n : ℕ) → n + length (rows t .1) ≤ rowLimit → expand room (runs t .1) L n v ≡ done (rows t .1, v)
 
-  whole : (t : Text) → Gives t → (n : ℕ) → n + length (fieldRow t) ≤ 2048 → expand room (fieldParts t) L n v ≡ done (fieldRow t, v)
+  whole : (t : Text) → Gives t → (n : ℕ) → n + length (fieldRow t) ≤ rowLimit → expand room (fieldParts t) L n v ≡ done (fieldRow t, v)
   unfolding expand
   whole t g n h =
       let e : length (rows t .0 ++ rows t .1) ≡ length (rows t .0) + length (rows t .1) = length-append (rows t .0) (rows t .1) in
@@ -71,7 +71,7 @@ module _ (room : ℕ) (v : Pairs) where
     others = rw e (g .others);
   }
 
-  field-expands : (t : Text) → length (fieldRow t) ≤ 2048 → expand room (fieldParts t) L 0 v ≡ done (fieldRow t, v)
+  field-expands : (t : Text) → length (fieldRow t) ≤ rowLimit → expand room (fieldParts t) L 0 v ≡ done (fieldRow t, v)
   unfolding expand
   field-expands t h = whole t (by-quotes Gives (record { first = λ n h. refl; others = λ n h. refl }) gives-quote gives-other t) 0 (omega arith)
 
@@ -122,9 +122,7 @@ quiet-run ifs (a-byte q) = rw (quiet-run ifs q)
 -- a row that begins with an empty mark is one field
 quiet-split : (ifs : Text) {r : Row} → Quiet r → split ifs (N ∷ r) ≡ (N ∷ r) ∷ []
 unfolding split fieldsFrom fieldsStep otherRun dropWhite dropHard
-quiet-split ifs {r} q =
-    let k : 0 < suc (length r) = omega arith in
-    fix-eq length [] (fieldsStep ifs) (N ∷ r) ∙ rw (quiet-run ifs q, below-ok length [] (suc (length r)) (fieldsFrom ifs) [] k)
+quiet-split ifs {r} q = fields-from ifs (N ∷ r) ∙ rw (quiet-run ifs q)
 
 quiet-field : (v : Pairs) {r : Row} → Quiet r → fieldsOfRow v (N ∷ r) ≡ (N ∷ r) ∷ []
 unfolding fieldsOfRow
@@ -157,7 +155,7 @@ unfolding wordFields
 word-steps a p v w r l e f = rw (e, f)
 
 -- one word: a quoted field becomes that field, and nothing is stored
-field-row : (a : Around) (t : Text) (v : Pairs) → length (quotedField t) ≤ 2048 → wordRow (a .room) (a .homes) (fieldParts t) v ≡ done (fieldRow t, v)
+field-row : (a : Around) (t : Text) (v : Pairs) → length (quotedField t) ≤ lineLimit → wordRow (a .room) (a .homes) (fieldParts t) v ≡ done (fieldRow t, v)
 unfolding wordRow rowOf tilde
 field-row a t v h = field-expands (a .room) v t (omega (arith, row-fits-field t))
 
@@ -165,28 +163,32 @@ field-named : (a : Around) (t : Text) (v : Pairs) → named (a .paths) (fieldsOf
 unfolding bytes
 field-named a t v = rw (quiet-field v (rows-quiet t), quiet-named (a .paths) (a-mark (rows-quiet t)), rows-bytes t)
 
-word-expands : (a : Around) (t : Text) (v : Pairs) → length (quotedField t) ≤ 2048 → wordFields a (fieldParts t) v ≡ done (t ∷ [], v)
+word-expands : (a : Around) (t : Text) (v : Pairs) → length (quotedField t) ≤ lineLimit → wordFields a (fieldParts t) v ≡ done (t ∷ [], v)
 word-expands a t v h = word-steps a (fieldParts t) v v (fieldRow t) (t ∷ []) (field-row a t v h) (field-named a t v)
 
-out-ok : (a : Around) (n : ℕ) → n ≤ a .out → n ≤ 8192 → outFits a n ≡ true
+-- there is room in the output
+out-ok : (a : Around) (n : ℕ) → n ≤ a .out → n ≤ imageLimit → outFits a n ≡ true
 unfolding outFits
-out-ok a n h k = rw (le-leb n (a .out) h, le-leb n 8192 k)
+out-ok a n h k = rw (le-leb n (a .out) h, le-leb n imageLimit k)
+
+-- how long the fields are in the line
 
 blanked-length : (t : Text) (l : List Text) → length (blanked (t ∷ l)) ≡ suc (length (quotedField t) + length (blanked l))
 unfolding blanked
 blanked-length t l = ap suc (length-append (quotedField t) (blanked l))
 
-words-expand : (a : Around) (l : List Text) (place n : ℕ) (v : Pairs) → length (blanked l) ≤ 2049 → n + recordBytes l ≤ a .out → n + recordBytes l ≤ 8192
+-- the words of the fields expand, behind an image of n bytes
+words-expand : (a : Around) (l : List Text) (place n : ℕ) (v : Pairs) → length (blanked l) ≤ suc lineLimit → n + recordBytes l ≤ a .out → n + recordBytes l ≤ imageLimit
     → expandWords a (fieldWords place l) n v ≡ doneAt (l, v)
 unfolding expandWords recordBytes
 words-expand a [] place n v b h k = refl
 words-expand a (t ∷ l) place n v b h k =
-    let c : length (quotedField t) ≤ 2048 = omega (arith, blanked-length t l) in
-    let d : length (blanked l) ≤ 2049 = omega (arith, blanked-length t l) in
+    let c : length (quotedField t) ≤ lineLimit = omega (arith, blanked-length t l) in
+    let d : length (blanked l) ≤ suc lineLimit = omega (arith, blanked-length t l) in
     let i : n + (2 + length t + 0) ≤ a .out = omega arith in
-    let j : n + (2 + length t + 0) ≤ 8192 = omega arith in
+    let j : n + (2 + length t + 0) ≤ imageLimit = omega arith in
     let i′ : n + (2 + length t + 0) + recordBytes l ≤ a .out = omega arith in
-    let j′ : n + (2 + length t + 0) + recordBytes l ≤ 8192 = omega arith in
+    let j′ : n + (2 + length t + 0) + recordBytes l ≤ imageLimit = omega arith in
     rw (
       word-expands a t v c,
       out-ok a (n + (2 + length t + 0)) i j,
@@ -237,13 +239,13 @@ unfolding imageLength
 quoted-image l = omega (arith, blanked-image l, blanked-line l)
 
 -- a line whose words are read, and expand, expands
-line-steps : (a : Around) (t : Text) (v : Pairs) (ws : List Word) → length t ≤ 2048 → isIn 0 t ≡ false → readLine t ≡ doneAt ws → 1 ≤ a .out
+line-steps : (a : Around) (t : Text) (v : Pairs) (ws : List Word) → length t ≤ lineLimit → isIn 0 t ≡ false → readLine t ≡ doneAt ws → 1 ≤ a .out
     → expandLine a t v ≡ expandWords a ws 1 v
 unfolding expandLine
-line-steps a t v ws h z e o = rw (le-leb (length t) 2048 h, z, e, out-ok a 1 o (omega arith))
+line-steps a t v ws h z e o = rw (le-leb (length t) lineLimit h, z, e, out-ok a 1 o (omega arith))
 
 -- THE ROUND TRIP: "expand under any other well-formed tables to exactly those fields, change no variable"
-pub quoted-expands : (a : Around) (l : List Text) (v : Pairs) → Fine l → length (quotedLine l) ≤ 2048 → imageLength l ≤ a .out
+pub quoted-expands : (a : Around) (l : List Text) (v : Pairs) → Fine l → length (quotedLine l) ≤ lineLimit → imageLength l ≤ a .out
     → expandLine a (quotedLine l) v ≡ doneAt (l, v)
 unfolding imageLength
 quoted-expands a l v f h o =
