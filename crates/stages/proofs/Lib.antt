@@ -12,6 +12,8 @@ pub mod Outcomes
 pub mod Split
 pub mod Safe
 pub mod SafeSums
+pub mod SafeRows
+pub mod SafeLines
 pub mod Answers
 pub mod Quoted
 pub mod RoundTrip

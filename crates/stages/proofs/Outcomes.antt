@@ -70,6 +70,11 @@ module _ {A B : Type 0} {size : ℕ} {P : A → Type 0} {Q : B → Type 0} where
   safe-then f (refusesAt e l) h = refusesAt e l
   safe-then f (givesAt {a = a} p) h = h a p
 
+pub safe-weakerAt : {A : Type 0} {size : ℕ} {P Q : A → Type 0} {o : Placed A} → ((a : A) → P a → Q a) → SafeAt size P o → SafeAt size Q o
+safe-weakerAt f (early e) = early e
+safe-weakerAt f (refusesAt e l) = refusesAt e l
+safe-weakerAt f (givesAt {a = a} p) = givesAt (f a p)
+
 pub safe-at : {A : Type 0} {size : ℕ} {P : A → Type 0} {o : Outcome A} (place : ℕ) → place ≤ size - 1 → Safe P o → SafeAt size P (at place o)
 safe-at place l (refuses e) = refusesAt e l
 safe-at place l (gives p) = givesAt p

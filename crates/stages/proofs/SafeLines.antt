@@ -1,0 +1,129 @@
+-- A line is read and expanded safely: its words stand within it, its fields fit the output, its variables their room. Assumes nothing.
+use Prim.Native.Nat.{ℕ, zero, suc, _+_, _-_, _≤_, _<_}
+use Prim.Native.Char.{code}
+use native.Mathlib.Omega.{arith}
+use mathlib.Core.Path.{_≡_, refl, sym, ap, _∙_}
+use mathlib.Core.Bool.{Bool, true, false, _&&_, _||_, not}
+use mathlib.Core.List.{List, [], _∷_, _++_}
+use lib.Dec.{eqb, leb, eqb·zero-suc}
+use lib.ListN.{length}
+use borrow.Author.Tests.{leb-true, le-leb}
+use Rattle.stages.specs.Recur.{by-size}
+use Rattle.stages.specs.Numbers.{depthLimit, imageLimit, lineLimit, lineTooLong, zeroByte, outputRoom}
+use Rattle.stages.specs.Bytes.{Text, all, notZero, isIn, isBlank, isOperator}
+use Rattle.stages.specs.Outcome.{done, Placed, refusedAt, doneAt, at, _then_, require}
+use Rattle.stages.specs.Images.{Pairs, flat, recordBytes, imageLength}
+use Rattle.stages.specs.Syntax.{Parts, Word, word}
+use Rattle.stages.specs.Read.{Taken, parts, wordAt, wordsSize, words, readLine}
+use Rattle.stages.specs.Expand.{wordRow}
+use Rattle.stages.specs.Split.{fieldsOfRow}
+use Rattle.stages.specs.Paths.{named}
+use Rattle.stages.specs.Line.{Around, Fields, wordFields, outFits, expandWords, expandLine}
+use Rattle.stages.proofs.Bools.{no, and-left, and-right, and-both}
+use Rattle.stages.proofs.Images.{Fine, fine-append, recordBytes-append}
+use Rattle.stages.proofs.Read.{Good, stays, leaves, word-good}
+use Rattle.stages.proofs.Words.{words-end, words-blank, words-operator, words-word}
+use Rattle.stages.proofs.Outcomes.{Each, Safe, refuses, gives, safe-bind, SafeAt, early, refusesAt, givesAt, safe-then, safe-weakerAt, safe-at, safe-require}
+use Rattle.stages.proofs.Split.{fields-each}
+use Rattle.stages.proofs.Safe.{NoZero, SafeParts, SafeTaken, parts-safe}
+use Rattle.stages.proofs.SafeRows.{Whole, Kept, row-safe, named-safe}
+
+-- words
+
+-- a word of a line of so many bytes
+pub record WordIn (size : ℕ) (w : Word) : Type 0 where
+  pub inside : w .place ≤ size - 1
+  pub clean : SafeParts (w .parts)
+
+both-safe : {n : ℕ} {P : Parts × Text → Type 0} {r : Taken} → Good n r → Safe P r → Safe (λ p. P p × (length (p .1) ≤ n)) r
+both-safe (stays g) (refuses e) = refuses e
+both-safe (leaves l) (gives p) = gives (p, l)
+
+module _ (size : ℕ) where
+  abbrev Reads : ℕ × Text → Type 0
+  Reads q = NoZero (q .1) → q .0 + length (q .1) ≤ size → SafeAt size (Each (WordIn size)) (words q)
+
+  word-safe : (place b : ℕ) (t : Text) → isBlank b ≡ false → NoZero (b ∷ t) → place + suc (length t) ≤ size
+      → ((q : ℕ × Text) → length (q .1) < suc (length t) → Reads q) → SafeAt size (Each (WordIn size)) (wordAt words place (b ∷ t))
+  unfolding wordAt
+  word-safe place b t e z l ih =
+      safe-then _ (safe-at place (omega arith) (both-safe (word-good depthLimit b t e) (parts-safe word depthLimit (b ∷ t) z)))
+      (λ p s. safe-then _ (ih (place + (suc (length t) - length (p .1)), p .1) (omega (arith, s .1)) (s .0 .behind) (omega (arith, s .1)))
+      (λ ws h. givesAt (record { inside = omega arith; clean = s .0 .clean }, h)))
+
+  words-safe : (q : ℕ × Text) → Reads q
+  words-safe q = by-size wordsSize Reads one q
+    where
+      first : (place b : ℕ) (t : Text) (x : Bool) → isBlank b ≡ x → (y : Bool) → (isOperator b || eqb b (code "#")) ≡ y
+          → ((q : ℕ × Text) → length (q .1) < suc (length t) → Reads q) → Reads (place, b ∷ t)
+      first place b t true e y d ih z l =
+          rw (words-blank place b t e) (ih (suc place, t) (omega arith) (and-right (notZero b) (all notZero t) z) (omega arith))
+      first place b t false e true d ih z l = rw (words-operator place b t e d) (refusesAt {place = place} refl (omega arith))
+      first place b t false e false d ih z l = rw (words-word place b t e d) (word-safe place b t e z l ih)
+
+      one : (q : ℕ × Text) → ((r : ℕ × Text) → wordsSize r < wordsSize q → Reads r) → Reads q
+      one (place, []) ih z l = rw (words-end place) (givesAt tt)
+      one (place, b ∷ t) ih z l = first place b t (isBlank b) refl (isOperator b || eqb b (code "#")) refl ih z l
+
+-- a line that passes 6
+pub no-zero : (t : Text) → not (isIn 0 t) ≡ true → NoZero t
+no-zero [] e = refl
+no-zero (zero ∷ t) e = absurd (no e)
+no-zero (suc b ∷ t) e = and-both (le-leb 1 (suc b) (omega arith)) (no-zero t (rw (eqb·zero-suc b) at e))
+
+-- fields
+
+-- fields and variables that may be written to buffers of so many bytes
+pub record Ready (room out : ℕ) (r : Fields × Pairs) : Type 0 where
+  pub fine : Fine (r .0)
+  pub kept : Kept room (r .1)
+  pub fits : imageLength (r .0) ≤ out
+  pub small : imageLength (r .0) ≤ imageLimit
+
+module _ (a : Around) (f : Fine (flat (a .homes))) (g : Fine (a .paths)) where
+  fields-safe : (p : Parts) (v : Pairs) → SafeParts p → Kept (a .room) v → Safe (λ r. Fine (r .0) × Kept (a .room) (r .1)) (wordFields a p v)
+  unfolding wordFields
+  fields-safe p v s k =
+      safe-bind _ (row-safe (a .room) (a .homes) p v f s k)
+      (λ r h. safe-bind _ (named-safe (a .paths) (fieldsOfRow (r .1) (r .0)) g (fields-each Whole (r .1) (r .0) (h .0))) (λ l i. gives (i, h .1)))
+
+  out-fits : (n : ℕ) → outFits a n ≡ true → (n ≤ a .out) × (n ≤ imageLimit)
+  unfolding outFits
+  out-fits n e = (leb-true n (a .out) (and-left (leb n (a .out)) (leb n imageLimit) e), leb-true n imageLimit (and-right (leb n (a .out)) (leb n imageLimit) e))
+
+  -- fields behind an image of n bytes
+  record Behind (n : ℕ) (r : Fields × Pairs) : Type 0 where
+    fine : Fine (r .0)
+    kept : Kept (a .room) (r .1)
+    fits : n + recordBytes (r .0) ≤ a .out
+    small : n + recordBytes (r .0) ≤ imageLimit
+
+  -- the fields of a word in front of those behind it
+  joined : (n : ℕ) (l : Fields) (s : Fields × Pairs) → Fine l → Behind (n + recordBytes l) s → Behind n (l ++ s .0, s .1)
+  joined n l s h b =
+      let e : recordBytes (l ++ s .0) ≡ recordBytes l + recordBytes (s .0) = recordBytes-append l (s .0) in
+      record { fine = fine-append l (s .0) h (b .fine); kept = b .kept; fits = omega (arith, b .fits); small = omega (arith, b .small) }
+
+  words-fit : (size : ℕ) (ws : List Word) (n : ℕ) (v : Pairs) → Each (WordIn size) ws → n ≤ a .out → n ≤ imageLimit → Kept (a .room) v
+      → SafeAt size (Behind n) (expandWords a ws n v)
+  unfolding expandWords recordBytes
+  words-fit size [] n v h l m k = givesAt {a = ([], v)} (record { fine = tt; kept = k; fits = omega arith; small = omega arith })
+  words-fit size (w ∷ ws) n v h l m k =
+      safe-then _ (safe-at (w .place) (h .0 .inside) (fields-safe (w .parts) v (h .0 .clean) k))
+      (λ r i. safe-then _ (safe-require (outFits a (n + recordBytes (r .0))) outputRoom (w .place) (refusesAt refl (h .0 .inside)))
+      (λ _ e. safe-then _
+      (words-fit size ws (n + recordBytes (r .0)) (r .1) (h .1) (out-fits (n + recordBytes (r .0)) e .0) (out-fits (n + recordBytes (r .0)) e .1) (i .1))
+      (λ s b. givesAt (joined n (r .0) s (i .0) b))))
+
+  ready : (r : Fields × Pairs) → Behind 1 r → Ready (a .room) (a .out) r
+  unfolding imageLength
+  ready r b = record { fine = b .fine; kept = b .kept; fits = b .fits; small = b .small }
+
+  pub line-safe : (t : Text) (v : Pairs) → Kept (a .room) v → SafeAt (length t) (Ready (a .room) (a .out)) (expandLine a t v)
+  unfolding expandLine readLine
+  line-safe t v k =
+      safe-then _ (safe-require (leb (length t) lineLimit) lineTooLong 0 (early refl))
+      (λ _ _. safe-then _ (safe-require (not (isIn 0 t)) zeroByte 0 (early refl))
+      (λ _ z. safe-then _ (words-safe (length t) (0, t) (no-zero t z) (omega arith))
+      (λ ws h. safe-then _ (safe-require (outFits a 1) outputRoom 0 (refusesAt {place = 0} refl (omega arith)))
+      (λ _ e. safe-weakerAt ready (words-fit (length t) ws 1 v h (out-fits 1 e .0) (out-fits 1 e .1) k)))))
