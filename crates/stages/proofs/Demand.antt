@@ -31,7 +31,7 @@ pub record WellFormed (h : Given) : Type 0 where
   pub paths : isSome (pathsOf (h .paths)) ≡ true
 
 -- the answer that accepts, writes this text to the output and these bytes to the variables' buffer
-abbrev pub writes : Given → Text → Text → Answer
+abbrev writes : Given → Text → Text → Answer
 writes h t w = record {
   number = accepted;
   place = 0;
