@@ -73,11 +73,11 @@ no-zero (suc b ∷ t) e = and-both (le-leb 1 (suc b) (omega arith)) (no-zero t (
 
 -- fields
 
--- fields and variables that may be written
-pub record Ready (a : Around) (r : Fields × Pairs) : Type 0 where
+-- fields and variables that may be written to buffers of so many bytes
+pub record Ready (room out : ℕ) (r : Fields × Pairs) : Type 0 where
   pub fine : Fine (r .0)
-  pub kept : Kept (a .room) (r .1)
-  pub fits : imageLength (r .0) ≤ a .out
+  pub kept : Kept room (r .1)
+  pub fits : imageLength (r .0) ≤ out
   pub small : imageLength (r .0) ≤ imageLimit
 
 module _ (a : Around) (f : Fine (flat (a .homes))) (g : Fine (a .paths)) where
@@ -115,11 +115,11 @@ module _ (a : Around) (f : Fine (flat (a .homes))) (g : Fine (a .paths)) where
       (words-fit size ws (n + recordBytes (r .0)) (r .1) (h .1) (out-fits (n + recordBytes (r .0)) e .0) (out-fits (n + recordBytes (r .0)) e .1) (i .1))
       (λ s b. givesAt (joined n (r .0) s (i .0) b))))
 
-  ready : (r : Fields × Pairs) → Behind 1 r → Ready a r
+  ready : (r : Fields × Pairs) → Behind 1 r → Ready (a .room) (a .out) r
   unfolding imageLength
   ready r b = record { fine = b .fine; kept = b .kept; fits = b .fits; small = b .small }
 
-  pub line-safe : (t : Text) (v : Pairs) → Kept (a .room) v → SafeAt (length t) (Ready a) (expandLine a t v)
+  pub line-safe : (t : Text) (v : Pairs) → Kept (a .room) v → SafeAt (length t) (Ready (a .room) (a .out)) (expandLine a t v)
   unfolding expandLine readLine
   line-safe t v k =
       safe-then _ (safe-require (leb (length t) lineLimit) lineTooLong 0 (early refl))

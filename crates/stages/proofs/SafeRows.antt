@@ -105,7 +105,7 @@ module _ (room : ℕ) (x : Text) (n : isName x ≡ true) where
 
   assigned-safe : (m : Mark) (p : Row × Pairs) → Given room p → Safe (Given room) (assigned room x m p)
   unfolding assigned
-  assigned-safe m p h = safe-bind (λ w. given x m w) (store-safe room x (bytes (p .0)) (p .1) n (bytes-safe (p .0) (h .0)) (h .1)) (λ w k. given-safe m w k)
+  assigned-safe m p h = safe-bind _ (store-safe room x (bytes (p .0)) (p .1) n (bytes-safe (p .0) (h .0)) (h .1)) (λ w k. given-safe _ w k)
 
   cut-safe : (s long : Bool) (m : Mark) (p : Row × Pairs) → Given room p → Safe (Given room) (cutBy s long x m p)
   unfolding cutBy
