@@ -15,4 +15,5 @@ pub mod SafeSums
 pub mod SafeRows
 pub mod SafeLines
 pub mod Answers
+pub mod Program
 pub mod Quoted
