@@ -1,20 +1,20 @@
 -- Laws of the program: of a line only 2,049 bytes can matter, and lines are cut from what is read so that joining them gives it back. Assumes nothing.
-use Prim.Native.Nat.{ℕ, zero, suc, _+_, _≤_, _<_}
+use Prim.Native.Nat.{ℕ, suc, _≤_, _<_}
 use Prim.Native.Char.{code}
 use native.Mathlib.Omega.{arith}
 use mathlib.Core.Path.{_≡_, refl, sym, ap, _∙_}
-use mathlib.Core.Bool.{Bool, true, false, _||_, not}
-use mathlib.Core.List.{List, [], _∷_, _++_, append-assoc}
+use mathlib.Core.Bool.{Bool, true, false, not}
+use mathlib.Core.List.{List, [], _∷_, _++_}
 use lib.Dec.{eqb, leb}
 use lib.ListN.{length, take}
 use lib.Seq.{take-all, length-take-le}
 use borrow.Author.Tests.{leb-true, leb-false, lt-leb, eqb-true, eqb-false, ne-eqb}
 use Rattle.stages.specs.Numbers.{lineLimit, imageLimit}
-use Rattle.stages.specs.Bytes.{Text, text, isIn}
+use Rattle.stages.specs.Bytes.{Text, isIn}
 use Rattle.stages.specs.Outcome.{Placed, refusedAt, doneAt, _then_, pick}
 use Rattle.stages.specs.Images.{Pairs, image}
 use Rattle.stages.specs.Line.{Around, Fields, expandLine}
-use Rattle.stages.specs.Call.{Given, Answer, answered, expanded, expander, quotedIn, normaliser}
+use Rattle.stages.specs.Call.{Given, answered, expanded, expander, quotedIn, normaliser}
 use Rattle.stages.specs.Program.{longerLine, linesOf, Variables, givenLine, said, saidOf}
 use Rattle.stages.proofs.Bools.{either, or-neither}
 use Rattle.stages.proofs.Outcomes.{Each}
@@ -84,9 +84,9 @@ abbrev newline : ℕ
 newline = code "\n"
 
 -- lines, each with its newline
-abbrev pub ended : List Text → Text
-ended [] = []
-ended (l ∷ ls) = l ++ newline ∷ ended ls
+abbrev pub withNewlines : List Text → Text
+withNewlines [] = []
+withNewlines (l ∷ ls) = l ++ newline ∷ withNewlines ls
 
 -- whether a text ends within a line
 abbrev pub unfinished : Text → Bool
@@ -126,31 +126,31 @@ lines-none (b ∷ t) = go (lines-none t) (eqb b newline) refl
     go ih false e = rw (lines-longer b t e) (longer-none b (linesOf t) (eqb-sym b newline e) ih)
 
 -- what is read ends like its lines, but for the newline that its last line may lack
-ended-longer : (b c : ℕ) (t : Text) → ended (longerLine b (linesOf (c ∷ t))) ≡ b ∷ ended (linesOf (c ∷ t))
-ended-longer b c t = go (eqb c newline) refl
+joined-longer : (b c : ℕ) (t : Text) → withNewlines (longerLine b (linesOf (c ∷ t))) ≡ b ∷ withNewlines (linesOf (c ∷ t))
+joined-longer b c t = go (eqb c newline) refl
   where
-    go : (x : Bool) → eqb c newline ≡ x → ended (longerLine b (linesOf (c ∷ t))) ≡ b ∷ ended (linesOf (c ∷ t))
+    go : (x : Bool) → eqb c newline ≡ x → withNewlines (longerLine b (linesOf (c ∷ t))) ≡ b ∷ withNewlines (linesOf (c ∷ t))
     go true e = rw (lines-newline c t e) (unfold longerLine in refl)
     go false e = rw (lines-longer c t e) (more (linesOf t))
       where
-        more : (ls : List Text) → ended (longerLine b (longerLine c ls)) ≡ b ∷ ended (longerLine c ls)
+        more : (ls : List Text) → withNewlines (longerLine b (longerLine c ls)) ≡ b ∷ withNewlines (longerLine c ls)
         more [] = unfold longerLine in refl
         more (l ∷ ls) = unfold longerLine in refl
 
-pub lines-ended : (t : Text) → ended (linesOf t) ≡ t ++ pick (unfinished t) (newline ∷ []) []
+pub lines-joined : (t : Text) → withNewlines (linesOf t) ≡ t ++ pick (unfinished t) (newline ∷ []) []
 unfolding linesOf longerLine
-lines-ended [] = refl
-lines-ended (b ∷ []) = go (eqb b newline) refl
+lines-joined [] = refl
+lines-joined (b ∷ []) = go (eqb b newline) refl
   where
-    go : (x : Bool) → eqb b newline ≡ x → ended (linesOf (b ∷ [])) ≡ b ∷ pick (unfinished (b ∷ [])) (newline ∷ []) []
+    go : (x : Bool) → eqb b newline ≡ x → withNewlines (linesOf (b ∷ [])) ≡ b ∷ pick (unfinished (b ∷ [])) (newline ∷ []) []
     go true e = rw (lines-newline b [] e, e, eqb-true b newline e)
     go false e = rw (lines-longer b [] e, e)
-lines-ended (b ∷ c ∷ t) = go (lines-ended (c ∷ t)) (eqb b newline) refl
+lines-joined (b ∷ c ∷ t) = go (lines-joined (c ∷ t)) (eqb b newline) refl
   where
-    go : ended (linesOf (c ∷ t)) ≡ c ∷ t ++ pick (unfinished (c ∷ t)) (newline ∷ []) [] → (x : Bool) → eqb b newline ≡ x
-        → ended (linesOf (b ∷ c ∷ t)) ≡ b ∷ c ∷ t ++ pick (unfinished (c ∷ t)) (newline ∷ []) []
+    go : withNewlines (linesOf (c ∷ t)) ≡ c ∷ t ++ pick (unfinished (c ∷ t)) (newline ∷ []) [] → (x : Bool) → eqb b newline ≡ x
+        → withNewlines (linesOf (b ∷ c ∷ t)) ≡ b ∷ c ∷ t ++ pick (unfinished (c ∷ t)) (newline ∷ []) []
     go ih true e = rw (lines-newline b (c ∷ t) e, ih, eqb-true b newline e)
-    go ih false e = rw (lines-longer b (c ∷ t) e, ended-longer b c t, ih)
+    go ih false e = rw (lines-longer b (c ∷ t) e, joined-longer b c t, ih)
 
 -- a line and the lines behind its newline; and a last line without one
 pub lines-first : (l t : Text) → NoNewline l → linesOf (l ++ newline ∷ t) ≡ l ∷ linesOf t
