@@ -1,26 +1,26 @@
 -- Every call's answer is well formed, whatever is given: a refusal has a number of the table and leaves the buffers alone; an acceptance leaves
 -- well-formed images within their room. Assumes nothing.
-use Prim.Native.Nat.{ℕ, zero, suc, _+_, _-_, _≤_, _<_}
+use Prim.Native.Nat.{ℕ, _-_, _≤_}
 use native.Mathlib.Omega.{arith}
-use mathlib.Core.Path.{_≡_, refl, sym, ap, _∙_}
+use mathlib.Core.Path.{_≡_, refl, ap, _∙_}
 use mathlib.Core.Bool.{Bool, true, false, _&&_}
-use mathlib.Core.List.{List, [], _∷_, _++_}
+use mathlib.Core.List.{List}
 use mathlib.Core.Option.{Option, none, some}
 use lib.Dec.{leb}
 use lib.ListN.{length, take, drop, replicate, length-append, length-drop, length-replicate}
 use lib.Seq.{take-at, drop-at, length-take-le}
 use borrow.Author.Tests.{leb-true}
-use Rattle.stages.specs.Numbers.{accepted, workTooSmall, badVariables, badHomes, badPaths, zeroByte, outputRoom, badFields, workLeast, lineLimit, imageLimit}
+use Rattle.stages.specs.Numbers.{accepted, workTooSmall, badVariables, badHomes, badPaths, zeroByte, unended, outputRoom, badFields, workLeast, lineLimit, imageLimit}
 use Rattle.stages.specs.Bytes.{Text}
-use Rattle.stages.specs.Outcome.{Placed, refusedAt, doneAt, _then_, require}
+use Rattle.stages.specs.Outcome.{Placed, refusedAt, doneAt, _then_}
 use Rattle.stages.specs.Images.{Pairs, isName, isLogin, flat, image, imageLength, held, heldTexts, variables, homes, pathsOf, fieldsOf}
-use Rattle.stages.specs.Line.{Around, Fields, expandLine}
+use Rattle.stages.specs.Line.{Fields}
 use Rattle.stages.specs.Quote.{quotedLine}
 use Rattle.stages.specs.Call.{Given, Answer, over, orRefused, expanded, cleared, answered, expander, quotedIn, normaliser, Quoting, quoting, quoter}
 use Rattle.stages.proofs.Bools.{and-left, and-right, between-bounds}
 use Rattle.stages.proofs.Images.{Fine, length-image, held-image, heldTexts-image}
-use Rattle.stages.proofs.Tables.{Table, table-of, table-fine, table-length, table-image, variables-are, homes-held, homes-of, is-some, Paths, paths-held, texts-held-fine, fields-held, fields-image, fields-are}
-use Rattle.stages.proofs.Outcomes.{isFault, isEarly, SafeAt, early, refusesAt, givesAt, safe-then, safe-require}
+use Rattle.stages.proofs.Tables.{Table, table-of, table-fine, table-length, table-image, variables-are, Paths, paths-held, texts-held-fine, fields-image, fields-are}
+use Rattle.stages.proofs.Outcomes.{isEarly, SafeAt, early, refusesAt, givesAt, safe-then, safe-require}
 use Rattle.stages.proofs.SafeRows.{Kept}
 use Rattle.stages.proofs.SafeLines.{Ready, line-safe}
 
@@ -44,8 +44,8 @@ module _ (t buffer : Text) where
 -- a refusal: "On refusal the output length is 0, the used length is the one given, and output and variable buffers hold their old bytes."
 pub record Refuses (g : Given) (a : Answer) : Type 0 where
   pub listed : a .number ≤ outputRoom
-  pub inside : a .place ≤ length (g .line) - 1
-  pub before : a .number ≤ zeroByte → a .place ≡ 0
+  pub before : a .number ≤ zeroByte → a .place ≡ 0  -- "it is 0 for 1 to 6"
+  pub inside : a .place ≤ length (g .line) - 1  -- else "the offset of the first byte of the word", or of the operator, or 0
   pub nothing : a .outLength ≡ 0
   pub sameUsed : a .used ≡ g .used
   pub sameOut : a .out ≡ g .out
@@ -66,10 +66,10 @@ pub record Accepts (P : Text → Type 0) (g : Given) (a : Answer) : Type 0 where
 -- "The work area is zero throughout after every call of expander or normaliser", and no buffer has another length
 pub record Fits (P : Text → Type 0) (g : Given) (a : Answer) : Type 0 where
   pub clear : a .work ≡ replicate (length (g .work)) 0
-  pub workLength : length (a .work) ≡ length (g .work)
-  pub outLength : length (a .out) ≡ length (g .out)
-  pub varsLength : length (a .vars) ≡ length (g .vars)
-  pub refused : (a .number ≡ accepted → ⊥) → Refuses g a
+  pub workKept : length (a .work) ≡ length (g .work)
+  pub outKept : length (a .out) ≡ length (g .out)
+  pub varsKept : length (a .vars) ≡ length (g .vars)
+  pub refuses : (a .number ≡ accepted → ⊥) → Refuses g a
   pub accepts : a .number ≡ accepted → Accepts P g a
 
 -- what may be written: a text that P holds of, no longer than the output, and variables that fit
@@ -88,10 +88,10 @@ module _ (g : Given) where
   unfolding answered cleared
   refuses-fits P n place l m i h = record {
     clear = refl;
-    workLength = cleared-length;
-    outLength = refl;
-    varsLength = refl;
-    refused = λ _. record { listed = m; inside = i; before = h; nothing = refl; sameUsed = refl; sameOut = refl; sameVars = refl };
+    workKept = cleared-length;
+    outKept = refl;
+    varsKept = refl;
+    refuses = λ _. record { listed = m; inside = i; before = h; nothing = refl; sameUsed = refl; sameOut = refl; sameVars = refl };
     accepts = λ e. absurd (omega arith);
   }
 
@@ -108,10 +108,10 @@ module _ (g : Given) where
   unfolding answered cleared
   accepts-fits P r w = record {
     clear = refl;
-    workLength = cleared-length;
-    outLength = over-length (r .0) (g .out) (w .fits);
-    varsLength = over-length (image (flat (r .1))) (g .vars) (kept-fits (r .1) (w .kept));
-    refused = λ h. absurd (h refl);
+    workKept = cleared-length;
+    outKept = over-length (r .0) (g .out) (w .fits);
+    varsKept = over-length (image (flat (r .1))) (g .vars) (kept-fits (r .1) (w .kept));
+    refuses = λ h. absurd (h refl);
     accepts = λ _. record {
       place = refl;
       output = rw (over-front (r .0) (g .out)) (w .output);
@@ -130,7 +130,7 @@ module _ (g : Given) where
       let b : (workTooSmall ≤ n) × (n ≤ zeroByte) = between-bounds workTooSmall n zeroByte e in
       refuses-fits P n 0 (b .0) (omega (arith, b .1)) (omega arith) (λ _. refl)
   answered-fits P (refusesAt {n = n} {place = place} e l) =
-      let b : (7 ≤ n) × (n ≤ outputRoom) = between-bounds 7 n outputRoom e in
+      let b : (unended ≤ n) × (n ≤ outputRoom) = between-bounds unended n outputRoom e in
       refuses-fits P n place (omega (arith, b .0)) (b .1) l (λ h. absurd (omega (arith, b .0)))
   answered-fits P (givesAt {a = r} w) = accepts-fits P r w
 
@@ -245,14 +245,14 @@ pub record QuoterAccepts (fields out : Text) (q : Quoting) : Type 0 where
 -- "place .. is 0 .. for 22, and for 21 from the quoter": on refusal the number is one of these
 pub record QuoterFits (fields out : Text) (q : Quoting) : Type 0 where
   pub place : q .place ≡ 0
-  pub outLength : length (q .out) ≡ length out
-  pub refused : (q .number ≡ accepted → ⊥) → (outputRoom ≤ q .number) × (q .number ≤ badFields) × (q .outLength ≡ 0) × (q .out ≡ out)
+  pub outKept : length (q .out) ≡ length out
+  pub refuses : (q .number ≡ accepted → ⊥) → (outputRoom ≤ q .number) × (q .number ≤ badFields) × (q .outLength ≡ 0) × (q .out ≡ out)
   pub accepts : q .number ≡ accepted → QuoterAccepts fields out q
 
 module _ (fields out : Text) where
   quoter-refuses : (n : ℕ) → outputRoom ≤ n → n ≤ badFields → QuoterFits fields out (quoting out (refusedAt n 0))
   unfolding quoting
-  quoter-refuses n l m = record { place = refl; outLength = refl; refused = λ _. (l, m, refl, refl); accepts = λ e. absurd (omega arith) }
+  quoter-refuses n l m = record { place = refl; outKept = refl; refuses = λ _. (l, m, refl, refl); accepts = λ e. absurd (omega arith) }
 
   quoter-quotes : (l : Fields) → fieldsOf fields ≡ some l → (x : Bool) → (leb (length (quotedLine l)) lineLimit && leb (length (quotedLine l)) (length out)) ≡ x
       → QuoterFits fields out (quoting out (quotedIn (length out) l))
@@ -264,8 +264,8 @@ module _ (fields out : Text) where
       let j : n ≤ length out = leb-true n (length out) (and-right (leb n lineLimit) (leb n (length out)) e) in
       rw e (record {
         place = refl;
-        outLength = over-length (quotedLine l) out j;
-        refused = λ h. absurd (h refl);
+        outKept = over-length (quotedLine l) out j;
+        refuses = λ h. absurd (h refl);
         accepts = λ _. record { list = l; reads = r; output = over-front (quotedLine l) out; short = i; outFits = j; behind = over-behind (quotedLine l) out };
       })
 
