@@ -2,6 +2,7 @@
 
 mod damage;
 mod expression;
+mod focus;
 pub mod grammar;
 pub mod random;
 mod sizes;
@@ -26,6 +27,8 @@ pub fn call(seed: u64, case: u64) -> Call {
         3..=8 => quote(random),
         9..=12 => malformed(random),
         13..=17 => storing(random),
+        18..=27 => focused(random, focus::patterns),
+        28..=34 => focused(random, focus::splitting),
         _ => lines(random),
     };
     match call {
@@ -81,6 +84,12 @@ fn storing(random: &mut Random) -> Call {
     let mut lent = ordinary(random);
     lent.line = damage::storing(random);
     lent.variables_buffer = lent.variables.len() + random.below(60);
+    Call::Lines(job(random), lent)
+}
+
+fn focused(random: &mut Random, focus: fn(&mut Random, &mut Lent)) -> Call {
+    let mut lent = ordinary(random);
+    focus(random, &mut lent);
     Call::Lines(job(random), lent)
 }
 

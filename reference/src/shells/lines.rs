@@ -9,10 +9,10 @@ const NAMES: [&str; 9] = ["x", "y", "v", "e", "n", "A1", "_a", "name_9", "IFS"];
 const UNSET: [&str; 2] = ["u", "w"];
 const NUMBERS: [&str; 2] = ["n", "A1"];
 
-const IFS: [&str; 9] = ["", " ", ":", " :", " \t\n", "0", "1,", ",", "x:"];
-const VALUES: [&str; 20] = [
+const IFS: [&str; 9] = ["", " ", ":", " :", " \t\n", "0", "^1", ",", "x:"];
+const VALUES: &[&str] = &[
     "", "a", "a b", " a  b ", ":a::b:", " : a :", "*", "?", "[a-c]", "a*", "d/*", "a/b", "x.y",
-    "'", "\"a\"", "$x", "}", "a\tb\nc", "-1", "a:b c",
+    "'", "\"a\"", "$x", "}", "a\tb\nc", "-1", "a:b c", "a^b^^c", "^",
 ];
 const NUMBER_VALUES: [&str; 8] = [
     "",
@@ -25,17 +25,22 @@ const NUMBER_VALUES: [&str; 8] = [
     "12",
 ];
 
-const LITERALS: [&str; 16] = [
-    "a", "b", "c", "x", "1", "-", "=", ":", "!", "%", "@", "abc", "d/", ",", "+", "x.y",
+const LITERALS: &[&str] = &[
+    "a", "b", "c", "x", "1", "-", "=", ":", "!", "%", "@", "abc", "d/", ",", "+", "x.y", "{", "]",
 ];
-const WILD: [&str; 14] = [
+const WILD: &[&str] = &[
     "*", "?", "[a-c]", "[!a]", "[abc]", "a*", "?b", "d/*", "[a-]", "*b", ".h*", "d/.[e]", "[]a]",
-    "*/?",
+    "*/?", "[!]a]", "[a-c-e]", "[--a]", "['!'a]", "[\"]\"a]", "[a'-'c]", "[c-a]", "[!c-a]", "[",
+    "[]", "[!", "[a", "[\\!a]", "[!!a]", "[a-c]*", "[]-a]", "[a\\]]",
 ];
 const QUOTED: [&str; 12] = [
-    "", "a", " ", "a b", "*", "?", "[a]", ":", "#", "~", "}", "$x",
+    "", "a", " ", "a b", "*", "?", "[a]", ":", "#", "~", "$x", "}",
 ];
-const ESCAPES: [&str; 8] = ["\\a", "\\$", "\\\"", "\\\\", "\\*", "\\ ", "\\'", "\\~"];
+/// The texts without a brace stand first; a removal's operand has only these.
+const BRACELESS: usize = 11;
+const ESCAPES: &[&str] = &[
+    "\\}", "\\a", "\\$", "\\\"", "\\\\", "\\*", "\\ ", "\\'", "\\~",
+];
 const DOUBLE_ESCAPES: [&str; 5] = ["\\a", "\\$", "\\\"", "\\\\", "\\*"];
 const CHOICES: [&str; 7] = ["-", ":-", "+", ":+", "?", "=", ":="];
 /// The choices that store nothing stand first; a removal's operand has only these.
@@ -74,7 +79,7 @@ pub fn variables(random: &mut Random) -> Table {
             "IFS" => random.text(&IFS),
             _ if random.once_in(4) => continue,
             _ if NUMBERS.contains(&name) => random.text(&NUMBER_VALUES),
-            _ => random.text(&VALUES),
+            _ => random.text(VALUES),
         };
         table.insert(name.into(), value);
     }
@@ -108,6 +113,15 @@ pub fn stays_in_table(outcome: &Outcome) -> bool {
         .any(|field| wild(field) && slash(field))
 }
 
+/// Whether no expansion stands directly behind another while IFS has white and hard bytes: dash takes a white
+/// delimiter that ends one and a hard one that begins the next for two.
+pub fn splits_alike(line: &[u8], variables: &Table) -> bool {
+    let ifs = variables.get(b"IFS".as_slice());
+    let mixed = ifs.is_some_and(|ifs| ifs.contains(&b' ') && ifs.contains(&b':'));
+    let ends = |byte: u8| byte.is_ascii_alphanumeric() || b"_})".contains(&byte);
+    !mixed || !line.windows(2).any(|two| ends(two[0]) && two[1] == b'$')
+}
+
 /// How deep the line being made is, and whether inside a removal's operand, where nothing is stored.
 struct Lines<'a> {
     random: &'a mut Random,
@@ -135,10 +149,10 @@ impl Lines<'_> {
     fn piece(&mut self, place: Place) -> Vec<u8> {
         let quoted = matches!(place, Place::Double | Place::DoubleOperand);
         match self.random.below(24) {
-            5..=7 if !quoted => self.random.text(&WILD),
+            5..=7 if !quoted => self.random.text(WILD),
             8..=10 if !quoted => self.quotes(),
             11 if quoted => self.random.text(&DOUBLE_ESCAPES),
-            11 => self.random.text(&ESCAPES),
+            11 => self.random.text(ESCAPES),
             12..=15 => [b"$".to_vec(), self.name()].concat(),
             16..=21 if self.depth < DEEPEST => self.brace(quoted),
             22 if self.depth < DEEPEST => self.arithmetic(),
@@ -160,13 +174,18 @@ impl Lines<'_> {
             Place::Double | Place::DoubleOperand if special => {
                 self.random.text(&["'", " ", "*", "?"])
             }
-            _ => self.random.text(&LITERALS),
+            _ => self.random.text(LITERALS),
         }
     }
 
     fn quotes(&mut self) -> Vec<u8> {
         if self.random.once_in(2) {
-            return between("'", self.random.text(&QUOTED), "'");
+            let quoted = if self.in_removal {
+                &QUOTED[..BRACELESS]
+            } else {
+                &QUOTED
+            };
+            return between("'", self.random.text(quoted), "'");
         }
         between("\"", self.pieces(Place::Double), "\"")
     }
@@ -184,7 +203,7 @@ impl Lines<'_> {
         between("${", inside, "}")
     }
 
-    /// One of `-=?+`; IFS is stored only with bytes that no pattern here holds, since bash spoils those.
+    /// One of `-=?+`. IFS is stored only if unset, and only with bytes that stand bare in no line here.
     fn choice(&mut self, name: Vec<u8>, quoted: bool) -> Vec<u8> {
         let choices = if self.in_removal {
             &CHOICES[..STORELESS]
@@ -193,7 +212,7 @@ impl Lines<'_> {
         };
         let choice = self.random.text(choices);
         if name == b"IFS" && choice.ends_with(b"=") {
-            return [name, choice, self.random.text(&[":", ", ", "", "x"])].concat();
+            return [name, self.random.text(&["=^", "=\t", "="])].concat();
         }
         let place = if quoted {
             Place::DoubleOperand

@@ -4,7 +4,8 @@
 use super::Table;
 
 /// Whether the line holds nothing a shell could run: no backquote, no `$(` but that of a closed `$((...))`, and
-/// outside of these no operator and no newline.
+/// outside of these no operator and no newline. A byte behind a backslash is passed over, and so is the second `$`
+/// of `$$`, which opens nothing.
 pub fn is_harmless(line: &[u8]) -> bool {
     let mut at = 0;
     while at < line.len() {
@@ -13,6 +14,8 @@ pub fn is_harmless(line: &[u8]) -> bool {
                 Some(length) => at += length,
                 None => return false,
             }
+        } else if line[at] == b'\\' || line[at..].starts_with(b"$$") {
+            at += 2;
         } else if b"`|&;<>()\n".contains(&line[at]) {
             return false;
         } else {
@@ -22,12 +25,13 @@ pub fn is_harmless(line: &[u8]) -> bool {
     true
 }
 
-/// How long the `$((...))` is that begins here, if its parentheses balance and the last two stand together.
+/// How long the `$((...))` is that begins here, if its parentheses balance and the last two stand together; `None`
+/// too if it holds a quote, a backslash, or a `[`, behind which bash would expand once more.
 fn arithmetic_length(text: &[u8]) -> Option<usize> {
     let mut open = 0;
     for (at, byte) in text.iter().enumerate() {
         match byte {
-            b'`' | b'\'' | b'"' | b'\\' => return None,
+            b'`' | b'\'' | b'"' | b'\\' | b'[' => return None,
             b'(' => open += 1,
             b')' => open -= 1,
             _ => {}
@@ -73,4 +77,56 @@ fn quoted(value: &[u8]) -> Vec<u8> {
     }
     quoted.push(b'\'');
     quoted
+}
+
+#[cfg(test)]
+mod tests {
+    use super::is_harmless;
+
+    #[test]
+    fn lines_that_could_run_something() {
+        for line in [
+            "`a`",
+            "\"`a`\"",
+            "$(a)",
+            "$((1)",
+            "$((1)+1)",
+            "$((1);a)",
+            "a|b",
+            "a;b",
+            "a&",
+            "a\nb",
+            "<a",
+            ">a",
+            "(a)",
+            "\\$((a))",
+            "$$((a))",
+            "'\\'|a",
+            "\\\\|a",
+            "$(($(a)))",
+            "$((a[1]))",
+            "$((`a`))",
+            "${u-$(a)}",
+            "$((1)) ;",
+        ] {
+            assert!(!is_harmless(line.as_bytes()), "{line}");
+        }
+    }
+
+    #[test]
+    fn lines_that_run_nothing() {
+        for line in [
+            "",
+            "a b",
+            "$((1))",
+            "$(((1)<(2)))",
+            "$(($((1))>u))",
+            "${u-a b}",
+            "\\|",
+            "\"$((1))\"",
+            "a\\\nb",
+        ] {
+            assert!(is_harmless(line.as_bytes()), "{line}");
+        }
+    }
 }
