@@ -1,4 +1,4 @@
-//! Expanding: the parts of a word, an operand or an arithmetic text become a row, each part worked out before it is added.
+//! Expanding: the parts of a word, an operand or an arithmetic text become a row, each worked out before it is added.
 
 use crate::arithmetic;
 use crate::image::Pair;

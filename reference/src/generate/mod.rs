@@ -1,4 +1,4 @@
-//! Cases made from a seed: lines and tables of every kind, to be answered by the reference and by what is held against it.
+//! Cases made from a seed: lines and tables of every kind, for the reference and what is held against it to answer.
 
 mod damage;
 mod expression;

@@ -167,8 +167,8 @@ const FIELDS: &[Difference] = &[
     ("A delimiter is an E unit", "a:b${IFS=:}", &[]),
     (
         "IFS as it stands after the word's own stores",
-        "${x%z}${IFS:=,}",
-        &[("IFS", ""), ("x", "a,b")],
+        "$x${IFS:= }",
+        &[("IFS", ""), ("x", "a b")],
     ),
     (
         "then drop white ones, at most one hard one",

@@ -2,7 +2,7 @@
 
 pub mod differences;
 pub mod lines;
-mod script;
+pub mod script;
 
 use std::collections::BTreeMap;
 use std::fs;
