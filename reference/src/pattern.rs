@@ -62,20 +62,13 @@ pub fn stars(pattern: &[Element]) -> usize {
 
 fn sign(unit: &Unit) -> Option<Sign> {
     match *unit {
-        Unit::Byte(byte, mark) => Some(Sign {
-            byte,
-            active: mark != Mark::Quoted,
-        }),
+        Unit::Byte(byte, mark) => Some(Sign { byte, active: mark != Mark::Quoted }),
         Unit::Empty => None,
     }
 }
 
 /// The set a closed bracket stands for and how many signs it takes behind its `[`; `None` if it is no bracket.
-fn bracket(
-    first: Sign,
-    behind: &[Sign],
-    purpose: Purpose,
-) -> Result<Option<([bool; 256], usize)>, Number> {
+fn bracket(first: Sign, behind: &[Sign], purpose: Purpose) -> Result<Option<([bool; 256], usize)>, Number> {
     if !first.is(b'[') {
         return Ok(None);
     }

@@ -8,11 +8,7 @@ use reference::shells::{differences, lines, reference, Folder, Outcome, Shell, T
 fn main() -> ExitCode {
     let words: Vec<String> = std::env::args().skip(1).collect();
     let words: Vec<&str> = words.iter().map(String::as_str).collect();
-    let missing: Vec<&str> = Shell::ALL
-        .into_iter()
-        .filter(|shell| !shell.is_installed())
-        .map(Shell::name)
-        .collect();
+    let missing: Vec<&str> = Shell::ALL.into_iter().filter(|shell| !shell.is_installed()).map(Shell::name).collect();
     if !missing.is_empty() {
         let missing = missing.join(", ");
         eprintln!("not installed, so nothing is compared: {missing}");
@@ -80,11 +76,7 @@ fn compare(seed: u64, count: usize) -> std::io::Result<usize> {
 fn report(shell: Shell, line: &[u8], before: &Table, wanted: &Outcome, given: Option<&Outcome>) {
     println!("{}: {}", shell.name(), line.escape_ascii());
     println!("  variables {}", shown(before));
-    println!(
-        "  reference {} {}",
-        fields(wanted),
-        shown(&wanted.variables)
-    );
+    println!("  reference {} {}", fields(wanted), shown(&wanted.variables));
     match given {
         Some(given) => println!("  shell     {} {}", fields(given), shown(&given.variables)),
         None => println!("  shell     fails"),
@@ -93,14 +85,10 @@ fn report(shell: Shell, line: &[u8], before: &Table, wanted: &Outcome, given: Op
 
 fn fields(outcome: &Outcome) -> String {
     let fields = outcome.fields.iter();
-    fields
-        .map(|field| format!("<{}>", field.escape_ascii()))
-        .collect()
+    fields.map(|field| format!("<{}>", field.escape_ascii())).collect()
 }
 
 fn shown(table: &Table) -> String {
-    let pair = |(name, value): (&Vec<u8>, &Vec<u8>)| {
-        format!("{}={} ", name.escape_ascii(), value.escape_ascii())
-    };
+    let pair = |(name, value): (&Vec<u8>, &Vec<u8>)| format!("{}={} ", name.escape_ascii(), value.escape_ascii());
     table.iter().map(pair).collect()
 }

@@ -45,9 +45,7 @@ const BAD_NUMBERS: [&str; 9] = [
 ];
 
 const OPERATORS: [&str; 11] = ["*", "/", "%", "+", "-", "<", "<=", ">", ">=", "==", "!="];
-const BAD_OPERATORS: [&str; 12] = [
-    "=", "!", "&&", "|", "**", "<<", "?", ",", "", "@", "~", "===",
-];
+const BAD_OPERATORS: [&str; 12] = ["=", "!", "&&", "|", "**", "<<", "?", ",", "", "@", "~", "==="];
 const BLANKS: [&str; 8] = ["", "", "", "", " ", "  ", "\t", "\n"];
 
 /// A text for `$((...))`, at this depth of open expansions.
@@ -72,11 +70,7 @@ fn sum(random: &mut Random, depth: usize, size: usize) -> Vec<u8> {
     let mut text = operand(random, depth, size);
     for _ in 0..random.below(size + 1) {
         text.extend(random.text(&BLANKS));
-        text.extend(if random.once_in(70) {
-            random.text(&BAD_OPERATORS)
-        } else {
-            random.text(&OPERATORS)
-        });
+        text.extend(if random.once_in(70) { random.text(&BAD_OPERATORS) } else { random.text(&OPERATORS) });
         text.extend(random.text(&BLANKS));
         text.extend(operand(random, depth, size));
     }
@@ -85,21 +79,12 @@ fn sum(random: &mut Random, depth: usize, size: usize) -> Vec<u8> {
 
 fn operand(random: &mut Random, depth: usize, size: usize) -> Vec<u8> {
     match random.below(20) {
-        0..=1 => [
-            random.text(&["-", "+", "- ", "--"]),
-            operand(random, depth, size),
-        ]
-        .concat(),
+        0..=1 => [random.text(&["-", "+", "- ", "--"]), operand(random, depth, size)].concat(),
         2..=4 if size > 0 => [b"(".to_vec(), sum(random, depth, size - 1), b")".to_vec()].concat(),
         5..=7 => grammar::name(random),
         8 => [b"$".to_vec(), grammar::name(random)].concat(),
         9 if depth < 3 => grammar::brace(random, depth + 1, true),
-        10 if depth < 3 && size > 0 => [
-            b"$((".to_vec(),
-            sum(random, depth + 1, size - 1),
-            b"))".to_vec(),
-        ]
-        .concat(),
+        10 if depth < 3 && size > 0 => [b"$((".to_vec(), sum(random, depth + 1, size - 1), b"))".to_vec()].concat(),
         11 if random.once_in(4) => random.text(&BAD_NUMBERS),
         _ => random.text(&NUMBERS),
     }

@@ -8,8 +8,8 @@ use crate::case::Lent;
 use crate::image::of_texts;
 
 const PATTERN: [&str; 30] = [
-    "*", "?", "[", "[", "]", "]", "!", "-", "-", "a", "b", "c", ".", "/", ":", "=", "^", "''",
-    "'-'", "\\]", "\"!\"", "[!", "[a-", "-c]", "[]", "'['", "[.", "[a", "b]", "'.'",
+    "*", "?", "[", "[", "]", "]", "!", "-", "-", "a", "b", "c", ".", "/", ":", "=", "^", "''", "'-'", "\\]", "\"!\"",
+    "[!", "[a-", "-c]", "[]", "'['", "[.", "[a", "b]", "'.'",
 ];
 const MATCHED: &[u8] = b"aabbcc../--][!^:=*";
 const SPLIT: &[u8] = b"  ::\t\n,ab0-";
@@ -18,14 +18,10 @@ const SPLIT: &[u8] = b"  ::\t\n,ab0-";
 pub fn patterns(random: &mut Random, lent: &mut Lent) {
     let value = bytes(random, MATCHED, 9);
     lend(lent, &Table::from([(b"x".to_vec(), value)]));
-    let paths: BTreeSet<Vec<u8>> = (0..random.below(12))
-        .map(|_| bytes(random, MATCHED, 5))
-        .collect();
+    let paths: BTreeSet<Vec<u8>> = (0..random.below(12)).map(|_| bytes(random, MATCHED, 5)).collect();
     let paths: Vec<Vec<u8>> = paths.into_iter().filter(|path| !path.is_empty()).collect();
     lent.paths = of_texts(&paths);
-    let pattern: Vec<u8> = (0..random.between(1, 7))
-        .flat_map(|_| random.text(&PATTERN))
-        .collect();
+    let pattern: Vec<u8> = (0..random.between(1, 7)).flat_map(|_| random.text(&PATTERN)).collect();
     let removal = random.text(&["%", "%%", "#", "##"]);
     lent.line = match random.below(5) {
         0 => [b"\"${x".to_vec(), removal, pattern, b"}\"".to_vec()].concat(),
@@ -74,9 +70,7 @@ pub fn splitting(random: &mut Random, lent: &mut Lent) {
 
 /// At most so many bytes out of these.
 fn bytes(random: &mut Random, alphabet: &[u8], most: usize) -> Vec<u8> {
-    (0..random.below(most + 1))
-        .map(|_| *random.pick(alphabet))
-        .collect()
+    (0..random.below(most + 1)).map(|_| *random.pick(alphabet)).collect()
 }
 
 fn lend(lent: &mut Lent, table: &Table) {

@@ -5,31 +5,23 @@ use super::random::Random;
 use super::tables::NAMES;
 
 const LITERALS: [&str; 24] = [
-    "a", "b", "c", "x", "1", ".", "/", "-", "=", ":", "~", "!", "^", "]", "}", "{", ",", "%", "@",
-    "abc", "a/b", ".hid", "\u{e9}", "+",
+    "a", "b", "c", "x", "1", ".", "/", "-", "=", ":", "~", "!", "^", "]", "}", "{", ",", "%", "@", "abc", "a/b",
+    ".hid", "\u{e9}", "+",
 ];
 const WILD: [&str; 16] = [
-    "*", "?", "[a-c]", "[!a]", "[abc]", "[]a]", "[a-]", "[c-a]", "[a", "[!", "*.b", "a?", "[a/b]",
-    "[--a]", "*/*", "[a-c-e]",
+    "*", "?", "[a-c]", "[!a]", "[abc]", "[]a]", "[a-]", "[c-a]", "[a", "[!", "*.b", "a?", "[a/b]", "[--a]", "*/*",
+    "[a-c-e]",
 ];
 const CLASSES: [&str; 6] = ["[[:a]", "[[:alpha:]]", "[a[.x]", "[[=", "[![:", "[a/[:x]"];
 const OPERAND_ONLY: [&str; 10] = [" ", "  ", "\t", "\n", "|", ";", "(", ")", "#", "<&>"];
-const QUOTED: [&str; 14] = [
-    "", "a", " ", "a b", "*", "?", "[a]", "\\", ":", "|", "#", "\n", "~", "}",
-];
-const ESCAPES: [&str; 10] = [
-    "\\a", "\\$", "\\`", "\\\"", "\\\\", "\\}", "\\*", "\\ ", "\\'", "\\~",
-];
+const QUOTED: [&str; 14] = ["", "a", " ", "a b", "*", "?", "[a]", "\\", ":", "|", "#", "\n", "~", "}"];
+const ESCAPES: [&str; 10] = ["\\a", "\\$", "\\`", "\\\"", "\\\\", "\\}", "\\*", "\\ ", "\\'", "\\~"];
 const SPICE: [&str; 18] = [
-    "`", "$1", "$@", "$'a'", "$(", "$$", "|", "&", "(", "${", "${x.}", "${#x-}", "${}", "\\\n",
-    "$((1)", "\"", "'", "${x:",
+    "`", "$1", "$@", "$'a'", "$(", "$$", "|", "&", "(", "${", "${x.}", "${#x-}", "${}", "\\\n", "$((1)", "\"", "'",
+    "${x:",
 ];
-const TILDES: [&str; 10] = [
-    "~", "~/", "~/a", "~crew", "~crew/x", "~nobody", "~a", "~x-y.z/", "~-", "~crew:",
-];
-const FORMS: [&str; 13] = [
-    "-", ":-", "=", ":=", "?", ":?", "+", ":+", "%", "%%", "#", "##", ":-",
-];
+const TILDES: [&str; 10] = ["~", "~/", "~/a", "~crew", "~crew/x", "~nobody", "~a", "~x-y.z/", "~-", "~crew:"];
+const FORMS: [&str; 13] = ["-", ":-", "=", ":=", "?", ":?", "+", ":+", "%", "%%", "#", "##", ":-"];
 
 /// Where pieces stand: which bytes are bare there, and which quotes may open.
 #[derive(Clone, Copy, PartialEq, Eq)]
@@ -44,11 +36,7 @@ pub fn line(random: &mut Random) -> Vec<u8> {
     let words = *random.pick(&[1, 1, 1, 2, 2, 3, 4]);
     let mut line = Vec::new();
     for _ in 0..words {
-        line.extend(if random.once_in(14) {
-            deep(random)
-        } else {
-            word(random)
-        });
+        line.extend(if random.once_in(14) { deep(random) } else { word(random) });
         line.extend(random.text(&[" ", " ", " ", "  ", "\t", "\n", ""]));
     }
     line
@@ -110,12 +98,7 @@ fn piece(random: &mut Random, depth: usize, place: Place) -> Vec<u8> {
         11 => random.text(&ESCAPES),
         12..=16 => [b"$".to_vec(), name(random)].concat(),
         17..=23 if depth < 4 => brace(random, depth + 1, quoted),
-        24 if depth < 4 => [
-            b"$((".to_vec(),
-            expression::text(random, depth + 1),
-            b"))".to_vec(),
-        ]
-        .concat(),
+        24 if depth < 4 => [b"$((".to_vec(), expression::text(random, depth + 1), b"))".to_vec()].concat(),
         25 if random.once_in(5) => random.text(&SPICE),
         26 if !quoted && random.once_in(3) => random.text(&CLASSES),
         _ => literal(random, place),
@@ -127,9 +110,7 @@ fn literal(random: &mut Random, place: Place) -> Vec<u8> {
         Place::Word => random.text(&LITERALS),
         Place::BareOperand if random.once_in(3) => random.text(&OPERAND_ONLY),
         Place::BareOperand => random.text(&LITERALS),
-        Place::Double | Place::DoubleOperand if random.once_in(3) => {
-            random.text(&["'", " ", "\\a", "*", "|", "$"])
-        }
+        Place::Double | Place::DoubleOperand if random.once_in(3) => random.text(&["'", " ", "\\a", "*", "|", "$"]),
         Place::Double | Place::DoubleOperand => random.text(&LITERALS),
     };
     let operand = matches!(place, Place::BareOperand | Place::DoubleOperand);
@@ -143,12 +124,7 @@ fn quotes(random: &mut Random, depth: usize) -> Vec<u8> {
     if random.once_in(2) {
         return [b"'".to_vec(), random.text(&QUOTED), b"'".to_vec()].concat();
     }
-    [
-        b"\"".to_vec(),
-        pieces(random, depth, Place::Double),
-        b"\"".to_vec(),
-    ]
-    .concat()
+    [b"\"".to_vec(), pieces(random, depth, Place::Double), b"\"".to_vec()].concat()
 }
 
 /// `${...}`, whose operand is read as the setting around it asks.
@@ -162,17 +138,6 @@ pub fn brace(random: &mut Random, depth: usize, quoted: bool) -> Vec<u8> {
     }
     let form = random.text(&FORMS);
     let removal = matches!(form[0], b'%' | b'#');
-    let place = if quoted && !removal {
-        Place::DoubleOperand
-    } else {
-        Place::BareOperand
-    };
-    [
-        b"${".to_vec(),
-        name,
-        form,
-        pieces(random, depth, place),
-        b"}".to_vec(),
-    ]
-    .concat()
+    let place = if quoted && !removal { Place::DoubleOperand } else { Place::BareOperand };
+    [b"${".to_vec(), name, form, pieces(random, depth, place), b"}".to_vec()].concat()
 }

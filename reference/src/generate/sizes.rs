@@ -111,10 +111,7 @@ fn variables(random: &mut Random, lent: &mut Lent) {
 fn output(random: &mut Random, lent: &mut Lent) {
     let length = about(random, limits::IMAGE);
     let value = 1_000;
-    given(
-        lent,
-        image(&Table::from([(b"v".to_vec(), vec![b'x'; value])])),
-    );
+    given(lent, image(&Table::from([(b"v".to_vec(), vec![b'x'; value])])));
     let last = length - 1 - 8 * (value + 2) - 2;
     lent.line = [b"$v ".repeat(8), vec![b'y'; last]].concat();
     lent.out = *random.pick(&[8_191, 8_192, 8_193, 9_000]);
@@ -153,11 +150,7 @@ fn quoted(random: &mut Random, lent: &mut Lent) {
 /// Paths whose image is 32,768 bytes or one more: one long path, or many of one byte more each.
 fn paths(random: &mut Random, lent: &mut Lent) {
     let length = limits::PATHS_IMAGE + random.below(2);
-    lent.paths = if random.once_in(2) {
-        filled(Kind::Paths, length)
-    } else {
-        many_paths(length)
-    };
+    lent.paths = if random.once_in(2) { filled(Kind::Paths, length) } else { many_paths(length) };
     lent.line = random.text(&["a*", "*", "[x]?*", "x*y", "q", "0?", "00[0-3]?"]);
 }
 

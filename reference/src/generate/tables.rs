@@ -6,13 +6,9 @@ use super::random::Random;
 use crate::image::of_texts;
 use crate::limits;
 
-pub const NAMES: [&str; 12] = [
-    "x", "y", "z", "v", "e", "n", "t", "A1", "_a", "name_9", "HOME", "IFS",
-];
+pub const NAMES: [&str; 12] = ["x", "y", "z", "v", "e", "n", "t", "A1", "_a", "name_9", "HOME", "IFS"];
 
-const IFS: [&str; 14] = [
-    "", " ", ":", " :", " \t\n", "0", "a-", "-", "$~", "\\", "*/", "\n,", "'\"", "\u{e9} ",
-];
+const IFS: [&str; 14] = ["", " ", ":", " :", " \t\n", "0", "a-", "-", "$~", "\\", "*/", "\n,", "'\"", "\u{e9} "];
 
 const VALUES: [&str; 34] = [
     "",
@@ -55,9 +51,9 @@ const LOGINS: [&str; 7] = ["-", ".", "1", "_", "a", "crew", "x-y.z"];
 const DIRECTORIES: [&str; 6] = ["", "/", "/home/crew", "/a b", "*", "~"];
 
 const PATHS: [&str; 34] = [
-    ".", "..", ".a", ".hid", ".hid/.x", "/", "/a", "//", "1", "[a]", "[ab", "a", "a b", "a'b",
-    "a*b", "a-c", "a.b", "a/.b", "a/b", "a/b/c", "a/b/d", "a:b", "ab", "abc", "b", "b/c", "c",
-    "d/.e/f", "d/e/f", "x", "x y", "{a}", "~", "\u{e9}",
+    ".", "..", ".a", ".hid", ".hid/.x", "/", "/a", "//", "1", "[a]", "[ab", "a", "a b", "a'b", "a*b", "a-c", "a.b",
+    "a/.b", "a/b", "a/b/c", "a/b/d", "a:b", "ab", "abc", "b", "b/c", "c", "d/.e/f", "d/e/f", "x", "x y", "{a}", "~",
+    "\u{e9}",
 ];
 
 pub type Table = BTreeMap<Vec<u8>, Vec<u8>>;
@@ -143,11 +139,7 @@ fn cut(random: &mut Random, image: &[u8]) -> usize {
 }
 
 fn too_long(random: &mut Random, kind: Kind) -> Vec<u8> {
-    let limit = if kind == Kind::Paths {
-        limits::PATHS_IMAGE
-    } else {
-        limits::IMAGE
-    };
+    let limit = if kind == Kind::Paths { limits::PATHS_IMAGE } else { limits::IMAGE };
     if kind == Kind::Paths && !random.once_in(6) {
         return bad_texts(random, kind);
     }

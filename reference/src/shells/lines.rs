@@ -11,55 +11,29 @@ const NUMBERS: [&str; 2] = ["n", "A1"];
 
 const IFS: [&str; 9] = ["", " ", ":", " :", " \t\n", "0", "^1", ",", "x:"];
 const VALUES: &[&str] = &[
-    "", "a", "a b", " a  b ", ":a::b:", " : a :", "*", "?", "[a-c]", "a*", "d/*", "a/b", "x.y",
-    "'", "\"a\"", "$x", "}", "a\tb\nc", "-1", "a:b c", "a^b^^c", "^",
+    "", "a", "a b", " a  b ", ":a::b:", " : a :", "*", "?", "[a-c]", "a*", "d/*", "a/b", "x.y", "'", "\"a\"", "$x",
+    "}", "a\tb\nc", "-1", "a:b c", "a^b^^c", "^",
 ];
-const NUMBER_VALUES: [&str; 8] = [
-    "",
-    "0",
-    "-1",
-    "+7",
-    "0x10",
-    "010",
-    "9223372036854775807",
-    "12",
-];
+const NUMBER_VALUES: [&str; 8] = ["", "0", "-1", "+7", "0x10", "010", "9223372036854775807", "12"];
 
-const LITERALS: &[&str] = &[
-    "a", "b", "c", "x", "1", "-", "=", ":", "!", "%", "@", "abc", "d/", ",", "+", "x.y", "{", "]",
-];
+const LITERALS: &[&str] =
+    &["a", "b", "c", "x", "1", "-", "=", ":", "!", "%", "@", "abc", "d/", ",", "+", "x.y", "{", "]"];
 const WILD: &[&str] = &[
-    "*", "?", "[a-c]", "[!a]", "[abc]", "a*", "?b", "d/*", "[a-]", "*b", ".h*", "d/.[e]", "[]a]",
-    "*/?", "[!]a]", "[a-c-e]", "[--a]", "['!'a]", "[\"]\"a]", "[a'-'c]", "[c-a]", "[!c-a]", "[",
-    "[]", "[!", "[a", "[\\!a]", "[!!a]", "[a-c]*", "[]-a]", "[a\\]]",
+    "*", "?", "[a-c]", "[!a]", "[abc]", "a*", "?b", "d/*", "[a-]", "*b", ".h*", "d/.[e]", "[]a]", "*/?", "[!]a]",
+    "[a-c-e]", "[--a]", "['!'a]", "[\"]\"a]", "[a'-'c]", "[c-a]", "[!c-a]", "[", "[]", "[!", "[a", "[\\!a]", "[!!a]",
+    "[a-c]*", "[]-a]", "[a\\]]",
 ];
-const QUOTED: [&str; 12] = [
-    "", "a", " ", "a b", "*", "?", "[a]", ":", "#", "~", "$x", "}",
-];
+const QUOTED: [&str; 12] = ["", "a", " ", "a b", "*", "?", "[a]", ":", "#", "~", "$x", "}"];
 /// The texts without a brace stand first; a removal's operand has only these.
 const BRACELESS: usize = 11;
-const ESCAPES: &[&str] = &[
-    "\\}", "\\a", "\\$", "\\\"", "\\\\", "\\*", "\\ ", "\\'", "\\~",
-];
+const ESCAPES: &[&str] = &["\\}", "\\a", "\\$", "\\\"", "\\\\", "\\*", "\\ ", "\\'", "\\~"];
 const DOUBLE_ESCAPES: [&str; 5] = ["\\a", "\\$", "\\\"", "\\\\", "\\*"];
 const CHOICES: [&str; 7] = ["-", ":-", "+", ":+", "?", "=", ":="];
 /// The choices that store nothing stand first; a removal's operand has only these.
 const STORELESS: usize = 5;
 const REMOVALS: [&str; 4] = ["%", "%%", "#", "##"];
-const CONSTANTS: [&str; 12] = [
-    "0",
-    "1",
-    "2",
-    "3",
-    "7",
-    "10",
-    "010",
-    "0x1F",
-    "2147483648",
-    "9223372036854775807",
-    "0x7fffffffffffffff",
-    "100",
-];
+const CONSTANTS: [&str; 12] =
+    ["0", "1", "2", "3", "7", "10", "010", "0x1F", "2147483648", "9223372036854775807", "0x7fffffffffffffff", "100"];
 const OPERATORS: [&str; 11] = ["*", "/", "%", "+", "-", "<", "<=", ">", ">=", "==", "!="];
 
 /// Where pieces stand.
@@ -88,11 +62,7 @@ pub fn variables(random: &mut Random) -> Table {
 
 pub fn line(random: &mut Random) -> Vec<u8> {
     let words = random.between(1, 4);
-    let mut lines = Lines {
-        random,
-        depth: 0,
-        in_removal: false,
-    };
+    let mut lines = Lines { random, depth: 0, in_removal: false };
     let mut line = Vec::new();
     for _ in 0..words {
         line.extend(lines.word());
@@ -104,13 +74,9 @@ pub fn line(random: &mut Random) -> Vec<u8> {
 /// slash at its start, at its end or next to another.
 pub fn stays_in_table(outcome: &Outcome) -> bool {
     let wild = |field: &[u8]| field.iter().any(|byte| b"*?[".contains(byte));
-    let slash = |field: &[u8]| {
-        field.starts_with(b"/") || field.ends_with(b"/") || field.windows(2).any(|two| two == b"//")
-    };
-    !outcome
-        .fields
-        .iter()
-        .any(|field| wild(field) && slash(field))
+    let slash =
+        |field: &[u8]| field.starts_with(b"/") || field.ends_with(b"/") || field.windows(2).any(|two| two == b"//");
+    !outcome.fields.iter().any(|field| wild(field) && slash(field))
 }
 
 /// Whether no expansion stands directly behind another while IFS has white and hard bytes: dash takes a white
@@ -171,20 +137,14 @@ impl Lines<'_> {
         let special = self.random.once_in(4);
         match place {
             Place::Operand if special => self.random.text(&[" ", "  ", "a b", "#"]),
-            Place::Double | Place::DoubleOperand if special => {
-                self.random.text(&["'", " ", "*", "?"])
-            }
+            Place::Double | Place::DoubleOperand if special => self.random.text(&["'", " ", "*", "?"]),
             _ => self.random.text(LITERALS),
         }
     }
 
     fn quotes(&mut self) -> Vec<u8> {
         if self.random.once_in(2) {
-            let quoted = if self.in_removal {
-                &QUOTED[..BRACELESS]
-            } else {
-                &QUOTED
-            };
+            let quoted = if self.in_removal { &QUOTED[..BRACELESS] } else { &QUOTED };
             return between("'", self.random.text(quoted), "'");
         }
         between("\"", self.pieces(Place::Double), "\"")
@@ -205,20 +165,12 @@ impl Lines<'_> {
 
     /// One of `-=?+`. IFS is stored only if unset, and only with bytes that stand bare in no line here.
     fn choice(&mut self, name: Vec<u8>, quoted: bool) -> Vec<u8> {
-        let choices = if self.in_removal {
-            &CHOICES[..STORELESS]
-        } else {
-            &CHOICES
-        };
+        let choices = if self.in_removal { &CHOICES[..STORELESS] } else { &CHOICES };
         let choice = self.random.text(choices);
         if name == b"IFS" && choice.ends_with(b"=") {
             return [name, self.random.text(&["=^", "=\t", "="])].concat();
         }
-        let place = if quoted {
-            Place::DoubleOperand
-        } else {
-            Place::Operand
-        };
+        let place = if quoted { Place::DoubleOperand } else { Place::Operand };
         [name, choice, self.pieces(place)].concat()
     }
 

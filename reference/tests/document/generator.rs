@@ -21,8 +21,7 @@ fn every_number_comes_up() {
 
 #[test]
 fn limits_come_up() {
-    let [mut lines, mut variables, mut homes, mut paths, mut fields] =
-        <[BTreeSet<usize>; 5]>::default();
+    let [mut lines, mut variables, mut homes, mut paths, mut fields] = <[BTreeSet<usize>; 5]>::default();
     for number in 0..CASES {
         match call(SEED, number) {
             Call::Lines(_, lent) => {

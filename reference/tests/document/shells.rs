@@ -34,17 +34,7 @@ fn lines_that_could_run_something() {
 
 #[test]
 fn lines_that_run_nothing() {
-    for line in [
-        "",
-        "a b",
-        "$((1))",
-        "$(((1)<(2)))",
-        "$(($((1))>u))",
-        "${u-a b}",
-        "\\|",
-        "\"$((1))\"",
-        "a\\\nb",
-    ] {
+    for line in ["", "a b", "$((1))", "$(((1)<(2)))", "$(($((1))>u))", "${u-a b}", "\\|", "\"$((1))\"", "a\\\nb"] {
         assert!(is_harmless(line.as_bytes()), "{line}");
     }
 }
