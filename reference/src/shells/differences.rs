@@ -37,6 +37,11 @@ const EXPANDING: &[Difference] = &[
     ("Empty login means HOME", "~/x", &[]),
     ("Empty login means HOME (even if empty)", "~ ~/x", &[("HOME", "")]),
     ("The operand is always expanded", "${u%${w=a}}", &[]),
+    (
+        "holds at most 2,048 units",
+        "$((0$v$v$v$v$v$v$v$v$v$v$v$v$v$v$v$v$v$v$v$v$v$v$v$v$v$v$v$v$v$v$v$v))",
+        &[("v", "                                                                ")],
+    ),
     ("the length in bytes", "${#x}", &[("LC_ALL", "C.UTF-8"), ("x", "\u{e9}")]),
 ];
 
