@@ -6,7 +6,7 @@ mod focus;
 pub mod grammar;
 pub mod random;
 mod sizes;
-mod stars;
+pub mod stars;
 pub mod tables;
 pub mod tally;
 
@@ -17,7 +17,8 @@ use crate::case::{Call, Job, Lent};
 use crate::image::of_texts;
 use crate::limits;
 
-const MOST_STARS: usize = 3;
+/// The most stars one pattern of a case has.
+pub const MOST_STARS: usize = 3;
 
 /// The call of this case; the same for the same seed and case.
 pub fn call(seed: u64, case: u64) -> Call {

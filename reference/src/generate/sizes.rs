@@ -59,30 +59,9 @@ fn row(random: &mut Random, lent: &mut Lent) {
     let fill = *random.pick(b"xxx :1");
     let mut table = Table::from([(b"e".to_vec(), vec![]), (b"v".to_vec(), vec![fill; length])]);
     lent.line = random.text(&[
-        "$v",
-        "\"$v\"",
-        "a$v",
-        "$v$e",
-        "$v''",
-        "$v\"\"",
-        "$v\\a",
-        "a ${u-$v}",
-        "${u-\"$v\"}",
-        "${u=$v}$u",
-        "${u=${v}a}",
-        "${v%x}$e",
-        "$v${v%%x*}",
-        "x$v${v##*}",
-        "$(( 1$v ))",
-        "$((0$v))",
-        "$v$((1/0))",
-        "$v${u?}",
-        "${#v}$v",
-        "${v+a$v}",
-        "\"${u:-$v}\"a",
-        "${e:=a}$v",
-        "${v#${v}}a",
-        "${v%%\"$v\"}a",
+        "$v", "\"$v\"", "a$v", "$v$e", "$v''", "$v\"\"", "$v\\a", "a ${u-$v}", "${u-\"$v\"}", "${u=$v}$u",
+        "${u=${v}a}", "${v%x}$e", "$v${v%%x*}", "x$v${v##*}", "$(( 1$v ))", "$((0$v))", "$v$((1/0))", "$v${u?}",
+        "${#v}$v", "${v+a$v}", "\"${u:-$v}\"a", "${e:=a}$v", "${v#${v}}a", "${v%%\"$v\"}a",
     ]);
     if random.once_in(6) {
         let value = table.remove(b"v".as_slice()).unwrap_or_default();

@@ -11,40 +11,9 @@ pub const NAMES: [&str; 12] = ["x", "y", "z", "v", "e", "n", "t", "A1", "_a", "n
 const IFS: [&str; 14] = ["", " ", ":", " :", " \t\n", "0", "a-", "-", "$~", "\\", "*/", "\n,", "'\"", "\u{e9} "];
 
 const VALUES: [&str; 34] = [
-    "",
-    "",
-    "a",
-    "a b",
-    " a  b ",
-    ":a::b:",
-    " : a :",
-    "*",
-    "?",
-    "[a-c]",
-    "[!a]",
-    "[[:a]",
-    "a/b",
-    ".",
-    ".hid",
-    "~",
-    "\\*",
-    "'",
-    "\"a\"",
-    "$x",
-    "`a`",
-    "}",
-    "-1",
-    "+7",
-    "0x10",
-    "010",
-    "08",
-    "1+1",
-    "(1",
-    "9223372036854775807",
-    "-9223372036854775808",
-    "9223372036854775808",
-    "-0x8000000000000000",
-    "a\tb\nc",
+    "", "", "a", "a b", " a  b ", ":a::b:", " : a :", "*", "?", "[a-c]", "[!a]", "[[:a]", "a/b", ".", ".hid", "~",
+    "\\*", "'", "\"a\"", "$x", "`a`", "}", "-1", "+7", "0x10", "010", "08", "1+1", "(1", "9223372036854775807",
+    "-9223372036854775808", "9223372036854775808", "-0x8000000000000000", "a\tb\nc",
 ];
 
 const LOGINS: [&str; 7] = ["-", ".", "1", "_", "a", "crew", "x-y.z"];
@@ -104,7 +73,7 @@ pub fn image(table: &Table) -> Vec<u8> {
     of_texts(&texts)
 }
 
-/// Which rule of its kind of table an image breaks by its texts.
+/// The kinds of tables, by the shape of their records.
 #[derive(Clone, Copy, PartialEq, Eq)]
 pub enum Kind {
     Pairs,
@@ -155,7 +124,11 @@ pub fn filled(kind: Kind, length: usize) -> Vec<u8> {
 }
 
 fn bad_texts(random: &mut Random, kind: Kind) -> Vec<u8> {
-    let pairs: [&[&str]; 10] = [
+    // The first three have keys that are logins but not names.
+    let pairs: [&[&str]; 13] = [
+        &["1", ""],
+        &["a.b", ""],
+        &["-", ""],
         &["a", "", "a", ""],
         &["b", "", "a", ""],
         &["ab", "", "a", ""],

@@ -98,6 +98,15 @@ fn bytes_behind_the_images_stay() {
 }
 
 #[test]
+fn bytes_behind_are_the_given_ones_though_a_longer_image_stood_there() {
+    let before = storing(b"", 9).1;
+    let (answer, after) = storing(b"${a:=${u%${a:=longer-and-longer}}s}", 40);
+    assert_eq!((answer.number, answer.used), (ACCEPTED, 16));
+    assert_eq!(&after[..16], of_texts(&["a", "s", "b", "long"]));
+    assert_eq!(&after[16..], &before[16..]);
+}
+
+#[test]
 fn a_refusal_undoes_stores() {
     let before = storing(b"", 9).1;
     for (line, out, number, place) in [
@@ -131,6 +140,19 @@ fn the_normaliser_has_its_own_room() {
     assert_eq!((answer.number, answer.place), (Number::NoRoomForOutput as u8, 0));
     let (answer, _) = storing(b"a b", 7);
     assert_eq!((answer.number, answer.length), (ACCEPTED, 7));
+}
+
+#[test]
+fn the_normalisers_expander_refuses_at_the_word() {
+    let mut variables = of_texts(&["v".to_string(), "x".repeat(2_045)]);
+    let used = variables.len();
+    let (work, out) = (&mut vec![0; limits::WORK_AREA], &mut vec![0; 9_000]);
+    let mut call = |line: &[u8]| reference::normalise(line, &mut variables, used, &none(), &none(), work, out);
+    let room = Number::NoRoomForOutput as u8;
+    let answer = call(b"$v $v $v $v ab");
+    assert_eq!((answer.number, answer.place), (room, 12));
+    let answer = call(b"$v $v $v $v a");
+    assert_eq!((answer.number, answer.place), (room, 0));
 }
 
 #[test]

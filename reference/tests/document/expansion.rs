@@ -92,6 +92,18 @@ fn the_row_is_full() {
 }
 
 #[test]
+fn what_counts_as_a_unit() {
+    let world = World::empty().set("x", "y".repeat(2_047));
+    for line in ["$x\\a", "$x''", "$x\"\"", "\"$x\"", "${u-\"$x\"}", "$x\\\\"] {
+        assert!(world.expand(line).is_ok(), "{line}");
+    }
+    for line in ["$x'a'", "$x\\aa", "\"$x\\$\"", "${u-\"$x\"a}", "$x\"\"''"] {
+        refuses(&world, line, TooManyUnits, 0);
+    }
+    gives(&world, "\"${u-a}${u-\\}}\"", &["a}"]);
+}
+
+#[test]
 fn the_order_of_a_store_on_a_full_row() {
     let tight = World::empty().set("x", "y".repeat(2_048)).variables_buffer(2_100);
     refuses(&tight, "$x${u=$x}", NoRoomForVariable, 0);

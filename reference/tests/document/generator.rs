@@ -3,7 +3,7 @@
 use std::collections::BTreeSet;
 
 use reference::case::{case, replay, Call};
-use reference::generate::{call, tally::Tally};
+use reference::generate::{call, stars, tally::Tally, MOST_STARS};
 use reference::limits;
 
 const SEED: u64 = 2_001;
@@ -25,6 +25,8 @@ fn limits_come_up() {
     for number in 0..CASES {
         match call(SEED, number) {
             Call::Lines(_, lent) => {
+                assert!(lent.variables.len() <= lent.variables_buffer);
+                assert!(stars::most(&lent) <= MOST_STARS);
                 lines.insert(lent.line.len());
                 variables.insert(lent.used);
                 homes.insert(lent.homes.len());
