@@ -38,7 +38,7 @@ const OPERATORS: [&str; 11] = ["*", "/", "%", "+", "-", "<", "<=", ">", ">=", "=
 
 /// Where pieces stand.
 #[derive(Clone, Copy, PartialEq, Eq)]
-enum Place {
+enum Setting {
     Word,
     Operand,
     Double,
@@ -101,19 +101,19 @@ impl Lines<'_> {
         if self.random.once_in(10) {
             word.extend(self.random.text(&["~ ", "~/a ", "~/ ", "~nologin9/x "]));
         }
-        word.extend(self.pieces(Place::Word));
+        word.extend(self.pieces(Setting::Word));
         word.extend(self.random.text(&[" ", "  ", "\t"]));
         word
     }
 
-    fn pieces(&mut self, place: Place) -> Vec<u8> {
+    fn pieces(&mut self, setting: Setting) -> Vec<u8> {
         let most = if self.depth == 0 { 4 } else { 3 };
         let count = self.random.between(0, most);
-        (0..count).flat_map(|_| self.piece(place)).collect()
+        (0..count).flat_map(|_| self.piece(setting)).collect()
     }
 
-    fn piece(&mut self, place: Place) -> Vec<u8> {
-        let quoted = matches!(place, Place::Double | Place::DoubleOperand);
+    fn piece(&mut self, setting: Setting) -> Vec<u8> {
+        let quoted = matches!(setting, Setting::Double | Setting::DoubleOperand);
         match self.random.below(24) {
             5..=7 if !quoted => self.random.text(WILD),
             8..=10 if !quoted => self.quotes(),
@@ -122,7 +122,7 @@ impl Lines<'_> {
             12..=15 => [b"$".to_vec(), self.name()].concat(),
             16..=21 if self.depth < DEEPEST => self.brace(quoted),
             22 if self.depth < DEEPEST => self.arithmetic(),
-            _ => self.literal(place),
+            _ => self.literal(setting),
         }
     }
 
@@ -133,11 +133,11 @@ impl Lines<'_> {
         }
     }
 
-    fn literal(&mut self, place: Place) -> Vec<u8> {
+    fn literal(&mut self, setting: Setting) -> Vec<u8> {
         let special = self.random.once_in(4);
-        match place {
-            Place::Operand if special => self.random.text(&[" ", "  ", "a b", "#"]),
-            Place::Double | Place::DoubleOperand if special => self.random.text(&["'", " ", "*", "?"]),
+        match setting {
+            Setting::Operand if special => self.random.text(&[" ", "  ", "a b", "#"]),
+            Setting::Double | Setting::DoubleOperand if special => self.random.text(&["'", " ", "*", "?"]),
             _ => self.random.text(LITERALS),
         }
     }
@@ -147,7 +147,7 @@ impl Lines<'_> {
             let quoted = if self.in_removal { &QUOTED[..BRACELESS] } else { &QUOTED };
             return between("'", self.random.text(quoted), "'");
         }
-        between("\"", self.pieces(Place::Double), "\"")
+        between("\"", self.pieces(Setting::Double), "\"")
     }
 
     fn brace(&mut self, quoted: bool) -> Vec<u8> {
@@ -170,13 +170,13 @@ impl Lines<'_> {
         if name == b"IFS" && choice.ends_with(b"=") {
             return [name, self.random.text(&["=^", "=\t", "="])].concat();
         }
-        let place = if quoted { Place::DoubleOperand } else { Place::Operand };
-        [name, choice, self.pieces(place)].concat()
+        let setting = if quoted { Setting::DoubleOperand } else { Setting::Operand };
+        [name, choice, self.pieces(setting)].concat()
     }
 
     fn removal(&mut self) -> Vec<u8> {
         let outer = std::mem::replace(&mut self.in_removal, true);
-        let removal = [self.random.text(&REMOVALS), self.pieces(Place::Operand)].concat();
+        let removal = [self.random.text(&REMOVALS), self.pieces(Setting::Operand)].concat();
         self.in_removal = outer;
         removal
     }
