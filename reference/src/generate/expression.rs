@@ -14,8 +14,16 @@ const BAD_NUMBERS: [&str; 9] = [
     "99999999999999999999",
 ];
 
+/// Where 64 bits end.
+const EDGES: [&str; 13] = [
+    "(-9223372036854775807-1)%-1", "(-9223372036854775807-1)/-1", "(-9223372036854775807-1)%1",
+    "(-9223372036854775807-1)/0", "-(-9223372036854775807-1)", "-9223372036854775807-1", "-9223372036854775807-2",
+    "-9223372036854775808", "9223372036854775807+1", "9223372036854775807*-1-1", "4611686018427387904*-2",
+    "4611686018427387904*2", "3037000500*3037000500",
+];
 const OPERATORS: [&str; 11] = ["*", "/", "%", "+", "-", "<", "<=", ">", ">=", "==", "!="];
-const BAD_OPERATORS: [&str; 12] = ["=", "!", "&&", "|", "**", "<<", "?", ",", "", "@", "~", "==="];
+const BAD_OPERATORS: [&str; 16] =
+    ["=", "!", "&&", "|", "**", "<<", "?", ",", "", "@", "~", "===", "\\", "'", "\"", "$'"];
 const BLANKS: [&str; 8] = ["", "", "", "", " ", "  ", "\t", "\n"];
 
 /// A text for `$((...))`, at this depth of open expansions.
@@ -25,6 +33,9 @@ pub fn text(random: &mut Random, depth: usize) -> Vec<u8> {
         1 => nested(random, b"(", b")"),
         2 => nested(random, b"-", b""),
         3 => nested(random, b"+(", b")"),
+        4 => many(random),
+        7 => resumed(random),
+        5..=6 => random.text(&EDGES),
         _ => sum(random, depth, 3),
     }
 }
@@ -34,6 +45,20 @@ fn nested(random: &mut Random, open: &[u8], close: &[u8]) -> Vec<u8> {
     let count = random.between(31, 34) / open.len();
     let inside = random.text(&["1", "08", "x", "", "1 1"]);
     [open.repeat(count), inside, close.repeat(count)].concat()
+}
+
+/// Parentheses about the limit of 32, with a sign open and complete between them.
+fn resumed(random: &mut Random) -> Vec<u8> {
+    let outer = random.between(1, 20);
+    let inner = random.between(31, 34) - outer;
+    let open = [b"(".repeat(outer), random.text(&["-1+", "(1)-"]), b"(".repeat(inner)].concat();
+    [open, b"1".to_vec(), b")".repeat(outer + inner)].concat()
+}
+
+/// More signs or parentheses than may be open at once, but one after the other.
+fn many(random: &mut Random) -> Vec<u8> {
+    let part = random.text(&["-1+", "(1)-", "+2*"]);
+    [part.repeat(random.between(31, 40)), b"1".to_vec()].concat()
 }
 
 fn sum(random: &mut Random, depth: usize, size: usize) -> Vec<u8> {

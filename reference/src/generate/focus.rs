@@ -7,28 +7,86 @@ use super::tables::{image, Table};
 use crate::case::Lent;
 use crate::image::of_texts;
 
-const PATTERN: [&str; 30] = [
+const PATTERN: [&str; 38] = [
     "*", "?", "[", "[", "]", "]", "!", "-", "-", "a", "b", "c", ".", "/", ":", "=", "^", "''", "'-'", "\\]", "\"!\"",
-    "[!", "[a-", "-c]", "[]", "'['", "[.", "[a", "b]", "'.'",
+    "[!", "[a-", "-c]", "[]", "'['", "[.", "[a", "b]", "'.'", "[a'-'c]", "[a\\-c]", "[a'/']", "[\"/\"b]", "*.", "?.",
+    "/.", "[!a].",
 ];
-const MATCHED: &[u8] = b"aabbcc../--][!^:=*";
-const SPLIT: &[u8] = b"  ::\t\n,ab0-";
+const MATCHED: &[u8] = b"aaabbbccc.../--][!^:=*";
+const SPLIT: &[u8] = b"  ::\t\n,ab0-\x0b\r";
 
 /// A pattern as a word of the line or as the operand of a removal.
 pub fn patterns(random: &mut Random, lent: &mut Lent) {
     let value = bytes(random, MATCHED, 9);
-    lend(lent, &Table::from([(b"x".to_vec(), value)]));
     let paths: BTreeSet<Vec<u8>> = (0..random.below(12)).map(|_| bytes(random, MATCHED, 5)).collect();
     let paths: Vec<Vec<u8>> = paths.into_iter().filter(|path| !path.is_empty()).collect();
-    lent.paths = of_texts(&paths);
-    let pattern: Vec<u8> = (0..random.between(1, 7)).flat_map(|_| random.text(&PATTERN)).collect();
-    let removal = random.text(&["%", "%%", "#", "##"]);
-    lent.line = match random.below(5) {
-        0 => [b"\"${x".to_vec(), removal, pattern, b"}\"".to_vec()].concat(),
-        1..=2 => [b"${x".to_vec(), removal, pattern, b"}".to_vec()].concat(),
-        3 => [b"a${u-".to_vec(), pattern, b"}".to_vec()].concat(),
-        _ => pattern,
+    lent.line = match random.below(8) {
+        0 => pattern(random),
+        1 => [b"a${u-".to_vec(), pattern(random), b"}".to_vec()].concat(),
+        2 if !paths.is_empty() => like(random, &paths[0]),
+        3..=4 if !paths.is_empty() => {
+            let path = random.pick(&paths);
+            like(random, path)
+        }
+        _ => removal(random, &value),
     };
+    lend(lent, &Table::from([(b"x".to_vec(), value)]));
+    lent.paths = of_texts(&paths);
+}
+
+fn pattern(random: &mut Random) -> Vec<u8> {
+    (0..random.between(1, 7)).flat_map(|_| random.text(&PATTERN)).collect()
+}
+
+/// A removal whose pattern is any, or like one end of the value, perhaps with a star.
+fn removal(random: &mut Random, value: &[u8]) -> Vec<u8> {
+    let cut = random.below(value.len() + 1);
+    let form = random.text(&["%", "%%", "#", "##"]);
+    let operand = match (random.below(3), form[0]) {
+        (0, _) => pattern(random),
+        (_, b'%') => like(random, &value[cut..]),
+        _ => like(random, &value[..cut]),
+    };
+    let removal = [b"${x".to_vec(), form, operand, b"}".to_vec()].concat();
+    match random.below(4) {
+        0 => [b"\"".to_vec(), removal, b"\"".to_vec()].concat(),
+        _ => removal,
+    }
+}
+
+/// A pattern that the text likely matches: each byte itself, quoted, `?`, a bracket or a star.
+fn like(random: &mut Random, text: &[u8]) -> Vec<u8> {
+    let mut pattern = Vec::new();
+    for &byte in text {
+        pattern.extend(match random.below(18) {
+            0 => b"?".to_vec(),
+            1 => b"*".to_vec(),
+            2 => vec![b'*', byte],
+            3 => b"[a-c]".to_vec(),
+            4 => b"[!z]".to_vec(),
+            5 => vec![b'[', byte, b'-', byte, b']'],
+            6 => vec![b'[', byte, b']'],
+            7 => vec![b'"', byte, b'"'],
+            8 => quoted_member(random, byte),
+            _ => vec![b'\\', byte],
+        });
+    }
+    pattern
+}
+
+/// A bracket with the byte as a member, in which a byte that would mean something is quoted.
+fn quoted_member(random: &mut Random, byte: u8) -> Vec<u8> {
+    let (open, close) = *random.pick(&[
+        ("[\\!", "]"),
+        ("[\\]", "]"),
+        ("[[\\:", "]"),
+        ("[\\[:", "]"),
+        ("[", "'/']"),
+        ("[^", "]"),
+        ("['a'-", "]"),
+        ("[+\\-", "]"),
+    ]);
+    [open.as_bytes(), &[byte], close.as_bytes()].concat()
 }
 
 /// A row of bare, quoted and expanded bytes, split by an IFS of the same bytes.
@@ -41,15 +99,11 @@ pub fn splitting(random: &mut Random, lent: &mut Lent) {
         table.insert(b"IFS".to_vec(), bytes(random, SPLIT, 4));
     }
     lend(lent, &table);
-    let pieces = random.between(1, 6);
-    lent.line = (0..pieces)
-        .flat_map(|_| {
-            random.text(&[
-                "$x", "$y", "${x}", "\"$x\"", "''", "\"\"", "a", ":", "${u-: a :}", "${u-' '}", "${u- }", "\\:",
-                "${IFS=:}", "${w:=a b}", "$((10-20))", "${#x}", "${u-''}", " ",
-            ])
-        })
-        .collect();
+    let pieces = [
+        "$x", "$y", "${x}", "\"$x\"", "''", "\"\"", "a", ":", "${u-: a :}", "${u-' '}", "${u- }", "\\:", "${IFS=:}",
+        "${w:=a b}", "$((10-20))", "${#x}", "${u-''}", " ",
+    ];
+    lent.line = (0..random.between(1, 6)).flat_map(|_| random.text(&pieces)).collect();
 }
 
 /// At most so many bytes out of these.

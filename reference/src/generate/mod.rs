@@ -24,8 +24,8 @@ pub const MOST_STARS: usize = 3;
 pub fn call(seed: u64, case: u64) -> Call {
     let random = &mut Random::new(seed, case);
     let call = match random.below(100) {
-        0..=2 => sizes::call(random),
-        3..=8 => quote(random),
+        0..=3 => sizes::call(random),
+        4..=8 => quote(random),
         9..=12 => malformed(random),
         13..=17 => storing(random),
         18..=27 => focused(random, focus::patterns),

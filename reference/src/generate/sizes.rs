@@ -15,8 +15,8 @@ pub fn call(random: &mut Random) -> Call {
         14..=15 => variables(random, &mut lent),
         16 => lent.homes = filled(Kind::Pairs, about(random, limits::IMAGE)),
         17..=18 => output(random, &mut lent),
-        19 => store(random, &mut lent),
-        20..=21 => return quoter(random),
+        19..=20 => store(random, &mut lent),
+        21 => return quoter(random),
         22 => quoted(random, &mut lent),
         _ => paths(random, &mut lent),
     }
