@@ -15,7 +15,7 @@ fn every_number_comes_up() {
     for (number, count) in tally.numbers.iter().enumerate() {
         assert!(*count >= 20, "{number} comes up {count} times");
     }
-    assert!(tally.expand.min(tally.normalise).min(tally.quote) > 1_000);
+    assert!(tally.expand.min(tally.normalise).min(tally.quote) > 500);
     assert!(tally.bytes < 2_000 * CASES as usize);
 }
 
