@@ -11,12 +11,14 @@ use lib.Seq.{drop-at, length-take-le, take-take, take-add}
 use borrow.Author.Tests.{leb-true, le-leb}
 use Rattle.stages.specs.Numbers.{variableRoom, imageLimit}
 use Rattle.stages.specs.Bytes.{Text, part}
-use Rattle.stages.specs.Outcome.{refused, done, pick}
-use Rattle.stages.specs.Images.{Pairs, framed, written, image, imageLength, flat, stored}
+use Rattle.stages.specs.Outcome.{Outcome, refused, done, pick}
+use Rattle.stages.specs.Images.{Pairs, framed, written, image, imageLength, flat, stored, held}
 use Rattle.stages.specs.Expand.{store}
 use Rattle.stages.proofs.Bools.{and-left, and-right, and-both, same-tests}
 use Rattle.stages.proofs.Images.{written-append, flat-append, length-image}
-use Rattle.stores.specs.Answers.{imageIn}
+use Rattle.tables.specs.Places.{Hole, before, behind}
+use Rattle.tables.proofs.Splits.{stored-between}
+use Rattle.stores.specs.Answers.{imageIn, Writes}
 use Rattle.stores.specs.Splice.{spliced, within}
 
 drop-take : (end used : ℕ) (b : Text) → end ≤ used → used ≤ length b → drop end (take used b) ≡ part b end used
@@ -78,3 +80,16 @@ module _ (x t : Text) (v : Pairs) where
           let k : leb bytes imageLimit ≡ true = and-right (leb bytes room) (leb bytes imageLimit) d in
           let m : leb bytes cap ≡ true = rw e k in
           and-both m k
+
+-- the place of a name, and what `splice` does there
+module _ (b name : Text) (used at end : ℕ) (l : used ≤ length b) (h : Hole (take used b) name at end) where
+  pub hole-within : (at ≤ end) × (end ≤ used)
+  hole-within = let u : length (take used b) ≡ used = length-take-le used b l in (h .low, omega (arith, h .high))
+
+  pub store-writes : (value left : Text) (cap : ℕ) {r : Outcome ℕ} → cap ≤ imageLimit
+      → Writes (within cap (spliced b used at end (framed name ++ framed value))) b left r → Writes (imageIn cap name value (held (take used b))) b left r
+  store-writes value left cap {r} k w =
+      let e : spliced b used at end (framed name ++ framed value) ≡ image (flat (stored name value (held (take used b)))) =
+      splice-image b name value used at end (before name (held (take used b))) (behind name (held (take used b))) (hole-within .0) (hole-within .1) l (h .front) (h .back)
+      ∙ ap (λ (v : Pairs). image (flat v)) (sym (stored-between name value (held (take used b)))) in
+      rw (image-within name value (held (take used b)) cap k, ← e) w

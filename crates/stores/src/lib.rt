@@ -4,9 +4,11 @@ ghost use mathlib.Core.List.{_++_};
 ghost use Prim.Native.Nat.{ℕ, _+_, _≤_};
 ghost use lib.ListN.{length, take};
 ghost use Rattle.stages.specs.Numbers.{imageLimit};
-ghost use Rattle.stages.specs.Images.{framed};
-ghost use Rattle.stores.specs.Answers.{putOutcome, storedOutcome, recordIn, Writes};
+ghost use Rattle.stages.specs.Images.{framed, held};
+ghost use Rattle.tables.specs.Places.{Table};
+ghost use Rattle.stores.specs.Answers.{putOutcome, storedOutcome, recordIn, imageIn, Writes};
 ghost use Rattle.stores.specs.Splice.{spliced, within, roomFor};
+use tables::Spot;
 
 // What the record writer answers.
 pub enum Put {
@@ -82,4 +84,19 @@ fn splice(
     let next = at + 2 + name.len();
     put_record(&mut vars[next..], value);
     Stored::Used(kept + size)
+}
+
+// Stores a value under a name in the image that the first `used` bytes are, if the new image has at most `cap` bytes; if not, all bytes stay. A name
+// that is there gets the new value in its place, a new one comes where its order wants it. The bytes from the new image's end on stay, also when it
+// is shorter than the old one. A caller gives the lesser of its buffer and 8,192 as `cap`.
+pub fn store(vars: &mut [u8], used: usize, name: &[u8], value: &[u8], cap: usize) -> Stored
+    requires { ⌜ (used ≤ cap) × (cap ≤ length (now vars)) × (cap ≤ imageLimit) ⌝ }
+    requires { ⌜ Table (take used (now vars)) ⌝ }
+    ensures { λ r. ⌜ Writes (imageIn cap (now (name .entry)) (now (value .entry)) (held (take used (now (vars .entry))))) (now (vars .entry)) (now (vars .exit)) (storedOutcome r) ⌝ }
+{
+    let spot = tables::place_of(&vars[..used], name);
+    match spot {
+        Spot::Known { at, mid: _, end } => splice(vars, used, at, end, name, value, cap),
+        Spot::Fresh(at) => splice(vars, used, at, at, name, value, cap),
+    }
 }
