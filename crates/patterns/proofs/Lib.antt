@@ -1,0 +1,4 @@
+pub mod Matching
+pub mod Keeping
+pub mod Cutting
+pub mod Determined
