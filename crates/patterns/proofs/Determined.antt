@@ -1,10 +1,9 @@
 -- Whatever two outcomes a contract of this crate allows for one input, they are equal: each is equal to the same stage. Assumes nothing.
 use Prim.Native.Nat.{ℕ}
 use mathlib.Core.Path.{_≡_}
-use mathlib.Core.Bool.{Bool, true, false}
+use mathlib.Core.Bool.{Bool, true}
 use Rattle.stages.specs.Bytes.{Text}
 use Rattle.stages.specs.Pattern.{elements, hasClass, matches}
-use Rattle.stages.specs.Removal.{removed}
 use Rattle.stages.specs.Paths.{active}
 use Rattle.texts.specs.Rows.{signsOf}
 use Rattle.texts.proofs.Determined.{one-answer}
@@ -23,7 +22,3 @@ is-active-determined pattern = one-answer
 pub matches-determined : (pattern t : Text) (path : Bool) {r q : Bool}
     → r ≡ matches path (elements path 0 (signsOf pattern)) t → q ≡ matches path (elements path 0 (signsOf pattern)) t → r ≡ q
 matches-determined pattern t path = one-answer
-
-pub removed-determined : (value pattern : Text) (suffix long : Bool) {r q : Text}
-    → r ≡ removed suffix long (elements false 0 (signsOf pattern)) value → q ≡ removed suffix long (elements false 0 (signsOf pattern)) value → r ≡ q
-removed-determined value pattern suffix long = one-answer

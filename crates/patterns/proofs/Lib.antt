@@ -1,4 +1,3 @@
 pub mod Matching
 pub mod Keeping
-pub mod Cutting
 pub mod Determined

@@ -1,21 +1,18 @@
-// Patterns: which texts they match, whether a class refuses them, whether a field is one, and what a removal leaves of a value. A pattern
-// is the slice of a row's units without its N. The matcher goes over the elements up to the next star; there it tries the rest of the
-// pattern at each place of the text in turn.
+// Patterns: which texts they match, whether a class refuses them, and whether a field is one. A pattern is the slice of a row's units
+// without its N. The matcher goes over the elements up to the next star; there it tries the rest of the pattern at each place of the
+// text in turn.
 use elements::ByteSet;
 use elements::Piece;
 ghost use mathlib.Core.Path.{_≡_};
-ghost use mathlib.Core.Bool.{true, false, _&&_};
-ghost use Prim.Native.Nat.{_≤_};
+ghost use mathlib.Core.Bool.{true, _&&_};
 ghost use lib.ListN.{length};
 ghost use Rattle.stages.specs.Pattern.{elements, hasClass, passes, takes, matchesFrom, matches};
-ghost use Rattle.stages.specs.Removal.{dropped, cut, removed, fromEnd, firstCut, keepAll, cutAt};
 ghost use Rattle.stages.specs.Paths.{active};
 ghost use Rattle.texts.specs.Rows.{signsOf};
 ghost use Rattle.elements.specs.Sets.{has};
 ghost use Rattle.elements.specs.Pieces.{elementOf, Lies, isClassPiece};
 ghost use Rattle.patterns.specs.Steps.{isStar, isSlash, isSpecial, takesOne, RunSays};
 ghost use Rattle.patterns.specs.Kept.{isMark, Dropped};
-ghost use Rattle.patterns.specs.Cuts.{CutsAt, matchedAt};
 
 // The marks of units that are bytes. What has no such mark is N.
 const LITERAL: u8 = 1;
@@ -292,67 +289,4 @@ pub fn matches(pattern: &[u8], text: &[u8], path: bool) -> bool
     ensures { λ r. ⌜ r ≡ matches path (elements path 0 (signsOf (now (pattern .entry)))) (now (text .entry)) ⌝ }
 {
     matches_from(pattern, text, path, true, true)
-}
-
-// The part that a cut at k drops matches: the suffix from k on, or the prefix up to k.
-fn drops_match(value: &[u8], pattern: &[u8], suffix: bool, k: usize) -> bool
-    requires { ⌜ k ≤ length (now value) ⌝ }
-    ensures { λ r. ⌜ r ≡ matchedAt suffix (now (pattern .entry)) (now (value .entry)) k ⌝ }
-{
-    if suffix {
-        return matches(pattern, &value[k..], false);
-    }
-    matches(pattern, &value[..k], false)
-}
-
-// The i-th cut that is tried of a value of n bytes.
-fn cut_at(down: bool, n: usize, i: usize) -> usize
-    requires { ⌜ i ≤ n ⌝ }
-    ensures { λ r. ⌜ r ≡ cutAt down n i ⌝ }
-{
-    if down {
-        return n - i;
-    }
-    i
-}
-
-// The shortest suffix and the longest prefix are tried from the value's end.
-fn from_end(suffix: bool, long: bool) -> bool
-    ensures { λ r. ⌜ r ≡ fromEnd suffix long ⌝ }
-{
-    if suffix {
-        return !long;
-    }
-    long
-}
-
-// Where the value is cut: the first cut tried whose dropped part matches, else the one that drops nothing.
-fn cut_place(value: &[u8], pattern: &[u8], suffix: bool, down: bool) -> usize
-    ensures { λ r. ⌜ CutsAt suffix down (now (pattern .entry)) (now (value .entry)) r ⌝ }
-{
-    let n = value.len();
-    let mut i: usize = 0;
-    while i <= n {
-        let k = cut_at(down, n, i);
-        if drops_match(value, pattern, suffix, k) {
-            return k;
-        }
-        i += 1;
-    }
-    if suffix {
-        return n;
-    }
-    0
-}
-
-// What a removal leaves: "a part of the stored value itself".
-pub fn removed<'a>(value: &'a [u8], pattern: &[u8], suffix: bool, long: bool) -> &'a [u8]
-    ensures { λ r. ⌜ now r ≡ removed suffix long (elements false 0 (signsOf (now (pattern .entry)))) (now (value .entry)) ⌝ }
-{
-    let down = from_end(suffix, long);
-    let k = cut_place(value, pattern, suffix, down);
-    if suffix {
-        return &value[..k];
-    }
-    &value[k..]
 }

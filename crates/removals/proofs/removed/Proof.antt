@@ -8,10 +8,10 @@ use Rattle.stages.specs.Pattern.{elements}
 use Rattle.stages.specs.Removal.{cut, left, removed}
 use Rattle.texts.specs.Rows.{signsOf}
 use Rattle.elements.proofs.Units.{to-end}
-use Rattle.patterns.proofs.Cutting.{cut-is}
+use Rattle.removals.proofs.Cutting.{cut-is}
 use borrow.Author.Needs.{needs}
-use Rattle.patterns.proofs.removed.Statement.{statement}
-use Rattle.patterns.proofs.removed.Tie as tie
+use Rattle.removals.proofs.removed.Statement.{statement}
+use Rattle.removals.proofs.removed.Tie as tie
 
 from-end-requires : tie.Need-from-end-requires
 from-end-requires c κs = search needs

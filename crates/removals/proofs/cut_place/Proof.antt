@@ -5,10 +5,10 @@ use native.Mathlib.Omega.{arith}
 use borrow.Author.Needs.{needs}
 use lib.ListN.{length}
 use Rattle.stages.specs.Removal.{firstCut, keepAll, cutAt}
-use Rattle.patterns.specs.Cuts.{matchedAt}
-use Rattle.patterns.proofs.Cutting.{cut-here, cut-on, cut-none, cut-start, cut-within}
-use Rattle.patterns.proofs.cut_place.Statement.{statement}
-use Rattle.patterns.proofs.cut_place.Tie as tie
+use Rattle.removals.specs.Cuts.{matchedAt}
+use Rattle.removals.proofs.Cutting.{cut-here, cut-on, cut-none, cut-start, cut-within}
+use Rattle.removals.proofs.cut_place.Statement.{statement}
+use Rattle.removals.proofs.cut_place.Tie as tie
 
 abbrev Inv-loop : tie.InvT-loop
 Inv-loop value pattern suffix down n i₀ i = (n ≡ length value) × (i ≤ suc n) × (firstCut (λ k. matchedAt suffix pattern value k) (keepAll suffix value) (cutAt down n) 0 (suc n) ≡ firstCut (λ k. matchedAt suffix pattern value k) (keepAll suffix value) (cutAt down n) i (suc n - i))

@@ -1,9 +1,9 @@
 -- The definition's cases. Assumes nothing.
 use mathlib.Core.Path.{_∙_}
-use Rattle.patterns.proofs.Cutting.{turned}
+use Rattle.removals.proofs.Cutting.{turned}
 use borrow.Author.Needs.{needs}
-use Rattle.patterns.proofs.from_end.Statement.{statement}
-use Rattle.patterns.proofs.from_end.Tie as tie
+use Rattle.removals.proofs.from_end.Statement.{statement}
+use Rattle.removals.proofs.from_end.Tie as tie
 
 returns : tie.Need-returns
 returns c = turned (c .before .args .long) ∙ rw (c .if1 .taken)

@@ -3,8 +3,8 @@ use mathlib.Core.Path.{_≡_, sym, _∙_}
 use lib.Seq.{length-take-le}
 use Rattle.elements.proofs.Units.{to-end}
 use borrow.Author.Needs.{needs}
-use Rattle.patterns.proofs.drops_match.Statement.{statement}
-use Rattle.patterns.proofs.drops_match.Tie as tie
+use Rattle.removals.proofs.drops_match.Statement.{statement}
+use Rattle.removals.proofs.drops_match.Tie as tie
 
 sub-matches : tie.Need-sub-matches
 sub-matches c = search needs

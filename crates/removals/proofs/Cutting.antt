@@ -10,7 +10,7 @@ use Rattle.stages.specs.Bytes.{Text}
 use Rattle.stages.specs.Pattern.{elements}
 use Rattle.stages.specs.Removal.{firstCut, cutAt, keepAll, fromEnd, cut}
 use Rattle.texts.specs.Rows.{signsOf}
-use Rattle.patterns.specs.Cuts.{matchedAt, CutsAt}
+use Rattle.removals.specs.Cuts.{matchedAt, CutsAt}
 
 module _ (f : ℕ → Bool) (other : ℕ) (at : ℕ → ℕ) where
   one-cut : (i d : ℕ) → firstCut f other at i (suc d) ≡ pick (f (at i)) (at i) (firstCut f other at (suc i) d)
