@@ -4,3 +4,5 @@ pub mod Scans
 pub mod Moves
 pub mod Rows
 pub mod Determined
+pub mod Orders
+pub mod Runs

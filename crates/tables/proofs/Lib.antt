@@ -1,0 +1,9 @@
+pub mod Frames
+pub mod Splits
+pub mod Spots
+pub mod Finds
+pub mod Pieces
+pub mod Walk
+pub mod Keys
+pub mod Tables
+pub mod Determined
