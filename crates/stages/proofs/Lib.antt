@@ -2,6 +2,7 @@ pub mod Recipes
 pub mod Bools
 pub mod Texts
 pub mod Images
+pub mod Tables
 pub mod Stores
 pub mod Read
 pub mod Arith

@@ -1,1 +1,183 @@
 // Bytes and slices: the classes of bytes, longest runs, comparing, copying, moving and clearing.
+mod classes;
+
+ghost use mathlib.Core.Path.{_≡_};
+ghost use mathlib.Core.List.{_++_};
+ghost use Prim.Native.Nat.{ℕ, _+_, _≤_};
+ghost use lib.ListN.{length, drop, replicate};
+ghost use lib.Seq.{paste};
+ghost use Rattle.stages.specs.Bytes.{isIn, eqText};
+ghost use Rattle.texts.specs.Classes.{inClass, bitOf, Runs};
+ghost use Rattle.texts.specs.Orders.{orderOf};
+
+// The classes of bytes that document 01 names.
+pub enum Class {
+    NotZero,
+    Digit,
+    NameStart,
+    NameByte,
+    LoginByte,
+    Blank,
+    Operator,
+}
+
+// How a text stands to another, "ordered by unsigned value, a prefix first".
+pub enum Order {
+    Less,
+    Same,
+    More,
+}
+
+// The bit of a class in the table.
+fn bit(class: Class) -> u8
+    ensures { λ r. ⌜ r ≡ bitOf class ⌝ }
+{
+    match class {
+        Class::NotZero => 1,
+        Class::Digit => 2,
+        Class::NameStart => 4,
+        Class::NameByte => 8,
+        Class::LoginByte => 16,
+        Class::Blank => 32,
+        Class::Operator => 64,
+    }
+}
+
+// Is the byte in the class?
+pub fn in_class(class: Class, b: u8) -> bool
+    ensures { λ r. ⌜ r ≡ inClass class b ⌝ }
+{
+    let mask = bit(class);
+    classes::CLASSES[b as usize] & mask != 0
+}
+
+// Is the byte one of the set's?
+pub fn is_in(b: u8, set: &[u8]) -> bool
+    ensures { λ r. ⌜ r ≡ isIn b (now (set .entry)) ⌝ }
+{
+    let mut i: usize = 0;
+    while i < set.len() {
+        if b == set[i] {
+            return true;
+        }
+        i += 1;
+    }
+    false
+}
+
+// The end of the longest run of bytes of the class that begins at `at`.
+pub fn run_end(text: &[u8], at: usize, class: Class) -> usize
+    requires { ⌜ at ≤ length (now text) ⌝ }
+    ensures { λ r. ⌜ Runs (now (text .entry)) at class r ⌝ }
+{
+    let mut i = at;
+    while i < text.len() {
+        if !in_class(class, text[i]) {
+            return i;
+        }
+        i += 1;
+    }
+    i
+}
+
+// Are the two texts the same bytes?
+pub fn same(a: &[u8], b: &[u8]) -> bool
+    ensures { λ r. ⌜ r ≡ eqText (now (a .entry)) (now (b .entry)) ⌝ }
+{
+    if a.len() != b.len() {
+        return false;
+    }
+    let mut i: usize = 0;
+    while i < a.len() {
+        if a[i] != b[i] {
+            return false;
+        }
+        i += 1;
+    }
+    true
+}
+
+// How does the first text stand to the second?
+pub fn compare(a: &[u8], b: &[u8]) -> Order
+    ensures { λ r. ⌜ r ≡ orderOf (now (a .entry)) (now (b .entry)) ⌝ }
+{
+    let mut i: usize = 0;
+    while i < a.len() {
+        if b.len() <= i {
+            return Order::More;
+        }
+        let x = a[i];
+        let y = b[i];
+        if x < y {
+            return Order::Less;
+        }
+        if y < x {
+            return Order::More;
+        }
+        i += 1;
+    }
+    if i < b.len() {
+        Order::Less
+    } else {
+        Order::Same
+    }
+}
+
+// Copies a text to the front of an area; what is behind it stays.
+pub fn copy_in(from: &[u8], to: &mut [u8])
+    requires { ⌜ length (now from) ≤ length (now to) ⌝ }
+    ensures { λ _. ⌜ now (to .exit) ≡ now (from .entry) ++ drop (length (now (from .entry))) (now (to .entry)) ⌝ }
+{
+    let mut i: usize = 0;
+    while i < from.len() {
+        to[i] = from[i];
+        i += 1;
+    }
+}
+
+// Moves `count` bytes down, from the front on, so that each is read before it is written over.
+fn shift_down(area: &mut [u8], from: usize, to: usize, count: usize)
+    requires { ⌜ (from + count ≤ length (now area)) × (to ≤ from) ⌝ }
+    ensures { λ _. ⌜ now (area .exit) ≡ paste (now (area .entry)) to (drop from (now (area .entry))) count ⌝ }
+{
+    let mut i: usize = 0;
+    while i < count {
+        area[to + i] = area[from + i];
+        i += 1;
+    }
+}
+
+// Moves `count` bytes up, from the back on.
+fn shift_up(area: &mut [u8], from: usize, to: usize, count: usize)
+    requires { ⌜ (to + count ≤ length (now area)) × (from ≤ to) ⌝ }
+    ensures { λ _. ⌜ now (area .exit) ≡ paste (now (area .entry)) to (drop from (now (area .entry))) count ⌝ }
+{
+    let mut left: usize = count;
+    while 0 < left {
+        left -= 1;
+        area[to + left] = area[from + left];
+    }
+}
+
+// Moves the `count` bytes at `from` to `to`, up or down, as they were before; all other bytes stay.
+pub fn shift(area: &mut [u8], from: usize, to: usize, count: usize)
+    requires { ⌜ (from + count ≤ length (now area)) × (to + count ≤ length (now area)) ⌝ }
+    ensures { λ _. ⌜ now (area .exit) ≡ paste (now (area .entry)) to (drop from (now (area .entry))) count ⌝ }
+{
+    if to <= from {
+        shift_down(area, from, to, count);
+    } else {
+        shift_up(area, from, to, count);
+    }
+}
+
+// Sets every byte to zero.
+pub fn fill_zero(area: &mut [u8])
+    ensures { λ _. ⌜ now (area .exit) ≡ replicate (length (now (area .entry))) 0 ⌝ }
+{
+    let mut i: usize = 0;
+    while i < area.len() {
+        area[i] = 0;
+        i += 1;
+    }
+}

@@ -1,0 +1,44 @@
+-- The contracts determine every answer and every byte: two outcomes that a contract allows for one input are equal. Assumes nothing.
+use Prim.Native.Nat.{ℕ, _+_, _-_, _≤_}
+use native.Mathlib.Omega.{arith}
+use mathlib.Core.Path.{_≡_, sym, ap, _∙_}
+use mathlib.Core.Bool.{Bool}
+use mathlib.Core.List.{List, _++_}
+use lib.ListN.{length, drop, replicate, length-drop}
+use lib.Seq.{paste}
+use Rattle.stages.specs.Bytes.{Text, isIn, eqText}
+use Rattle.texts.specs.Classes.{inClass, Runs}
+use Rattle.texts.specs.Orders.{orderOf}
+use Rattle.texts.specs.declared.Class.{Class}
+use Rattle.texts.specs.declared.Order.{Order}
+
+-- what equals the same is equal: the shared law
+pub one-answer : {A : Type 0} {x r s : A} → r ≡ x → s ≡ x → r ≡ s
+one-answer p q = p ∙ sym q
+
+pub in-class-determined : (class : Class) (b : ℕ) (r s : Bool) → r ≡ inClass class b → s ≡ inClass class b → r ≡ s
+in-class-determined class b r s = one-answer
+
+pub is-in-determined : (b : ℕ) (set : Text) (r s : Bool) → r ≡ isIn b set → s ≡ isIn b set → r ≡ s
+is-in-determined b set r s = one-answer
+
+pub same-determined : (a b : Text) (r s : Bool) → r ≡ eqText a b → s ≡ eqText a b → r ≡ s
+same-determined a b r s = one-answer
+
+pub compare-determined : (a b : Text) (r s : Order) → r ≡ orderOf a b → s ≡ orderOf a b → r ≡ s
+compare-determined a b r s = one-answer
+
+pub copy-in-determined : (from to r s : Text) → r ≡ from ++ drop (length from) to → s ≡ from ++ drop (length from) to → r ≡ s
+copy-in-determined from to r s = one-answer
+
+pub shift-determined : (area : Text) (from to count : ℕ) (r s : Text) → r ≡ paste area to (drop from area) count → s ≡ paste area to (drop from area) count → r ≡ s
+shift-determined area from to count r s = one-answer
+
+pub fill-zero-determined : (area r s : Text) → r ≡ replicate (length area) 0 → s ≡ replicate (length area) 0 → r ≡ s
+fill-zero-determined area r s = one-answer
+
+-- the rests behind the two ends are the same, so their lengths are
+pub run-end-determined : (text : Text) (at : ℕ) (class : Class) (r s : ℕ) → Runs text at class r → Runs text at class s → r ≡ s
+run-end-determined text at class r s p q =
+    let e : drop r text ≡ drop s text = ap (λ (x : Text × Text). x .1) (sym (p .is) ∙ q .is) in
+    omega (arith, p .within, q .within, length-drop r text, length-drop s text, ap length e)

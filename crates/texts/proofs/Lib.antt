@@ -1,0 +1,6 @@
+pub mod Table
+pub mod ClassTable
+pub mod Scans
+pub mod Moves
+pub mod Rows
+pub mod Determined
