@@ -16,7 +16,7 @@ use borrow.Author.Tests.{le-leb, lt-leb, lt-ltb, le-ltb, ltb-true}
 use mathlib.Core.Option.{Option, none, some}
 use Prim.Native.Char.{code}
 use Rattle.stages.proofs.Bools.{no, between-true}
-use Rattle.stages.proofs.Arith as laws
+use Rattle.stages.proofs.Digits as laws
 use Rattle.stages.specs.Numbers as numbers
 use Rattle.stages.specs.Bytes.{Text, between}
 use Rattle.stages.specs.Outcome.{Outcome, refused, done, cases, choose}

@@ -6,6 +6,7 @@ pub mod Tables
 pub mod Stores
 pub mod Read
 pub mod Arith
+pub mod Digits
 pub mod Split
 pub mod Safe
 pub mod Answers

@@ -2,7 +2,7 @@
 use Prim.Native.Nat.{ℕ, _<_, _^_}
 use native.Mathlib.Omega.{arith}
 use Rattle.stages.specs.Units.{decimal}
-use Rattle.stages.proofs.Arith.{digits-length}
+use Rattle.stages.proofs.Digits.{digits-length}
 use borrow.Author.Needs.{needs}
 use Rattle.numbers.proofs.decimal.put_decimal.Statement.{statement}
 use Rattle.numbers.proofs.decimal.put_decimal.Tie as tie
