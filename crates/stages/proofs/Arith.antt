@@ -18,7 +18,7 @@ use Rattle.stages.specs.Arith.{operandAt, furtherAt, growStep, growSize,
 use Rattle.stages.proofs.Bools.{or-right}
 use Rattle.stages.proofs.Texts.{start-name-byte, span-join, span-more}
 
-digit-name-byte : (b : ℕ) → isDigit b ≡ true → isNameByte b ≡ true
+pub digit-name-byte : (b : ℕ) → isDigit b ≡ true → isNameByte b ≡ true
 unfolding isNameByte
 digit-name-byte b e = or-right (isNameStart b) e
 
