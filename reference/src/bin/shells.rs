@@ -45,20 +45,23 @@ fn usage() -> ExitCode {
     ExitCode::FAILURE
 }
 
-/// Compares so many accepted lines and says how many differ.
+/// Compares so many accepted lines and says how many differ, and how many more were made but not compared.
 fn compare(seed: u64, count: usize) -> std::io::Result<usize> {
     let folder = Folder::new()?;
-    let (mut compared, mut differ, mut case) = (0, 0, 0);
-    while compared < count {
+    let (mut compared, mut differ, mut refused, mut left_out) = (0, 0, 0, 0);
+    for case in 0.. {
+        if compared == count {
+            break;
+        }
         let random = &mut Random::new(seed, case);
-        case += 1;
         let variables = lines::variables(random);
         let line = lines::line(random);
-        let wanted = match reference(&line, &variables) {
-            Ok(wanted) if lines::stays_in_table(&wanted) => wanted,
-            _ => continue,
+        let Ok(wanted) = reference(&line, &variables) else {
+            refused += 1;
+            continue;
         };
-        if !is_harmless(&line) || !lines::splits_alike(&line, &variables) {
+        if !is_harmless(&line) || !lines::splits_alike(&line, &variables) || !lines::stays_in_table(&wanted) {
+            left_out += 1;
             continue;
         }
         compared += 1;
@@ -70,6 +73,7 @@ fn compare(seed: u64, count: usize) -> std::io::Result<usize> {
             }
         }
     }
+    println!("not compared: {refused} lines refused by the reference, {left_out} left out");
     println!("{compared} lines, {differ} differ");
     Ok(differ)
 }
