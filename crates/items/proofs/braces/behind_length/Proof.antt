@@ -1,12 +1,13 @@
--- `items::behind_length` meets its contract: the byte behind decides. Assumes nothing.
+-- `items::braces::behind_length` meets its contract: the byte behind decides. Assumes nothing.
+use mathlib.Core.Path.{refl}
 use Prim.Native.Nat.{suc, _+_, _-_}
 use native.Mathlib.Omega.{arith}
 use Rattle.stages.specs.Bytes.{part}
 use Rattle.items.proofs.Class.{shows-count}
-use Rattle.items.proofs.Braces.{length-end, length-close, length-wrong}
+use Rattle.items.proofs.Names.{length-end, length-close, length-wrong}
 use borrow.Author.Needs.{needs}
-use Rattle.items.proofs.behind_length.Statement.{statement}
-use Rattle.items.proofs.behind_length.Tie as tie
+use Rattle.items.proofs.braces.behind_length.Statement.{statement}
+use Rattle.items.proofs.braces.behind_length.Tie as tie
 
 returns : tie.Need-returns
 returns c =
@@ -25,7 +26,7 @@ add-t11 c = search needs
 returns-2 : tie.Need-returns-2
 returns-2 c =
     let a = c .before .before .before .before .args in
-    shows-count (a .text .now) (a .at) (a .depth) (a .to + 1) (a .to - a .at) (omega (arith, c .before .before .before .before .pre .0)) (omega (arith, c .before .before .if1 .left)) (a .at + 3) (a .to) (c .before .before .before .before .pre .0) (c .before .before .before .before .pre .1) (length-close (a .text .now) (part (a .text .now) (a .at + 3) (a .to)) (a .to - a .at) (a .to) (omega (arith, c .before .before .if1 .left)) (c .if2 .taken))
+    shows-count (a .text .now) (a .at) (a .depth) (a .to + 1) (a .to - a .at) (omega (arith, c .before .before .before .before .pre .0)) (omega (arith, c .before .before .if1 .left)) (a .at + 3) (a .to) (c .before .before .before .before .pre .0) (c .before .before .before .before .pre .1) refl (length-close (a .text .now) (part (a .text .now) (a .at + 3) (a .to)) (a .to - a .at) (a .to) (omega (arith, c .before .before .if1 .left)) (c .if2 .taken))
 
 wrong-byte-requires : tie.Need-wrong-byte-requires
 wrong-byte-requires c κs = search needs
