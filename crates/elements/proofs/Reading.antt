@@ -1,22 +1,20 @@
 -- The piece that stands at a place is the stage's next element there, and the elements behind it begin behind the piece. Assumes nothing.
 use Prim.Native.Nat.{ℕ, zero, suc, _+_, _*_, _-_, _≤_, _<_}
-use Prim.Native.Char.{code}
 use mathlib.Core.Path.{_≡_, refl, sym, _∙_, ap}
 use mathlib.Core.Bool.{Bool, true, false, _&&_, _||_}
 use mathlib.Core.List.{List, [], _∷_}
 use native.Mathlib.Omega.{arith}
 use lib.Dec.{eqb}
-use lib.ListN.{length, take, drop, getD, length-drop}
+use lib.ListN.{length, drop, length-drop}
 use lib.Seq.{drop-drop}
 use borrow.Author.Tests.{eqb-true, ne-eqb}
 use Rattle.stages.specs.Outcome.{pick}
-use Rattle.stages.specs.Bytes.{Text, part}
-use Rattle.stages.specs.Pattern.{Sign, Signs, isLive, Element, star, one, byte, set, Found, class, unclosed, closedAfter, find, bracket, others, skipped, bracketed, bracketLength, element, extra, elements, isClass, hasClass}
+use Rattle.stages.specs.Bytes.{Text}
+use Rattle.stages.specs.Pattern.{Sign, Signs, isLive, Element, byte, set, Found, class, unclosed, closedAfter, bracket, others, skipped, bracketed, bracketLength, element, extra, elements, isClass, hasClass}
 use Rattle.texts.specs.Rows.{signsOf}
-use Rattle.elements.specs.Heads.{begins}
 use Rattle.elements.specs.Pieces.{setFrom, bracketAt, pieceAt, behindOf, elementOf, isClassPiece, Lies}
 use Rattle.elements.specs.declared.Piece.{Piece}
-use Rattle.elements.specs.declared.Piece.the-variants.{Star, One, Byte, Class, Set}
+use Rattle.elements.specs.declared.Piece.the-variants.{Star, One, Byte}
 use Rattle.elements.proofs.Units.{signAt, unit-at, none-at, units-behind, units-of, units-there}
 use Rattle.elements.proofs.Searches.{found-inside}
 

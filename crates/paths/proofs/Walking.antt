@@ -1,5 +1,5 @@
 -- The walk over the texts of an image: a path that does not match is passed, and what is chosen stays the same. Assumes nothing.
-use Prim.Native.Nat.{ℕ, _+_, _-_, _≤_, _<_}
+use Prim.Native.Nat.{ℕ, _+_, _-_, _≤_}
 use mathlib.Core.Path.{_≡_, refl, sym, _∙_, ap}
 use mathlib.Core.Bool.{Bool, true, false}
 use mathlib.Core.List.{List, [], _∷_}
@@ -9,14 +9,14 @@ use lib.ListN.{length, drop, length-drop}
 use lib.Seq.{length-take-le}
 use Rattle.stages.specs.Bytes.{Text, part}
 use Rattle.stages.specs.Outcome.{pick}
-use Rattle.stages.specs.Images.{textsIn, texts, orEmpty}
+use Rattle.stages.specs.Images.{texts, orEmpty}
 use Rattle.stages.specs.Pattern.{Element, matches}
 use Rattle.stages.specs.Paths.{chosen}
 use Rattle.tables.specs.Pieces.{pieceAt}
 use Rattle.tables.specs.declared.Piece.{Piece}
 use Rattle.tables.specs.declared.Piece.the-variants.{End, Bad, At}
 use Rattle.tables.proofs.Pieces.{Ahead, ahead-first, Next, ahead-end, ahead-bad, ahead-text}
-use Rattle.paths.specs.Chosen.{textsFrom, Walks, pathElements, nextIn, Shows, nothing, path, NextSays}
+use Rattle.paths.specs.Chosen.{textsFrom, Walks, pathElements, nextIn, nothing, path, NextSays}
 use Rattle.paths.specs.declared.Next.the-variants.{Path, Nothing}
 
 -- the texts ahead are those from a place on

@@ -1,8 +1,8 @@
 -- The pass that drops N units, unit by unit, and what patterns see of what it keeps. Assumes nothing.
-use Prim.Native.Nat.{ℕ, suc, _+_, _-_, _≤_, _<_}
+use Prim.Native.Nat.{ℕ, _+_, _-_, _≤_, _<_}
 use mathlib.Core.Path.{_≡_, refl, sym, _∙_, ap}
 use mathlib.Core.Bool.{Bool, true, false, _||_}
-use mathlib.Core.List.{List, [], _∷_, _++_, append-assoc, append-nil}
+use mathlib.Core.List.{[], _∷_, _++_, append-assoc, append-nil}
 use native.Mathlib.Omega.{arith}
 use lib.Dec.{eqb}
 use lib.ListN.{length, drop, getD, set, length-append, length-drop}
@@ -10,8 +10,8 @@ use lib.Seq.{getD-append-add, getD-drop, set-at}
 use borrow.Author.Tests.{eqb-true}
 use Rattle.stages.specs.Outcome.{pick}
 use Rattle.stages.specs.Bytes.{Text}
-use Rattle.stages.specs.Units.{Mark, L, E, Q, Cell, cell, N, Row}
-use Rattle.stages.specs.Pattern.{Sign, Signs, signs}
+use Rattle.stages.specs.Units.{L, E, Q, cell, N, Row}
+use Rattle.stages.specs.Pattern.{signs}
 use Rattle.texts.specs.Rows.{rowBytes, rowOf, unitOf, signsOf}
 use Rattle.elements.proofs.Units.{two-on}
 use Rattle.patterns.specs.Kept.{isMark, withoutEmpty, kept, Dropped}

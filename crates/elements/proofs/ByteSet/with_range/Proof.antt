@@ -1,12 +1,10 @@
 -- The flags below `i` are those of the set with the range, and those from `i` on are as they were. Assumes nothing.
-use mathlib.Core.Path.{_≡_, refl, sym, _∙_, ap}
-use mathlib.Core.Bool.{_||_}
+use mathlib.Core.Path.{_≡_, refl}
+use mathlib.Core.Bool.{_||_, true}
 use Prim.Native.Nat.{ℕ, _+_, _≤_, _<_, _-_}
 use native.Mathlib.Omega.{arith}
-use borrow.Author.Needs.{needs}
 use lib.ListN.{length, length-set}
 use native.Mathlib.Decide.{decLt}
-use mathlib.Core.Bool.{Bool, true, false}
 use Rattle.elements.specs.Sets.{has}
 use Rattle.stages.specs.Bytes.{between}
 use Rattle.elements.proofs.Flags.{counted, below-stored, above-stored, inside, below-range, above-range}
