@@ -7,7 +7,7 @@ use native.Mathlib.Omega.{arith}
 use native.Mathlib.Decide.{ℕ-discrete}
 use lib.ListN.{length, set, length-map}
 use lib.Dec.{leb, eqb}
-use borrow.Author.Tests.{le-leb, lt-leb, eq-eqb, ne-eqb}
+use borrow.Author.Tests.{lt-leb, eq-eqb, ne-eqb}
 use lib.Seq.{getD-set-same, getD-set-other}
 use Rattle.stages.specs.Bytes.{between}
 use Rattle.elements.specs.Sets.{has}
@@ -37,10 +37,7 @@ pub above-stored : (l l₀ : List Bool) (i : ℕ) (v : Bool) → i < length l
     → ((k : ℕ) → i ≤ k → has l k ≡ has l₀ k) → (k : ℕ) → i + 1 ≤ k → has (set l i v) k ≡ has l₀ k
 above-stored l l₀ i v fits above k h = stored-off l i v fits k (λ e. omega arith) ∙ above k (omega arith)
 
--- `between` from its bounds
-pub inside : (lo hi k : ℕ) → lo ≤ k → k ≤ hi → between lo k hi ≡ true
-inside lo hi k a b = rw (le-leb lo k a, le-leb k hi b)
-
+-- outside its bounds `between` fails
 pub below-range : (lo hi k : ℕ) → k < lo → between lo k hi ≡ false
 below-range lo hi k a = rw (lt-leb lo k a)
 

@@ -9,6 +9,7 @@ use lib.Dec.{eqb}
 use lib.ListN.{length, take, drop, getD, length-drop}
 use lib.Seq.{drop-cons, drop-nil, take-all}
 use borrow.Author.Tests.{eq-eqb, ne-eqb}
+use Rattle.stages.proofs.Bools.{apart}
 use Rattle.stages.specs.Outcome.{pick}
 use Rattle.stages.specs.Bytes.{Text}
 use Rattle.stages.specs.Pattern.{Sign, Signs}
@@ -91,7 +92,7 @@ module _ (p : Text) (k c : ℕ) where
     where
       go : Dec (k + 1 < length p) → k + 1 < length p
       go (yes h) = h
-      go (no n) = absurd (let f = live-beyond (omega arith) in let z : _≡_ {A = ℕ} 0 1 = cc in omega arith)
+      go (no n) = absurd (apart (live-beyond (omega arith)) y)
 
 -- a part from k to the end is what is left when k are dropped
 pub to-end : (v : Text) (k : ℕ) → take (length v - k) (drop k v) ≡ drop k v

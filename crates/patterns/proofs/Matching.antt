@@ -8,6 +8,7 @@ use native.Mathlib.Numerals.{add-one}
 use lib.Dec.{eqb}
 use lib.ListN.{length, take, drop, getD, length-drop, drop-of-length-le}
 use lib.Seq.{drop-cons}
+use Rattle.stages.proofs.Bools.{no}
 use Rattle.stages.specs.Bytes.{Text}
 use Rattle.stages.specs.Pattern.{Element, one, byte, set, elements, hasClass, passes, takes, inSet, someEnd, matchesFrom}
 use Rattle.stages.specs.Paths.{active}
@@ -50,7 +51,7 @@ module _ (path head first : Bool) (es : List Element) (b : ℕ) (t : Text) where
   step : (p : Text) (q : Piece) → isStar q ≡ false
       → matchesFrom path (elementOf p q ∷ es) head first (b ∷ t) ≡ (takesOne path head first (elementOf p q) b && matchesFrom path es (isSlash q) (isSlash q) t)
   unfolding elementOf takesOne
-  step p Star n = absurd (let z : _≡_ {A = ℕ} 0 1 = cc in omega arith)
+  step p Star n = absurd (no (sym n))
   step p One n = one-step
   step p (Byte c) n = byte-step c
   step p Class n = byte-step 91
@@ -59,7 +60,7 @@ module _ (path head first : Bool) (es : List Element) (b : ℕ) (t : Text) where
 -- no byte is left for it
 none-left : (path head first : Bool) (es : List Element) (p : Text) (q : Piece) → isStar q ≡ false → matchesFrom path (elementOf p q ∷ es) head first [] ≡ false
 unfolding matchesFrom elementOf
-none-left path head first es p Star n = absurd (let z : _≡_ {A = ℕ} 0 1 = cc in omega arith)
+none-left path head first es p Star n = absurd (no (sym n))
 none-left path head first es p One n = refl
 none-left path head first es p (Byte c) n = refl
 none-left path head first es p Class n = refl
@@ -70,10 +71,10 @@ met : (path head first : Bool) (p : Text) (n : ℕ) (t : Text) (q : Piece) → i
     → matchesFrom path (elementOf p q ∷ from path p n) head first t ≡ behindStar path p n first t
 unfolding matchesFrom elementOf behindStar
 met path head first p n t Star y = refl
-met path head first p n t One y = absurd (let z : _≡_ {A = ℕ} 0 1 = cc in omega arith)
-met path head first p n t (Byte c) y = absurd (let z : _≡_ {A = ℕ} 0 1 = cc in omega arith)
-met path head first p n t Class y = absurd (let z : _≡_ {A = ℕ} 0 1 = cc in omega arith)
-met path head first p n t (Set negative a e) y = absurd (let z : _≡_ {A = ℕ} 0 1 = cc in omega arith)
+met path head first p n t One y = absurd (no y)
+met path head first p n t (Byte c) y = absurd (no y)
+met path head first p n t Class y = absurd (no y)
+met path head first p n t (Set negative a e) y = absurd (no y)
 
 active-step : (p : Text) (q : Piece) (es : List Element) → active (elementOf p q ∷ es) ≡ (isSpecial q || active es)
 unfolding active elementOf
