@@ -1,5 +1,5 @@
 -- The walk over the texts of an image: a path that does not match is passed, and what is chosen stays the same. Assumes nothing.
-use Prim.Native.Nat.{ℕ, _+_, _-_, _≤_, _<_}
+use Prim.Native.Nat.{ℕ, _+_, _-_, _≤_}
 use mathlib.Core.Path.{_≡_, refl, sym, _∙_, ap}
 use mathlib.Core.Bool.{Bool, true, false}
 use mathlib.Core.List.{List, [], _∷_}
@@ -9,14 +9,15 @@ use lib.ListN.{length, drop, length-drop}
 use lib.Seq.{length-take-le}
 use Rattle.stages.specs.Bytes.{Text, part}
 use Rattle.stages.specs.Outcome.{pick}
-use Rattle.stages.specs.Images.{textsIn, texts, orEmpty}
+use Rattle.stages.specs.Images.{texts, orEmpty, heldTexts}
 use Rattle.stages.specs.Pattern.{Element, matches}
 use Rattle.stages.specs.Paths.{chosen}
+use Rattle.stages.proofs.Tables.{Paths}
 use Rattle.tables.specs.Pieces.{pieceAt}
 use Rattle.tables.specs.declared.Piece.{Piece}
 use Rattle.tables.specs.declared.Piece.the-variants.{End, Bad, At}
 use Rattle.tables.proofs.Pieces.{Ahead, ahead-first, Next, ahead-end, ahead-bad, ahead-text}
-use Rattle.paths.specs.Chosen.{textsFrom, Walks, pathElements, nextIn, Shows, nothing, path, NextSays}
+use Rattle.paths.specs.Chosen.{textsFrom, Walks, pathElements, nextIn, nothing, path, NextSays}
 use Rattle.paths.specs.declared.Next.the-variants.{Path, Nothing}
 
 -- the texts ahead are those from a place on
@@ -30,6 +31,10 @@ walks-ahead t at l h = record { within = h .within; reads = h .is ∙ ap (λ (k 
 -- a whole image of texts is walked from its first record on
 pub walks-first : (t : Text) (l : List Text) → texts t ≡ some l → Walks t 1 × (textsFrom t 1 ≡ l)
 walks-first t l e = let h = ahead-first t l e in (walks-ahead t 1 l h, from-ahead t 1 l h)
+
+-- and so is one of paths
+pub walks-paths : (t : Text) → Paths t → Walks t 1 × (textsFrom t 1 ≡ heldTexts t)
+walks-paths t h = walks-first t (heldTexts t) (h .table)
 
 -- the first text, chosen or not
 chosen-first : (p : List Element) (t : Text) (l : List Text) → chosen p (t ∷ l) ≡ pick (matches true p t) (t ∷ chosen p l) (chosen p l)
