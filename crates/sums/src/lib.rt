@@ -6,8 +6,8 @@ ghost use Rattle.stages.specs.Images.{held};
 ghost use Rattle.stages.specs.Arith.{tree, evaluate};
 ghost use Rattle.numbers.specs.Answers.{numbered};
 
-
 mod tokens;
 
 pub const REFUSED_DEPTH: u8 = 12;
+
 pub const REFUSED_SYNTAX: u8 = 16;
