@@ -113,14 +113,14 @@ fn behind_length(text: &[u8], at: usize, depth: usize, to: usize) -> Item
         return Item::Fault(modes::REFUSED_UNENDED);
     }
     let b = text[to];
-    if b == b'}' {
-        return Item::Count {
-            from: at + 3,
-            to: to,
-            next: to + 1,
-        };
+    if b != b'}' {
+        return Item::Fault(modes::wrong_byte(modes::REFUSED_SYNTAX, b));
     }
-    Item::Fault(modes::wrong_byte(modes::REFUSED_SYNTAX, b))
+    Item::Count {
+        from: at + 3,
+        to: to,
+        next: to + 1,
+    }
 }
 
 // What `${#` at `at` is.
