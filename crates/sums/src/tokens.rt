@@ -1,6 +1,5 @@
 // What stands at a place of an arithmetic text. Blanks separate; a constant is judged where it is the next token.
 ghost use mathlib.Core.Path.{_≡_};
-
 ghost use Prim.Native.Nat.{_≤_, _<_};
 ghost use lib.ListN.{length};
 ghost use Rattle.sums.specs.Tokens.{levelOf, TokenAt, Digit, Symbol, Ends, Pairs};
@@ -78,13 +77,44 @@ fn symbol_at(text: &[u8], at: usize) -> Token
     match text[at] {
         b'(' => Token::Opens(next),
         b')' => Token::Shuts(next),
-        b'*' => Token::Op { op: Op::Mul, next: next },
-        b'/' => Token::Op { op: Op::Div, next: next },
-        b'%' => Token::Op { op: Op::Rem, next: next },
-        b'+' => Token::Op { op: Op::Add, next: next },
-        b'-' => Token::Op { op: Op::Sub, next: next },
-        b'<' => paired(text, at, Token::Op { op: Op::Lt, next: next }, Op::Le),
-        b'>' => paired(text, at, Token::Op { op: Op::Gt, next: next }, Op::Ge),
+        b'*' => Token::Op {
+            op: Op::Mul,
+            next: next,
+        },
+        b'/' => Token::Op {
+            op: Op::Div,
+            next: next,
+        },
+        b'%' => Token::Op {
+            op: Op::Rem,
+            next: next,
+        },
+        b'+' => Token::Op {
+            op: Op::Add,
+            next: next,
+        },
+        b'-' => Token::Op {
+            op: Op::Sub,
+            next: next,
+        },
+        b'<' => paired(
+            text,
+            at,
+            Token::Op {
+                op: Op::Lt,
+                next: next,
+            },
+            Op::Le,
+        ),
+        b'>' => paired(
+            text,
+            at,
+            Token::Op {
+                op: Op::Gt,
+                next: next,
+            },
+            Op::Ge,
+        ),
         b'=' => paired(text, at, Token::Refused(REFUSED_SYNTAX), Op::Eq),
         b'!' => paired(text, at, Token::Refused(REFUSED_SYNTAX), Op::Ne),
         _ => Token::Refused(REFUSED_SYNTAX),
