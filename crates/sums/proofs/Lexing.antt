@@ -54,6 +54,19 @@ level-is Ge = refl
 level-is Eq = refl
 level-is Ne = refl
 
+pub level-small : (o : Op) → levelOf o ≤ 4
+level-small Mul = omega arith
+level-small Div = omega arith
+level-small Rem = omega arith
+level-small Add = omega arith
+level-small Sub = omega arith
+level-small Lt = omega arith
+level-small Le = omega arith
+level-small Gt = omega arith
+level-small Ge = omega arith
+level-small Eq = omega arith
+level-small Ne = omega arith
+
 -- the first byte decides
 
 none-fits : (b : ℕ) (u : Text) → isBlank b ≡ false → isDigit b ≡ false → isNameStart b ≡ false → eqb b 40 ≡ false → eqb b 41 ≡ false → eqb b 42 ≡ false → eqb b 47 ≡ false
