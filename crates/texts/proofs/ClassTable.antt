@@ -1,67 +1,62 @@
--- The table of classes: what the code's 256 entries are, and that each has a class's bit just where the stage's test passes, by one computed
--- test over all bytes and classes. Assumes nothing.
-use Prim.Native.Nat.{ℕ, zero, suc, _+_, _<_}
+-- The numbers that hold a class's bytes as bits: each byte is in the class just if its bit is set, by one computed test over all bytes and classes.
+-- Assumes nothing.
+use Prim.Native.Nat.{ℕ, _-_, _/_, _^_, _<_, _≤_}
+use native.Mathlib.Omega.{arith}
 use mathlib.Core.Path.{_≡_, refl}
 use mathlib.Core.Bool.{Bool, true, false, not}
-use mathlib.Core.List.{List, [], _∷_}
-use lib.Dec.{T, eqb}
+use lib.Dec.{eqb, ltb}
 use lib.Bits.{bitAnd}
-use lib.ListN.{getD, length}
+use borrow.Author.Tests.{lt-ltb, le-ltb}
 use Rattle.stages.specs.Bytes.{isDigit, isNameStart, isNameByte, isLoginByte, isBlank, isOperator}
 use Rattle.stages.specs.Outcome.{pick}
-use Rattle.texts.proofs.Table.{every, table-at}
-use Rattle.texts.specs.Classes.{inClass, bitOf}
+use Rattle.stages.proofs.Bools.{no}
+use Rattle.texts.proofs.Every.{every, every-at}
+use Rattle.texts.specs.Classes.{inClass, lowBytes, highBytes, upperBytes}
 use Rattle.texts.specs.declared.Class.{Class}
 use Rattle.texts.specs.declared.Class.the-variants.{NotZero, Digit, NameStart, NameByte, LoginByte, Blank, Operator}
 
--- the bit of a class that the byte is in
-abbrev mark : Class → ℕ → ℕ
-mark class b = pick (inClass class b) (bitOf class) 0
+-- the bit of a number, as the code tests it
+abbrev pub bitAt : ℕ → ℕ → Bool
+bitAt n k = eqb (bitAnd (n / 2 ^ k) 1) 1
 
-entries : ℕ → ℕ → List ℕ
-unfolding isDigit isNameStart isNameByte isLoginByte isBlank isOperator
-entries zero b = []
-entries (suc n) b =
-    (mark NotZero b + mark Digit b + mark NameStart b + mark NameByte b + mark LoginByte b + mark Blank b + mark Operator b) ∷ entries n (suc b)
-
--- the table of all bytes
-unfoldable pub table : List ℕ
-unfolding entries
-table = entries 256 0
+abbrev coded : Class → ℕ → Bool
+coded class b = pick (ltb b 64) (bitAt (lowBytes class) b) (pick (ltb b 128) (bitAt (highBytes class) (b - 64)) (upperBytes class))
 
 sameBool : Bool → Bool → Bool
 sameBool true b = b
 sameBool false b = not b
 
-same-bools : (a b : Bool) → T (sameBool a b) → a ≡ b
+same-bools : (a b : Bool) → sameBool a b ≡ true → a ≡ b
 unfolding sameBool
-same-bools true true t = refl
-same-bools true false t = absurd t
-same-bools false true t = absurd t
-same-bools false false t = refl
+same-bools true true e = refl
+same-bools true false e = absurd (no e)
+same-bools false true e = absurd (no e)
+same-bools false false e = refl
 
--- the class's bit stands in the entry
-abbrev pub hasBit : Class → ℕ → Bool
-hasBit class entry = not (eqb (bitAnd entry (bitOf class)) 0)
-
-right : Class → ℕ → ℕ → Bool
+right : Class → ℕ → Bool
 unfolding sameBool isDigit isNameStart isNameByte isLoginByte isBlank isOperator
-right class b entry = sameBool (hasBit class entry) (inClass class b)
+right class b = sameBool (coded class b) (inClass class b)
 
-tested : (class : Class) → T (every (right class) 0 table)
-unfolding table right
-tested NotZero = tt
-tested Digit = tt
-tested NameStart = tt
-tested NameByte = tt
-tested LoginByte = tt
-tested Blank = tt
-tested Operator = tt
-
-long : (b : ℕ) → b < 256 → b < length table
-unfolding table
-long b h = h
-
-pub class-bit : (class : Class) (b : ℕ) → b < 256 → hasBit class (getD table b 0) ≡ inClass class b
+tested : (class : Class) → every (right class) 0 256 ≡ true
 unfolding right
-class-bit class b h = same-bools (hasBit class (getD table b 0)) (inClass class b) (table-at (right class) table (tested class) b (long b h))
+tested NotZero = refl
+tested Digit = refl
+tested NameStart = refl
+tested NameByte = refl
+tested LoginByte = refl
+tested Blank = refl
+tested Operator = refl
+
+coded-is : (class : Class) (b : ℕ) → b < 256 → coded class b ≡ inClass class b
+unfolding right
+coded-is class b h = same-bools (coded class b) (inClass class b) (every-at (right class) 256 (tested class) b h)
+
+module _ (class : Class) (b : ℕ) where
+  pub low-bit : b < 64 → bitAt (lowBytes class) b ≡ inClass class b
+  low-bit h = rw (lt-ltb b 64 h) at (coded-is class b (omega arith))
+
+  pub high-bit : 64 ≤ b → b < 128 → bitAt (highBytes class) (b - 64) ≡ inClass class b
+  high-bit l h = rw (le-ltb b 64 l, lt-ltb b 128 h) at (coded-is class b (omega arith))
+
+  pub upper-bit : 128 ≤ b → b < 256 → upperBytes class ≡ inClass class b
+  upper-bit l h = rw (le-ltb b 64 (omega arith), le-ltb b 128 l) at (coded-is class b h)

@@ -1,4 +1,4 @@
-pub mod Table
+pub mod Every
 pub mod ClassTable
 pub mod Scans
 pub mod Moves

@@ -11,7 +11,7 @@ use lib.ListN.{length, take, drop, getD, length-drop, drop-of-length-le}
 use lib.Seq.{drop-cons, take-suc, getD-drop}
 use borrow.Author.Tests.{lt-ltb, le-ltb, eq-eqb, ne-eqb}
 use Rattle.stages.specs.Bytes.{Text, part, span, longer, isIn, eqText, ltText}
-use Rattle.stages.proofs.Texts.{span-more, span-stop}
+use Rattle.stages.proofs.Texts as stage
 use Rattle.texts.specs.Classes.{inClass, Runs}
 use Rattle.texts.specs.Orders.{orderOf}
 use Rattle.texts.specs.declared.Class.{Class}
@@ -43,6 +43,13 @@ part-more t a e h k =
     let f : a + (e - a) ≡ e = omega arith in
     rw s (take-suc (drop a t) (e - a) 0 l ∙ ap (λ (b : ℕ). take (e - a) (drop a t) ++ (b ∷ [])) (getD-drop a t (e - a) 0 ∙ ap (λ (n : ℕ). getD t n 0) f))
 
+-- a run stops at a byte that fails the test, and has one more byte where it passes
+pub span-stop : (f : ℕ → Bool) (b : ℕ) (t : Text) → f b ≡ false → span f (b ∷ t) ≡ ([], b ∷ t)
+span-stop f b t e = stage.span-stop f (b ∷ t) e
+
+pub span-go : (f : ℕ → Bool) (b : ℕ) (t : Text) → f b ≡ true → span f (b ∷ t) ≡ longer b (span f t)
+span-go f b t e = stage.span-more f b t e
+
 pub record Running (class : Class) (t : Text) (at i : ℕ) : Type 0 where
   pub onward : at ≤ i
   pub within : i ≤ length t
@@ -54,10 +61,10 @@ module _ (class : Class) (t : Text) (at : ℕ) where
 
   module _ (i : ℕ) (p : Running class t at i) where
     span-stops : i < length t → inClass class (getD t i 0) ≡ false → span (inClass class) (drop i t) ≡ ([], drop i t)
-    span-stops h e = rw (drop-cons t i 0) (span-stop (inClass class) (getD t i 0 ∷ drop (suc i) t) e)
+    span-stops h e = rw (drop-cons t i 0) (span-stop (inClass class) (getD t i 0) (drop (suc i) t) e)
 
     span-goes : i < length t → inClass class (getD t i 0) ≡ true → span (inClass class) (drop i t) ≡ longer (getD t i 0) (span (inClass class) (drop (i + 1) t))
-    span-goes h e = rw (drop-cons t i 0, add-one i) (span-more (inClass class) (getD t i 0) (drop (suc i) t) e)
+    span-goes h e = rw (drop-cons t i 0, add-one i) (span-go (inClass class) (getD t i 0) (drop (suc i) t) e)
 
     span-ends : length t ≤ i → span (inClass class) (drop i t) ≡ ([], drop i t)
     unfolding span

@@ -1,7 +1,7 @@
 -- The classes of bytes by the stage's tests, and what the end of a longest run says of a text. Assumes nothing.
 use Prim.Native.Nat.{ℕ, _≤_}
 use mathlib.Core.Path.{_≡_}
-use mathlib.Core.Bool.{Bool}
+use mathlib.Core.Bool.{Bool, true, false}
 use lib.ListN.{length, drop}
 use Rattle.stages.specs.Bytes.{Text, part, span, notZero, isDigit, isNameStart, isNameByte, isLoginByte, isBlank, isOperator}
 use Rattle.texts.specs.declared.Class.{Class}
@@ -17,15 +17,34 @@ inClass LoginByte b = isLoginByte b
 inClass Blank b = isBlank b
 inClass Operator b = isOperator b
 
--- the bit of a class in the table of all bytes
-abbrev pub bitOf : Class → ℕ
-bitOf NotZero = 1
-bitOf Digit = 2
-bitOf NameStart = 4
-bitOf NameByte = 8
-bitOf LoginByte = 16
-bitOf Blank = 32
-bitOf Operator = 64
+-- the bytes of a class as the bits of two numbers: those below 64, and those from 64 to 127
+abbrev pub lowBytes : Class → ℕ
+lowBytes NotZero = 18446744073709551614
+lowBytes Digit = 287948901175001088
+lowBytes NameStart = 0
+lowBytes NameByte = 287948901175001088
+lowBytes LoginByte = 288054454291267584
+lowBytes Blank = 4294968832
+lowBytes Operator = 6341071848750448640
+
+abbrev pub highBytes : Class → ℕ
+highBytes NotZero = 18446744073709551615
+highBytes Digit = 0
+highBytes NameStart = 576460745995190270
+highBytes NameByte = 576460745995190270
+highBytes LoginByte = 576460745995190270
+highBytes Blank = 0
+highBytes Operator = 1152921504606846976
+
+-- whether all bytes from 128 on are in a class, or none
+abbrev pub upperBytes : Class → Bool
+upperBytes NotZero = true
+upperBytes Digit = false
+upperBytes NameStart = false
+upperBytes NameByte = false
+upperBytes LoginByte = false
+upperBytes Blank = false
+upperBytes Operator = false
 
 -- the longest run of the class from `at` on ends at r
 pub record Runs (text : Text) (at : ℕ) (class : Class) (r : ℕ) : Type 0 where

@@ -1,13 +1,11 @@
 // Bytes and slices: the classes of bytes, longest runs, comparing, copying, moving and clearing.
-mod classes;
-
 ghost use mathlib.Core.Path.{_≡_};
 ghost use mathlib.Core.List.{_++_};
 ghost use Prim.Native.Nat.{ℕ, _+_, _≤_};
 ghost use lib.ListN.{length, drop, replicate};
 ghost use lib.Seq.{paste};
 ghost use Rattle.stages.specs.Bytes.{isIn, eqText};
-ghost use Rattle.texts.specs.Classes.{inClass, bitOf, Runs};
+ghost use Rattle.texts.specs.Classes.{inClass, lowBytes, highBytes, upperBytes, Runs};
 ghost use Rattle.texts.specs.Orders.{orderOf};
 
 // The classes of bytes that document 01 names.
@@ -28,18 +26,48 @@ pub enum Order {
     More,
 }
 
-// The bit of a class in the table.
-fn bit(class: Class) -> u8
-    ensures { λ r. ⌜ r ≡ bitOf class ⌝ }
+// The bytes 0 to 63 that are in a class, a bit for each.
+fn low_bytes(class: Class) -> u64
+    ensures { λ r. ⌜ r ≡ lowBytes class ⌝ }
 {
     match class {
-        Class::NotZero => 1,
-        Class::Digit => 2,
-        Class::NameStart => 4,
-        Class::NameByte => 8,
-        Class::LoginByte => 16,
-        Class::Blank => 32,
-        Class::Operator => 64,
+        Class::NotZero => 0xffff_ffff_ffff_fffe,
+        Class::Digit => 0x03ff_0000_0000_0000,
+        Class::NameStart => 0x0000_0000_0000_0000,
+        Class::NameByte => 0x03ff_0000_0000_0000,
+        Class::LoginByte => 0x03ff_6000_0000_0000,
+        Class::Blank => 0x0000_0001_0000_0600,
+        Class::Operator => 0x5800_0340_0000_0000,
+    }
+}
+
+// The bytes 64 to 127 that are in a class, a bit for each.
+fn high_bytes(class: Class) -> u64
+    ensures { λ r. ⌜ r ≡ highBytes class ⌝ }
+{
+    match class {
+        Class::NotZero => 0xffff_ffff_ffff_ffff,
+        Class::Digit => 0x0000_0000_0000_0000,
+        Class::NameStart => 0x07ff_fffe_87ff_fffe,
+        Class::NameByte => 0x07ff_fffe_87ff_fffe,
+        Class::LoginByte => 0x07ff_fffe_87ff_fffe,
+        Class::Blank => 0x0000_0000_0000_0000,
+        Class::Operator => 0x1000_0000_0000_0000,
+    }
+}
+
+// Are the bytes from 128 on in a class?
+fn upper_bytes(class: Class) -> bool
+    ensures { λ r. ⌜ r ≡ upperBytes class ⌝ }
+{
+    match class {
+        Class::NotZero => true,
+        Class::Digit => false,
+        Class::NameStart => false,
+        Class::NameByte => false,
+        Class::LoginByte => false,
+        Class::Blank => false,
+        Class::Operator => false,
     }
 }
 
@@ -47,8 +75,13 @@ fn bit(class: Class) -> u8
 pub fn in_class(class: Class, b: u8) -> bool
     ensures { λ r. ⌜ r ≡ inClass class b ⌝ }
 {
-    let mask = bit(class);
-    classes::CLASSES[b as usize] & mask != 0
+    if b < 64 {
+        return (low_bytes(class) >> b) & 1 == 1;
+    }
+    if b < 128 {
+        return (high_bytes(class) >> (b - 64)) & 1 == 1;
+    }
+    upper_bytes(class)
 }
 
 // Is the byte one of the set's?

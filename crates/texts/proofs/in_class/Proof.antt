@@ -1,24 +1,48 @@
--- `texts::in_class` meets its contract: the array is the table of all bytes, whose rule is proved once. Assumes nothing.
+-- `texts::in_class` meets its contract: each of its three ways is the test of a bit, and those were tested at every byte. Assumes nothing.
 use mathlib.Core.Path.{_∙_, ap}
-use mathlib.Core.Bool.{not}
-use lib.Dec.{eqb}
-use lib.Bits.{bitAnd}
-use lib.ListN.{getD}
-use Rattle.texts.proofs.ClassTable.{table, class-bit}
+use Prim.Native.Nat.{_-_}
+use Rattle.texts.proofs.ClassTable.{bitAt, low-bit, high-bit, upper-bit}
 use borrow.Author.Needs.{needs}
 use Rattle.texts.proofs.in_class.Statement.{statement}
 use Rattle.texts.proofs.in_class.Tie as tie
 
-bit-requires : tie.Need-bit-requires
-bit-requires c κs = tt
+low-bytes-requires : tie.Need-low-bytes-requires
+low-bytes-requires c κs = search needs
 
-array-read-result : tie.Need-array-read-result
-array-read-result c = search needs
+shr-result : tie.Need-shr-result
+shr-result c = search needs
 
 returns : tie.Need-returns
-unfolding table
-returns c =
-    ap (λ m. not (eqb (bitAnd (getD table (c .before .args .b) 0) m) 0)) (c .bit .ensures) ∙ class-bit (c .before .args .class) (c .before .args .b) (search needs)
+returns c = ap (λ n. bitAt n (c .before .before .args .b)) (c .low-bytes .ensures) ∙ low-bit (c .before .before .args .class) (c .before .before .args .b) (c .before .if1 .taken)
+
+high-bytes-requires : tie.Need-high-bytes-requires
+high-bytes-requires c κs = search needs
+
+cast-result : tie.Need-cast-result
+cast-result c = search needs
+
+shr-result-2 : tie.Need-shr-result-2
+shr-result-2 c = search needs
+
+returns-2 : tie.Need-returns-2
+returns-2 c = ap (λ n. bitAt n (c .before .before .before .args .b - 64)) (c .high-bytes .ensures) ∙ high-bit (c .before .before .before .args .class) (c .before .before .before .args .b) (c .before .before .if1 .left) (c .before .if2 .taken)
+
+upper-bytes-requires : tie.Need-upper-bytes-requires
+upper-bytes-requires c κs = search needs
+
+returns-3 : tie.Need-returns-3
+returns-3 c = c .upper-bytes .ensures ∙ upper-bit (c .before .before .before .args .class) (c .before .before .before .args .b) (c .before .if2 .left) (search needs)
 
 pub in-class-spec : {M : Type 1} → statement M
-in-class-spec = tie.close (tie.spec bit-requires array-read-result returns)
+in-class-spec =
+    tie.close
+    (tie.spec
+    low-bytes-requires
+    shr-result
+    returns
+    high-bytes-requires
+    cast-result
+    shr-result-2
+    returns-2
+    upper-bytes-requires
+    returns-3)
