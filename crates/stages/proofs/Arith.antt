@@ -2,9 +2,9 @@
 use Prim.Native.Nat.{ℕ, zero, suc, _≤_, _<_}
 use Prim.Native.Char.{code}
 use native.Mathlib.Omega.{arith}
-use mathlib.Core.Path.{_≡_, refl, sym, ap, _∙_}
+use mathlib.Core.Path.{_≡_, refl, ap, _∙_}
 use mathlib.Core.Bool.{Bool, true, false}
-use mathlib.Core.List.{List, [], _∷_}
+use mathlib.Core.List.{[], _∷_}
 use mathlib.Core.Option.{Option, none, some}
 use lib.Dec.{eqb, leb}
 use lib.IntN.{ℤ, pos}
@@ -12,7 +12,7 @@ use lib.ListN.{length, length-append}
 use Rattle.stages.specs.Recur.{below, below-ok, fix-eq, by-size}
 use Rattle.stages.specs.Numbers.{tooDeep, arithmeticSyntax}
 use Rattle.stages.specs.Bytes.{Text, span, isBlank, isDigit, isNameStart, isNameByte}
-use Rattle.stages.specs.Outcome.{Outcome, refused, done, _>>=_, cases, choose}
+use Rattle.stages.specs.Outcome.{Outcome, refused, done, _>>=_, choose}
 use Rattle.stages.specs.Constants.{constant, fits, ranged, number}
 use Rattle.stages.specs.Arith.{Op, mul, div, rem, add, sub, lt, le, gt, ge, eq, ne, Token, stop, num, name, op, opens, shuts, Lexed, paired, token}
 use Rattle.stages.specs.Arith.{level, Tree, constantOf, nameOf, negated, binary, Grown, grown, Task, operand, further, Grow, expression, shut, enclosed, sign, operandAt, furtherAt, growStep, growSize, grow}

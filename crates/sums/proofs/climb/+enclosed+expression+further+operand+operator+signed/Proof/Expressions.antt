@@ -1,8 +1,8 @@
 -- An expression and its operators: each way through these members is a law of Climbing. Assumes nothing.
-use Prim.Native.Nat.{ℕ, _<_, _+_, _*_, _-_}
+use Prim.Native.Nat.{ℕ, _-_}
 use native.Mathlib.Omega.{arith}
-use mathlib.Core.Path.{_≡_, refl}
-use lib.ListN.{length, drop}
+use mathlib.Core.Path.{refl}
+use lib.ListN.{length}
 use borrow.Author.Needs.{needs}
 use Rattle.stages.specs.Images.{held}
 use mir.Syntax.{w64}

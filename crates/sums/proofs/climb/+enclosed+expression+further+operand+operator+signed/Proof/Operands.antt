@@ -1,8 +1,8 @@
 -- One operand: each way through these members is a law of Operands. Assumes nothing.
-use Prim.Native.Nat.{ℕ, _<_, _+_, _*_, _-_}
+use Prim.Native.Nat.{ℕ, _-_}
 use native.Mathlib.Omega.{arith}
-use mathlib.Core.Path.{_≡_, refl}
-use lib.ListN.{length, drop}
+use mathlib.Core.Path.{refl}
+use lib.ListN.{drop}
 use borrow.Author.Needs.{needs}
 use Rattle.stages.specs.Images.{held}
 use Rattle.stages.specs.Arith as stage
