@@ -1,9 +1,7 @@
 -- What the public contracts allow is determined: two answers that say the same outcome are the same, and so are two slices that are said to
 -- hold one text. Assumes nothing.
 use Prim.Native.Nat.{ℕ}
-use native.Mathlib.Omega.{arith}
-use mathlib.Core.Path.{_≡_, refl, sym, _∙_}
-use mathlib.Core.List.{List}
+use mathlib.Core.Path.{_≡_, sym, _∙_}
 use lib.IntN.{ℤ, negℤ}
 use Rattle.stages.specs.Bytes.{Text}
 use Rattle.stages.specs.Outcome.{Outcome}

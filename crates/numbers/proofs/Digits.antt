@@ -1,12 +1,12 @@
 -- Laws of digits: what is read of a text at any base, by one record of the reader's state, and what is written of a number. Assumes nothing.
 use mathlib.Core.Path.{_≡_, refl, sym, _∙_, ap}
-use mathlib.Core.Bool.{Bool, true, false, cond, _&&_}
+use mathlib.Core.Bool.{Bool, true, false, _&&_}
 use mathlib.Core.List.{List, [], _∷_, _++_, append-nil}
 use Prim.Native.Nat.{ℕ, zero, suc, _+_, _-_, _*_, _/_, _%_, _≤_, _<_, _^_}
 use native.Mathlib.Omega.{arith}
 use native.Mathlib.Numerals.{add-one}
-use native.Mathlib.Nat.{mul-le-mul-left, mul-one, le-div-iff-mul-le, div-lt-iff-lt-mul, pow-suc}
-use lib.Dec.{leb, ltb}
+use native.Mathlib.Nat.{mul-le-mul-left, mul-one, le-div-iff-mul-le, div-lt-iff-lt-mul}
+use lib.Dec.{leb}
 use lib.IntN.{ℤ, pos, negsuc, natAbs}
 use lib.Signed.{ltZ, mag}
 use lib.ListN.{length, getD, take, drop, set, drop-of-length-le, length-append}
@@ -14,12 +14,11 @@ use lib.Seq.{drop-cons, set-at, append-snoc, take-length, drop-length}
 use borrow.Rule.Slice.PartMut.{putMid}
 use borrow.Author.Tests.{le-leb, lt-leb, lt-ltb, le-ltb, ltb-true}
 use mathlib.Core.Option.{Option, none, some}
-use Prim.Native.Char.{code}
 use Rattle.stages.proofs.Bools.{no, between-true}
 use Rattle.stages.proofs.Digits as laws
 use Rattle.stages.specs.Numbers as numbers
 use Rattle.stages.specs.Bytes.{Text, between}
-use Rattle.stages.specs.Outcome.{Outcome, refused, done, cases, choose}
+use Rattle.stages.specs.Outcome.{refused, done, choose}
 use Rattle.stages.specs.Units.{digits, decimal}
 use Rattle.stages.specs.Constants.{digit, inBase, signed}
 use Rattle.numbers.specs.Answers.{within}

@@ -1,6 +1,6 @@
 -- The operations' laws: a result that fits is given, one that does not is refused, and each guard tells the two apart. Assumes nothing.
 use mathlib.Core.Path.{_≡_, refl, sym, _∙_, ap}
-use mathlib.Core.Bool.{Bool, true, false, cond, not}
+use mathlib.Core.Bool.{Bool, true, false, not}
 use Prim.Native.Nat.{ℕ, zero, suc, _+_, _-_, _*_, _/_, _≤_, _<_, _^_}
 use native.Mathlib.Omega.{arith}
 use native.Mathlib.Nat.{div-le-self, div-lt-self, div-one, zero-add, mul-comm, le-div-iff-mul-le, div-lt-iff-lt-mul}
@@ -11,12 +11,12 @@ use lib.Signed.{mag, ltZ, leZ, quotZ, remZ, mag-rem, nonNeg}
 use mir.Syntax.{w64}
 use mir.Val.{SFits, ofZ, toZ}
 use mir.ValLaws.{toZ-ofZ, toZ-pos}
-use borrow.Author.Tests.{lt-ltb, le-ltb, ltb-true, ltb-false, le-leb, leb-true, eqb-true, eq-eqb, ne-eqb}
+use borrow.Author.Tests.{lt-ltb, le-ltb, ltb-true, le-leb, leb-true, eqb-true, eq-eqb, ne-eqb}
 use Rattle.stages.proofs.Bools.{no, same-tests, and-left, and-right, and-both}
 use Rattle.numbers.proofs.Linear.{bias, bias-neg, mag-neg, bias-add, mag-add, inside, below, above, bounds, lt-true, lt-false}
 use Rattle.stages.specs.Numbers.{zeroDivisor}
 use Rattle.stages.specs.Numbers as numbers
-use Rattle.stages.specs.Outcome.{Outcome, refused, done}
+use Rattle.stages.specs.Outcome.{refused, done}
 use Rattle.stages.specs.Constants.{fits, ranged}
 use Rattle.stages.specs.Arith.{divided, isZero, eqZ}
 use Rattle.numbers.specs.Answers.{ofSign}

@@ -1,21 +1,20 @@
 -- Laws of constants and of the values of names, by what stands first in a text: one for each way through the code. Assumes nothing.
-use Prim.Native.Nat.{ℕ, zero, suc, _+_, _-_, _≤_, _<_, _^_}
-use Prim.Native.Char.{code}
+use Prim.Native.Nat.{ℕ, zero, suc, _-_, _≤_, _<_, _^_}
 use native.Mathlib.Omega.{arith}
-use mathlib.Core.Path.{_≡_, refl, sym, _∙_, ap}
+use mathlib.Core.Path.{_≡_, refl}
 use mathlib.Core.Bool.{Bool, true, false}
-use mathlib.Core.List.{List, [], _∷_}
+use mathlib.Core.List.{[], _∷_}
 use mathlib.Core.Logic.{_⊎_, inl, inr}
 use mathlib.Core.Option.{Option, none, some}
-use lib.Dec.{eqb, leb}
-use lib.IntN.{ℤ, pos}
+use lib.Dec.{leb}
+use lib.IntN.{pos}
 use lib.Signed.{mag}
 use lib.ListN.{length, getD, take, drop, length-drop}
 use lib.Seq.{take-all}
-use borrow.Author.Tests.{le-leb, lt-leb, leb-true, leb-false, eq-eqb, ne-eqb}
+use borrow.Author.Tests.{le-leb, leb-false, ne-eqb}
 use Rattle.stages.specs.Numbers as numbers
-use Rattle.stages.specs.Bytes.{Text, text, isIn, between}
-use Rattle.stages.specs.Outcome.{Outcome, refused, done, cases, choose}
+use Rattle.stages.specs.Bytes.{Text, text, isIn}
+use Rattle.stages.specs.Outcome.{Outcome, refused, done, choose}
 use Rattle.stages.specs.Constants.{inBase, behindZero, constant, number, ranged, valued, minusOf}
 use Rattle.stages.proofs.Bools.{between-true}
 use Rattle.numbers.specs.Answers.{within, ofSign}

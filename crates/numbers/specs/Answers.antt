@@ -1,5 +1,5 @@
 -- What the answers of this crate say in document 01's terms: the number that a case refuses with, or the value that it gives. Assumes nothing.
-use Prim.Native.Nat.{ℕ, _≤_}
+use Prim.Native.Nat.{ℕ}
 use mathlib.Core.Path.{_≡_}
 use mathlib.Core.Bool.{Bool, true, false}
 use mathlib.Core.List.{List, _++_}

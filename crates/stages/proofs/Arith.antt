@@ -2,19 +2,20 @@
 use Prim.Native.Nat.{ℕ, zero, suc, _≤_, _<_}
 use Prim.Native.Char.{code}
 use native.Mathlib.Omega.{arith}
-use mathlib.Core.Path.{_≡_, refl, sym, ap, _∙_}
+use mathlib.Core.Path.{_≡_, refl, ap, _∙_}
 use mathlib.Core.Bool.{Bool, true, false}
-use mathlib.Core.List.{List, [], _∷_}
+use mathlib.Core.List.{[], _∷_}
+use mathlib.Core.Option.{Option, none, some}
 use lib.Dec.{eqb, leb}
 use lib.IntN.{ℤ, pos}
 use lib.ListN.{length, length-append}
 use Rattle.stages.specs.Recur.{below, below-ok, fix-eq, by-size}
+use Rattle.stages.specs.Numbers.{tooDeep, arithmeticSyntax}
 use Rattle.stages.specs.Bytes.{Text, span, isBlank, isDigit, isNameStart, isNameByte}
-use Rattle.stages.specs.Outcome.{Outcome, refused, done, _>>=_, cases, choose}
-use Rattle.stages.specs.Constants.{constant, number}
+use Rattle.stages.specs.Outcome.{Outcome, refused, done, _>>=_, choose}
+use Rattle.stages.specs.Constants.{constant, fits, ranged, number}
 use Rattle.stages.specs.Arith.{Op, mul, div, rem, add, sub, lt, le, gt, ge, eq, ne, Token, stop, num, name, op, opens, shuts, Lexed, paired, token}
-use Rattle.stages.specs.Arith.{level, Tree, constantOf, nameOf, negated, binary, Grown, grown, Task, operand, further, Grow, expression, shut, enclosed, sign}
-use Rattle.stages.specs.Arith.{operandAt, furtherAt, growStep, growSize, grow}
+use Rattle.stages.specs.Arith.{level, Tree, constantOf, nameOf, negated, binary, Grown, grown, Task, operand, further, Grow, expression, shut, enclosed, sign, operandAt, furtherAt, growStep, growSize, grow}
 use Rattle.stages.proofs.Bools.{or-right}
 use Rattle.stages.proofs.Texts.{start-name-byte, span-join, span-more}
 
@@ -24,11 +25,29 @@ digit-name-byte b e = or-right (isNameStart b) e
 
 -- tokens
 
--- a token that is no end leaves less of a text of n bytes
+-- a token that is no end leaves less of a text of n bytes; no refusal is 0, the value of a reader that is stuck
 pub data Lexes (n : ℕ) : Lexed → Type 0 where
-  lex-refused : {e : ℕ} → Lexes n (refused e)
+  lex-refused : {e : ℕ} → 0 < e → Lexes n (refused e)
   lex-end : {u : Text} → length u ≤ n → Lexes n (done (stop, u))
   lex-more : {k : Token} {u : Text} → length u < n → Lexes n (done (k, u))
+
+-- a refusal's number is one of the table
+abbrev Numbered : Outcome ℤ → Type 0
+Numbered (refused e) = 0 < e
+Numbered (done z) = Unit {0}
+
+ranged-numbered : (z : ℤ) → Numbered (ranged z)
+unfolding ranged
+ranged-numbered z = go (fits z) refl
+  where
+    go : (x : Bool) → fits z ≡ x → Numbered (ranged z)
+    go true e = rw (e, ranged) tt
+    go false e = rw (e, ranged) (omega arith)
+
+number-numbered : (sign : ℕ → ℤ) (o : Option ℕ) → Numbered (number sign o)
+unfolding number
+number-numbered sign none = omega arith
+number-numbered sign (some n) = ranged-numbered (sign n)
 
 module _ {n : ℕ} where
   lex-choose : (f g : Unit {0} → Lexed) (x : Bool) → (x ≡ true → Lexes n (f tt)) → (x ≡ false → Lexes n (g tt)) → Lexes n (choose x f g)
@@ -45,12 +64,12 @@ module _ {n : ℕ} where
       go true e = rw (e, paired) (lex-more {u = t} (omega arith))
       go false e = rw (e, paired) l
 
-  lex-number : (u : Text) (o : Outcome ℤ) → length u < n → Lexes n (o >>= λ z. done (num z, u))
-  lex-number u (refused e) h = lex-refused
-  lex-number u (done z) h = lex-more h
+  lex-number : (u : Text) (o : Outcome ℤ) → length u < n → Numbered o → Lexes n (o >>= λ z. done (num z, u))
+  lex-number u (refused e) h w = lex-refused w
+  lex-number u (done z) h w = lex-more h
 
 lex-wider : {n : ℕ} {o : Lexed} → Lexes n o → Lexes (suc n) o
-lex-wider lex-refused = lex-refused
+lex-wider (lex-refused w) = lex-refused w
 lex-wider (lex-end {u = u} h) = lex-end {u = u} (omega arith)
 lex-wider (lex-more {u = u} h) = lex-more {u = u} (omega arith)
 
@@ -67,7 +86,7 @@ token-left [] = lex-end {u = []} (omega arith)
 token-left (b ∷ t) =
     let l : length t < suc (length t) = omega arith in
     lex-choose _ _ (isBlank b) (λ e. lex-wider (token-left t)) λ e.
-    lex-choose _ _ (isDigit b) (λ d. lex-number (span isNameByte (b ∷ t) .1) (number pos (constant (span isNameByte (b ∷ t) .0))) (span-shorter isNameByte b t (digit-name-byte b d))) λ e.
+    lex-choose _ _ (isDigit b) (λ d. lex-number (span isNameByte (b ∷ t) .1) (number pos (constant (span isNameByte (b ∷ t) .0))) (span-shorter isNameByte b t (digit-name-byte b d)) (number-numbered pos (constant (span isNameByte (b ∷ t) .0)))) λ e.
     lex-choose _ _ (isNameStart b) (λ s. lex-more (span-shorter isNameByte b t (start-name-byte b s))) λ e.
     lex-choose _ _ (eqb b (code "(")) (λ e. lex-more l) λ e.
     lex-choose _ _ (eqb b (code ")")) (λ e. lex-more l) λ e.
@@ -78,23 +97,29 @@ token-left (b ∷ t) =
     lex-choose _ _ (eqb b (code "-")) (λ e. lex-more l) λ e.
     lex-choose _ _ (eqb b (code "<")) (λ e. lex-paired (op le) t l (lex-more l)) λ e.
     lex-choose _ _ (eqb b (code ">")) (λ e. lex-paired (op ge) t l (lex-more l)) λ e.
-    lex-choose _ _ (eqb b (code "=")) (λ e. lex-paired (op eq) t l lex-refused) λ e.
-    lex-choose _ _ (eqb b (code "!")) (λ e. lex-paired (op ne) t l lex-refused) λ e. lex-refused
+    lex-choose _ _ (eqb b (code "=")) (λ e. lex-paired (op eq) t l (lex-refused (omega arith))) λ e.
+    lex-choose _ _ (eqb b (code "!")) (λ e. lex-paired (op ne) t l (lex-refused (omega arith))) λ e. lex-refused (omega arith)
 
 -- the reader is never stuck
 
 -- at most n bytes are left
 pub data Leaves (n : ℕ) : Grown → Type 0 where
-  none-left : {e : ℕ} → Leaves n (refused e)
+  none-left : {e : ℕ} → 0 < e → Leaves n (refused e)
   some-left : {p : Tree × Text} → length (p .1) ≤ n → Leaves n (done p)
 
+syntax-left : {n : ℕ} → Leaves n (refused arithmeticSyntax)
+syntax-left = none-left {e = arithmeticSyntax} (omega arith)
+
+deep-left : {n : ℕ} → Leaves n (refused tooDeep)
+deep-left = none-left {e = tooDeep} (omega arith)
+
 leaves-wider : {n k : ℕ} {r : Grown} → Leaves n r → n ≤ k → Leaves k r
-leaves-wider none-left h = none-left
+leaves-wider (none-left w) h = none-left w
 leaves-wider (some-left {p = p} l) h = some-left {p = p} (omega arith)
 
 module _ (k : ℕ) (f : Grow) (good : (a : Task × ℕ × Text) → growSize a < k → Leaves (growSize a) (f a)) where
   behind-operand : (d j n : ℕ) (r : Grown) → n < k → Leaves n r → Leaves n (r >>= λ p. f (further j (p .0), d, p .1))
-  behind-operand d j n (refused e) h l = none-left
+  behind-operand d j n (refused e) h (none-left w) = none-left w
   behind-operand d j n (done p) h (some-left l) = leaves-wider (good (further j (p .0), d, p .1) (omega arith)) l
 
   pub expression-left : (d j : ℕ) (t : Text) → length t < k → Leaves (length t) (expression f d j t)
@@ -102,60 +127,60 @@ module _ (k : ℕ) (f : Grow) (good : (a : Task × ℕ × Text) → growSize a <
 
   shut-left : (l : Tree) (n : ℕ) (o : Lexed) → Lexes n o → Leaves n (o >>= λ s. shut l s)
   unfolding shut
-  shut-left l n (refused e) h = none-left
-  shut-left l n (done (stop, u)) h = none-left
-  shut-left l n (done (num z, u)) h = none-left
-  shut-left l n (done (name x, u)) h = none-left
-  shut-left l n (done (op o, u)) h = none-left
-  shut-left l n (done (opens, u)) h = none-left
+  shut-left l n (refused e) (lex-refused w) = none-left w
+  shut-left l n (done (stop, u)) h = syntax-left
+  shut-left l n (done (num z, u)) h = syntax-left
+  shut-left l n (done (name x, u)) h = syntax-left
+  shut-left l n (done (op o, u)) h = syntax-left
+  shut-left l n (done (opens, u)) h = syntax-left
   shut-left l n (done (shuts, u)) (lex-more h) = some-left {p = (l, u)} (omega arith)
 
   closed-left : (n : ℕ) (r : Grown) → Leaves n r → Leaves n (r >>= λ q. token (q .1) >>= λ s. shut (q .0) s)
-  closed-left n (refused e) l = none-left
+  closed-left n (refused e) (none-left w) = none-left w
   closed-left n (done p) (some-left l) = leaves-wider (shut-left (p .0) (length (p .1)) (token (p .1)) (token-left (p .1))) l
 
   enclosed-left : (d : ℕ) (t : Text) → length t < k → Leaves (length t) (enclosed f d t)
   unfolding enclosed
-  enclosed-left zero t h = none-left
+  enclosed-left zero t h = deep-left
   enclosed-left (suc d) t h = closed-left (length t) (expression f d 1 t) (expression-left d 1 t h)
 
   grown-left : (g : Tree → Tree) (n : ℕ) (r : Grown) → Leaves n r → Leaves n (grown g r)
-  grown-left g n (refused e) l = none-left
+  grown-left g n (refused e) (none-left w) = none-left w
   grown-left g n (done p) (some-left l) = some-left {p = (g (p .0), p .1)} l
 
   sign-left : (o : Op) (d : ℕ) (t : Text) → length t < k → Leaves (length t) (sign f o d t)
   unfolding sign
-  sign-left mul d t h = none-left
-  sign-left div d t h = none-left
-  sign-left rem d t h = none-left
-  sign-left add zero t h = none-left
+  sign-left mul d t h = syntax-left
+  sign-left div d t h = syntax-left
+  sign-left rem d t h = syntax-left
+  sign-left add zero t h = deep-left
   sign-left add (suc d) t h = good (operand, d, t) h
-  sign-left sub zero t h = none-left
+  sign-left sub zero t h = deep-left
   sign-left sub (suc d) t h = grown-left negated (length t) (f (operand, d, t)) (good (operand, d, t) h)
-  sign-left lt d t h = none-left
-  sign-left le d t h = none-left
-  sign-left gt d t h = none-left
-  sign-left ge d t h = none-left
-  sign-left eq d t h = none-left
-  sign-left ne d t h = none-left
+  sign-left lt d t h = syntax-left
+  sign-left le d t h = syntax-left
+  sign-left gt d t h = syntax-left
+  sign-left ge d t h = syntax-left
+  sign-left eq d t h = syntax-left
+  sign-left ne d t h = syntax-left
 
   operand-left : (n d : ℕ) (o : Lexed) → Lexes n o → n ≤ k → Leaves n (o >>= λ p. operandAt f d p)
   unfolding operandAt
-  operand-left n d (refused e) l h = none-left
-  operand-left n d (done (stop, u)) l h = none-left
+  operand-left n d (refused e) (lex-refused w) h = none-left w
+  operand-left n d (done (stop, u)) l h = syntax-left
   operand-left n d (done (num z, u)) (lex-more l) h = some-left {p = (constantOf z, u)} (omega arith)
   operand-left n d (done (name x, u)) (lex-more l) h = some-left {p = (nameOf x, u)} (omega arith)
   operand-left n d (done (op o, u)) (lex-more l) h = leaves-wider (sign-left o d u (omega arith)) (omega arith)
   operand-left n d (done (opens, u)) (lex-more l) h = leaves-wider (enclosed-left d u (omega arith)) (omega arith)
-  operand-left n d (done (shuts, u)) l h = none-left
+  operand-left n d (done (shuts, u)) l h = syntax-left
 
   joined-left : (o : Op) (l : Tree) (d j n : ℕ) (r : Grown) → n < k → Leaves n r → Leaves n (r >>= λ q. f (further j (binary o l (q .0)), d, q .1))
-  joined-left o l d j n (refused e) h w = none-left
+  joined-left o l d j n (refused e) h (none-left w) = none-left w
   joined-left o l d j n (done p) h (some-left w) = leaves-wider (good (further j (binary o l (p .0)), d, p .1) (omega arith)) w
 
   further-left : (d j : ℕ) (l : Tree) (t : Text) (o : Lexed) → Lexes (length t) o → length t ≤ k → Leaves (length t) (o >>= λ p. furtherAt f d j l t p)
   unfolding furtherAt
-  further-left d j l t (refused e) w h = none-left
+  further-left d j l t (refused e) (lex-refused w) h = none-left w
   further-left d j l t (done (stop, u)) w h = some-left {p = (l, t)} (omega arith)
   further-left d j l t (done (num z, u)) w h = some-left {p = (l, t)} (omega arith)
   further-left d j l t (done (name x, u)) w h = some-left {p = (l, t)} (omega arith)
@@ -265,3 +290,11 @@ module _ (k : ℕ) (f g : Grow) (same : (a : Task × ℕ × Text) → growSize a
 -- THE LAW: the reader is its step, and itself for all that is read inside.
 pub grow-eq : (a : Task × ℕ × Text) → grow a ≡ growStep grow a
 grow-eq a = grow-below a ∙ step-same (growSize a) (shorter (growSize a)) grow (shorter-ok (growSize a)) (λ b l. grow-left b) a (omega arith)
+
+-- the value of a reader that is stuck is no answer
+refusal-numbered : {n : ℕ} {r : Grown} → Leaves n r → r ≡ refused 0 → ⊥
+refusal-numbered (none-left {e = e} w) q = let z : e ≡ 0 = cc in omega arith
+refusal-numbered (some-left l) q = let z : _≡_ {A = ℕ} 0 1 = cc in omega arith
+
+pub grow-never-stuck : (a : Task × ℕ × Text) → grow a ≡ refused 0 → ⊥
+grow-never-stuck a q = refusal-numbered (grow-left a) q

@@ -1,23 +1,22 @@
 -- Laws of expressions: an operand and the operators behind it, and the state of the loop over these. Assumes nothing.
-use Prim.Native.Nat.{ℕ, zero, suc, _+_, _≤_, _<_}
+use Prim.Native.Nat.{ℕ, suc, _+_, _≤_, _<_}
 use native.Mathlib.Omega.{arith}
 use native.Mathlib.Numerals.{add-one}
 use mathlib.Core.Path.{_≡_, refl, sym, ap, _∙_, subst}
 use mathlib.Core.Bool.{Bool, true, false}
-use lib.Dec.{leb}
 use lib.IntN.{ℤ}
 use lib.ListN.{length, drop}
 use borrow.Author.Tests.{le-leb, lt-leb}
 use Rattle.stages.specs.Bytes.{Text}
 use Rattle.stages.specs.Outcome.{Outcome, refused, done, _>>=_}
 use Rattle.stages.specs.Images.{Pairs}
-use Rattle.stages.specs.Arith.{Lexed, level, Tree, binary, Grown, operand, further, expression, furtherAt, growStep, grow, apply, evaluate, withVariables}
+use Rattle.stages.specs.Arith.{Lexed, level, Tree, binary, Grown, operand, further, expression, furtherAt, growStep, grow, apply, withVariables}
 use Rattle.stages.proofs.Bools.{no}
 use Rattle.stages.proofs.Arith.{grow-eq}
 use Rattle.numbers.specs.Answers.{opOf}
 use Rattle.numbers.specs.declared.Op.{Op}
 use Rattle.sums.specs.Tokens.{levelOf, lexed, Behind, TokenAt}
-use Rattle.sums.specs.Climbs.{turning, Joins, Fails, Comes, Says, Worth, Continues, Grows, Turns}
+use Rattle.sums.specs.Climbs.{turning, Joins, Fails, Comes, Says, Worth, Continues, Turns}
 use Rattle.sums.specs.declared.tokens.Token.{Token}
 use Rattle.sums.specs.declared.tokens.Token.the-variants as code
 use Rattle.sums.specs.declared.climb.Climbed.{Climbed}

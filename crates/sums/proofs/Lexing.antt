@@ -1,38 +1,36 @@
 -- Laws of tokens: what the byte at a place tells of the token there, and what a `=` behind it tells. Assumes nothing.
-use Prim.Native.Nat.{ℕ, zero, suc, _+_, _-_, _≤_, _<_, _^_}
+use Prim.Native.Nat.{ℕ, suc, _+_, _-_, _≤_, _<_, _^_}
 use Prim.Native.Char.{code}
 use native.Mathlib.Omega.{arith}
-use native.Mathlib.Nat.{sub-self}
 use native.Mathlib.Numerals.{add-one}
 use mathlib.Core.Path.{_≡_, refl, sym, ap, _∙_, subst}
-use mathlib.Core.Bool.{Bool, true, false}
-use mathlib.Core.List.{List, [], _∷_, _++_}
+use mathlib.Core.Bool.{true, false}
+use mathlib.Core.List.{[], _∷_, _++_}
 use lib.Dec.{eqb}
 use lib.IntN.{ℤ, pos}
-use lib.ListN.{length, take, drop, getD, length-take, length-drop, drop-of-length-le}
+use lib.ListN.{length, drop, getD, length-take, drop-of-length-le}
 use lib.Seq.{drop-cons}
-use borrow.Author.Tests.{eq-eqb, ne-eqb}
+use borrow.Author.Tests.{ne-eqb}
 use lib.Signed.{mag}
 use mir.Syntax.{w64}
 use mir.Val.{toZ, ofZ}
 use Rattle.numbers.proofs.Ranges.{held}
 use Rattle.stages.specs.Numbers.{arithmeticSyntax}
-use Rattle.stages.specs.Bytes.{Text, part, all, span, longer, isBlank, isDigit, isNameStart, isNameByte}
-use Rattle.stages.specs.Outcome.{Outcome, refused, done, _>>=_, cases, choose}
+use Rattle.stages.specs.Bytes.{Text, part, all, span, isBlank, isDigit, isNameStart, isNameByte}
+use Rattle.stages.specs.Outcome.{Outcome, refused, done, _>>=_, choose}
 use Rattle.stages.specs.Constants.{number, constant}
-use Rattle.stages.specs.Arith.{Lexed, stop, num, name, op, token, level}
+use Rattle.stages.specs.Arith.{num, name, token, level}
 use Rattle.stages.specs.Arith as arith-stage
 use Rattle.stages.proofs.Bools.{and-left, and-right}
 use Rattle.stages.proofs.Texts.{Stops, span-join, span-all, span-stops, span-more, start-name-byte}
 use Rattle.stages.proofs.Arith.{digit-name-byte}
-use Rattle.texts.specs.Classes.{Runs, inClass}
+use Rattle.texts.specs.Classes.{Runs}
 use Rattle.texts.specs.declared.Class.the-variants.{Blank, NameByte}
-use Rattle.numbers.specs.Answers.{numbered, opOf}
+use Rattle.numbers.specs.Answers.{opOf}
 use Rattle.numbers.specs.declared.Op.{Op}
 use Rattle.numbers.specs.declared.Op.the-variants.{Mul, Div, Rem, Add, Sub, Lt, Le, Gt, Ge, Eq, Ne}
 use Rattle.numbers.specs.declared.Number.{Number}
-use Rattle.numbers.specs.declared.Number.the-variants as number-of
-use Rattle.sums.specs.Tokens.{levelOf, lexed, Behind, Named, Ends, TokenAt, Pairs, Digit, Symbol}
+use Rattle.sums.specs.Tokens.{levelOf, lexed, Behind, Ends, TokenAt, Pairs, Symbol}
 use Rattle.sums.specs.declared.tokens.Token.{Token}
 use Rattle.sums.specs.declared.tokens.Token.the-variants as code
 

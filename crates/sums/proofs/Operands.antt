@@ -1,25 +1,23 @@
 -- Laws of operands: for each way through the functions on one operand, what their callees' answers say of their own. Assumes nothing.
-use Prim.Native.Nat.{ℕ, zero, suc, _+_, _-_, _≤_, _<_}
+use Prim.Native.Nat.{ℕ, suc, _-_, _≤_}
 use native.Mathlib.Omega.{arith}
 use mathlib.Core.Path.{_≡_, refl, sym, ap, _∙_, subst}
 use mathlib.Core.Bool.{Bool, true, false}
-use mathlib.Core.List.{List, [], _∷_}
 use lib.IntN.{ℤ, pos, negℤ}
-use lib.ListN.{length, drop}
+use lib.ListN.{drop}
 use Rattle.stages.specs.Numbers.{tooDeep, arithmeticSyntax}
 use Rattle.stages.specs.Bytes.{Text, part}
 use Rattle.stages.specs.Outcome.{Outcome, refused, done, _>>=_}
 use Rattle.stages.specs.Images.{Pairs, lookup}
 use Rattle.stages.specs.Constants.{ranged, nameNumber}
-use Rattle.stages.specs.Arith.{Lexed, stop, num, name, op, opens, shuts, token, level, Tree, constantOf, nameOf, negated, binary, Grown, grown, Task}
-use Rattle.stages.specs.Arith.{operand, further, expression, shut, whole, enclosed, sign, operandAt, furtherAt, growStep, grow, apply, evaluate, withVariables}
-use Rattle.stages.specs.Arith as stage
+use Rattle.stages.specs.Arith.{Lexed, stop, num, name, op, opens, shuts, token, Tree, constantOf, nameOf, negated, Grown, grown}
+use Rattle.stages.specs.Arith.{operand, expression, shut, whole, enclosed, sign, operandAt, growStep, grow, evaluate, withVariables}
 use Rattle.stages.proofs.Bools.{no}
 use Rattle.stages.proofs.Arith.{grow-eq}
 use Rattle.numbers.specs.Answers.{opOf}
 use Rattle.numbers.specs.declared.Op.{Op}
-use Rattle.numbers.specs.declared.Op.the-variants.{Mul, Div, Rem, Add, Sub, Lt, Le, Gt, Ge, Eq, Ne}
-use Rattle.sums.specs.Tokens.{lexed, Behind, TokenAt}
+use Rattle.numbers.specs.declared.Op.the-variants.{Add, Sub}
+use Rattle.sums.specs.Tokens.{lexed, TokenAt}
 use Rattle.sums.specs.Climbs.{climbing, Names, Turned, Closes, Fails, Comes, Says, Worth}
 use Rattle.sums.specs.declared.tokens.Token.{Token}
 use Rattle.sums.specs.declared.tokens.Token.the-variants as code

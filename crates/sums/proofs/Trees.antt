@@ -1,19 +1,18 @@
 -- Laws of trees: a refusal of a left side is that of every tree that grows from it, and working out leaves the variables as they are. Assumes nothing.
-use Prim.Native.Nat.{ℕ, zero, suc, _≤_, _<_}
+use Prim.Native.Nat.{ℕ, suc, _<_}
 use native.Mathlib.Omega.{arith}
 use mathlib.Core.Path.{_≡_, refl, sym, ap, _∙_}
 use mathlib.Core.Bool.{Bool, true, false}
-use mathlib.Core.List.{List, [], _∷_}
 use lib.Dec.{leb}
-use lib.IntN.{ℤ, pos, negℤ}
+use lib.IntN.{ℤ, negℤ}
 use lib.ListN.{length}
 use Rattle.stages.specs.Recur.{by-size}
 use Rattle.stages.specs.Bytes.{Text}
 use Rattle.stages.specs.Outcome.{Outcome, refused, done, _>>=_}
 use Rattle.stages.specs.Images.{Pairs, lookup}
 use Rattle.stages.specs.Constants.{ranged, nameNumber}
-use Rattle.stages.specs.Arith.{Op, Token, stop, num, name, op, opens, shuts, Lexed, token, level, Tree, constantOf, nameOf, negated, binary}
-use Rattle.stages.specs.Arith.{Grown, Task, operand, further, expression, furtherAt, growStep, growSize, grow, apply, Evaluated, withVariables, evaluate}
+use Rattle.stages.specs.Arith.{Op, stop, num, name, op, opens, shuts, Lexed, token, level, Tree, constantOf, nameOf, negated, binary}
+use Rattle.stages.specs.Arith.{Grown, further, expression, furtherAt, growStep, grow, apply, Evaluated, withVariables, evaluate}
 use Rattle.stages.proofs.Arith.{Lexes, lex-more, token-left, Leaves, some-left, expression-left, grow-left, grow-eq}
 
 -- a refusal is no result

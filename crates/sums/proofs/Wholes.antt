@@ -3,7 +3,6 @@ use Prim.Native.Nat.{ℕ}
 use mathlib.Core.Path.{_≡_, refl, sym, ap, _∙_, subst}
 use mathlib.Core.Bool.{Bool, true, false}
 use lib.IntN.{ℤ}
-use lib.ListN.{drop}
 use Rattle.stages.specs.Numbers.{openLimit}
 use Rattle.stages.specs.Bytes.{Text}
 use Rattle.stages.specs.Outcome.{Outcome, refused, done, _>>=_}

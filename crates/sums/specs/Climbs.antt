@@ -1,9 +1,8 @@
 -- What the climber's answers say of the tree that the stage reads, and of what it comes to. One statement serves both runs: where a side does not
 -- count, a refusal is one of reading; where it counts, a refusal is what the tree that was read comes to, and so is a value. Assumes nothing.
-use Prim.Native.Nat.{ℕ, suc, _≤_, _<_}
+use Prim.Native.Nat.{ℕ, suc, _≤_}
 use mathlib.Core.Path.{_≡_}
 use mathlib.Core.Bool.{Bool, true, false}
-use mathlib.Core.List.{List, []}
 use lib.IntN.{ℤ, pos, negℤ}
 use lib.ListN.{length, drop}
 use Rattle.stages.specs.Bytes.{Text, part}

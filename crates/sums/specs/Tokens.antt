@@ -1,11 +1,11 @@
 -- What the code's tokens say of the stage's: the token, and with places what is behind it. Assumes nothing.
 use Prim.Native.Nat.{ℕ, _+_, _≤_, _<_}
 use mathlib.Core.Path.{_≡_}
-use mathlib.Core.Bool.{Bool, true, false}
-use mathlib.Core.List.{List, [], _∷_}
+use mathlib.Core.Bool.{true, false}
+use mathlib.Core.List.{[]}
 use lib.ListN.{length, getD, drop}
 use Rattle.stages.specs.Bytes.{Text, part, isBlank, isDigit, isNameStart}
-use Rattle.stages.specs.Outcome.{Outcome, refused, done}
+use Rattle.stages.specs.Outcome.{refused, done}
 use Rattle.stages.specs.Arith.{Lexed, stop, num, name, op, opens, shuts, token, paired}
 use Rattle.numbers.specs.Answers.{opOf}
 use Rattle.numbers.specs.declared.Op.{Op}

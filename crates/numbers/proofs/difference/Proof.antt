@@ -1,14 +1,12 @@
+-- `numbers::difference` meets its contract: the smallest number has no negation and is taken away by itself; any other is added negated. Assumes nothing.
 use borrow.Author.Needs.{needs}
-use mathlib.Core.Path.{_≡_, refl, sym, _∙_, ap}
-use mathlib.Core.Bool.{true, false}
-use Prim.Native.Nat.{ℕ, _+_, _*_, _-_, _<_, _≤_, _^_}
-use native.Mathlib.Omega.{arith}
-use lib.IntN.{ℤ, pos, negsuc, negℤ, natAbs, +ℤ-idl, _+ℤ_, _-ℤ_, _*ℤ_}
-use lib.Signed.{ltZ, mag}
+use mathlib.Core.Path.{_∙_}
+use Prim.Native.Nat.{_+_, _-_}
+use lib.IntN.{negℤ, +ℤ-idl, _+ℤ_, _-ℤ_}
 use mir.Syntax.{w64}
-use mir.Val.{SFits, Fits}
-use mir.Facts.{sfits-lit, fits-natAbs}
-use Rattle.numbers.proofs.Ranges.{least, held, bits-eq, bits-ne, neg-fits, value, overflow, sub-least, over-least}
+use mir.Val.{SFits}
+use mir.Facts.{sfits-lit}
+use Rattle.numbers.proofs.Ranges.{least, held, bits-eq, bits-ne, neg-fits, value, sub-least, over-least}
 use Rattle.numbers.proofs.difference.Statement.{statement}
 use Rattle.numbers.proofs.difference.Tie as tie
 

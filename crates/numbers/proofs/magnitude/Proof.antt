@@ -1,13 +1,14 @@
+-- `numbers::magnitude` meets its contract: below zero it goes by -1 - a, which fits where -a may not. Assumes nothing.
 use borrow.Author.Needs.{needs}
-use mathlib.Core.Path.{_≡_, refl, sym, _∙_, ap}
-use mathlib.Core.Bool.{true, false}
-use Prim.Native.Nat.{ℕ, _+_, _*_, _-_, _<_, _≤_, _^_}
+use mathlib.Core.Path.{_≡_}
+use mathlib.Core.Bool.{true}
+use Prim.Native.Nat.{_-_}
 use native.Mathlib.Omega.{arith}
-use lib.IntN.{ℤ, pos, negsuc, negℤ, natAbs, +ℤ-idl, _+ℤ_, _-ℤ_, _*ℤ_}
+use lib.IntN.{pos}
 use lib.Signed.{ltZ, mag}
 use mir.Syntax.{w64}
-use mir.Val.{SFits, Fits}
-use mir.Facts.{sfits-lit, fits-natAbs}
+use mir.Val.{SFits}
+use mir.Facts.{fits-natAbs}
 use Rattle.numbers.proofs.Ranges.{held, mirror, abs-below, not-below}
 use Rattle.numbers.proofs.magnitude.Statement.{statement}
 use Rattle.numbers.proofs.magnitude.Tie as tie

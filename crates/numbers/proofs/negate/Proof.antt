@@ -1,5 +1,5 @@
-use mathlib.Core.Path.{_≡_, refl, sym, _∙_, ap}
-use lib.IntN.{ℤ, pos, negsuc, negℤ, +ℤ-idl}
+-- `numbers::negate` meets its contract: a negation fits but for the smallest number. Assumes nothing.
+use lib.IntN.{negℤ, +ℤ-idl}
 use mir.Syntax.{w64}
 use mir.Val.{SFits}
 use mir.Facts.{sfits-lit}

@@ -1,13 +1,10 @@
+-- `numbers::of_magnitude` meets its contract: a number below zero is -1 - k for its distance k + 1. Assumes nothing.
 use borrow.Author.Needs.{needs}
-use mathlib.Core.Path.{_≡_, refl, sym, _∙_, ap}
-use mathlib.Core.Bool.{true, false}
-use Prim.Native.Nat.{ℕ, _+_, _*_, _-_, _<_, _≤_, _^_}
+use Prim.Native.Nat.{_-_}
 use native.Mathlib.Omega.{arith}
-use lib.IntN.{ℤ, pos, negsuc, negℤ, natAbs, +ℤ-idl, _+ℤ_, _-ℤ_, _*ℤ_}
-use lib.Signed.{ltZ, mag}
+use lib.IntN.{pos, negsuc}
 use mir.Syntax.{w64}
-use mir.Val.{SFits, Fits}
-use mir.Facts.{sfits-lit, fits-natAbs}
+use mir.Val.{SFits}
 use Rattle.numbers.proofs.Ranges.{held, value, overflow, mirrored, sign-suc, of-zero, held-pos}
 use Rattle.numbers.proofs.of_magnitude.Statement.{statement}
 use Rattle.numbers.proofs.of_magnitude.Tie as tie

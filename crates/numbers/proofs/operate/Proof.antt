@@ -1,5 +1,5 @@
 -- `numbers::operate` meets its contract: each operator's answer is that of its function, of the numbers that the code holds. Assumes nothing.
-use mathlib.Core.Path.{_≡_, _∙_}
+use mathlib.Core.Path.{_∙_}
 use Rattle.stages.specs.Arith.{apply}
 use Rattle.numbers.proofs.Ranges.{held, same-bits}
 use borrow.Author.Needs.{needs}

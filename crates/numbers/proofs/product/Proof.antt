@@ -1,15 +1,13 @@
+-- `numbers::product` meets its contract: a quotient tells whether the magnitudes' product stays within 2^63, and the signs give its side. Assumes nothing.
 use borrow.Author.Needs.{needs}
 use mathlib.Core.Path.{_≡_, refl, sym, _∙_, ap}
 use mathlib.Core.Bool.{true, false}
-use Prim.Native.Nat.{ℕ, _+_, _*_, _-_, _<_, _≤_, _^_}
+use Prim.Native.Nat.{_-_}
 use native.Mathlib.Omega.{arith}
-use lib.IntN.{ℤ, pos, negsuc, negℤ, natAbs, +ℤ-idl, _+ℤ_, _-ℤ_, _*ℤ_}
-use lib.Signed.{ltZ, mag}
-use mir.Syntax.{w64}
-use mir.Val.{SFits, Fits}
-use mir.Facts.{sfits-lit, fits-natAbs}
+use lib.IntN.{pos, natAbs}
+use lib.Signed.{ltZ}
 use Rattle.stages.specs.Constants.{ranged}
-use Rattle.numbers.proofs.Ranges.{held, value, overflow, signs, mul-zero, mul-over, mul-room}
+use Rattle.numbers.proofs.Ranges.{held, signs, mul-zero, mul-over, mul-room}
 use Rattle.numbers.proofs.product.Statement.{statement}
 use Rattle.numbers.proofs.product.Tie as tie
 

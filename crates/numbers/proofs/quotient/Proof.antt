@@ -1,13 +1,11 @@
-use mathlib.Core.Path.{_≡_, refl, sym, _∙_, ap}
+-- `numbers::quotient` meets its contract: a quotient fits but for the smallest number by -1. Assumes nothing.
 use mathlib.Core.Logic.{⊎-elim}
-use Prim.Native.Nat.{_<_}
-use native.Mathlib.Omega.{arith}
-use lib.IntN.{ℤ, pos, negsuc}
-use lib.Signed.{quotZ, remZ}
+use lib.IntN.{pos, negsuc}
+use lib.Signed.{quotZ}
 use mir.Syntax.{w64}
-use mir.Val.{SFits, ofZ}
+use mir.Val.{SFits}
 use mir.Facts.{sfits-lit}
-use Rattle.numbers.proofs.Ranges.{least, held, bits-eq, bits-ne, quot-fits, rem-fits, divided-is, by-zero, least-divided, some-bits}
+use Rattle.numbers.proofs.Ranges.{least, held, bits-eq, bits-ne, quot-fits, divided-is, by-zero, least-divided, some-bits}
 use Rattle.numbers.proofs.quotient.Statement.{statement}
 use Rattle.numbers.proofs.quotient.Tie as tie
 

@@ -1,7 +1,5 @@
 -- `sums::name_number` meets its contract: the value that the look-up shows, or 0 where it shows none. Assumes nothing.
-use mathlib.Core.Path.{_≡_, sym, _∙_, ap}
-use mathlib.Core.Option.{Option, none, some}
-use Rattle.stages.specs.Bytes.{Text}
+use mathlib.Core.Path.{sym, _∙_, ap}
 use Rattle.stages.specs.Constants.{nameNumber}
 use Rattle.tables.proofs.Finds.{is-shown, is-absent}
 use borrow.Author.Needs.{needs}

@@ -1,5 +1,5 @@
 -- `numbers::constants::behind_zero` meets its contract: each way is a law of `behindZero`. Assumes nothing.
-use mathlib.Core.Path.{_≡_, _∙_, ap}
+use mathlib.Core.Path.{_∙_, ap}
 use borrow.Author.Tests.{eqb-true, eqb-false}
 use mathlib.Core.Logic.{⊎-elim, inl, inr}
 use Rattle.stages.specs.Bytes.{Text}

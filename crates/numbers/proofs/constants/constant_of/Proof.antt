@@ -1,5 +1,5 @@
 -- `numbers::constants::constant_of` meets its contract: each way is a law of `constant`. Assumes nothing.
-use mathlib.Core.Path.{_≡_, _∙_, ap}
+use mathlib.Core.Path.{_∙_, ap}
 use borrow.Author.Tests.{ltb-true, ltb-false}
 use mathlib.Core.Logic.{⊎-elim, inl, inr}
 use Rattle.stages.specs.Bytes.{Text}

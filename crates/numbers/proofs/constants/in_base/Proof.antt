@@ -1,8 +1,6 @@
 -- `numbers::constants::in_base` meets its contract: the laws of `Read`, one for each way through the loop. Assumes nothing.
-use mathlib.Core.Path.{_≡_, refl, sym, _∙_, ap}
-use mathlib.Core.Bool.{true, false}
 use mathlib.Core.Logic.{⊎-elim}
-use Prim.Native.Nat.{ℕ, _-_, _≤_, _<_, _+_, _*_}
+use Prim.Native.Nat.{_-_, _≤_, _<_, _+_, _*_}
 use native.Mathlib.Omega.{arith}
 use borrow.Author.Needs.{needs}
 use borrow.Author.Tests.{not-true, not-false}

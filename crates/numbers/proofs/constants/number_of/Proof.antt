@@ -1,5 +1,5 @@
 -- `numbers::constants::number_of` meets its contract: a constant that is refused at 2^63 is refused with either sign. Assumes nothing.
-use mathlib.Core.Path.{_≡_, sym, _∙_, ap}
+use mathlib.Core.Path.{sym, _∙_, ap}
 use Rattle.stages.specs.Constants.{constant}
 use Rattle.numbers.specs.Answers.{counted}
 use Rattle.numbers.proofs.Signs.{sign-refused, sign-given}

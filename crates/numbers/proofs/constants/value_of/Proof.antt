@@ -1,5 +1,5 @@
 -- `numbers::constants::value_of` meets its contract: each way is a law of `valued`. Assumes nothing.
-use mathlib.Core.Path.{_≡_, _∙_, ap}
+use mathlib.Core.Path.{_∙_, ap}
 use lib.IntN.{pos}
 use Rattle.stages.specs.Bytes.{Text}
 use Rattle.stages.specs.Constants.{number, constant, minusOf}

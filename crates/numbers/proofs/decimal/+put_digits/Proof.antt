@@ -1,11 +1,11 @@
 -- `numbers::decimal::put_digits` meets its contract: the code and `digits` go in step, and the last digit stands behind the others. Assumes nothing.
-use mathlib.Core.Path.{_≡_, refl, sym, _∙_, ap}
-use mathlib.Core.List.{List, [], _∷_, _++_}
-use Prim.Native.Nat.{ℕ, _<_, _≤_, _+_, _-_, _/_, _%_}
+use mathlib.Core.Path.{refl, sym}
+use mathlib.Core.List.{[]}
+use Prim.Native.Nat.{ℕ, _<_, _+_, _-_, _/_, _%_}
 use native.Mathlib.Omega.{arith}
-use lib.ListN.{length, set, drop, length-set, length-append}
+use lib.ListN.{length-set, length-append}
 use Rattle.stages.specs.Units.{digits}
-use Rattle.numbers.proofs.Digits.{laid, digits-none, digits-one, digits-more, put-last}
+use Rattle.numbers.proofs.Digits.{digits-none, digits-one, digits-more, put-last}
 use borrow.Fn.Kinds.{In}
 use borrow.Fn.PlainCycle.{Measures, is, falls, and}
 use Rattle.numbers.proofs.decimal.put_digits.Reads as put-digits

@@ -1,13 +1,11 @@
 -- `numbers::decimal::put_signed` meets its contract: the digits of the magnitude, behind a `-` where the number is below zero. Assumes nothing.
 use borrow.Author.Needs.{needs}
-use mathlib.Core.Path.{_≡_, refl, sym, _∙_, ap}
-use mathlib.Core.Bool.{true, false}
-use mathlib.Core.List.{List, [], _∷_, _++_}
-use Prim.Native.Nat.{ℕ, _<_, _≤_, _+_, _-_}
+use mathlib.Core.Path.{_≡_, sym, _∙_, ap}
+use mathlib.Core.List.{List, _∷_}
+use Prim.Native.Nat.{ℕ, _≤_, _-_}
 use native.Mathlib.Omega.{arith}
-use lib.ListN.{length, set, take, drop, length-set, length-take, length-drop}
-use lib.IntN.{natAbs, pos}
-use lib.Signed.{ltZ}
+use lib.ListN.{length, set, length-set, length-take, length-drop}
+use lib.IntN.{natAbs}
 use borrow.Rule.Slice.PartMut.{same-len-mid}
 use Rattle.stages.specs.Units.{digits, decimal}
 use Rattle.stages.specs.Constants.{signed}

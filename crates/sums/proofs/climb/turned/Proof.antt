@@ -1,5 +1,5 @@
 -- `sums::climb::turned` meets its contract: the negation's outcome, where it counts. Assumes nothing.
-use mathlib.Core.Path.{_≡_, sym, _∙_, ap}
+use mathlib.Core.Path.{sym, _∙_, ap}
 use lib.IntN.{ℤ}
 use borrow.Author.Tests.{not-true, not-false}
 use Rattle.stages.specs.Outcome.{Outcome}

@@ -1,5 +1,5 @@
 -- `sums::tokens::constant_at` meets its contract: the run is a constant, whose number or refusal is the token's. Assumes nothing.
-use mathlib.Core.Path.{_≡_, sym, _∙_, ap}
+use mathlib.Core.Path.{sym, _∙_, ap}
 use Rattle.numbers.specs.Answers.{numbered}
 use Rattle.sums.proofs.Lexing.{kept, bad-constant, good-constant}
 use borrow.Author.Needs.{needs}

@@ -1,5 +1,5 @@
 -- `sums::tokens::symbol_at` meets its contract: at each byte that begins a token the stage computes; any other is none. Assumes nothing.
-use mathlib.Core.Path.{_≡_, refl, sym}
+use mathlib.Core.Path.{refl, sym}
 use Rattle.stages.specs.Bytes.{isBlank, isDigit, isLetter, isNameStart}
 use Rattle.stages.specs.Outcome.{choose}
 use Rattle.stages.specs.Arith.{token}

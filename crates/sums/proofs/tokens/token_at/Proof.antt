@@ -2,7 +2,7 @@
 use Prim.Native.Nat.{_<_}
 use native.Mathlib.Omega.{arith}
 use lib.ListN.{length}
-use mathlib.Core.Path.{_≡_, sym, _∙_}
+use mathlib.Core.Path.{sym, _∙_}
 use Rattle.sums.proofs.Lexing.{nothing-left, behind-blanks, not-blank, name-at}
 use borrow.Author.Needs.{needs}
 use Rattle.sums.proofs.tokens.token_at.Statement.{statement}
