@@ -1,4 +1,5 @@
 pub mod Places
+pub mod Runs
 pub mod Placing
 pub mod Filling
 pub mod Choosing

@@ -4,26 +4,26 @@ use native.Mathlib.Omega.{arith}
 use mathlib.Core.Path.{_≡_, refl, sym, ap, _∙_}
 use mathlib.Core.Bool.{Bool, true, false}
 use mathlib.Core.List.{List, [], _∷_, _++_, append-assoc, append-nil}
-use lib.ListN.{length, take, drop}
+use lib.ListN.{length, drop}
 use lib.Seq.{drop-drop}
 use borrow.Rule.Slice.PartMut.{midOf, putMid, same-len-mid, mid-len, drop-put}
 use Rattle.stages.specs.Numbers.{bracketClass}
 use Rattle.stages.specs.Bytes.{Text, part}
 use Rattle.stages.specs.Outcome.{Outcome, refused, done, _>>=_}
-use Rattle.stages.specs.Images.{written, recordBytes}
+use Rattle.stages.specs.Images.{recordBytes}
 use Rattle.stages.specs.Units.{Row}
 use Rattle.stages.specs.Pattern.{Element, pattern}
 use Rattle.stages.specs.Split.{dropWhite, dropHard, otherRun, fieldsFrom, split}
 use Rattle.stages.specs.Paths.{pathsFor, named}
 use Rattle.stages.proofs.Images.{recordBytes-append}
 use Rattle.texts.specs.Rows.{rowOf}
-use Rattle.splitting.specs.Places.{ahead, Reaches}
+use Rattle.splitting.specs.Places.{ahead, goesOn, Reaches}
 use Rattle.splitting.specs.Answers.{Says, class, noRoom}
 use Rattle.splitting.specs.Fields.{fieldTexts}
 use Rattle.splitting.specs.declared.Written.{Written}
 use Rattle.splitting.specs.declared.Written.the-variants.{Len, Class, NoRoom}
-use Rattle.splitting.proofs.Places.{walk-end, walk-step, walk-falls}
-use Rattle.splitting.proofs.Filling.{Filled, filled-start, filled-length, filled-then, Given, Lacks, says-len, says-class, says-full, says-filled, done-same, apart}
+use Rattle.splitting.proofs.Runs.{Run, run-further, run-end, walk-end, walk-step, step-falls}
+use Rattle.splitting.proofs.Filling.{Filled, filled-start, filled-then, Given, Lacks, says-len, says-class, says-full, says-filled, done-same, apart}
 
 -- the first field decides, then the others
 
@@ -66,20 +66,23 @@ pub data State (used : ℕ) (old : Text) (l : List Text) (n : ℕ) (out : Text) 
   fitting : Filled used old l n out → State used old l n out false
   exceeding : length old < used + recordBytes l → State used old l n out true
 
-pub record Walk (paths : List Text) (ifs : Text) (o : Outcome (List Text)) (used : ℕ) (old row : Text) (at n : ℕ) (full : Bool) (out : Text) : Type 0 where
+-- the outer walk stands at a place of a row of `size` bytes
+pub record Walk (paths : List Text) (ifs : Text) (o : Outcome (List Text)) (used : ℕ) (old : Text) (size : ℕ) (row : Text) (at n : ℕ) (full : Bool) (out : Text) : Type 0 where
   pub texts : List Text
   pub whole : o ≡ (named paths (fieldsFrom ifs (ahead row at)) >>= λ l. done (texts ++ l))
+  pub sized : length row ≡ size
   pub within : at ≤ length row
   pub room : n ≤ length old
   pub same : length out ≡ length old
   pub state : State used old texts n out full
 
 pub walk-start : (paths : List Text) (ifs : Text) (used : ℕ) (old row : Text) (at : ℕ) → used ≤ length old → Reaches row 0 at (dropWhite ifs (ahead row 0))
-    → Walk paths ifs (named paths (split ifs (rowOf row))) used old row at used false old
+    → Walk paths ifs (named paths (split ifs (rowOf row))) used old (length row) row at used false old
 unfolding split
 walk-start paths ifs used old row at h k = record {
   texts = [];
   whole = ap (λ (r : Row). named paths (fieldsFrom ifs r)) (sym (k .units)) ∙ in-front (named paths (fieldsFrom ifs (ahead row at)));
+  sized = refl;
   within = k .within;
   room = h;
   same = refl;
@@ -92,8 +95,8 @@ filled-of (fitting f) = f
 exceeds-of : {used : ℕ} {old : Text} {l : List Text} {n : ℕ} {out : Text} → State used old l n out true → length old < used + recordBytes l
 exceeds-of (exceeding h) = h
 
-module _ {paths : List Text} {ifs : Text} {o : Outcome (List Text)} {used : ℕ} {old row : Text} {at n : ℕ} {full : Bool} {out : Text}
-    (w : Walk paths ifs o used old row at n full out) where
+module _ {paths : List Text} {ifs : Text} {o : Outcome (List Text)} {used : ℕ} {old : Text} {size : ℕ} {row : Text} {at n : ℕ} {full : Bool} {out : Text}
+    (w : Walk paths ifs o used old size row at n full out) where
   is-filled : full ≡ false → Filled used old (w .texts) n out
   is-filled e = filled-of (rw e at (w .state))
 
@@ -115,73 +118,102 @@ module _ {paths : List Text} {ifs : Text} {o : Outcome (List Text)} {used : ℕ}
     pub walk-fits : full ≡ false → Says o used old out (Len n)
     walk-fits e = says-filled over (is-filled e)
 
-  -- a field and the place behind it
-  module _ {end next : ℕ} (l : 1 < length row - at) (further : at ≤ end) (run : otherRun ifs (ahead row at) ≡ (rowOf (part row at end), ahead row end))
-      (h : Reaches row end next (dropHard ifs (dropWhite ifs (ahead row end)))) {after : Text} {r : Written}
-      (s : Says (fieldTexts paths (rowOf (part row at end))) n out after r) where
-    step : (named paths (fieldsFrom ifs (ahead row at)) >>= λ l. done (w .texts ++ l)) ≡ (named paths (rowOf (part row at end) ∷ fieldsFrom ifs (ahead row next)) >>= λ l. done (w .texts ++ l))
-    step = ap (λ (rs : List Row). named paths rs >>= λ l. done (w .texts ++ l)) (walk-step ifs row at end next l run h)
+-- a field was taken from `at` to `end` and answered with r, ys are left of its units, and the next one begins at `next`
+pub record Taken (paths : List Text) (ifs : Text) (o : Outcome (List Text)) (used : ℕ) (old : Text) (size : ℕ) (row : Text) (at n : ℕ) (full : Bool) (out : Text)
+    (end next : ℕ) (ys after : Text) (r : Written) : Type 0 where
+  pub walk : Walk paths ifs o used old size row at n full out
+  pub more : 1 < length row - at
+  pub run : Run ifs row at end
+  pub stops : goesOn ifs (ahead row end) ≡ false
+  pub behind : Reaches row end next (dropHard ifs (dropWhite ifs (ahead row end)))
+  pub says : Says (fieldTexts paths (rowOf (part row at end))) n out after r
+  pub units : length ys ≡ length (midOf at (end - at) row)
+  pub kept : length after ≡ length out
 
-    pub walk-class : r ≡ Class → {left : Text} → Says o used old left Class
-    walk-class e =
-        class (w .whole ∙ step
-        ∙ ap (λ (x : Outcome (List Text)). x >>= λ l. done (w .texts ++ l)) (named-refused paths (rowOf (part row at end)) (fieldsFrom ifs (ahead row next)) bracketClass (says-class s e)))
+module _ {paths : List Text} {ifs : Text} {o : Outcome (List Text)} {used : ℕ} {old : Text} {size : ℕ} {row : Text} {at n : ℕ} {full : Bool} {out : Text}
+    {end next : ℕ} {ys after : Text} {r : Written} (t : Taken paths ifs o used old size row at n full out end next ys after r) where
+  abbrev w : Walk paths ifs o used old size row at n full out
+  w = t .walk
 
-    -- the field's bytes may have changed, those ahead of the next place have not
-    module _ (ys : Text) (k : length ys ≡ length (midOf at (end - at) row)) (kept : length after ≡ length out) where
-      abbrev left : Text
-      left = putMid at (end - at) row ys
+  abbrev field : Row
+  field = rowOf (part row at end)
 
-      ahead-same : ahead left next ≡ ahead row next
-      ahead-same =
-          let i : end ≤ length row = omega (arith, h .further, h .within) in
-          let e : length ys ≡ end - at = k ∙ mid-len at end row i in
-          let j : end + (next - end) ≡ next = omega (arith, h .further) in
-          let d : drop end left ≡ drop end row = drop-put at end row ys further i e in
-          let q : drop next left ≡ drop next row = ap (λ (m : ℕ). drop m left) (sym j) ∙ sym (drop-drop (next - end) end left) ∙ ap (drop (next - end)) d ∙ drop-drop (next - end) end row ∙ ap (λ (m : ℕ). drop m row) j in
-          ap rowOf q
+  abbrev rest : List Row
+  rest = fieldsFrom ifs (ahead row next)
 
-      pub left-length : length left ≡ length row
-      left-length = same-len-mid at (end - at) row ys k
+  cut : otherRun ifs (ahead row at) ≡ (field, ahead row end)
+  cut = run-end ifs (t .run) (t .stops)
 
-      pub left-falls : length (ahead left next) < length (ahead row at)
-      left-falls = rw ahead-same (walk-falls ifs row at end next l run h)
+  step : o ≡ (named paths (field ∷ rest) >>= λ l. done (w .texts ++ l))
+  step = w .whole ∙ ap (λ (rs : List Row). named paths rs >>= λ l. done (w .texts ++ l)) (walk-step ifs row at end next (t .more) cut (t .behind))
 
-      behind : (a : List Text) → fieldTexts paths (rowOf (part row at end)) ≡ done a → o ≡ (named paths (fieldsFrom ifs (ahead left next)) >>= λ l. done ((w .texts ++ a) ++ l))
-      behind a e =
-          w .whole ∙ step
-          ∙ ap (λ (x : Outcome (List Text)). x >>= λ l. done (w .texts ++ l)) (named-done paths (rowOf (part row at end)) (fieldsFrom ifs (ahead row next)) a e)
-          ∙ joined (w .texts) a (named paths (fieldsFrom ifs (ahead row next)))
-          ∙ ap (λ (x : Row). named paths (fieldsFrom ifs x) >>= λ l. done ((w .texts ++ a) ++ l)) (sym ahead-same)
+  pub walk-class : r ≡ Class → {left : Text} → Says o used old left Class
+  walk-class e = class (step ∙ ap (λ (x : Outcome (List Text)). x >>= λ l. done (w .texts ++ l)) (named-refused paths field rest bracketClass (says-class (t .says) e)))
 
-      next-within : next ≤ length left
-      next-within = omega (arith, h .within, left-length)
+  -- the field's bytes may have changed, those ahead of the next place have not
+  abbrev left : Text
+  left = putMid at (end - at) row ys
 
-      -- the field is written
-      pub walk-on : full ≡ false → {m : ℕ} → r ≡ Len m → Walk paths ifs o used old left next m full after
-      walk-on f {m} e =
-          let d : Given (fieldTexts paths (rowOf (part row at end))) n out after m = says-len s e in
-          let g : Filled used old (w .texts ++ d .texts) m after = filled-then (is-filled f) (d .filled) in
-          record { texts = w .texts ++ d .texts; whole = behind (d .texts) (d .gives); within = next-within; room = g .room; same = kept ∙ w .same; state = rw f (fitting g) }
+  ahead-same : ahead left next ≡ ahead row next
+  ahead-same =
+      let i : end ≤ length row = t .run .within in
+      let j : end + (next - end) ≡ next = omega (arith, t .behind .further) in
+      let d : drop end left ≡ drop end row = drop-put at end row ys (run-further ifs (t .run)) i (t .units ∙ mid-len at end row i) in
+      let q : drop next left ≡ drop next row =
+      ap (λ (m : ℕ). drop m left) (sym j) ∙ sym (drop-drop (next - end) end left) ∙ ap (drop (next - end)) d ∙ drop-drop (next - end) end row ∙ ap (λ (m : ℕ). drop m row) j in
+      ap rowOf q
 
-      longer : (a : List Text) → length old < used + recordBytes (w .texts) → length old < used + recordBytes (w .texts ++ a)
-      longer a x = omega (arith, x, recordBytes-append (w .texts) a)
+  left-length : length left ≡ length row
+  left-length = same-len-mid at (end - at) row ys (t .units)
 
-      over-on : (a : List Text) → fieldTexts paths (rowOf (part row at end)) ≡ done a → length old < used + recordBytes (w .texts ++ a) → Walk paths ifs o used old left next n true after
-      over-on a e x = record { texts = w .texts ++ a; whole = behind a e; within = next-within; room = w .room; same = kept ∙ w .same; state = exceeding x }
+  pub left-sized : length left ≡ size
+  left-sized = left-length ∙ w .sized
 
-      -- an earlier one did not fit
-      pub walk-past : full ≡ true → {m : ℕ} → r ≡ Len m → Walk paths ifs o used old left next n full after
-      walk-past f {m} e =
-          let d : Given (fieldTexts paths (rowOf (part row at end))) n out after m = says-len s e in
-          rw f (over-on (d .texts) (d .gives) (longer (d .texts) (is-over f)))
+  pub walk-falls : length (ahead left next) < length (ahead row at)
+  walk-falls = rw ahead-same (step-falls ifs row at end next (t .more) cut (t .behind))
 
-      -- it does not fit
-      pub walk-over : r ≡ NoRoom → Walk paths ifs o used old left next n true after
-      walk-over e =
-          let d : Lacks (fieldTexts paths (rowOf (part row at end))) n out = says-full s e in
-          over-on (d .texts) (d .gives) (by-state d (w .state))
-        where
-          by-state : (d : Lacks (fieldTexts paths (rowOf (part row at end))) n out) → {x : Bool} → State used old (w .texts) n out x → length old < used + recordBytes (w .texts ++ d .texts)
-          by-state d (fitting f) = omega (arith, f .long, d .short, w .same, recordBytes-append (w .texts) (d .texts))
-          by-state d (exceeding x) = longer (d .texts) x
+  behind : (a : List Text) → fieldTexts paths field ≡ done a → o ≡ (named paths (fieldsFrom ifs (ahead left next)) >>= λ l. done ((w .texts ++ a) ++ l))
+  behind a e =
+      step
+      ∙ ap (λ (x : Outcome (List Text)). x >>= λ l. done (w .texts ++ l)) (named-done paths field rest a e)
+      ∙ joined (w .texts) a (named paths rest)
+      ∙ ap (λ (x : Row). named paths (fieldsFrom ifs x) >>= λ l. done ((w .texts ++ a) ++ l)) (sym ahead-same)
+
+  -- with the texts of the field, written or not
+  moved : (a : List Text) → fieldTexts paths field ≡ done a → {m : ℕ} → m ≤ length old → {x : Bool} → State used old (w .texts ++ a) m after x
+      → Walk paths ifs o used old size left next m x after
+  moved a e h s = record {
+    texts = w .texts ++ a;
+    whole = behind a e;
+    sized = left-sized;
+    within = omega (arith, t .behind .within, left-length);
+    room = h;
+    same = t .kept ∙ w .same;
+    state = s;
+  }
+
+  longer : (a : List Text) → length old < used + recordBytes (w .texts) → length old < used + recordBytes (w .texts ++ a)
+  longer a x = omega (arith, x, recordBytes-append (w .texts) a)
+
+  -- the field is written
+  pub walk-on : full ≡ false → {m : ℕ} → r ≡ Len m → Walk paths ifs o used old size left next m full after
+  walk-on f {m} e =
+      let d : Given (fieldTexts paths field) n out after m = says-len (t .says) e in
+      let g : Filled used old (w .texts ++ d .texts) m after = filled-then (is-filled w f) (d .filled) in
+      rw f (moved (d .texts) (d .gives) (g .room) (fitting g))
+
+  -- an earlier one did not fit
+  pub walk-past : full ≡ true → {m : ℕ} → r ≡ Len m → Walk paths ifs o used old size left next n full after
+  walk-past f {m} e =
+      let d : Given (fieldTexts paths field) n out after m = says-len (t .says) e in
+      rw f (moved (d .texts) (d .gives) (w .room) (exceeding (longer (d .texts) (is-over w f))))
+
+  -- it does not fit
+  pub walk-over : r ≡ NoRoom → Walk paths ifs o used old size left next n true after
+  walk-over e =
+      let d : Lacks (fieldTexts paths field) n out = says-full (t .says) e in
+      moved (d .texts) (d .gives) (w .room) (exceeding (by-state d (w .state)))
+    where
+      by-state : (d : Lacks (fieldTexts paths field) n out) → {x : Bool} → State used old (w .texts) n out x → length old < used + recordBytes (w .texts ++ d .texts)
+      by-state d (fitting f) = omega (arith, f .long, d .short, w .same, recordBytes-append (w .texts) (d .texts))
+      by-state d (exceeding x) = longer (d .texts) x
