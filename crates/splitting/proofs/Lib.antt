@@ -1,2 +1,8 @@
 pub mod Places
+pub mod Runs
 pub mod Placing
+pub mod Filling
+pub mod Choosing
+pub mod Walking
+pub mod Words
+pub mod Determined

@@ -109,13 +109,7 @@ module _ (t : Text) (used : ℕ) (old ys : Text) (r : Put) (h : used ≤ length 
       go true q = long (leb-true (length t) textLimit q)
       go false q = omega (arith, leb-false (length t) textLimit q)
 
--- what an answer says of texts that are refused, and of those that are not
-
-done-same : {A : Type 0} {a b : A} → done a ≡ done b → a ≡ b
-done-same e = cc
-
-apart : {A : Type 0} {a : A} {k : ℕ} → done a ≡ refused k → ⊥
-apart e = let z : _≡_ {A = ℕ} 0 1 = cc in omega arith
+-- what is answered, in document 01's numbers
 
 pub says-answers : {o : Outcome (List Text)} {used : ℕ} {old left : Text} {r : Written} → Says o used old left r → writtenOutcome r ≡ lengthWith (length old) used o
 unfolding lengthWith

@@ -3,15 +3,22 @@
 ghost use mathlib.Core.Path.{_≡_};
 ghost use mathlib.Core.List.{_∷_, []};
 ghost use Prim.Native.Nat.{ℕ, _≤_};
-ghost use lib.ListN.{length, drop};
+ghost use lib.ListN.{length, take, drop};
 ghost use Rattle.stages.specs.Numbers.{imageLimit};
 ghost use Rattle.stages.specs.Outcome.{done};
+ghost use Rattle.stages.specs.Images.{held, heldTexts};
 ghost use Rattle.stages.specs.Units.{bytes};
-ghost use Rattle.stages.specs.Split.{dropWhite, dropHard};
+ghost use Rattle.stages.specs.Split.{dropWhite, dropHard, split, fieldsOfRow};
+ghost use Rattle.stages.specs.Paths.{chosen, pathsFor, named};
 ghost use Rattle.texts.specs.Rows.{rowOf};
+ghost use Rattle.tables.specs.Places.{Table};
+ghost use Rattle.paths.specs.Chosen.{pathElements};
 ghost use Rattle.splitting.specs.Places.{delimiterOf, ahead, first, goesOn, Reaches};
-ghost use Rattle.splitting.specs.Answers.{Says};
+ghost use Rattle.splitting.specs.Answers.{Says, Puts};
+ghost use Rattle.splitting.specs.Fields.{fieldTexts, Listed};
+use paths::Next;
 use stores::Put;
+use tables::Found;
 use texts::Class;
 
 // What a unit is in splitting: "white if space, tab or newline, else hard", or no delimiter.
@@ -117,4 +124,118 @@ fn put_own(field: &mut [u8], out: &mut [u8], used: usize) -> Written
 {
     let n = rows::strip_marks(field);
     put_text(&field[..n], out, used)
+}
+
+// Writes the paths that match the pattern, in order.
+fn put_paths(pattern: &[u8], paths: &[u8], out: &mut [u8], used: usize) -> Written
+    requires { ⌜ (used ≤ length (now out)) × (length (now out) ≤ imageLimit) ⌝ }
+    requires { ⌜ Listed (now paths) ⌝ }
+    ensures { λ r. ⌜ Says (done (chosen (pathElements (now (pattern .entry))) (heldTexts (now (paths .entry))))) used (now (out .entry)) (now (out .exit)) r ⌝ }
+{
+    let mut at: usize = 1;
+    let mut len = used;
+    loop {
+        match paths::next_path(paths, at, pattern) {
+            Next::Nothing => return Written::Len(len),
+            Next::Path { from, to } => match put_text(&paths[from..to], out, len) {
+                Written::Len(n) => {
+                    len = n;
+                    at = to;
+                }
+                Written::Class => return Written::Class,
+                Written::NoRoom => return Written::NoRoom,
+            },
+        }
+    }
+}
+
+// Writes what a field without a class becomes: "all matching paths in order, or its own bytes if none".
+fn put_paths_or_own(field: &mut [u8], paths: &[u8], out: &mut [u8], used: usize) -> Written
+    requires { ⌜ (used ≤ length (now out)) × (length (now out) ≤ imageLimit) ⌝ }
+    requires { ⌜ Listed (now paths) ⌝ }
+    ensures { λ r. ⌜ Says (done (pathsFor (heldTexts (now (paths .entry))) (rowOf (now (field .entry))) (pathElements (now (field .entry))))) used (now (out .entry)) (now (out .exit)) r ⌝ }
+{
+    if !patterns::is_active(field) {
+        return put_own(field, out, used);
+    }
+    match put_paths(field, paths, out, used) {
+        Written::Len(len) => {
+            if len == used {
+                return put_own(field, out, used);
+            }
+            Written::Len(len)
+        }
+        Written::Class => Written::Class,
+        Written::NoRoom => Written::NoRoom,
+    }
+}
+
+// Writes what a field becomes, if it has no class. Its units are spent.
+fn put_field(field: &mut [u8], paths: &[u8], out: &mut [u8], used: usize) -> Written
+    requires { ⌜ (used ≤ length (now out)) × (length (now out) ≤ imageLimit) ⌝ }
+    requires { ⌜ Listed (now paths) ⌝ }
+    ensures { λ r. ⌜ Says (fieldTexts (heldTexts (now (paths .entry))) (rowOf (now (field .entry)))) used (now (out .entry)) (now (out .exit)) r ⌝ }
+{
+    let n = patterns::drop_empty(field);
+    if patterns::has_class(&field[..n], true) {
+        return Written::Class;
+    }
+    put_paths_or_own(&mut field[..n], paths, out, used)
+}
+
+// Splits a row into its fields and writes what they become. Each field is taken where it stands, since the walk never comes back to it. All fields
+// are checked for a class before one that does not fit refuses the row, so the walk goes on behind it.
+fn put_fields(row: &mut [u8], ifs: &[u8], paths: &[u8], out: &mut [u8], used: usize) -> Written
+    requires { ⌜ (used ≤ length (now out)) × (length (now out) ≤ imageLimit) ⌝ }
+    requires { ⌜ Listed (now paths) ⌝ }
+    ensures { λ r. ⌜ Says (named (heldTexts (now (paths .entry))) (split (now (ifs .entry)) (rowOf (now (row .entry))))) used (now (out .entry)) (now (out .exit)) r ⌝ }
+{
+    let mut at = skip_white(row, 0, ifs);
+    let mut len = used;
+    let mut full = false;
+    while row.len() - at > 1 {
+        let mut end = at;
+        let next = loop {
+            if !goes_on(row, end, ifs) {
+                break behind_field(row, end, ifs);
+            }
+            end += 2;
+        };
+        match put_field(&mut row[at..end], paths, out, len) {
+            Written::Len(n) => {
+                if !full {
+                    len = n;
+                }
+            }
+            Written::Class => return Written::Class,
+            Written::NoRoom => full = true,
+        }
+        at = next;
+    }
+    if full {
+        return Written::NoRoom;
+    }
+    Written::Len(len)
+}
+
+// Writes the fields of a word's row behind the first `used` bytes of the output, IFS being what it is in the variables now: "IFS as it stands after the
+// word's own stores; unset means space, tab, newline". The row is spent.
+pub fn put_word_fields(
+    row: &mut [u8],
+    vars: &[u8],
+    have: usize,
+    paths: &[u8],
+    out: &mut [u8],
+    used: usize,
+) -> Written
+    requires { ⌜ (have ≤ length (now vars)) × Table (take have (now vars)) ⌝ }
+    requires { ⌜ (used ≤ length (now out)) × (length (now out) ≤ imageLimit) ⌝ }
+    requires { ⌜ Listed (now paths) ⌝ }
+    ensures { λ r. ⌜ Puts (named (heldTexts (now (paths .entry))) (fieldsOfRow (held (take have (now (vars .entry)))) (rowOf (now (row .entry))))) used (now (out .entry)) (now (out .exit)) r ⌝ }
+{
+    let found = tables::look_up_ifs(&vars[..have]);
+    match found {
+        Found::At { from, to } => put_fields(row, &vars[from..to], paths, out, used),
+        Found::Missing => put_fields(row, b" \t\n", paths, out, used),
+    }
 }
