@@ -84,7 +84,7 @@ module _ (line : Text) (from place : ℕ) (r : Runs line from Blank place) where
 
 -- Over a word.
 
-good-left : {n : ℕ} {r : Taken} → Good n r → (p : Parts × Text) → r ≡ done p → length (p .1) ≤ n
+pub good-left : {n : ℕ} {r : Taken} → Good n r → (p : Parts × Text) → r ≡ done p → length (p .1) ≤ n
 good-left (stays g) p e = absurd (let z : _≡_ {A = ℕ} 0 1 = cc in omega arith)
 good-left {n = n} (leaves {p = q} l) p e =
     let k : _≡_ {A = Parts × Text} q p = cc in
