@@ -99,7 +99,7 @@ fn closed(text: &[u8], value: i64, at: usize) -> Climbed
         Token::Stop => Climbed::Refused(REFUSED_SYNTAX),
         Token::Number { value: _, next: _ } => Climbed::Refused(REFUSED_SYNTAX),
         Token::Name { from: _, to: _ } => Climbed::Refused(REFUSED_SYNTAX),
-        Token::Op { op: _, next: _ } => Climbed::Refused(REFUSED_SYNTAX),
+        Token::Op(_, _) => Climbed::Refused(REFUSED_SYNTAX),
         Token::Opens(_) => Climbed::Refused(REFUSED_SYNTAX),
     }
 }
@@ -117,7 +117,7 @@ fn operand(text: &[u8], at: usize, room: usize, counts: bool, vars: &[u8]) -> Cl
             next: next,
         },
         Token::Name { from, to } => named(text, from, to, counts, vars),
-        Token::Op { op, next } => signed(text, next, op, room, counts, vars),
+        Token::Op(op, next) => signed(text, next, op, room, counts, vars),
         Token::Opens(next) => enclosed(text, next, room, counts, vars),
         Token::Shuts(_) => Climbed::Refused(REFUSED_SYNTAX),
         Token::Stop => Climbed::Refused(REFUSED_SYNTAX),
@@ -243,7 +243,7 @@ fn operator(
     let token = token_at(text, at);
     match token {
         Token::Refused(e) => Turn::Refused(e),
-        Token::Op { op, next } => {
+        Token::Op(op, next) => {
             let binds = level(op);
             if binds < least {
                 return Turn::Last;

@@ -49,7 +49,7 @@ fn ended(text: &[u8], value: i64, at: usize) -> Number
         Token::Stop => Number::Value(value),
         Token::Number { value: _, next: _ } => Number::Refused(REFUSED_SYNTAX),
         Token::Name { from: _, to: _ } => Number::Refused(REFUSED_SYNTAX),
-        Token::Op { op: _, next: _ } => Number::Refused(REFUSED_SYNTAX),
+        Token::Op(_, _) => Number::Refused(REFUSED_SYNTAX),
         Token::Opens(_) => Number::Refused(REFUSED_SYNTAX),
         Token::Shuts(_) => Number::Refused(REFUSED_SYNTAX),
     }

@@ -14,7 +14,7 @@ pub enum Token {
     Stop,
     Number { value: i64, next: usize },
     Name { from: usize, to: usize },
-    Op { op: Op, next: usize },
+    Op(Op, usize),
     Opens(usize),
     Shuts(usize),
 }
@@ -59,10 +59,7 @@ fn paired(text: &[u8], at: usize, alone: Token, both: Op) -> Token
     let next = at + 1;
     if next < text.len() {
         if text[next] == b'=' {
-            return Token::Op {
-                op: both,
-                next: at + 2,
-            };
+            return Token::Op(both, at + 2);
         }
     }
     alone
@@ -77,44 +74,13 @@ fn symbol_at(text: &[u8], at: usize) -> Token
     match text[at] {
         b'(' => Token::Opens(next),
         b')' => Token::Shuts(next),
-        b'*' => Token::Op {
-            op: Op::Mul,
-            next: next,
-        },
-        b'/' => Token::Op {
-            op: Op::Div,
-            next: next,
-        },
-        b'%' => Token::Op {
-            op: Op::Rem,
-            next: next,
-        },
-        b'+' => Token::Op {
-            op: Op::Add,
-            next: next,
-        },
-        b'-' => Token::Op {
-            op: Op::Sub,
-            next: next,
-        },
-        b'<' => paired(
-            text,
-            at,
-            Token::Op {
-                op: Op::Lt,
-                next: next,
-            },
-            Op::Le,
-        ),
-        b'>' => paired(
-            text,
-            at,
-            Token::Op {
-                op: Op::Gt,
-                next: next,
-            },
-            Op::Ge,
-        ),
+        b'*' => Token::Op(Op::Mul, next),
+        b'/' => Token::Op(Op::Div, next),
+        b'%' => Token::Op(Op::Rem, next),
+        b'+' => Token::Op(Op::Add, next),
+        b'-' => Token::Op(Op::Sub, next),
+        b'<' => paired(text, at, Token::Op(Op::Lt, next), Op::Le),
+        b'>' => paired(text, at, Token::Op(Op::Gt, next), Op::Ge),
         b'=' => paired(text, at, Token::Refused(REFUSED_SYNTAX), Op::Eq),
         b'!' => paired(text, at, Token::Refused(REFUSED_SYNTAX), Op::Ne),
         _ => Token::Refused(REFUSED_SYNTAX),
