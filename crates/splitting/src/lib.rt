@@ -142,7 +142,8 @@ fn put_paths(pattern: &[u8], paths: &[u8], out: &mut [u8], used: usize) -> Writt
                     len = n;
                     at = to;
                 }
-                Written::Class => return Written::Class,
+                // A path is no pattern: this never comes.
+                Written::Class => return Written::NoRoom,
                 Written::NoRoom => return Written::NoRoom,
             },
         }
