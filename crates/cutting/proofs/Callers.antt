@@ -4,13 +4,13 @@ use Prim.Native.Nat.{ℕ, zero, suc, _+_, _-_, _≤_, _<_}
 use native.Mathlib.Omega.{arith}
 use mathlib.Core.Path.{_≡_, refl, sym, ap, subst, _∙_}
 use mathlib.Core.Bool.{true, false}
-use mathlib.Core.List.{List, [], _∷_, _++_, append-assoc, append-nil}
+use mathlib.Core.List.{[], _∷_, _++_, append-assoc, append-nil}
 use mathlib.Core.Option.{some}
 use lib.Dec.{eqb}
 use lib.ListN.{length, take, drop, length-append, length-drop, take-append-drop}
 use lib.Seq.{take-at, drop-at}
 use borrow.Author.Tests.{eqb-true, eqb-false, ne-eqb}
-use Rattle.stages.specs.Bytes.{Text, isIn, all, span}
+use Rattle.stages.specs.Bytes.{Text, all, span}
 use Rattle.stages.specs.Call.{over}
 use Rattle.stages.specs.Program.{linesOf}
 use Rattle.stages.proofs.Bools.{no, clash, some-same, either}
