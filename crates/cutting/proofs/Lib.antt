@@ -1,0 +1,4 @@
+pub mod Taking
+pub mod Saying
+pub mod Callers
+pub mod Determined

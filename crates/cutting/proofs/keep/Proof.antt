@@ -1,0 +1,51 @@
+-- `cutting::keep` meets its contract: the bytes copied are those that a line so far is cut to. Assumes nothing.
+use mathlib.Core.Path.{sym}
+use borrow.Author.Needs.{needs}
+use Rattle.cutting.proofs.Taking.{copied-length, keep-fits, keep-puts}
+use Rattle.cutting.proofs.keep.Statement.{statement}
+use Rattle.cutting.proofs.keep.Tie as tie
+
+sub-least : tie.Need-sub-least
+sub-least c = search needs
+
+least-requires : tie.Need-least-requires
+least-requires c κs = search needs
+
+slice-aggregate-copy-in : tie.Need-slice-aggregate-copy-in
+slice-aggregate-copy-in c = sym (copied-length (c .before .before .before .before .args .line .now) (c .before .before .before .before .args .bytes .now) (c .before .before .before .before .args .kept) (c .before .least .result) (c .before .before .before .before .pre .0) (c .before .before .before .before .pre .1) (c .before .least .ensures))
+
+sub-copy-in : tie.Need-sub-copy-in
+sub-copy-in c = search needs
+
+part-copy-in-start : tie.Need-part-copy-in-start
+part-copy-in-start c = search needs
+
+part-copy-in-end : tie.Need-part-copy-in-end
+part-copy-in-end c = search needs
+
+copy-in-requires : tie.Need-copy-in-requires
+copy-in-requires c κs = keep-fits (c .before .before .before .before .before .args .line .now) (c .before .before .before .before .before .args .bytes .now) (c .before .before .before .before .before .args .kept) (c .before .before .least .result) (c .before .before .before .before .before .pre .0) (c .before .before .before .before .before .pre .1) (c .before .before .least .ensures)
+
+add-result : tie.Need-add-result
+add-result c = search needs
+
+same-length : tie.Need-same-length
+same-length c = search needs
+
+returns : tie.Need-returns
+returns c = keep-puts (c .before .before .before .before .before .before .before .before .args .line .now) (c .before .before .before .before .before .before .before .before .args .bytes .now) (c .before .before .before .before .before .before .before .before .args .kept) (c .before .before .before .before .before .least .result) (c .before .before .before .before .before .before .before .before .pre .0) (c .before .before .before .before .before .before .before .before .pre .1) (c .before .before .before .before .before .least .ensures) (c .before .before .copy-in .last .1 .0) (c .before .before .copy-in .ensures)
+
+pub keep-spec : {M : Type 1} → statement M
+keep-spec =
+    tie.close
+    (tie.spec
+    sub-least
+    least-requires
+    slice-aggregate-copy-in
+    sub-copy-in
+    part-copy-in-start
+    part-copy-in-end
+    copy-in-requires
+    add-result
+    same-length
+    returns)

@@ -1,0 +1,56 @@
+-- `cutting::put_ok` meets its contract: two copies and a newline behind them. Assumes nothing.
+use mathlib.Core.Path.{refl}
+use borrow.Author.Needs.{needs}
+use Rattle.quoting.proofs.Filling.{fill-length, fill-ends}
+use Rattle.cutting.proofs.Saying.{ok-ended}
+use Rattle.cutting.proofs.put_ok.Statement.{statement}
+use Rattle.cutting.proofs.put_ok.Tie as tie
+
+slice-aggregate-copy-in : tie.Need-slice-aggregate-copy-in
+slice-aggregate-copy-in c = search needs
+
+copy-in-requires : tie.Need-copy-in-requires
+copy-in-requires c κs = search needs
+
+sub-copy-in : tie.Need-sub-copy-in
+sub-copy-in c = search needs
+
+part-copy-in-start : tie.Need-part-copy-in-start
+part-copy-in-start c = search needs
+
+part-copy-in-end : tie.Need-part-copy-in-end
+part-copy-in-end c = search needs
+
+copy-in-requires-2 : tie.Need-copy-in-requires-2
+copy-in-requires-2 c κs = search needs
+
+add-end : tie.Need-add-end
+add-end c = search needs
+
+slice-write-out : tie.Need-slice-write-out
+slice-write-out c = search needs
+
+add-result : tie.Need-add-result
+add-result c = search needs
+
+same-length : tie.Need-same-length
+same-length c = fill-length (ok-ended (c .before .before .before .before .before .before .before .before .before .before .before .args .line .now) (c .before .before .before .before .before .before .before .before .before .before .before .args .out .now) (c .before .before .before .before .before .before .copy-in .last .1 .0) (c .before .before .before .before .before .before .before .before .before .before .before .pre) (c .before .before .before .before .before .before .copy-in .ensures) (c .before .before .copy-in2 .last .1 .0) (c .before .before .copy-in2 .ensures))
+
+returns : tie.Need-returns
+returns c = fill-ends (ok-ended (c .before .before .before .before .before .before .before .before .before .before .before .args .line .now) (c .before .before .before .before .before .before .before .before .before .before .before .args .out .now) (c .before .before .before .before .before .before .copy-in .last .1 .0) (c .before .before .before .before .before .before .before .before .before .before .before .pre) (c .before .before .before .before .before .before .copy-in .ensures) (c .before .before .copy-in2 .last .1 .0) (c .before .before .copy-in2 .ensures)) refl
+
+pub put-ok-spec : {M : Type 1} → statement M
+put-ok-spec =
+    tie.close
+    (tie.spec
+    slice-aggregate-copy-in
+    copy-in-requires
+    sub-copy-in
+    part-copy-in-start
+    part-copy-in-end
+    copy-in-requires-2
+    add-end
+    slice-write-out
+    add-result
+    same-length
+    returns)

@@ -1,0 +1,50 @@
+-- `cutting::take_in` meets its contract: what is kept is what stands before the line's end, and the newline is passed. Assumes nothing.
+use borrow.Author.Needs.{needs}
+use Rattle.cutting.proofs.Taking.{taken-ended, taken-open}
+use Rattle.cutting.proofs.take_in.Statement.{statement}
+use Rattle.cutting.proofs.take_in.Tie as tie
+
+line-end-requires : tie.Need-line-end-requires
+line-end-requires c κs = search needs
+
+sub-keep : tie.Need-sub-keep
+sub-keep c = search needs
+
+part-keep-start : tie.Need-part-keep-start
+part-keep-start c = search needs
+
+part-keep-end : tie.Need-part-keep-end
+part-keep-end c = search needs
+
+keep-requires : tie.Need-keep-requires
+keep-requires c κs = search needs
+
+add-t15 : tie.Need-add-t15
+add-t15 c = search needs
+
+same-length : tie.Need-same-length
+same-length c = search needs
+
+returns : tie.Need-returns
+returns c = taken-ended (c .before .before .before .before .before .before .before .before .before .args .line .now) (c .before .before .before .before .before .before .before .before .before .args .kept) (c .before .before .before .before .before .before .before .before .before .args .block .now) (c .before .before .before .before .before .before .before .before .before .args .from) (c .before .before .before .before .before .before .line-end .result) (c .before .before .before .keep .last .0) (c .before .before .before .keep .result) (c .before .before .before .before .before .before .line-end .ensures) (c .before .before .before .keep .ensures) (c .if1 .taken)
+
+same-length-2 : tie.Need-same-length-2
+same-length-2 c = search needs
+
+returns-2 : tie.Need-returns-2
+returns-2 c = taken-open (c .before .before .before .before .before .before .before .before .before .args .line .now) (c .before .before .before .before .before .before .before .before .before .args .kept) (c .before .before .before .before .before .before .before .before .before .args .block .now) (c .before .before .before .before .before .before .before .before .before .args .from) (c .before .before .before .before .before .before .line-end .result) (c .before .before .before .keep .last .0) (c .before .before .before .keep .result) (c .before .before .before .before .before .before .line-end .ensures) (c .before .before .before .keep .ensures) (c .if1 .left)
+
+pub take-in-spec : {M : Type 1} → statement M
+take-in-spec =
+    tie.close
+    (tie.spec
+    line-end-requires
+    sub-keep
+    part-keep-start
+    part-keep-end
+    keep-requires
+    add-t15
+    same-length
+    returns
+    same-length-2
+    returns-2)
