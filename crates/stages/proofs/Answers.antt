@@ -1,2 +1,278 @@
--- Every call's answer is well formed: on acceptance the images are well-formed images within their room. Assumes nothing.
-use Prim.Native.Nat.{ℕ}
+-- Every call's answer is well formed, whatever is given: a refusal has a number of the table and leaves the buffers alone; an acceptance leaves
+-- well-formed images within their room. Assumes nothing.
+use Prim.Native.Nat.{ℕ, _-_, _≤_}
+use native.Mathlib.Omega.{arith}
+use mathlib.Core.Path.{_≡_, refl, ap, _∙_}
+use mathlib.Core.Bool.{Bool, true, false, _&&_}
+use mathlib.Core.List.{List}
+use mathlib.Core.Option.{Option, none, some}
+use lib.Dec.{leb}
+use lib.ListN.{length, take, drop, replicate, length-append, length-drop, length-replicate}
+use lib.Seq.{take-at, drop-at, length-take-le}
+use borrow.Author.Tests.{leb-true}
+use Rattle.stages.specs.Numbers.{accepted, workTooSmall, badVariables, badHomes, badPaths, zeroByte, unended, outputRoom, badFields, workLeast, lineLimit, imageLimit}
+use Rattle.stages.specs.Bytes.{Text}
+use Rattle.stages.specs.Outcome.{Placed, refusedAt, doneAt, _then_}
+use Rattle.stages.specs.Images.{Pairs, isName, isLogin, flat, image, imageLength, held, heldTexts, variables, homes, pathsOf, fieldsOf}
+use Rattle.stages.specs.Line.{Fields}
+use Rattle.stages.specs.Quote.{quotedLine}
+use Rattle.stages.specs.Call.{Given, Answer, over, orRefused, expanded, cleared, answered, expander, quotedIn, normaliser, Quoting, quoting, quoter}
+use Rattle.stages.proofs.Bools.{and-left, and-right, between-bounds}
+use Rattle.stages.proofs.Images.{Fine, length-image, held-image, heldTexts-image}
+use Rattle.stages.proofs.Tables.{Table, table-of, table-fine, table-length, table-image, variables-are, Paths, paths-held, texts-held-fine, fields-image, fields-are}
+use Rattle.stages.proofs.Outcomes.{isEarly, SafeAt, early, refusesAt, givesAt, safe-then, safe-require}
+use Rattle.stages.proofs.SafeRows.{Kept}
+use Rattle.stages.proofs.SafeLines.{Ready, line-safe}
+
+-- buffers
+
+module _ (t buffer : Text) where
+  pub over-front : take (length t) (over t buffer) ≡ t
+  unfolding over
+  over-front = take-at t (drop (length t) buffer) (length t) refl
+
+  pub over-behind : drop (length t) (over t buffer) ≡ drop (length t) buffer
+  unfolding over
+  over-behind = drop-at t (drop (length t) buffer) (length t) refl
+
+  pub over-length : length t ≤ length buffer → length (over t buffer) ≡ length buffer
+  unfolding over
+  over-length h = simp (length-append, length-drop) (omega arith)
+
+-- what an answer is
+
+-- a refusal: "On refusal the output length is 0, the used length is the one given, and output and variable buffers hold their old bytes."
+pub record Refuses (g : Given) (a : Answer) : Type 0 where
+  pub listed : a .number ≤ outputRoom
+  pub before : a .number ≤ zeroByte → a .place ≡ 0  -- "it is 0 for 1 to 6"
+  pub inside : a .place ≤ length (g .line) - 1  -- else "the offset of the first byte of the word", or of the operator, or 0
+  pub nothing : a .outLength ≡ 0
+  pub sameUsed : a .used ≡ g .used
+  pub sameOut : a .out ≡ g .out
+  pub sameVars : a .vars ≡ g .vars
+
+-- an acceptance: the output's new bytes are as P says, the variables' new image is well formed, and what is behind either is as it was
+pub record Accepts (P : Text → Type 0) (g : Given) (a : Answer) : Type 0 where
+  pub place : a .place ≡ 0
+  pub output : P (take (a .outLength) (a .out))
+  pub outFits : a .outLength ≤ length (g .out)
+  pub behindOut : drop (a .outLength) (a .out) ≡ drop (a .outLength) (g .out)
+  pub table : Pairs
+  pub stored : variables (take (a .used) (a .vars)) ≡ some table
+  pub varsFit : a .used ≤ length (g .vars)
+  pub small : a .used ≤ imageLimit
+  pub behindVars : drop (a .used) (a .vars) ≡ drop (a .used) (g .vars)
+
+-- "The work area is zero throughout after every call of expander or normaliser", and no buffer has another length
+pub record Fits (P : Text → Type 0) (g : Given) (a : Answer) : Type 0 where
+  pub clear : a .work ≡ replicate (length (g .work)) 0
+  pub workKept : length (a .work) ≡ length (g .work)
+  pub outKept : length (a .out) ≡ length (g .out)
+  pub varsKept : length (a .vars) ≡ length (g .vars)
+  pub refuses : (a .number ≡ accepted → ⊥) → Refuses g a
+  pub accepts : a .number ≡ accepted → Accepts P g a
+
+-- what may be written: a text that P holds of, no longer than the output, and variables that fit
+record Writes (P : Text → Type 0) (g : Given) (r : Text × Pairs) : Type 0 where
+  output : P (r .0)
+  fits : length (r .0) ≤ length (g .out)
+  kept : Kept (length (g .vars)) (r .1)
+
+module _ (g : Given) where
+  cleared-length : length (cleared (g .work)) ≡ length (g .work)
+  unfolding cleared
+  cleared-length = length-replicate (length (g .work)) 0
+
+  refuses-fits : (P : Text → Type 0) (n place : ℕ) → 1 ≤ n → n ≤ outputRoom → place ≤ length (g .line) - 1 → (n ≤ zeroByte → place ≡ 0)
+      → Fits P g (answered g (refusedAt n place))
+  unfolding answered cleared
+  refuses-fits P n place l m i h = record {
+    clear = refl;
+    workKept = cleared-length;
+    outKept = refl;
+    varsKept = refl;
+    refuses = λ _. record { listed = m; inside = i; before = h; nothing = refl; sameUsed = refl; sameOut = refl; sameVars = refl };
+    accepts = λ e. absurd (omega arith);
+  }
+
+  module _ (v : Pairs) (k : Kept (length (g .vars)) v) where
+    kept-fits : length (image (flat v)) ≤ length (g .vars)
+    kept-fits = rw (length-image (flat v)) (k .fits)
+
+    kept-stored : variables (take (length (image (flat v))) (over (image (flat v)) (g .vars))) ≡ some v
+    kept-stored =
+        rw (over-front (image (flat v)) (g .vars))
+        (variables-are (image (flat v)) (table-image isName v (k .fine) (k .passes) (k .rises) (k .small)) ∙ ap some (held-image v (k .fine)))
+
+  accepts-fits : (P : Text → Type 0) (r : Text × Pairs) → Writes P g r → Fits P g (answered g (doneAt r))
+  unfolding answered cleared
+  accepts-fits P r w = record {
+    clear = refl;
+    workKept = cleared-length;
+    outKept = over-length (r .0) (g .out) (w .fits);
+    varsKept = over-length (image (flat (r .1))) (g .vars) (kept-fits (r .1) (w .kept));
+    refuses = λ h. absurd (h refl);
+    accepts = λ _. record {
+      place = refl;
+      output = rw (over-front (r .0) (g .out)) (w .output);
+      outFits = w .fits;
+      behindOut = over-behind (r .0) (g .out);
+      table = r .1;
+      stored = kept-stored (r .1) (w .kept);
+      varsFit = kept-fits (r .1) (w .kept);
+      small = rw (length-image (flat (r .1))) (w .kept .small);
+      behindVars = over-behind (image (flat (r .1))) (g .vars);
+    };
+  }
+
+  answered-fits : (P : Text → Type 0) {o : Placed (Text × Pairs)} → SafeAt (length (g .line)) (Writes P g) o → Fits P g (answered g o)
+  answered-fits P (early {n = n} e) =
+      let b : (workTooSmall ≤ n) × (n ≤ zeroByte) = between-bounds workTooSmall n zeroByte e in
+      refuses-fits P n 0 (b .0) (omega (arith, b .1)) (omega arith) (λ _. refl)
+  answered-fits P (refusesAt {n = n} {place = place} e l) =
+      let b : (unended ≤ n) × (n ≤ outputRoom) = between-bounds unended n outputRoom e in
+      refuses-fits P n place (omega (arith, b .0)) (b .1) l (λ h. absurd (omega (arith, b .0)))
+  answered-fits P (givesAt {a = r} w) = accepts-fits P r w
+
+-- the tables that are given
+
+some-safe : {A : Type 0} (size n : ℕ) (o : Option A) → isEarly n ≡ true → SafeAt size (λ a. o ≡ some a) (orRefused n o)
+unfolding orRefused
+some-safe size n none e = early e
+some-safe size n (some a) e = givesAt refl
+
+vars-kept : (vars : Text) (used : ℕ) (v : Pairs) → used ≤ length vars → variables (take used vars) ≡ some v → Kept (length vars) v
+unfolding variables
+vars-kept vars used v l e =
+    let b : (held (take used vars) ≡ v) × Table isName (take used vars) = table-of isName (take used vars) v e in
+    let n : length (take used vars) ≡ used = length-take-le used vars l in
+    let m : length (take used vars) ≡ imageLength (flat (held (take used vars))) = table-length isName (take used vars) (b .1) in
+    rw (← b .0) (record {
+      fine = table-fine isName (take used vars) (b .1);
+      passes = b .1 .passes;
+      rises = b .1 .rises;
+      fits = omega arith;
+      small = omega (arith, b .1 .small);
+    })
+
+homes-fine : (t : Text) (h : Pairs) → homes t ≡ some h → Fine (flat h)
+unfolding homes
+homes-fine t h e = let b : (held t ≡ h) × Table isLogin t = table-of isLogin t h e in rw (← b .0) (table-fine isLogin t (b .1))
+
+paths-fine : (t : Text) (l : List Text) → pathsOf t ≡ some l → Fine l
+paths-fine t l e = let b : (heldTexts t ≡ l) × Paths t = paths-held t l e in rw (← b .0) (texts-held-fine t (b .1 .table))
+
+expanded-safe : (g : Given) (out : ℕ) → SafeAt (length (g .line)) (Ready (length (g .vars)) out) (expanded g out)
+unfolding expanded
+expanded-safe g out =
+    safe-then _ (safe-require (leb workLeast (length (g .work))) workTooSmall 0 (early refl))
+    (λ _ _. safe-then _ (safe-require (leb (g .used) (length (g .vars))) badVariables 0 (early refl))
+    (λ _ l. safe-then _ (some-safe (length (g .line)) badVariables (variables (take (g .used) (g .vars))) refl)
+    (λ v e. safe-then _ (some-safe (length (g .line)) badHomes (homes (g .homes)) refl)
+    (λ h f. safe-then _ (some-safe (length (g .line)) badPaths (pathsOf (g .paths)) refl)
+    (λ p i. line-safe (record { room = length (g .vars); out = out; homes = h; paths = p }) (homes-fine (g .homes) h f) (paths-fine (g .paths) p i) (g .line) v
+    (vars-kept (g .vars) (g .used) v (leb-true (g .used) (length (g .vars)) l) e))))))
+
+-- the expander
+
+-- a well-formed fields image
+pub record FieldsImage (t : Text) : Type 0 where
+  pub fields : Fields
+  pub reads : fieldsOf t ≡ some fields
+  pub small : length t ≤ imageLimit
+
+image-reads : (l : Fields) → Fine l → imageLength l ≤ imageLimit → FieldsImage (image l)
+image-reads l f n = record {
+  fields = l;
+  reads = fields-are (image l) (fields-image l f n) ∙ ap some (heldTexts-image l f);
+  small = rw (length-image l) n;
+}
+
+pub expander-fits : (g : Given) → Fits FieldsImage g (expander g)
+unfolding expander
+expander-fits g =
+    answered-fits g FieldsImage (safe-then (λ r. doneAt (image (r .0), r .1)) (expanded-safe g (length (g .out)))
+    (λ r h. givesAt (record { output = image-reads (r .0) (h .fine) (h .small); fits = rw (length-image (r .0)) (h .fits); kept = h .kept })))
+
+-- the normaliser
+
+-- the quoted line of fields that an image may hold
+pub record QuotedLine (t : Text) : Type 0 where
+  pub fields : Fields
+  pub is : t ≡ quotedLine fields
+  pub short : length t ≤ lineLimit
+  pub fine : Fine fields
+  pub small : imageLength fields ≤ imageLimit
+
+-- a line that passes 21
+record Fitting (out : ℕ) (l : Fields) (t : Text) : Type 0 where
+  is : t ≡ quotedLine l
+  short : length t ≤ lineLimit
+  fits : length t ≤ out
+
+quoted-safe : (size out : ℕ) (l : Fields) → SafeAt size (Fitting out l) (quotedIn out l)
+unfolding quotedIn
+quoted-safe size out l =
+    let n : ℕ = length (quotedLine l) in
+    safe-then _ (safe-require (leb (length (quotedLine l)) lineLimit && leb (length (quotedLine l)) out) outputRoom 0 (refusesAt {place = 0} refl (omega arith)))
+    (λ _ e. givesAt (record {
+      is = refl;
+      short = leb-true n lineLimit (and-left (leb n lineLimit) (leb n out) e);
+      fits = leb-true n out (and-right (leb n lineLimit) (leb n out) e);
+    }))
+
+pub normaliser-fits : (g : Given) → Fits QuotedLine g (normaliser g)
+unfolding normaliser
+normaliser-fits g =
+    answered-fits g QuotedLine (safe-then _ (expanded-safe g imageLimit)
+    (λ r h. safe-then _ (quoted-safe (length (g .line)) (length (g .out)) (r .0))
+    (λ t q. givesAt (record {
+      output = record { fields = r .0; is = q .is; short = q .short; fine = h .fine; small = h .small };
+      fits = q .fits;
+      kept = h .kept;
+    }))))
+
+-- the quoter
+
+pub record QuoterAccepts (fields out : Text) (q : Quoting) : Type 0 where
+  pub list : Fields
+  pub reads : fieldsOf fields ≡ some list
+  pub output : take (q .outLength) (q .out) ≡ quotedLine list
+  pub short : q .outLength ≤ lineLimit
+  pub outFits : q .outLength ≤ length out
+  pub behind : drop (q .outLength) (q .out) ≡ drop (q .outLength) out
+
+-- "place .. is 0 .. for 22, and for 21 from the quoter": on refusal the number is one of these
+pub record QuoterFits (fields out : Text) (q : Quoting) : Type 0 where
+  pub place : q .place ≡ 0
+  pub outKept : length (q .out) ≡ length out
+  pub refuses : (q .number ≡ accepted → ⊥) → (outputRoom ≤ q .number) × (q .number ≤ badFields) × (q .outLength ≡ 0) × (q .out ≡ out)
+  pub accepts : q .number ≡ accepted → QuoterAccepts fields out q
+
+module _ (fields out : Text) where
+  quoter-refuses : (n : ℕ) → outputRoom ≤ n → n ≤ badFields → QuoterFits fields out (quoting out (refusedAt n 0))
+  unfolding quoting
+  quoter-refuses n l m = record { place = refl; outKept = refl; refuses = λ _. (l, m, refl, refl); accepts = λ e. absurd (omega arith) }
+
+  quoter-quotes : (l : Fields) → fieldsOf fields ≡ some l → (x : Bool) → (leb (length (quotedLine l)) lineLimit && leb (length (quotedLine l)) (length out)) ≡ x
+      → QuoterFits fields out (quoting out (quotedIn (length out) l))
+  unfolding quotedIn quoting
+  quoter-quotes l r false e = rw e (quoter-refuses outputRoom (omega arith) (omega arith))
+  quoter-quotes l r true e =
+      let n : ℕ = length (quotedLine l) in
+      let i : n ≤ lineLimit = leb-true n lineLimit (and-left (leb n lineLimit) (leb n (length out)) e) in
+      let j : n ≤ length out = leb-true n (length out) (and-right (leb n lineLimit) (leb n (length out)) e) in
+      rw e (record {
+        place = refl;
+        outKept = over-length (quotedLine l) out j;
+        refuses = λ h. absurd (h refl);
+        accepts = λ _. record { list = l; reads = r; output = over-front (quotedLine l) out; short = i; outFits = j; behind = over-behind (quotedLine l) out };
+      })
+
+  pub quoter-fits : QuoterFits fields out (quoter fields out)
+  unfolding quoter orRefused
+  quoter-fits = go (fieldsOf fields) refl
+    where
+      go : (o : Option Fields) → fieldsOf fields ≡ o → QuoterFits fields out (quoting out (orRefused badFields (fieldsOf fields) then λ l. quotedIn (length out) l))
+      go none e = rw e (quoter-refuses badFields (omega arith) (omega arith))
+      go (some l) e = rw e (quoter-quotes l e (leb (length (quotedLine l)) lineLimit && leb (length (quotedLine l)) (length out)) refl)

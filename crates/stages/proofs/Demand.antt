@@ -6,8 +6,8 @@ use mathlib.Core.Path.{_≡_, sym, ap, _∙_}
 use mathlib.Core.Bool.{true}
 use mathlib.Core.List.{[], _∷_}
 use mathlib.Core.Option.{some}
-use lib.ListN.{length, take, drop, take-append-drop}
-use lib.Seq.{length-take-le, take-append-seam}
+use lib.ListN.{length, take, take-append-drop}
+use lib.Seq.{length-take-le}
 use borrow.Author.Tests.{le-leb}
 use Rattle.stages.specs.Numbers.{accepted, workLeast, lineLimit, imageLimit}
 use Rattle.stages.specs.Bytes.{Text}
@@ -18,10 +18,11 @@ use Rattle.stages.specs.Quote.{quotedLine}
 use Rattle.stages.specs.Call.{Given, Answer, over, orRefused, expanded, cleared, answered, expander, quotedIn, normaliser, quoting, quoter}
 use Rattle.stages.proofs.Images.{Bytes, Fine, length-image, heldTexts-image}
 use Rattle.stages.proofs.Tables.{table-canonical, vars-of, variables-are, homes-of, homes-are, paths-of, paths-are, fields-held, fields-image, fields-are, texts-held-fine}
+use Rattle.stages.proofs.Answers.{over-front, FieldsImage, QuotedLine, expander-fits, normaliser-fits}
 use Rattle.stages.proofs.RoundTrip.{quoted-image, quoted-expands}
 
 -- a call whose tables are well formed and whose work area is large enough; the variables' buffer holds bytes, which is known of a slice
-pub record Ready (h : Given) : Type 0 where
+pub record WellFormed (h : Given) : Type 0 where
   pub work : workLeast ≤ length (h .work)
   pub used : h .used ≤ length (h .vars)
   pub bytes : Bytes (h .vars)
@@ -30,7 +31,7 @@ pub record Ready (h : Given) : Type 0 where
   pub paths : isSome (pathsOf (h .paths)) ≡ true
 
 -- the answer that accepts, writes this text to the output and these bytes to the variables' buffer
-abbrev pub writes : Given → Text → Text → Answer
+abbrev writes : Given → Text → Text → Answer
 writes h t w = record {
   number = accepted;
   place = 0;
@@ -60,9 +61,9 @@ bytes-take (suc n) (c ∷ t) b zero = b 0
 bytes-take (suc n) (c ∷ t) b (suc i) = bytes-take n t (λ j. b (suc j)) i
 
 -- a buffer's own front, put over it, leaves it as it was
-over-front : (n : ℕ) (t : Text) → n ≤ length t → over (take n t) t ≡ t
+over-own : (n : ℕ) (t : Text) → n ≤ length t → over (take n t) t ≡ t
 unfolding over
-over-front n t h = rw (length-take-le n t h) (take-append-drop n t)
+over-own n t h = rw (length-take-le n t h) (take-append-drop n t)
 
 -- a quoted line that has room is written
 quoted-in : (l : Fields) (out : ℕ) → length (quotedLine l) ≤ lineLimit → length (quotedLine l) ≤ out → quotedIn out l ≡ doneAt (quotedLine l)
@@ -73,7 +74,7 @@ quoted-in l out short o = rw (le-leb (length (quotedLine l)) lineLimit short, le
 fields-fine : (t : Text) (l : Fields) → fieldsOf t ≡ some l → Fine l
 fields-fine t l e = rw (fields-held t l e .0) at (texts-held-fine t (fields-held t l e .1 .table))
 
-module _ (h : Given) (r : Ready h) where
+module _ (h : Given) (r : WellFormed h) where
   -- the variables that are given
   abbrev given : Pairs
   given = held (take (h .used) (h .vars))
@@ -84,7 +85,7 @@ module _ (h : Given) (r : Ready h) where
   -- written again, they leave the buffer as it was
   kept : (t : Text) → answered h (doneAt (t, given)) ≡ unchanged h t
   unfolding answered
-  kept t = ap (writes h t) given-image ∙ rw (over-front (h .used) (h .vars) (r .used), length-take-le (h .used) (h .vars) (r .used))
+  kept t = ap (writes h t) given-image ∙ rw (over-own (h .used) (h .vars) (r .used), length-take-le (h .used) (h .vars) (r .used))
 
   -- the quoted line of fields without a zero byte, expanded
   module _ (l : Fields) (f : Fine l) (e : h .line ≡ quotedLine l) (short : length (quotedLine l) ≤ lineLimit) where
@@ -112,37 +113,58 @@ module _ (h : Given) (r : Ready h) where
         ∙ ap (λ q. answered h (q then λ t. doneAt (t, given))) (quoted-in l (length (h .out)) short o)
         ∙ kept (quotedLine l)
 
--- the fields' image quotes to their line
-quoter-returns : (l : Fields) (out : Text) → Fine l → length (quotedLine l) ≤ lineLimit → length (quotedLine l) ≤ length out
-    → quoter (image l) out ≡ quoting out (doneAt (quotedLine l))
-unfolding quoter orRefused
-quoter-returns l out f short o =
-    let k : imageLength l ≤ imageLimit = omega (arith, quoted-image l) in
-    rw (fields-are (image l) (fields-image l f k), heldTexts-image l f, quoted-in l (length out) short o)
-
--- What comes back from calls on the quoted line of these fields, and on their image.
-pub record Returned (l : Fields) : Type 0 where
-  pub expands : (h : Given) → Ready h → h .line ≡ quotedLine l → length (image l) ≤ length (h .out) → expander h ≡ unchanged h (image l)
-  pub quotes : (out : Text) → length (quotedLine l) ≤ length out → quoter (image l) out ≡ quoting out (doneAt (quotedLine l))
-  pub normalises : (h : Given) → Ready h → h .line ≡ quotedLine l → length (quotedLine l) ≤ length (h .out) → normaliser h ≡ unchanged h (quotedLine l)
-
-pub returned : (l : Fields) → Fine l → length (quotedLine l) ≤ lineLimit → Returned l
-returned l f short = record {
-  expands = λ h r e o. expander-returns h r l f e short o;
-  quotes = λ out o. quoter-returns l out f short o;
-  normalises = λ h r e o. normaliser-returns h r l f e short o;
-}
-
 -- the bytes that a call wrote to its output
 abbrev pub output : Answer → Text
 output a = take (a .outLength) (a .out)
 
--- what is written is the output
-pub output-writes : (h : Given) (t : Text) → output (unchanged h t) ≡ t
-unfolding over
-output-writes h t = take-append-seam t (drop (length t) (h .out))
+-- a fields image of these fields quotes to their line
+quoter-returns : (l : Fields) (t out : Text) → fieldsOf t ≡ some l → length (quotedLine l) ≤ lineLimit → length (quotedLine l) ≤ length out
+    → quoter t out ≡ quoting out (doneAt (quotedLine l))
+unfolding quoter orRefused
+quoter-returns l t out e short o = rw (e, quoted-in l (length out) short o)
+
+-- and their image is one
+image-fields : (l : Fields) → Fine l → length (quotedLine l) ≤ lineLimit → fieldsOf (image l) ≡ some l
+image-fields l f short =
+    let k : imageLength l ≤ imageLimit = omega (arith, quoted-image l) in
+    fields-are (image l) (fields-image l f k) ∙ ap some (heldTexts-image l f)
+
+-- a call on the quoted line of these fields, with room for their image
+pub record Asks (h : Given) (l : Fields) : Type 0 where
+  pub formed : WellFormed h
+  pub line : h .line ≡ quotedLine l
+  pub room : length (image l) ≤ length (h .out)
+
+-- What comes back: from any expander exactly these fields, their image at the output's front and no variable changed; from the quoter, of any
+-- image of theirs, their line; and from any normaliser that line again.
+pub record Returned (l : Fields) : Type 0 where
+  pub expands : (h : Given) → Asks h l → expander h ≡ unchanged h (image l)
+  pub fields : (h : Given) → Asks h l → fieldsOf (output (expander h)) ≡ some l
+  pub quotes : (t out : Text) → fieldsOf t ≡ some l → length (quotedLine l) ≤ length out → quoter t out ≡ quoting out (doneAt (quotedLine l))
+  pub normalises : (h : Given) → WellFormed h → h .line ≡ quotedLine l → length (quotedLine l) ≤ length (h .out) → normaliser h ≡ unchanged h (quotedLine l)
+
+module _ (l : Fields) (f : Fine l) (short : length (quotedLine l) ≤ lineLimit) where
+  expands-to : (h : Given) → Asks h l → expander h ≡ unchanged h (image l)
+  expands-to h a = expander-returns h (a .formed) l f (a .line) short (a .room)
+
+  returned : Returned l
+  returned = record {
+    expands = expands-to;
+    fields = λ h a. ap (λ r. fieldsOf (output r)) (expands-to h a) ∙ ap fieldsOf (over-front (image l) (h .out)) ∙ image-fields l f short;
+    quotes = λ t out e o. quoter-returns l t out e short o;
+    normalises = λ h r e o. normaliser-returns h r l f e short o;
+  }
 
 -- DEMAND 3: "Any accepted line's fields, written as a quoted line of at most 2,048 bytes, expand under any other well-formed tables to exactly those fields,
 -- change no variable, and quote to the same bytes."
-pub demand-3 : (g : Given) (l : Fields) → expander g .number ≡ accepted → fieldsOf (output (expander g)) ≡ some l → length (quotedLine l) ≤ lineLimit → Returned l
-demand-3 g l a e short = returned l (fields-fine (output (expander g)) l e) short
+pub demand-3 : (g : Given) → expander g .number ≡ accepted
+    → (l : Fields) × (fieldsOf (output (expander g)) ≡ some l) × (length (quotedLine l) ≤ lineLimit → Returned l)
+demand-3 g e =
+    let i : FieldsImage (output (expander g)) = expander-fits g .accepts e .output in
+    (i .fields, i .reads, λ short. returned (i .fields) (fields-fine (output (expander g)) (i .fields) (i .reads)) short)
+
+-- The normaliser's line is such a line already, so that it comes back as it is from any other call.
+pub normalised : (g : Given) → normaliser g .number ≡ accepted → (l : Fields) × (output (normaliser g) ≡ quotedLine l) × Returned l
+normalised g e =
+    let q : QuotedLine (output (normaliser g)) = normaliser-fits g .accepts e .output in
+    (q .fields, q .is, returned (q .fields) (q .fine) (rw (← q .is) (q .short)))

@@ -15,6 +15,7 @@ pub mod SafeSums
 pub mod SafeRows
 pub mod SafeLines
 pub mod Answers
+pub mod Program
 pub mod Quoted
 pub mod RoundTrip
 pub mod Demand

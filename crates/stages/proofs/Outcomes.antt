@@ -1,12 +1,13 @@
 -- What the laws on whole calls share: what holds of every element, of an outcome, and of a recursion on what is shorter. Assumes nothing.
-use Prim.Native.Nat.{ℕ, zero, suc, _<_, _≤_, _-_}
+use Prim.Native.Nat.{ℕ, _<_, _≤_, _-_}
+use native.Mathlib.Omega.{arith}
 use mathlib.Core.Path.{_≡_, refl}
 use mathlib.Core.Bool.{Bool, true, false}
 use mathlib.Core.List.{List, [], _∷_, _++_}
 use Rattle.stages.specs.Numbers.{workTooSmall, zeroByte, unended, outputRoom}
 use Rattle.stages.specs.Bytes.{between}
 use Rattle.stages.specs.Recur.{below, below-ok, fix, fix-eq, by-size}
-use Rattle.stages.specs.Outcome.{Outcome, refused, done, _>>=_, Placed, refusedAt, doneAt, at, _then_, require, pick, choose}
+use Rattle.stages.specs.Outcome.{Outcome, refused, done, _>>=_, Placed, refusedAt, doneAt, at, _then_, require, choose}
 
 -- what holds of every element of a list
 abbrev pub Each : {A : Type 0} → (A → Type 0) → List A → Type 0
@@ -36,6 +37,15 @@ isFault n = between unended n outputRoom
 pub data Safe {A : Type 0} (P : A → Type 0) : Outcome A → Type 0 where
   refuses : {n : ℕ} → isFault n ≡ true → Safe P (refused n)
   gives : {a : A} → P a → Safe P (done a)
+
+-- what an outcome that is known tells
+pub safe-done : {A : Type 0} {P : A → Type 0} {o : Outcome A} {a : A} → Safe P o → o ≡ done a → P a
+safe-done {P = P} (refuses h) e = absurd (let z : _≡_ {A = ℕ} 0 1 = cc in omega arith)
+safe-done {P = P} {a = a} (gives {a = b} p) e = let k : b ≡ a = cc in rw (← k) p
+
+pub safe-refused : {A : Type 0} {P : A → Type 0} {o : Outcome A} {n : ℕ} → Safe P o → o ≡ refused n → isFault n ≡ true
+safe-refused {n = n} (refuses {n = m} h) e = let k : m ≡ n = cc in rw (← k) h
+safe-refused (gives p) e = absurd (let z : _≡_ {A = ℕ} 0 1 = cc in omega arith)
 
 pub safe-bind : {A B : Type 0} {P : A → Type 0} {Q : B → Type 0} {o : Outcome A} (f : A → Outcome B) → Safe P o → ((a : A) → P a → Safe Q (f a)) → Safe Q (o >>= f)
 safe-bind f (refuses e) h = refuses e

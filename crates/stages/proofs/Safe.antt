@@ -2,9 +2,9 @@
 use Prim.Native.Nat.{ℕ, zero, suc, _+_, _-_, _≤_, _<_}
 use Prim.Native.Char.{code}
 use native.Mathlib.Omega.{arith}
-use mathlib.Core.Path.{_≡_, refl, sym, ap, _∙_}
-use mathlib.Core.Bool.{Bool, true, false, _&&_, _||_}
-use mathlib.Core.List.{List, [], _∷_}
+use mathlib.Core.Path.{_≡_, refl}
+use mathlib.Core.Bool.{Bool, true, false}
+use mathlib.Core.List.{[], _∷_}
 use lib.Dec.{eqb}
 use lib.ListN.{length, drop, length-drop}
 use Rattle.stages.specs.Bytes.{Text, text, all, notZero, isIn, span, isNameStart, isNameByte}
@@ -23,7 +23,7 @@ abbrev pub NoZero : Text → Type 0
 NoZero t = all notZero t ≡ true
 
 -- an item whose number, byte or name is one
-abbrev safeItem : Item → Bool
+abbrev pub safeItem : Item → Bool
 safeItem (fault n) = isFault n
 safeItem (stop k) = true
 safeItem (byte q b k) = notZero b
@@ -163,6 +163,13 @@ pub item-safe : (m : Mode) (d : ℕ) (t : Text) → NoZero t → SafeItem (item 
 unfolding item
 item-safe m d [] z = ended-safe m
 item-safe m d (b ∷ t) z = sorted-safe b (and-left (notZero b) (all notZero t) z) (sort m b) m d t (and-right (notZero b) (all notZero t) z)
+
+-- a known item at the head of a text: its number is one, its byte is not zero, its name is a name
+pub item-is : (m : Mode) (d : ℕ) (t : Text) (i : Item) → NoZero t → item m d t ≡ i → safeItem i ≡ true
+item-is m d t i z e = go (rw e at (item-safe m d t z))
+  where
+    go : SafeItem i → safeItem i ≡ true
+    go (sure h) = h
 
 -- parts whose bytes are not zero and whose names are names
 abbrev pub SafeParts : Parts → Type 0

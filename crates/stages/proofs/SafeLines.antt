@@ -2,8 +2,8 @@
 use Prim.Native.Nat.{ℕ, zero, suc, _+_, _-_, _≤_, _<_}
 use Prim.Native.Char.{code}
 use native.Mathlib.Omega.{arith}
-use mathlib.Core.Path.{_≡_, refl, sym, ap, _∙_}
-use mathlib.Core.Bool.{Bool, true, false, _&&_, _||_, not}
+use mathlib.Core.Path.{_≡_, refl}
+use mathlib.Core.Bool.{Bool, true, false, _||_, not}
 use mathlib.Core.List.{List, [], _∷_, _++_}
 use lib.Dec.{eqb, leb, eqb·zero-suc}
 use lib.ListN.{length}
@@ -11,13 +11,11 @@ use borrow.Author.Tests.{leb-true, le-leb}
 use Rattle.stages.specs.Recur.{by-size}
 use Rattle.stages.specs.Numbers.{depthLimit, imageLimit, lineLimit, lineTooLong, zeroByte, outputRoom}
 use Rattle.stages.specs.Bytes.{Text, all, notZero, isIn, isBlank, isOperator}
-use Rattle.stages.specs.Outcome.{done, Placed, refusedAt, doneAt, at, _then_, require}
+use Rattle.stages.specs.Outcome.{at}
 use Rattle.stages.specs.Images.{Pairs, flat, recordBytes, imageLength}
 use Rattle.stages.specs.Syntax.{Parts, Word, word}
 use Rattle.stages.specs.Read.{Taken, parts, wordAt, wordsSize, words, readLine}
-use Rattle.stages.specs.Expand.{wordRow}
 use Rattle.stages.specs.Split.{fieldsOfRow}
-use Rattle.stages.specs.Paths.{named}
 use Rattle.stages.specs.Line.{Around, Fields, wordFields, outFits, expandWords, expandLine}
 use Rattle.stages.proofs.Bools.{no, and-left, and-right, and-both}
 use Rattle.stages.proofs.Images.{Fine, fine-append, recordBytes-append}
@@ -25,8 +23,8 @@ use Rattle.stages.proofs.Read.{Good, stays, leaves, word-good}
 use Rattle.stages.proofs.Words.{words-end, words-blank, words-operator, words-word}
 use Rattle.stages.proofs.Outcomes.{Each, Safe, refuses, gives, safe-bind, SafeAt, early, refusesAt, givesAt, safe-then, safe-weakerAt, safe-at, safe-require}
 use Rattle.stages.proofs.Split.{fields-each}
-use Rattle.stages.proofs.Safe.{NoZero, SafeParts, SafeTaken, parts-safe}
-use Rattle.stages.proofs.SafeRows.{Whole, Kept, row-safe, named-safe}
+use Rattle.stages.proofs.Safe.{NoZero, SafeParts, parts-safe}
+use Rattle.stages.proofs.SafeRows.{SafeCell, Kept, row-safe, named-safe}
 
 -- words
 
@@ -73,11 +71,11 @@ no-zero (suc b ∷ t) e = and-both (le-leb 1 (suc b) (omega arith)) (no-zero t (
 
 -- fields
 
--- fields and variables that may be written
-pub record Ready (a : Around) (r : Fields × Pairs) : Type 0 where
+-- fields and variables that may be written to buffers of so many bytes
+pub record Ready (room out : ℕ) (r : Fields × Pairs) : Type 0 where
   pub fine : Fine (r .0)
-  pub kept : Kept (a .room) (r .1)
-  pub fits : imageLength (r .0) ≤ a .out
+  pub kept : Kept room (r .1)
+  pub fits : imageLength (r .0) ≤ out
   pub small : imageLength (r .0) ≤ imageLimit
 
 module _ (a : Around) (f : Fine (flat (a .homes))) (g : Fine (a .paths)) where
@@ -85,7 +83,7 @@ module _ (a : Around) (f : Fine (flat (a .homes))) (g : Fine (a .paths)) where
   unfolding wordFields
   fields-safe p v s k =
       safe-bind _ (row-safe (a .room) (a .homes) p v f s k)
-      (λ r h. safe-bind _ (named-safe (a .paths) (fieldsOfRow (r .1) (r .0)) g (fields-each Whole (r .1) (r .0) (h .0))) (λ l i. gives (i, h .1)))
+      (λ r h. safe-bind _ (named-safe (a .paths) (fieldsOfRow (r .1) (r .0)) g (fields-each SafeCell (r .1) (r .0) (h .0))) (λ l i. gives (i, h .1)))
 
   out-fits : (n : ℕ) → outFits a n ≡ true → (n ≤ a .out) × (n ≤ imageLimit)
   unfolding outFits
@@ -115,11 +113,11 @@ module _ (a : Around) (f : Fine (flat (a .homes))) (g : Fine (a .paths)) where
       (words-fit size ws (n + recordBytes (r .0)) (r .1) (h .1) (out-fits (n + recordBytes (r .0)) e .0) (out-fits (n + recordBytes (r .0)) e .1) (i .1))
       (λ s b. givesAt (joined n (r .0) s (i .0) b))))
 
-  ready : (r : Fields × Pairs) → Behind 1 r → Ready a r
+  ready : (r : Fields × Pairs) → Behind 1 r → Ready (a .room) (a .out) r
   unfolding imageLength
   ready r b = record { fine = b .fine; kept = b .kept; fits = b .fits; small = b .small }
 
-  pub line-safe : (t : Text) (v : Pairs) → Kept (a .room) v → SafeAt (length t) (Ready a) (expandLine a t v)
+  pub line-safe : (t : Text) (v : Pairs) → Kept (a .room) v → SafeAt (length t) (Ready (a .room) (a .out)) (expandLine a t v)
   unfolding expandLine readLine
   line-safe t v k =
       safe-then _ (safe-require (leb (length t) lineLimit) lineTooLong 0 (early refl))

@@ -1,8 +1,8 @@
 -- What expansion gives is safe where the parts, the variables and the homes are: rows and fields without a zero byte, and variables that are still a
 -- table within its room. Each refusal has its number. Assumes nothing.
-use Prim.Native.Nat.{ℕ, zero, suc, _+_, _≤_}
+use Prim.Native.Nat.{ℕ, _+_, _≤_}
 use Prim.Native.Char.{code}
-use mathlib.Core.Path.{_≡_, refl, sym, ap, _∙_}
+use mathlib.Core.Path.{_≡_, refl}
 use mathlib.Core.Bool.{Bool, true, false, _&&_}
 use mathlib.Core.List.{List, [], _∷_, _++_}
 use mathlib.Core.Option.{Option, none, some}
@@ -11,38 +11,35 @@ use lib.ListN.{length, take, drop}
 use borrow.Author.Tests.{leb-true}
 use Rattle.stages.specs.Numbers.{rowLimit, imageLimit}
 use Rattle.stages.specs.Bytes.{Text, text, all, notZero, isLoginByte}
-use Rattle.stages.specs.Outcome.{Outcome, refused, done, _>>=_, pick}
+use Rattle.stages.specs.Outcome.{done, pick}
 use Rattle.stages.specs.Images.{Pairs, isName, keys, allTexts, rising, lookup, stored, flat, imageLength, orEmpty}
 use Rattle.stages.specs.Syntax.{Form, plain, minus, equals, query, plus, suffix, prefix, Parts, end, lit, quo, par, len, ari}
-use Rattle.stages.specs.Units.{Mark, L, E, Q, Cell, cell, N, Row, marked, bytes, expanded, litMark, fit, decimal}
-use Rattle.stages.specs.Arith.{arithmeticOf}
-use Rattle.stages.specs.Pattern.{Element, Signs, signs, elements, hasClass, pattern, matches}
+use Rattle.stages.specs.Units.{Mark, L, Q, Cell, cell, N, Row, marked, bytes, expanded, litMark, fit, decimal}
+use Rattle.stages.specs.Pattern.{Element, signs, hasClass, pattern, matches}
 use Rattle.stages.specs.Removal.{removed, cut}
 use Rattle.stages.specs.Expand.{Made, value, missing, store, given, assigned, cutBy, parameter, onto, adding, expand, login, longerLogin, directory, housed, homed, tilde, rowOf, wordRow}
-use Rattle.stages.specs.Split.{fieldsOfRow}
 use Rattle.stages.specs.Paths.{chosen, active, orElse, pathsFor, named}
 use Rattle.stages.proofs.Bools.{either, and-left, and-right, and-both}
 use Rattle.stages.proofs.Texts.{all-take, all-drop}
 use Rattle.stages.proofs.Images.{Fine, fine-append}
 use Rattle.stages.proofs.Stores.{lookup-fine, rising-stored, keys-stored, fine-stored, name-fine}
-use Rattle.stages.proofs.Outcomes.{Each, each-append, Safe, refuses, gives, safe-bind, safe-weaker}
-use Rattle.stages.proofs.Split.{fields-each}
+use Rattle.stages.proofs.Outcomes.{Each, each-append, Safe, refuses, gives, safe-bind}
 use Rattle.stages.proofs.Safe.{NoZero, SafeParts}
 use Rattle.stages.proofs.SafeSums.{decimal-safe, arithmetic-safe}
 
 -- rows
 
 -- a unit whose byte is not zero
-abbrev pub Whole : Cell → Type 0
-Whole (cell m b) = notZero b ≡ true
-Whole N = Unit {0}
+abbrev pub SafeCell : Cell → Type 0
+SafeCell (cell m b) = notZero b ≡ true
+SafeCell N = Unit {0}
 
-pub marked-safe : (m : Mark) (t : Text) → NoZero t → Each Whole (marked m t)
+pub marked-safe : (m : Mark) (t : Text) → NoZero t → Each SafeCell (marked m t)
 unfolding marked
 marked-safe m [] z = tt
 marked-safe m (b ∷ t) z = (and-left (notZero b) (all notZero t) z, marked-safe m t (and-right (notZero b) (all notZero t) z))
 
-pub bytes-safe : (r : Row) → Each Whole r → NoZero (bytes r)
+pub bytes-safe : (r : Row) → Each SafeCell r → NoZero (bytes r)
 unfolding bytes
 bytes-safe [] h = refl
 bytes-safe (cell m b ∷ r) h = and-both (h .0) (bytes-safe r (h .1))
@@ -83,8 +80,8 @@ store-safe room x t v n z k =
 -- parameters
 
 -- a row and variables that are safe
-abbrev pub Given : ℕ → Row × Pairs → Type 0
-Given room p = Each Whole (p .0) × Kept room (p .1)
+abbrev pub SafeMade : ℕ → Row × Pairs → Type 0
+SafeMade room p = Each SafeCell (p .0) × Kept room (p .1)
 
 left-safe : (x : Bool) (k : ℕ) (t : Text) → NoZero t → NoZero (pick x (take k t) (drop k t))
 left-safe true k t z = all-take notZero k t z
@@ -99,22 +96,22 @@ unfolding pattern
 pattern-safe path r = either (hasClass path 0 (signs r)) (λ e. rw (e, pattern) (refuses refl)) (λ e. rw (e, pattern) (gives tt))
 
 module _ (room : ℕ) (x : Text) (n : isName x ≡ true) where
-  given-safe : (m : Mark) (v : Pairs) → Kept room v → Safe (Given room) (given x m v)
+  given-safe : (m : Mark) (v : Pairs) → Kept room v → Safe (SafeMade room) (given x m v)
   unfolding value marked
   given-safe m v k = gives (marked-safe (expanded m) (value v x) (value-safe v x (k .fine)), k)
 
-  assigned-safe : (m : Mark) (p : Row × Pairs) → Given room p → Safe (Given room) (assigned room x m p)
+  assigned-safe : (m : Mark) (p : Row × Pairs) → SafeMade room p → Safe (SafeMade room) (assigned room x m p)
   unfolding assigned
-  assigned-safe m p h = safe-bind (λ w. given x m w) (store-safe room x (bytes (p .0)) (p .1) n (bytes-safe (p .0) (h .0)) (h .1)) (λ w k. given-safe m w k)
+  assigned-safe m p h = safe-bind _ (store-safe room x (bytes (p .0)) (p .1) n (bytes-safe (p .0) (h .0)) (h .1)) (λ w k. given-safe _ w k)
 
-  cut-safe : (s long : Bool) (m : Mark) (p : Row × Pairs) → Given room p → Safe (Given room) (cutBy s long x m p)
+  cut-safe : (s long : Bool) (m : Mark) (p : Row × Pairs) → SafeMade room p → Safe (SafeMade room) (cutBy s long x m p)
   unfolding cutBy
   cut-safe s long m p h =
       safe-bind _ (pattern-safe false (p .0))
       (λ es _. gives (marked-safe (expanded m) (removed s long es (value (p .1) x)) (removed-safe s long es (value (p .1) x) (value-safe (p .1) x (h .1 .fine))), h .1))
 
-  parameter-safe : (q : Mark → Pairs → Made) → ((m : Mark) (v : Pairs) → Kept room v → Safe (Given room) (q m v)) → (f : Form) (m : Mark) (v : Pairs) → Kept room v
-      → Safe (Given room) (parameter room q x f m v)
+  parameter-safe : (q : Mark → Pairs → Made) → ((m : Mark) (v : Pairs) → Kept room v → Safe (SafeMade room) (q m v)) → (f : Form) (m : Mark) (v : Pairs) → Kept room v
+      → Safe (SafeMade room) (parameter room q x f m v)
   unfolding parameter
   parameter-safe q h plain m v k = given-safe m v k
   parameter-safe q h (minus c) m v k = either (missing c x v) (λ e. rw (e, parameter) (h (expanded m) v k)) (λ e. rw (e, parameter) (given-safe m v k))
@@ -133,14 +130,14 @@ fit-safe : (n k : ℕ) → Safe (λ (i : ℕ). Unit {0}) (fit n k)
 unfolding fit
 fit-safe n k = either (leb (n + k) rowLimit) (λ e. rw (e, fit) (gives tt)) (λ e. rw (e, fit) (refuses refl))
 
-onto-safe : (room : ℕ) (r : Row) {o : Made} → Each Whole r → Safe (Given room) o → Safe (Given room) (onto r o)
-onto-safe room r h s = safe-bind (λ p. done (r ++ p .0, p .1)) s (λ p k. gives (each-append Whole r (p .0) h (k .0), k .1))
+onto-safe : (room : ℕ) (r : Row) {o : Made} → Each SafeCell r → Safe (SafeMade room) o → Safe (SafeMade room) (onto r o)
+onto-safe room r h s = safe-bind (λ p. done (r ++ p .0, p .1)) s (λ p k. gives (each-append SafeCell r (p .0) h (k .0), k .1))
 
-adding-safe : (room n : ℕ) (r : Row) (more : ℕ → Made) → Each Whole r → ((i : ℕ) → Safe (Given room) (more i)) → Safe (Given room) (adding n r more)
+adding-safe : (room n : ℕ) (r : Row) (more : ℕ → Made) → Each SafeCell r → ((i : ℕ) → Safe (SafeMade room) (more i)) → Safe (SafeMade room) (adding n r more)
 unfolding fit
 adding-safe room n r more h s = safe-bind (λ i. onto r (more i)) (fit-safe n (length r)) (λ i _. onto-safe room r h (s i))
 
-pub expand-safe : (room : ℕ) (p : Parts) → SafeParts p → (m : Mark) (n : ℕ) (v : Pairs) → Kept room v → Safe (Given room) (expand room p m n v)
+pub expand-safe : (room : ℕ) (p : Parts) → SafeParts p → (m : Mark) (n : ℕ) (v : Pairs) → Kept room v → Safe (SafeMade room) (expand room p m n v)
 unfolding expand
 expand-safe room end s m n v k = gives (tt, k)
 expand-safe room (lit q b p) s m n v k = adding-safe room n (cell (litMark q m) b ∷ []) _ (s .0, tt) (λ i. expand-safe room p (s .1) m i v k)
@@ -221,12 +218,12 @@ module _ (v homes : Pairs) (f : Fine (flat v)) (g : Fine (flat homes)) where
   tilde-safe (len x p) s = tt
   tilde-safe (ari q p) s = tt
 
-row-of-safe : (room : ℕ) (p : Parts) (v : Pairs) (o : Option (Text × Parts)) → SafeParts p → Kept room v → Housed o → Safe (Given room) (rowOf room p v o)
+row-of-safe : (room : ℕ) (p : Parts) (v : Pairs) (o : Option (Text × Parts)) → SafeParts p → Kept room v → Housed o → Safe (SafeMade room) (rowOf room p v o)
 unfolding rowOf
 row-of-safe room p v none s k h = expand-safe room p s L 0 v k
 row-of-safe room p v (some d) s k h = adding-safe room 0 (N ∷ marked Q (d .0)) _ (tt, marked-safe Q (d .0) (h .0)) (λ i. expand-safe room (d .1) (h .1) L i v k)
 
-pub row-safe : (room : ℕ) (homes : Pairs) (p : Parts) (v : Pairs) → Fine (flat homes) → SafeParts p → Kept room v → Safe (Given room) (wordRow room homes p v)
+pub row-safe : (room : ℕ) (homes : Pairs) (p : Parts) (v : Pairs) → Fine (flat homes) → SafeParts p → Kept room v → Safe (SafeMade room) (wordRow room homes p v)
 unfolding wordRow
 row-safe room homes p v f s k = row-of-safe room p v (tilde v homes p) s k (tilde-safe v homes (k .fine) f p s)
 
@@ -245,12 +242,12 @@ or-else-safe : (l : List Text) (t : Text) → Fine l → NoZero t → Fine (orEl
 or-else-safe [] t f z = (z, tt)
 or-else-safe (u ∷ l) t f z = f
 
-paths-for-safe : (paths : List Text) (r : Row) (p : List Element) → Fine paths → Each Whole r → Fine (pathsFor paths r p)
+paths-for-safe : (paths : List Text) (r : Row) (p : List Element) → Fine paths → Each SafeCell r → Fine (pathsFor paths r p)
 unfolding pathsFor
 paths-for-safe paths r p f h =
     either (active p) (λ e. rw (e, pathsFor) (or-else-safe (chosen p paths) (bytes r) (chosen-safe p paths f) (bytes-safe r h))) (λ e. rw (e, pathsFor) (bytes-safe r h, tt))
 
-pub named-safe : (paths : List Text) (rs : List Row) → Fine paths → Each (Each Whole) rs → Safe Fine (named paths rs)
+pub named-safe : (paths : List Text) (rs : List Row) → Fine paths → Each (Each SafeCell) rs → Safe Fine (named paths rs)
 unfolding named
 named-safe paths [] f h = gives tt
 named-safe paths (r ∷ rs) f h =

@@ -3,9 +3,9 @@
 use Prim.Native.Nat.{ℕ, zero, suc, _+_, _-_, _/_, _%_, _≤_, _<_}
 use Prim.Native.Char.{code}
 use native.Mathlib.Omega.{arith}
-use mathlib.Core.Path.{_≡_, refl, sym, ap, _∙_}
-use mathlib.Core.Bool.{Bool, true, false, _&&_, _||_}
-use mathlib.Core.List.{List, [], _∷_, _++_}
+use mathlib.Core.Path.{_≡_, refl, ap}
+use mathlib.Core.Bool.{Bool, true, false}
+use mathlib.Core.List.{[], _∷_, _++_}
 use mathlib.Core.Option.{Option, none, some}
 use lib.Dec.{eqb, leb, ltb}
 use lib.ListN.{length, length-append}
@@ -13,17 +13,17 @@ use lib.IntN.{ℤ, pos, negsuc, negℤ, _+ℤ_, _-ℤ_, _*ℤ_}
 use lib.Signed.{quotZ, remZ}
 use borrow.Author.Tests.{le-leb}
 use Rattle.stages.specs.Numbers.{openLimit}
-use Rattle.stages.specs.Bytes.{Text, all, notZero, span, isBlank, isDigit, isNameStart, isNameByte}
-use Rattle.stages.specs.Outcome.{Outcome, refused, done, _>>=_, choose}
+use Rattle.stages.specs.Bytes.{Text, all, notZero, span, isDigit, isNameStart, isNameByte}
+use Rattle.stages.specs.Outcome.{Outcome, refused, done}
 use Rattle.stages.specs.Images.{Pairs, lookup}
 use Rattle.stages.specs.Units.{digits, decimal}
 use Rattle.stages.specs.Constants.{fits, ranged, number, constant, minusOf, valued, nameNumber, signed}
 use Rattle.stages.specs.Arith.{Op, mul, div, rem, add, sub, lt, le, gt, ge, eq, ne, Token, stop, num, name, op, opens, shuts, Lexed, paired, token, level}
-use Rattle.stages.specs.Arith.{Tree, constantOf, nameOf, negated, binary, Grown, grown, operand, further, Grow, Task, expression, shut, enclosed, sign, operandAt, furtherAt}
-use Rattle.stages.specs.Arith.{growStep, growSize, grow, whole, tree, isZero, divided, apply, Evaluated, withVariables, evaluate, arithmeticOf}
+use Rattle.stages.specs.Arith.{Tree, constantOf, nameOf, negated, binary, Grown, operand, further, Grow, Task, expression, shut, enclosed, sign, operandAt, furtherAt}
+use Rattle.stages.specs.Arith.{growStep, growSize, grow, whole, tree, isZero, divided, apply, withVariables, evaluate, arithmeticOf}
 use Rattle.stages.proofs.Bools.{or-right, and-both}
 use Rattle.stages.proofs.Texts.{all-append, span-join, span-more, start-name-byte}
-use Rattle.stages.proofs.Outcomes.{isFault, Safe, refuses, gives, safe-bind, safe-weaker, safe-choose, safe-where, by-fix}
+use Rattle.stages.proofs.Outcomes.{Safe, refuses, gives, safe-bind, safe-weaker, safe-choose, safe-where, by-fix}
 
 -- refused with a number, or done, whatever with
 abbrev Numbered : {A : Type 0} → Outcome A → Type 0

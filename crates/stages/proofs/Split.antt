@@ -1,6 +1,6 @@
 -- Laws of splitting: the walk over fields is never stuck, since a field and its delimiters leave a shorter row, and the units of the fields are
 -- units of the row. Assumes nothing.
-use Prim.Native.Nat.{ℕ, zero, suc, _≤_, _<_}
+use Prim.Native.Nat.{suc, _≤_, _<_}
 use native.Mathlib.Omega.{arith}
 use mathlib.Core.Path.{_≡_, refl, ap, _∙_}
 use mathlib.Core.List.{List, [], _∷_, _++_}
