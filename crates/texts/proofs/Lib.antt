@@ -4,3 +4,4 @@ pub mod Scans
 pub mod Moves
 pub mod Rows
 pub mod Determined
+pub mod Orders

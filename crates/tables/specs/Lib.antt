@@ -1,0 +1,3 @@
+pub mod Kinds
+pub mod Pieces
+pub mod Places
