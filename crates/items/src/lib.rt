@@ -1,0 +1,351 @@
+// What stands at a place of a text: document 01's "Reading a line", a question for each function, none of them recursive. A place `at` is that of
+// the first byte of what stands there; `depth` says how many expansions may still open.
+use modes::Form;
+use modes::Mode;
+use modes::Sort;
+use texts::Class;
+ghost use mathlib.Core.Path.{_≡_};
+ghost use Prim.Native.Nat.{ℕ, _+_, _-_, _≤_, _<_};
+ghost use lib.ListN.{length, drop, getD};
+ghost use Rattle.stages.specs.Bytes.{part};
+ghost use Rattle.stages.specs.Syntax.{arith};
+ghost use Rattle.stages.specs.Items.{item, escaped, expansion, parenthesis, braced, named, behindLength, behindName, behindColon, removal, closed};
+ghost use Rattle.modes.specs.Modes.{modeOf, openIn, formOf};
+ghost use Rattle.items.specs.Shows.{Shows, isAt, removalForm, counted};
+
+// What stands at a place; `next` is the place behind it, and a name stands from `from` to `to`.
+pub enum Item {
+    // refused with the number
+    Fault(u8),
+    // the text ends here
+    Stop(usize),
+    // a byte; whether a backslash quotes it
+    Byte {
+        quoted: bool,
+        byte: u8,
+        next: usize,
+    },
+    // a parenthesis of an arithmetic text, and how many are open behind it
+    Paren {
+        byte: u8,
+        parens: usize,
+    },
+    // a quote opens
+    Quote(Mode),
+    // $name, ${name}
+    Value {
+        from: usize,
+        to: usize,
+        next: usize,
+    },
+    // ${#name}
+    Count {
+        from: usize,
+        to: usize,
+        next: usize,
+    },
+    // ${name FORM, and how the operand at `next` is read
+    Inner {
+        from: usize,
+        to: usize,
+        form: Form,
+        mode: Mode,
+        next: usize,
+    },
+    // $((
+    Sum {
+        next: usize,
+    },
+}
+
+// Does the byte stand at this place?
+fn is_at(text: &[u8], at: usize, b: u8) -> bool
+    ensures { λ r. ⌜ r ≡ isAt b (drop at (now (text .entry))) ⌝ }
+{
+    if at >= text.len() {
+        return false;
+    }
+    text[at] == b
+}
+
+// What a backslash at `at` is.
+fn escaped_at(text: &[u8], at: usize, mode: Mode, depth: usize) -> Item
+    requires { ⌜ at < length (now text) ⌝ }
+    ensures { λ r. ⌜ Shows (now (text .entry)) at depth r (escaped (modeOf mode) (drop (at + 1) (now (text .entry)))) ⌝ }
+{
+    if at + 1 >= text.len() {
+        return Item::Fault(modes::REFUSED_UNENDED);
+    }
+    let b = text[at + 1];
+    if b == b'\n' {
+        return Item::Fault(modes::REFUSED_SYNTAX);
+    }
+    if modes::is_quotable(mode, b) {
+        return Item::Byte {
+            quoted: true,
+            byte: b,
+            next: at + 2,
+        };
+    }
+    Item::Byte {
+        quoted: false,
+        byte: b'\\',
+        next: at + 1,
+    }
+}
+
+// What `${name:` at `at` is, whose colon is at `to`.
+fn behind_colon(text: &[u8], at: usize, mode: Mode, depth: usize, to: usize) -> Item
+    requires { ⌜ (at + 2 ≤ to) × (to < length (now text)) × (0 < depth) ⌝ }
+    ensures { λ r. ⌜ Shows (now (text .entry)) at depth r (behindColon (modeOf mode) (part (now (text .entry)) (at + 2) to) (to + 1 - at) (drop (to + 1) (now (text .entry)))) ⌝ }
+{
+    if to + 1 >= text.len() {
+        return Item::Fault(modes::REFUSED_UNENDED);
+    }
+    let b = text[to + 1];
+    if texts::is_in(b, b"-=?+") {
+        return Item::Inner {
+            from: at + 2,
+            to: to,
+            form: modes::sign_form(b, true),
+            mode: modes::operand_mode(mode),
+            next: to + 2,
+        };
+    }
+    Item::Fault(modes::wrong_byte(modes::REFUSED_SYNTAX, b))
+}
+
+// The form of a removal.
+fn removal_form(prefix: bool, doubled: bool) -> Form
+    ensures { λ r. ⌜ formOf r ≡ removalForm «prefix» doubled ⌝ }
+{
+    if prefix {
+        return Form::Prefix(doubled);
+    }
+    Form::Suffix(doubled)
+}
+
+// What a removal `${name%` or `${name#` at `at` is, whose sign is at `to`.
+fn removal_at(text: &[u8], at: usize, depth: usize, to: usize, prefix: bool) -> Item
+    requires { ⌜ (at + 2 ≤ to) × (to < length (now text)) × (0 < depth) ⌝ }
+    ensures { λ r. ⌜ Shows (now (text .entry)) at depth r (removal (part (now (text .entry)) (at + 2) to) (removalForm «prefix») (getD (now (text .entry)) to 0) (to - at) (drop (to + 1) (now (text .entry)))) ⌝ }
+{
+    let sign = text[to];
+    if is_at(text, to + 1, sign) {
+        return Item::Inner {
+            from: at + 2,
+            to: to,
+            form: removal_form(prefix, true),
+            mode: Mode::Bare,
+            next: to + 2,
+        };
+    }
+    Item::Inner {
+        from: at + 2,
+        to: to,
+        form: removal_form(prefix, false),
+        mode: Mode::Bare,
+        next: to + 1,
+    }
+}
+
+// What `${name` at `at` is, whose name ends at `to`.
+fn behind_name(text: &[u8], at: usize, mode: Mode, depth: usize, to: usize) -> Item
+    requires { ⌜ (at + 2 ≤ to) × (to ≤ length (now text)) × (0 < depth) ⌝ }
+    ensures { λ r. ⌜ Shows (now (text .entry)) at depth r (behindName (modeOf mode) (part (now (text .entry)) (at + 2) to) (to - at) (drop to (now (text .entry)))) ⌝ }
+{
+    if to >= text.len() {
+        return Item::Fault(modes::REFUSED_UNENDED);
+    }
+    let b = text[to];
+    if b == b'}' {
+        return Item::Value {
+            from: at + 2,
+            to: to,
+            next: to + 1,
+        };
+    }
+    if b == b':' {
+        return behind_colon(text, at, mode, depth, to);
+    }
+    if texts::is_in(b, b"-=?+") {
+        return Item::Inner {
+            from: at + 2,
+            to: to,
+            form: modes::sign_form(b, false),
+            mode: modes::operand_mode(mode),
+            next: to + 1,
+        };
+    }
+    if b == b'%' {
+        return removal_at(text, at, depth, to, false);
+    }
+    if b == b'#' {
+        return removal_at(text, at, depth, to, true);
+    }
+    Item::Fault(modes::wrong_byte(modes::REFUSED_SYNTAX, b))
+}
+
+// What `${#name` at `at` is, whose name ends at `to`.
+fn behind_length(text: &[u8], at: usize, depth: usize, to: usize) -> Item
+    requires { ⌜ (at + 3 ≤ to) × (to ≤ length (now text)) ⌝ }
+    ensures { λ r. ⌜ Shows (now (text .entry)) at depth r (behindLength (part (now (text .entry)) (at + 3) to) (to - at) (drop to (now (text .entry)))) ⌝ }
+{
+    if to >= text.len() {
+        return Item::Fault(modes::REFUSED_UNENDED);
+    }
+    let b = text[to];
+    if b == b'}' {
+        return Item::Count {
+            from: at + 3,
+            to: to,
+            next: to + 1,
+        };
+    }
+    Item::Fault(modes::wrong_byte(modes::REFUSED_SYNTAX, b))
+}
+
+// What `${#` at `at` is.
+fn length_at(text: &[u8], at: usize, depth: usize) -> Item
+    requires { ⌜ at + 2 < length (now text) ⌝ }
+    ensures { λ r. ⌜ Shows (now (text .entry)) at depth r (counted (drop (at + 3) (now (text .entry)))) ⌝ }
+{
+    if at + 3 >= text.len() {
+        return Item::Fault(modes::REFUSED_UNENDED);
+    }
+    let b = text[at + 3];
+    if texts::in_class(Class::NameStart, b) {
+        let to = texts::run_end(text, at + 3, Class::NameByte);
+        return behind_length(text, at, depth, to);
+    }
+    Item::Fault(modes::wrong_byte(modes::REFUSED_UNSERVED, b))
+}
+
+// What `${` at `at` is.
+fn braced_at(text: &[u8], at: usize, mode: Mode, depth: usize) -> Item
+    requires { ⌜ at + 1 < length (now text) ⌝ }
+    ensures { λ r. ⌜ Shows (now (text .entry)) at depth r (braced (modeOf mode) depth (drop (at + 2) (now (text .entry)))) ⌝ }
+{
+    if depth == 0 {
+        return Item::Fault(modes::REFUSED_DEPTH);
+    }
+    if at + 2 >= text.len() {
+        return Item::Fault(modes::REFUSED_UNENDED);
+    }
+    let b = text[at + 2];
+    if b == b'#' {
+        return length_at(text, at, depth);
+    }
+    if texts::in_class(Class::NameStart, b) {
+        let to = texts::run_end(text, at + 2, Class::NameByte);
+        return behind_name(text, at, mode, depth, to);
+    }
+    Item::Fault(modes::wrong_byte(modes::REFUSED_UNSERVED, b))
+}
+
+// What `$(` at `at` is.
+fn parenthesis_at(text: &[u8], at: usize, depth: usize) -> Item
+    requires { ⌜ at + 1 < length (now text) ⌝ }
+    ensures { λ r. ⌜ Shows (now (text .entry)) at depth r (parenthesis depth (drop (at + 2) (now (text .entry)))) ⌝ }
+{
+    if is_at(text, at + 2, b'(') {
+        if depth == 0 {
+            return Item::Fault(modes::REFUSED_DEPTH);
+        }
+        return Item::Sum { next: at + 3 };
+    }
+    Item::Fault(modes::REFUSED_SUBSTITUTION)
+}
+
+// What `$` at `at` is.
+fn expansion_at(text: &[u8], at: usize, mode: Mode, depth: usize) -> Item
+    requires { ⌜ at < length (now text) ⌝ }
+    ensures { λ r. ⌜ Shows (now (text .entry)) at depth r (expansion (modeOf mode) depth (drop (at + 1) (now (text .entry)))) ⌝ }
+{
+    if at + 1 >= text.len() {
+        return Item::Byte {
+            quoted: false,
+            byte: b'$',
+            next: at + 1,
+        };
+    }
+    let b = text[at + 1];
+    if texts::in_class(Class::NameStart, b) {
+        let to = texts::run_end(text, at + 1, Class::NameByte);
+        return Item::Value {
+            from: at + 1,
+            to: to,
+            next: to,
+        };
+    }
+    if b == b'(' {
+        return parenthesis_at(text, at, depth);
+    }
+    if b == b'{' {
+        return braced_at(text, at, mode, depth);
+    }
+    if modes::is_not_served(mode, b) {
+        return Item::Fault(modes::REFUSED_UNSERVED);
+    }
+    Item::Byte {
+        quoted: false,
+        byte: b'$',
+        next: at + 1,
+    }
+}
+
+// What a `)` at `at` of an arithmetic text is, with so many open parentheses before it.
+fn closed_at(text: &[u8], at: usize, depth: usize, parens: usize) -> Item
+    requires { ⌜ (at < length (now text)) × (parens ≤ at) ⌝ }
+    ensures { λ r. ⌜ Shows (now (text .entry)) at depth r (closed (arith parens) (getD (now (text .entry)) at 0) (drop (at + 1) (now (text .entry)))) ⌝ }
+{
+    if parens > 0 {
+        return Item::Paren {
+            byte: text[at],
+            parens: parens - 1,
+        };
+    }
+    if at + 1 >= text.len() {
+        return Item::Fault(modes::REFUSED_SYNTAX);
+    }
+    let b = text[at + 1];
+    if b == b')' {
+        return Item::Stop(at + 2);
+    }
+    Item::Fault(modes::wrong_byte(modes::REFUSED_SYNTAX, b))
+}
+
+// What stands at a place of a text that is read in a mode, where `depth` expansions may still open.
+pub fn item_at(text: &[u8], at: usize, mode: Mode, depth: usize) -> Item
+    requires { ⌜ (at ≤ length (now text)) × (openIn mode ≤ at) ⌝ }
+    ensures { λ r. ⌜ Shows (now (text .entry)) at depth r (item (modeOf mode) depth (drop at (now (text .entry)))) ⌝ }
+{
+    if at >= text.len() {
+        if modes::may_end(mode) {
+            return Item::Stop(at);
+        }
+        return Item::Fault(modes::REFUSED_UNENDED);
+    }
+    let b = text[at];
+    let sort = modes::sort_at(mode, b);
+    match sort {
+        Sort::Backquote => Item::Fault(modes::REFUSED_SUBSTITUTION),
+        Sort::Closes(taken) => Item::Stop(at + taken),
+        Sort::Operator => Item::Fault(modes::REFUSED_OPERATOR),
+        Sort::Quotes => Item::Quote(Mode::Single),
+        Sort::Quotes2 => Item::Quote(Mode::Double),
+        Sort::Backslash => escaped_at(text, at, mode, depth),
+        Sort::Dollar => expansion_at(text, at, mode, depth),
+        Sort::Bad => Item::Fault(modes::REFUSED_SYNTAX),
+        Sort::Opening(parens) => Item::Paren {
+            byte: b,
+            parens: parens + 1,
+        },
+        Sort::Closing(parens) => closed_at(text, at, depth, parens),
+        Sort::Literal => Item::Byte {
+            quoted: false,
+            byte: b,
+            next: at + 1,
+        },
+    }
+}
