@@ -1,0 +1,43 @@
+-- The contracts determine every answer and every byte: two outcomes that a contract allows for one input are equal. Assumes nothing.
+use Prim.Native.Nat.{ℕ}
+use native.Mathlib.Omega.{arith}
+use mathlib.Core.Path.{_≡_, refl, sym, ap, _∙_}
+use Rattle.stages.specs.Bytes.{Text}
+use Rattle.stages.specs.Outcome.{Outcome, refused, done}
+use Rattle.stores.specs.Answers.{putOutcome, storedOutcome, Writes}
+use Rattle.stores.specs.declared.Put.{Put}
+use Rattle.stores.specs.declared.Put.the-variants.{Len, NoRoom}
+use Rattle.stores.specs.declared.Stored.{Stored}
+use Rattle.stores.specs.declared.Stored.the-variants.{Used, Full}
+
+-- what is written for one stage's bytes over one buffer is one answer and one buffer
+pub writes-once : {o : Outcome Text} {old left left′ : Text} {a a′ : Outcome ℕ} → Writes o old left a → Writes o old left′ a′ → (a ≡ a′) × (left ≡ left′)
+writes-once w w′ = (w .answers ∙ sym (w′ .answers), w .leaves ∙ sym (w′ .leaves))
+
+done-same : {m n : ℕ} → done m ≡ done n → m ≡ n
+done-same e = cc
+
+apart : {n k : ℕ} → done n ≡ refused k → ⊥
+apart e = let z : _≡_ {A = ℕ} 0 1 = cc in omega arith
+
+-- one outcome is that of one answer
+put-one : (r s : Put) → putOutcome r ≡ putOutcome s → r ≡ s
+put-one (Len n) (Len m) e = ap Len (done-same e)
+put-one (Len n) NoRoom e = absurd (apart e)
+put-one NoRoom (Len m) e = absurd (apart (sym e))
+put-one NoRoom NoRoom e = refl
+
+stored-one : (r s : Stored) → storedOutcome r ≡ storedOutcome s → r ≡ s
+stored-one (Used n) (Used m) e = ap Used (done-same e)
+stored-one (Used n) Full e = absurd (apart e)
+stored-one Full (Used m) e = absurd (apart (sym e))
+stored-one Full Full e = refl
+
+-- `put_record` and `store`
+pub put-record-determined : (o : Outcome Text) (old left left′ : Text) (r s : Put) → Writes o old left (putOutcome r) → Writes o old left′ (putOutcome s)
+    → (r ≡ s) × (left ≡ left′)
+put-record-determined o old left left′ r s w w′ = (put-one r s (writes-once w w′ .0), writes-once w w′ .1)
+
+pub store-determined : (o : Outcome Text) (old left left′ : Text) (r s : Stored) → Writes o old left (storedOutcome r) → Writes o old left′ (storedOutcome s)
+    → (r ≡ s) × (left ≡ left′)
+store-determined o old left left′ r s w w′ = (stored-one r s (writes-once w w′ .0), writes-once w w′ .1)

@@ -1,0 +1,5 @@
+pub mod Writing
+pub mod Splices
+pub mod Determined
+pub mod StoredImages
+pub mod Callers

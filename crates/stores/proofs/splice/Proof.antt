@@ -1,0 +1,110 @@
+-- `stores::splice` meets its contract: where there is room, `shift` makes the place and two calls of `put_record` fill it. Assumes nothing.
+use native.Mathlib.Omega.{arith}
+use borrow.Author.Needs.{needs}
+use Rattle.stores.proofs.Splices.{has-room, lacks-room, splice-full, splice-kept}
+use Rattle.stores.proofs.splice.Statement.{statement}
+use Rattle.stores.proofs.splice.Tie as tie
+
+sub-kept : tie.Need-sub-kept
+sub-kept c = search needs
+
+sub-kept-2 : tie.Need-sub-kept-2
+sub-kept-2 c = search needs
+
+sub-fits : tie.Need-sub-fits
+sub-fits c = search needs
+
+fits-requires : tie.Need-fits-requires
+fits-requires c κs = search needs
+
+returns : tie.Need-returns
+returns c =
+    let a = c .before .before .before .before .before .args in
+    splice-full (a .vars .now) (a .name .now) (a .value .now) (a .used) (a .at) (a .end) (a .cap) (omega arith) (omega arith) (omega arith) (omega arith) (omega arith)
+    (lacks-room _ _ _ _ (c .before .fits2 .ensures) (c .if1 .taken))
+
+add-size : tie.Need-add-size
+add-size c = search needs
+
+add-size-2 : tie.Need-add-size-2
+add-size-2 c = omega (arith, has-room _ _ _ _ (c .before .fits2 .ensures) (c .if1 .left))
+
+add-shift : tie.Need-add-shift
+add-shift c = omega (arith, has-room _ _ _ _ (c .before .before .fits2 .ensures) (c .before .if1 .left))
+
+sub-shift : tie.Need-sub-shift
+sub-shift c = search needs
+
+shift-requires : tie.Need-shift-requires
+shift-requires c κs = omega (arith, has-room _ _ _ _ (c .before .before .fits2 .ensures) (c .before .if1 .left))
+
+sub-put-record : tie.Need-sub-put-record
+sub-put-record c = search needs
+
+part-put-record-start : tie.Need-part-put-record-start
+part-put-record-start c = search needs
+
+part-put-record-end : tie.Need-part-put-record-end
+part-put-record-end c = search needs
+
+put-record-requires : tie.Need-put-record-requires
+put-record-requires c κs = search needs
+
+add-next : tie.Need-add-next
+add-next c = search needs
+
+add-next-2 : tie.Need-add-next-2
+add-next-2 c = search needs
+
+sub-put-record-2 : tie.Need-sub-put-record-2
+sub-put-record-2 c = omega (arith, has-room _ _ _ _ (c .before .before .before .before .before .before .before .before .before .fits2 .ensures) (c .before .before .before .before .before .before .before .before .if1 .left))
+
+part-put-record-start-2 : tie.Need-part-put-record-start-2
+part-put-record-start-2 c = omega (arith, has-room _ _ _ _ (c .before .before .before .before .before .before .before .before .before .fits2 .ensures) (c .before .before .before .before .before .before .before .before .if1 .left))
+
+part-put-record-end-2 : tie.Need-part-put-record-end-2
+part-put-record-end-2 c = search needs
+
+put-record-requires-2 : tie.Need-put-record-requires-2
+put-record-requires-2 c κs = search needs
+
+add-t14 : tie.Need-add-t14
+add-t14 c = omega (arith, has-room _ _ _ _ (c .before .before .before .before .before .before .before .before .before .before .before .before .before .fits2 .ensures) (c .before .before .before .before .before .before .before .before .before .before .before .before .if1 .left))
+
+same-length : tie.Need-same-length
+same-length c = search needs
+
+returns-2 : tie.Need-returns-2
+returns-2 c =
+    let a = c .before .before .before .before .before .before .before .before .before .before .before .before .before .before .before .before .before .args in
+    splice-kept (a .vars .now) (a .name .now) (a .value .now) (a .used) (a .at) (a .end) (a .cap) (omega arith) (omega arith) (omega arith) (omega arith) (omega arith)
+    (c .before .before .before .before .before .before .before .before .before .before .shift .last .0) (c .before .before .before .before .before .before .put-record .last .0) (has-room _ _ _ _ (c .before .before .before .before .before .before .before .before .before .before .before .before .before .fits2 .ensures) (c .before .before .before .before .before .before .before .before .before .before .before .before .if1 .left)) (c .before .before .before .before .before .before .before .before .before .before .shift .ensures) (c .before .before .before .before .before .before .before .before .before .before .shift .kept .0) (c .before .before .before .before .before .before .put-record .ensures)
+    (c .before .before .put-record2 .last .0) (c .before .before .put-record2 .ensures)
+
+pub splice-spec : {M : Type 1} → statement M
+splice-spec =
+    tie.close
+    (tie.spec
+    sub-kept
+    sub-kept-2
+    sub-fits
+    fits-requires
+    returns
+    add-size
+    add-size-2
+    add-shift
+    sub-shift
+    shift-requires
+    sub-put-record
+    part-put-record-start
+    part-put-record-end
+    put-record-requires
+    add-next
+    add-next-2
+    sub-put-record-2
+    part-put-record-start-2
+    part-put-record-end-2
+    put-record-requires-2
+    add-t14
+    same-length
+    returns-2)
