@@ -9,6 +9,7 @@ pub mod Read
 pub mod Words
 pub mod Arith
 pub mod Outcomes
+pub mod Digits
 pub mod Split
 pub mod Safe
 pub mod SafeSums

@@ -1,0 +1,5 @@
+pub mod Linear
+pub mod Ranges
+pub mod Digits
+pub mod Signs
+pub mod Determined
