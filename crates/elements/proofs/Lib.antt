@@ -1,0 +1,6 @@
+pub mod Flags
+pub mod Units
+pub mod Gathering
+pub mod Searches
+pub mod Reading
+pub mod Determined

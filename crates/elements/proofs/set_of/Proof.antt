@@ -1,0 +1,24 @@
+-- The members, or with the `!` the set of all other bytes, which is the stage's test turned. Assumes nothing.
+use mathlib.Core.Path.{sym, _∙_, ap}
+use mathlib.Core.Bool.{Bool}
+use Rattle.texts.specs.Rows.{signsOf}
+use Rattle.stages.specs.Pattern.{inSet}
+use Rattle.elements.proofs.Gathering.{in-members, in-others}
+use borrow.Author.Needs.{needs}
+use Rattle.elements.proofs.set_of.Statement.{statement}
+use Rattle.elements.proofs.set_of.Tie as tie
+
+members-requires : tie.Need-members-requires
+members-requires c κs = search needs
+
+others-requires : tie.Need-others-requires
+others-requires c κs = search needs
+
+returns : tie.Need-returns
+returns c = λ k h. in-others (signsOf (c .before .before .before .before .args .units .now)) k (c .before .before .members .ensures k h) (c .others .ensures k h) ∙ ap (λ (b : Bool). inSet b (signsOf (c .before .before .before .before .args .units .now)) k) (sym (c .before .if1 .taken))
+
+returns-2 : tie.Need-returns-2
+returns-2 c = λ k h. in-members (signsOf (c .before .before .before .args .units .now)) k (c .before .members .ensures k h) ∙ ap (λ (b : Bool). inSet b (signsOf (c .before .before .before .args .units .now)) k) (sym (c .if1 .left))
+
+pub set-of-spec : {M : Type 1} → statement M
+set-of-spec = tie.close (tie.spec members-requires others-requires returns returns-2)
