@@ -2,3 +2,8 @@ pub mod Frames
 pub mod Splits
 pub mod Spots
 pub mod Finds
+pub mod Pieces
+pub mod Walk
+pub mod Keys
+pub mod Tables
+pub mod Determined

@@ -4,9 +4,13 @@ use Prim.Native.Nat.{ℕ}
 use mathlib.Core.Bool.{Bool, true, false, _&&_}
 use Rattle.stages.specs.Numbers.{imageLimit, pathsLimit}
 use Rattle.stages.specs.Bytes.{Text, ltText}
+use Rattle.stages.specs.Outcome.{pick}
 use Rattle.stages.specs.Images.{isName, isLogin, isSome, variables, homes, pathsOf, fieldsOf}
+use Rattle.tables.specs.Pieces.{pieceAt}
 use Rattle.tables.specs.declared.Kind.{Kind}
 use Rattle.tables.specs.declared.Kind.the-variants.{Variables, Homes, Paths, Fields}
+use Rattle.tables.specs.declared.Piece.{Piece}
+use Rattle.tables.specs.declared.Piece.the-variants.{At}
 
 -- an image of the kind: numbers 2, 3, 4 and 22 are for one that is not
 abbrev pub wellFormed : Kind → Text → Bool
@@ -35,3 +39,7 @@ keyFits Variables last key = isName key && ltText last key
 keyFits Homes last key = isLogin key && ltText last key
 keyFits Paths last key = ltText last key
 keyFits Fields last key = true
+
+-- where a record ends whose first text ends at a place
+abbrev pub recordEnd : Kind → Text → ℕ → Piece
+recordEnd kind t at = pick (inTwos kind) (pieceAt t at) (At at)

@@ -5,3 +5,4 @@ pub mod Moves
 pub mod Rows
 pub mod Determined
 pub mod Orders
+pub mod Runs

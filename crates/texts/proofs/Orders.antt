@@ -36,3 +36,9 @@ module _ (a b : Text) where
 
   pub above-not-equal : orderOf a b ≡ More → eqText a b ≡ false
   above-not-equal e = more (ltText a b) (eqText a b) e .1
+
+  pub equal-not-below : orderOf a b ≡ Same → ltText a b ≡ false
+  equal-not-below e = same (ltText a b) (eqText a b) e .0
+
+  pub above-not-below : orderOf a b ≡ More → ltText a b ≡ false
+  above-not-below e = more (ltText a b) (eqText a b) e .0
