@@ -10,28 +10,25 @@ use lib.Seq.{ext-getD}
 use Rattle.stages.specs.Bytes.{Text}
 use Rattle.stages.specs.Pattern.{inSet}
 use Rattle.texts.specs.Rows.{signsOf}
+use Rattle.texts.proofs.Determined.{one-answer}
 use Rattle.elements.specs.Sets.{has}
 use Rattle.elements.specs.Pieces.{pieceAt, behindOf}
 use Rattle.elements.specs.declared.ByteSet.{ByteSet}
 use Rattle.elements.specs.declared.Piece.{Piece}
 
--- two answers equal to one definition
-determined : {A : Type 0} {x y z : A} → x ≡ z → y ≡ z → x ≡ y
-determined e f = e ∙ sym f
-
 pub has-determined : (s : ByteSet) (b : ℕ) {r q : Bool} → r ≡ has (s .on) b → q ≡ has (s .on) b → r ≡ q
-has-determined s b = determined
+has-determined s b = one-answer
 
 pub piece-at-determined : (pattern : Text) (at : ℕ) (path : Bool) {r q : Piece}
     → r ≡ pieceAt path at (signsOf (drop at pattern)) → q ≡ pieceAt path at (signsOf (drop at pattern)) → r ≡ q
-piece-at-determined pattern at path = determined
+piece-at-determined pattern at path = one-answer
 
 pub behind-determined : (piece : Piece) (at : ℕ) {r q : ℕ} → r ≡ behindOf piece at → q ≡ behindOf piece at → r ≡ q
-behind-determined piece at = determined
+behind-determined piece at = one-answer
 
 -- a set that is given flag by flag; its type says that there are 256
 pub set-of-determined : (units : Text) (negative : Bool) (r q : ByteSet) → length (r .on) ≡ 256 → length (q .on) ≡ 256
     → ((k : ℕ) → k < 256 → has (r .on) k ≡ inSet negative (signsOf units) k)
     → ((k : ℕ) → k < 256 → has (q .on) k ≡ inSet negative (signsOf units) k) → r ≡ q
 set-of-determined units negative r q a b e f =
-    ap (λ (l : List Bool). record { on = l }) (ext-getD false (r .on) (q .on) (a ∙ sym b) (λ k h. determined (e k (omega arith)) (f k (omega arith))))
+    ap (λ (l : List Bool). record { on = l }) (ext-getD false (r .on) (q .on) (a ∙ sym b) (λ k h. one-answer (e k (omega arith)) (f k (omega arith))))

@@ -14,7 +14,7 @@ use Rattle.stages.specs.Bytes.{Text, part}
 use Rattle.stages.specs.Pattern.{Sign, Signs, isLive, Element, star, one, byte, set, Found, class, unclosed, closedAfter, find, bracket, others, skipped, bracketed, bracketLength, element, extra, elements, isClass, hasClass}
 use Rattle.texts.specs.Rows.{signsOf}
 use Rattle.elements.specs.Heads.{begins}
-use Rattle.elements.specs.Pieces.{setFrom, bracketAt, pieceAt, behindOf, elementOf, isClassPiece}
+use Rattle.elements.specs.Pieces.{setFrom, bracketAt, pieceAt, behindOf, elementOf, isClassPiece, Lies}
 use Rattle.elements.specs.declared.Piece.{Piece}
 use Rattle.elements.specs.declared.Piece.the-variants.{Star, One, Byte, Class, Set}
 use Rattle.elements.proofs.Units.{signAt, unit-at, none-at, units-behind, units-of, units-there}
@@ -155,6 +155,28 @@ module _ (path : Bool) (p : Text) (at : ℕ) (h : at + 1 < length p) where
       ap (hasClass path 0) (unit-at p at h)
       ∙ ap (λ (b : Bool). (isLive 91 s && isClass (bracket path r)) || b) (class-skip path (extra path s r) r ∙ ap (hasClass path 0) behind-units)
       ∙ ap (λ (b : Bool). b || hasClass path 0 (signsOf (drop next p))) (sym (ap isClassPiece seen ∙ standing path p at s .as-class))
+
+-- a set's members stand inside the pattern
+module _ (n at from : ℕ) (negative : Bool) (b : ℕ) where
+  abbrev tried : Bool → Bool → Bool → Found → Piece
+  tried x y z f = pick x Star (pick y One (pick z (setFrom negative from f) (Byte b)))
+
+  tried-lies : (x y z : Bool) (f : Found) → behindOf (tried x y z f) at ≤ n → Lies n (tried x y z f)
+  tried-lies true y z f h = tt
+  tried-lies false true z f h = tt
+  tried-lies false false true class h = tt
+  tried-lies false false true unclosed h = tt
+  tried-lies false false true (closedAfter m) h = (omega arith, omega arith)
+  tried-lies false false false f h = tt
+
+lies : (n : ℕ) (path : Bool) (at : ℕ) (l : Signs) → behindOf (pieceAt path at l) at ≤ n → Lies n (pieceAt path at l)
+unfolding pieceAt bracketAt
+lies n path at [] h = tt
+lies n path at (s ∷ r) h =
+    tried-lies n at (at + 2 + 2 * skipped r) (others r) (s .byte) (isLive 42 s) (isLive 63 s) (isLive 91 s) (bracket path r) h
+
+pub piece-lies : (path : Bool) (p : Text) (at : ℕ) → at + 1 < length p → Lies (length p) (pieceAt path at (signsOf (drop at p)))
+piece-lies path p at h = lies (length p) path at (signsOf (drop at p)) (next-inside path p at h)
 
 -- no units, no elements
 pub elements-over : (path : Bool) (p : Text) (at : ℕ) → length p ≤ at + 1 → elements path 0 (signsOf (drop at p)) ≡ []

@@ -23,7 +23,8 @@ signOf b m = record { live = pick (eqb m 3) false true; byte = b }
 abbrev pub signAt : Text → ℕ → Sign
 signAt p k = signOf (getD p k 0) (getD p (k + 1) 0)
 
-two-on : (p : Text) (k : ℕ) → k + 1 < length p → drop k p ≡ getD p k 0 ∷ getD p (k + 1) 0 ∷ drop (k + 2) p
+-- two bytes and those behind them
+pub two-on : (p : Text) (k : ℕ) → k + 1 < length p → drop k p ≡ getD p k 0 ∷ getD p (k + 1) 0 ∷ drop (k + 2) p
 two-on p k h =
     let e : suc k ≡ k + 1 = omega arith in
     let f : suc (k + 1) ≡ k + 2 = omega arith in

@@ -1,5 +1,5 @@
 -- The elements of a pattern as they stand in its bytes: what each case of the code's answers says. Assumes nothing.
-use Prim.Native.Nat.{ℕ, _+_, _*_, _^_, _<_}
+use Prim.Native.Nat.{ℕ, _+_, _*_, _^_, _≤_, _<_}
 use Prim.Native.Char.{code}
 use mathlib.Core.Bool.{Bool, true, false}
 use mathlib.Core.List.{List, [], _∷_}
@@ -67,3 +67,11 @@ isClassPiece One = false
 isClassPiece (Byte b) = false
 isClassPiece Class = true
 isClassPiece (Set negative from to) = false
+
+-- a set's members stand inside a pattern of n bytes
+abbrev pub Lies : ℕ → Piece → Type 0
+Lies n Star = Unit {0}
+Lies n One = Unit {0}
+Lies n (Byte b) = Unit {0}
+Lies n Class = Unit {0}
+Lies n (Set negative from to) = (from ≤ to) × (to ≤ n)

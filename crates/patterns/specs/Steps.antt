@@ -1,0 +1,68 @@
+-- One step of matching: what an element takes, and how a run up to the next star ends. Assumes nothing.
+use Prim.Native.Nat.{ℕ, _≤_, _<_}
+use Prim.Native.Char.{code}
+use mathlib.Core.Path.{_≡_}
+use mathlib.Core.Bool.{Bool, true, false, _&&_}
+use mathlib.Core.List.{List}
+use lib.Dec.{eqb}
+use lib.ListN.{length, drop}
+use Rattle.stages.specs.Bytes.{Text}
+use Rattle.stages.specs.Pattern.{Element, star, one, byte, set, elements, passes, takes, inSet, someEnd, matchesFrom}
+use Rattle.texts.specs.Rows.{signsOf}
+use Rattle.elements.specs.declared.Piece.{Piece}
+use Rattle.elements.specs.declared.Piece.the-variants.{Star, One, Byte, Class, Set}
+use Rattle.patterns.specs.declared.Run.{Run}
+use Rattle.patterns.specs.declared.Run.the-variants.{Whole, Fails, Star as StarMet}
+
+abbrev pub isStar : Piece → Bool
+isStar Star = true
+isStar One = false
+isStar (Byte b) = false
+isStar Class = false
+isStar (Set negative from to) = false
+
+-- a slash of the pattern
+abbrev pub isSlash : Piece → Bool
+isSlash Star = false
+isSlash One = false
+isSlash (Byte b) = eqb b (code "/")
+isSlash Class = false
+isSlash (Set negative from to) = false
+
+-- an active `*`, `?` or closed bracket
+abbrev pub isSpecial : Piece → Bool
+isSpecial Star = true
+isSpecial One = true
+isSpecial (Byte b) = false
+isSpecial Class = false
+isSpecial (Set negative from to) = true
+
+-- an element that is no star takes the byte b
+unfoldable pub takesOne : Bool → Bool → Bool → Element → ℕ → Bool
+unfolding passes takes inSet
+takesOne path head first star b = false
+takesOne path head first one b = passes path first b
+takesOne path head first (byte c) b = takes path head first c b
+takesOne path head first (set negative members) b = passes path first b && inSet negative members b
+
+-- the elements of a pattern from a place on
+abbrev pub from : Bool → Text → ℕ → List Element
+from path p at = elements path 0 (signsOf (drop at p))
+
+-- behind a star: some end of the text matches the rest of the pattern
+unfoldable pub behindStar : Bool → Text → ℕ → Bool → Text → Bool
+unfolding someEnd matchesFrom
+behindStar path p at first t = someEnd path (λ f u. matchesFrom path (from path p at) false f u) first t
+
+-- a star was met before the place `at`, the text being matched up to k
+pub record MeetsStar (path : Bool) (p : Text) (head first : Bool) (t : Text) (at k : ℕ) (starts : Bool) : Type 0 where
+  pub says : matchesFrom path (elements path 0 (signsOf p)) head first t ≡ behindStar path p at starts (drop k t)
+  pub further : 0 < at
+  pub inside : at ≤ length p
+  pub within : k ≤ length t
+
+-- what each end of a run says
+abbrev pub RunSays : Bool → Text → Bool → Bool → Text → Run → Type 0
+RunSays path p head first t Whole = matchesFrom path (elements path 0 (signsOf p)) head first t ≡ true
+RunSays path p head first t Fails = matchesFrom path (elements path 0 (signsOf p)) head first t ≡ false
+RunSays path p head first t (StarMet at k starts) = MeetsStar path p head first t at k starts

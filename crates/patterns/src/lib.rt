@@ -1,0 +1,292 @@
+// Patterns: which texts they match, whether a class refuses them, and whether a field is one. A pattern is the slice of a row's units
+// without its N. The matcher goes over the elements up to the next star; there it tries the rest of the pattern at each place of the
+// text in turn.
+use elements::ByteSet;
+use elements::Piece;
+ghost use mathlib.Core.Path.{_≡_};
+ghost use mathlib.Core.Bool.{true, _&&_};
+ghost use lib.ListN.{length};
+ghost use Rattle.stages.specs.Pattern.{elements, hasClass, passes, takes, matchesFrom, matches};
+ghost use Rattle.stages.specs.Paths.{active};
+ghost use Rattle.texts.specs.Rows.{signsOf};
+ghost use Rattle.elements.specs.Sets.{has};
+ghost use Rattle.elements.specs.Pieces.{elementOf, Lies, isClassPiece};
+ghost use Rattle.patterns.specs.Steps.{isStar, isSlash, isSpecial, takesOne, RunSays};
+ghost use Rattle.patterns.specs.Kept.{isMark, Dropped};
+
+// The marks of units that are bytes. What has no such mark is N.
+const LITERAL: u8 = 1;
+
+const EXPANDED: u8 = 2;
+
+const QUOTED: u8 = 3;
+
+// The mark is that of a byte.
+fn is_mark(m: u8) -> bool
+    ensures { λ r. ⌜ r ≡ isMark m ⌝ }
+{
+    if m == LITERAL {
+        return true;
+    }
+    if m == EXPANDED {
+        return true;
+    }
+    m == QUOTED
+}
+
+// "N vanishes": the units that are bytes move to the front, in order. The answer is how many bytes they take; all behind these stay.
+pub fn drop_empty(row: &mut [u8]) -> usize
+    ensures { λ r. ⌜ Dropped (now (row .entry)) (now (row .exit)) r ⌝ }
+{
+    let mut at: usize = 0;
+    let mut to: usize = 0;
+    while at + 1 < row.len() {
+        let b = row[at];
+        let m = row[at + 1];
+        at += 2;
+        if !is_mark(m) {
+            continue;
+        }
+        row[to] = b;
+        row[to + 1] = m;
+        to += 2;
+    }
+    to
+}
+
+// A class was met in the search for its bracket's end.
+fn is_class(piece: Piece) -> bool
+    ensures { λ r. ⌜ r ≡ isClassPiece piece ⌝ }
+{
+    match piece {
+        Piece::Star => false,
+        Piece::One => false,
+        Piece::Byte(_) => false,
+        Piece::Class => true,
+        Piece::Set {
+            negative: _,
+            from: _,
+            to: _,
+        } => false,
+    }
+}
+
+// "an active `*`, `?` or closed bracket".
+fn is_special(piece: Piece) -> bool
+    ensures { λ r. ⌜ r ≡ isSpecial piece ⌝ }
+{
+    match piece {
+        Piece::Star => true,
+        Piece::One => true,
+        Piece::Byte(_) => false,
+        Piece::Class => false,
+        Piece::Set {
+            negative: _,
+            from: _,
+            to: _,
+        } => true,
+    }
+}
+
+fn is_star(piece: Piece) -> bool
+    ensures { λ r. ⌜ r ≡ isStar piece ⌝ }
+{
+    match piece {
+        Piece::Star => true,
+        Piece::One => false,
+        Piece::Byte(_) => false,
+        Piece::Class => false,
+        Piece::Set {
+            negative: _,
+            from: _,
+            to: _,
+        } => false,
+    }
+}
+
+// A slash of the pattern: behind it a part of a path starts.
+fn is_slash(piece: Piece) -> bool
+    ensures { λ r. ⌜ r ≡ isSlash piece ⌝ }
+{
+    match piece {
+        Piece::Star => false,
+        Piece::One => false,
+        Piece::Byte(b) => b == b'/',
+        Piece::Class => false,
+        Piece::Set {
+            negative: _,
+            from: _,
+            to: _,
+        } => false,
+    }
+}
+
+// A bracket class refuses the pattern with 19, "closed or not, whatever the text".
+pub fn has_class(pattern: &[u8], path: bool) -> bool
+    ensures { λ r. ⌜ r ≡ hasClass path 0 (signsOf (now (pattern .entry))) ⌝ }
+{
+    let mut at: usize = 0;
+    while at + 1 < pattern.len() {
+        let piece = elements::piece_at(pattern, at, path);
+        if is_class(piece) {
+            return true;
+        }
+        at = elements::behind(piece, at);
+    }
+    false
+}
+
+// A field with an active `*`, `?` or closed bracket becomes paths.
+pub fn is_active(pattern: &[u8]) -> bool
+    ensures { λ r. ⌜ r ≡ active (elements true 0 (signsOf (now (pattern .entry)))) ⌝ }
+{
+    let mut at: usize = 0;
+    while at + 1 < pattern.len() {
+        let piece = elements::piece_at(pattern, at, true);
+        if is_special(piece) {
+            return true;
+        }
+        at = elements::behind(piece, at);
+    }
+    false
+}
+
+// What `*`, `?` and brackets may take: in paths no slash, nor a `.` where a part starts.
+fn passes_byte(b: u8, path: bool, first: bool) -> bool
+    ensures { λ r. ⌜ r ≡ passes path first b ⌝ }
+{
+    if !path {
+        return true;
+    }
+    if b == b'/' {
+        return false;
+    }
+    if !first {
+        return true;
+    }
+    b != b'.'
+}
+
+// A byte of the pattern takes this byte of the text: in paths a `.` where a part starts only if it is first in its own part.
+fn takes_byte(c: u8, b: u8, path: bool, head: bool, first: bool) -> bool
+    ensures { λ r. ⌜ r ≡ takes path head first c b ⌝ }
+{
+    if c != b {
+        return false;
+    }
+    if !path {
+        return true;
+    }
+    if head {
+        return true;
+    }
+    if !first {
+        return true;
+    }
+    b != b'.'
+}
+
+// A bracket's set takes this byte of the text.
+fn takes_member(set: ByteSet, b: u8, path: bool, first: bool) -> bool
+    ensures { λ r. ⌜ r ≡ (passes path first b && has (set .on) b) ⌝ }
+{
+    if passes_byte(b, path, first) {
+        return set.has(b);
+    }
+    false
+}
+
+// An element that is no star takes this byte of the text.
+fn takes_one(pattern: &[u8], piece: Piece, b: u8, path: bool, head: bool, first: bool) -> bool
+    requires { ⌜ Lies (length (now pattern)) piece ⌝ }
+    ensures { λ r. ⌜ r ≡ takesOne path head first (elementOf (now (pattern .entry)) piece) b ⌝ }
+{
+    match piece {
+        Piece::Star => false,
+        Piece::One => passes_byte(b, path, first),
+        Piece::Byte(c) => takes_byte(c, b, path, head, first),
+        Piece::Class => takes_byte(b'[', b, path, head, first),
+        Piece::Set { negative, from, to } => {
+            let set = elements::set_of(&pattern[from..to], negative);
+            takes_member(set, b, path, first)
+        }
+    }
+}
+
+// How a run over the elements ends: all are matched with all of the text, one fails, or a star is met: the places behind it and in the
+// text, and whether a part starts there.
+enum Run {
+    Whole,
+    Fails,
+    Star { at: usize, k: usize, first: bool },
+}
+
+// The run over the elements up to the next star.
+fn run_to_star(pattern: &[u8], text: &[u8], path: bool, starts: bool, begins: bool) -> Run
+    ensures { λ r. ⌜ RunSays path (now (pattern .entry)) starts begins (now (text .entry)) r ⌝ }
+{
+    let mut head = starts;
+    let mut first = begins;
+    let mut at: usize = 0;
+    let mut k: usize = 0;
+    while at + 1 < pattern.len() {
+        let piece = elements::piece_at(pattern, at, path);
+        let next = elements::behind(piece, at);
+        if is_star(piece) {
+            return Run::Star { at: next, k, first };
+        }
+        if text.len() <= k {
+            return Run::Fails;
+        }
+        if !takes_one(pattern, piece, text[k], path, head, first) {
+            return Run::Fails;
+        }
+        head = is_slash(piece);
+        first = head;
+        at = next;
+        k += 1;
+    }
+    if k < text.len() {
+        return Run::Fails;
+    }
+    Run::Whole
+}
+
+// The whole text matches the pattern. `head`: the pattern's place is its first or right behind its slash; `first`: a path or a part of it
+// starts here. One call deep for each star, none for each byte.
+fn matches_from(pattern: &[u8], text: &[u8], path: bool, head: bool, first: bool) -> bool
+    ensures { λ r. ⌜ r ≡ matchesFrom path (elements path 0 (signsOf (now (pattern .entry)))) head first (now (text .entry)) ⌝ }
+{
+    match run_to_star(pattern, text, path, head, first) {
+        Run::Whole => true,
+        Run::Fails => false,
+        Run::Star {
+            at,
+            k,
+            first: begins,
+        } => {
+            let mut i = k;
+            let mut starts = begins;
+            loop {
+                if matches_from(&pattern[at..], &text[i..], path, false, starts) {
+                    return true;
+                }
+                if text.len() <= i {
+                    return false;
+                }
+                if !passes_byte(text[i], path, starts) {
+                    return false;
+                }
+                starts = false;
+                i += 1;
+            }
+        }
+    }
+}
+
+// "The whole text must match." The pattern's bytes and the text's may be any.
+pub fn matches(pattern: &[u8], text: &[u8], path: bool) -> bool
+    ensures { λ r. ⌜ r ≡ matches path (elements path 0 (signsOf (now (pattern .entry)))) (now (text .entry)) ⌝ }
+{
+    matches_from(pattern, text, path, true, true)
+}
