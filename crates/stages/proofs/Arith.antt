@@ -18,7 +18,7 @@ use Rattle.stages.specs.Arith.{operandAt, furtherAt, growStep, growSize,
 use Rattle.stages.proofs.Bools.{or-right}
 use Rattle.stages.proofs.Texts.{start-name-byte, span-join, span-more}
 
-digit-name-byte : (b : ℕ) → isDigit b ≡ true → isNameByte b ≡ true
+pub digit-name-byte : (b : ℕ) → isDigit b ≡ true → isNameByte b ≡ true
 unfolding isNameByte
 digit-name-byte b e = or-right (isNameStart b) e
 
@@ -97,7 +97,7 @@ module _ (k : ℕ) (f : Grow) (good : (a : Task × ℕ × Text) → growSize a <
   behind-operand d j n (refused e) h l = none-left
   behind-operand d j n (done p) h (some-left l) = leaves-wider (good (further j (p .0), d, p .1) (omega arith)) l
 
-  expression-left : (d j : ℕ) (t : Text) → length t < k → Leaves (length t) (expression f d j t)
+  pub expression-left : (d j : ℕ) (t : Text) → length t < k → Leaves (length t) (expression f d j t)
   expression-left d j t h = behind-operand d j (length t) (f (operand, d, t)) h (good (operand, d, t) h)
 
   shut-left : (l : Tree) (n : ℕ) (o : Lexed) → Lexes n o → Leaves n (o >>= λ s. shut l s)

@@ -1,0 +1,6 @@
+pub mod Lexing
+pub mod Trees
+pub mod Operands
+pub mod Climbing
+pub mod Wholes
+pub mod Determined
