@@ -1,19 +1,15 @@
 -- Names, logins and the order of keys, as the code tests them. Assumes nothing.
-use Prim.Native.Nat.{ℕ, suc}
+use Prim.Native.Nat.{ℕ}
 use native.Mathlib.Omega.{arith}
-use mathlib.Core.Path.{_≡_, refl, sym, ap, _∙_}
-use mathlib.Core.Bool.{Bool, true, false, _&&_}
-use mathlib.Core.List.{List, [], _∷_}
+use mathlib.Core.Path.{_≡_, refl}
+use mathlib.Core.Bool.{true, false}
+use mathlib.Core.List.{[], _∷_}
 use lib.Dec.{eqb}
 use lib.ListN.{length, getD}
-use Rattle.stages.specs.Bytes.{Text, isNameStart, eqText, ltText}
+use Rattle.stages.specs.Bytes.{Text, isNameStart}
 use Rattle.stages.specs.Images.{isName, isLogin}
 use Rattle.texts.specs.Classes.{Runs}
-use Rattle.texts.specs.Orders.{orderOf}
-use Rattle.texts.specs.declared.Class.{Class}
 use Rattle.texts.specs.declared.Class.the-variants.{NameByte, LoginByte}
-use Rattle.texts.specs.declared.Order.{Order}
-use Rattle.texts.specs.declared.Order.the-variants.{Less, Same, More}
 use Rattle.texts.proofs.Runs.{run-all}
 
 pub no-name : (s : Text) → length s ≡ 0 → false ≡ isName s

@@ -1,11 +1,11 @@
 -- What stands at a place of an image: how `text_at` gets its answer, and what each answer says of the stage's texts. For whoever walks an image from
 -- place 1 on: the texts met are those of the image, in order. Assumes nothing.
-use Prim.Native.Nat.{ℕ, zero, suc, _+_, _-_, _*_, _≤_, _<_}
+use Prim.Native.Nat.{ℕ, suc, _+_, _-_, _*_, _≤_, _<_}
 use native.Mathlib.Omega.{arith}
 use native.Mathlib.Numerals.{add-one}
 use mathlib.Core.Path.{_≡_, refl, sym, ap, _∙_}
 use mathlib.Core.Bool.{Bool, true, false, _&&_}
-use mathlib.Core.List.{List, [], _∷_, _++_}
+use mathlib.Core.List.{List, [], _∷_}
 use mathlib.Core.Option.{Option, none, some}
 use lib.Dec.{leb}
 use lib.ListN.{length, take, drop, getD, drop-of-length-le, length-drop}
@@ -22,10 +22,6 @@ use Rattle.texts.proofs.Runs.{run-passes, run-fails}
 use Rattle.tables.specs.Pieces.{sizeAt, pieceOf, pieceAt}
 use Rattle.tables.specs.declared.Piece.{Piece}
 use Rattle.tables.specs.declared.Piece.the-variants.{End, Bad, At}
-
-and-false : (x : Bool) → (x && false) ≡ false
-and-false true = refl
-and-false false = refl
 
 -- the ways of `text_at`
 module _ (t : Text) (at : ℕ) where

@@ -1,9 +1,8 @@
 -- A key splits the records of a table: those below it, its own if it has one, and those behind. Assumes nothing.
-use mathlib.Core.Path.{_≡_, refl, sym, ap, _∙_}
-use mathlib.Core.Bool.{Bool, true, false}
-use mathlib.Core.List.{List, [], _∷_, _++_}
+use mathlib.Core.Path.{_≡_, refl, ap}
+use mathlib.Core.Bool.{true, false}
+use mathlib.Core.List.{[], _∷_, _++_}
 use Rattle.stages.specs.Bytes.{Text, eqText, ltText}
-use Rattle.stages.specs.Outcome.{pick}
 use Rattle.stages.specs.Images.{Pairs, stored}
 use Rattle.stages.proofs.Texts.{eqText-same, ltText-irrefl, ltText-asym, ltText-other}
 use Rattle.stages.proofs.Stores.{store-cases}

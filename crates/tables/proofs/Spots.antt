@@ -1,24 +1,22 @@
 -- The walk to the place of a key: the records passed are below it, and what is left of the image is the records ahead. Assumes nothing.
-use Prim.Native.Nat.{ℕ, zero, suc, _+_, _-_, _*_, _≤_, _<_}
+use Prim.Native.Nat.{ℕ, _+_, _≤_, _<_}
 use native.Mathlib.Omega.{arith}
 use mathlib.Core.Path.{_≡_, refl, sym, ap, _∙_}
-use mathlib.Core.Bool.{Bool, true, false}
-use mathlib.Core.List.{List, [], _∷_, _++_, append-assoc, append-nil}
-use mathlib.Core.Option.{Option, none, some}
-use lib.ListN.{length, take, drop, length-append, length-drop, take-append-drop}
+use mathlib.Core.Bool.{true, false}
+use mathlib.Core.List.{[], _∷_, _++_, append-assoc, append-nil}
+use mathlib.Core.Option.{none, some}
+use lib.ListN.{length, take, drop, length-drop}
 use lib.Seq.{take-at, take-add, length-take-le}
 use Rattle.stages.specs.Bytes.{Text, part, eqText, ltText}
-use Rattle.stages.specs.Images.{Pairs, keys, rising, lookup, framed, written, flat, image, imageLength, recordBytes, held, texts}
+use Rattle.stages.specs.Images.{Pairs, keys, rising, lookup, framed, written, flat, image, recordBytes, held, texts}
 use Rattle.stages.proofs.Texts.{eqText-same, ltText-asym}
 use Rattle.stages.proofs.Images.{Bytes, image-canonical, pairsOf-some, length-image, length-written, written-append, flat-append}
-use Rattle.stages.proofs.Stores.{Under, lookup-here, lookup-later, lookup-under, rising-tail}
+use Rattle.stages.proofs.Stores.{lookup-here, lookup-later, lookup-under, rising-tail}
 use Rattle.texts.specs.Orders.{orderOf}
-use Rattle.texts.specs.declared.Order.{Order}
 use Rattle.texts.specs.declared.Order.the-variants.{Less, Same, More}
 use Rattle.texts.proofs.Orders.{order-below, order-equal, order-above, above-not-equal}
 use Rattle.tables.specs.Pieces.{sizeAt}
-use Rattle.tables.specs.Places.{Table, before, behind, placeOf, spotBy, spotIn, Hole, Holds, Rooms, known, fresh, Placed}
-use Rattle.tables.specs.declared.Spot.{Spot}
+use Rattle.tables.specs.Places.{Table, before, behind, placeOf, spotBy, spotIn, Hole, known, fresh, Placed}
 use Rattle.tables.specs.declared.Spot.the-variants.{Known, Fresh}
 use Rattle.tables.proofs.Frames.{Frame, frame}
 use Rattle.tables.proofs.Splits.{before-more, before-stop, behind-more, behind-known, behind-fresh, equal-not-above}

@@ -1,17 +1,15 @@
 -- The walk over a table's records, one for the four kinds: what is still to be tested of the texts ahead says the same as the stage. Assumes nothing.
-use Prim.Native.Nat.{ℕ, zero, suc, _+_, _-_, _≤_, _<_}
+use Prim.Native.Nat.{ℕ, _+_, _≤_, _<_}
 use native.Mathlib.Omega.{arith}
-use mathlib.Core.Path.{_≡_, refl, sym, ap, _∙_}
+use mathlib.Core.Path.{_≡_, refl, sym, _∙_}
 use mathlib.Core.Bool.{Bool, true, false, _&&_}
 use mathlib.Core.List.{List, [], _∷_}
 use mathlib.Core.Option.{Option, none, some}
-use lib.Dec.{leb, eqb}
 use lib.ListN.{length, drop, getD}
 use borrow.Author.Tests.{lt-leb, ne-eqb}
 use Rattle.stages.specs.Numbers.{imageLimit, pathsLimit}
 use Rattle.stages.specs.Bytes.{Text, part, ltText}
-use Rattle.stages.specs.Outcome.{pick}
-use Rattle.stages.specs.Images.{Pairs, isName, isLogin, isSome, variables, homes, pathsOf, fieldsOf, textsIn, texts, pairs, pairsOf, keys, allTexts, rising, ordered, pairsChecked, pathsChecked, notEmpty, sized, push}
+use Rattle.stages.specs.Images.{Pairs, isName, isLogin, isSome, variables, homes, pathsOf, fieldsOf, textsIn, texts, pairs, pairsOf, keys, allTexts, rising, pairsChecked, pathsChecked, notEmpty, sized, push}
 use Rattle.stages.proofs.Bools.{either}
 use Rattle.stages.proofs.Images.{texts-nil}
 use Rattle.stages.proofs.Tables.{sized-fits}

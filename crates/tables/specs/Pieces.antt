@@ -1,7 +1,7 @@
 -- What stands at a place of an image: "A text is a 2-byte big-endian length, then its bytes; no text holds a zero byte." Assumes nothing.
 use Prim.Native.Nat.{ℕ, _+_, _*_}
-use mathlib.Core.Bool.{Bool, _&&_}
-use mathlib.Core.List.{List, [], _∷_}
+use mathlib.Core.Bool.{_&&_}
+use mathlib.Core.List.{[], _∷_}
 use lib.Dec.{leb}
 use lib.ListN.{length, take, drop, getD}
 use Rattle.stages.specs.Bytes.{Text, all, notZero}

@@ -1,8 +1,8 @@
 -- Where a key stands in an image of pairs, or where it belongs, by the stage's records and no bytes; and what the bytes there are. Assumes nothing.
 use Prim.Native.Nat.{ℕ, _+_, _≤_}
 use mathlib.Core.Path.{_≡_}
-use mathlib.Core.Bool.{Bool, true, false}
-use mathlib.Core.List.{List, [], _∷_}
+use mathlib.Core.Bool.{true}
+use mathlib.Core.List.{[], _∷_}
 use mathlib.Core.Option.{Option, none, some}
 use lib.ListN.{length, take, drop}
 use Rattle.stages.specs.Bytes.{Text, part, eqText, ltText}

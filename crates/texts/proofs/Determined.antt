@@ -1,9 +1,9 @@
 -- The contracts determine every answer and every byte: two outcomes that a contract allows for one input are equal. Assumes nothing.
-use Prim.Native.Nat.{ℕ, _+_, _-_, _≤_}
+use Prim.Native.Nat.{ℕ}
 use native.Mathlib.Omega.{arith}
 use mathlib.Core.Path.{_≡_, sym, ap, _∙_}
 use mathlib.Core.Bool.{Bool}
-use mathlib.Core.List.{List, _++_}
+use mathlib.Core.List.{_++_}
 use lib.ListN.{length, drop, replicate, length-drop}
 use lib.Seq.{paste}
 use Rattle.stages.specs.Bytes.{Text, isIn, eqText}

@@ -1,11 +1,11 @@
 -- Moving and copying bytes, on plain lists: a loop's area is at each step what was pasted so far, and the rest as it was. Assumes nothing.
-use Prim.Native.Nat.{ℕ, zero, suc, _+_, _-_, _≤_, _<_}
+use Prim.Native.Nat.{ℕ, suc, _+_, _-_, _≤_, _<_}
 use native.Mathlib.Omega.{arith}
 use native.Mathlib.Nat.{add-zero, add-suc, sub-zero, sub-self}
 use native.Mathlib.Numerals.{add-one}
 use mathlib.Core.Path.{_≡_, refl, sym, ap, _∙_}
-use mathlib.Core.List.{List, [], _∷_, _++_, append-assoc, append-nil}
-use lib.ListN.{length, take, drop, getD, set, length-set, length-append, length-drop, take-append-drop, List·getD-append}
+use mathlib.Core.List.{List, [], _∷_, _++_, append-assoc}
+use lib.ListN.{length, take, drop, getD, set, length-set, length-drop, take-append-drop, List·getD-append}
 use lib.Seq.{paste, paste-zero, paste-suc, length-paste-head, getD-append-add, getD-drop, getD-take, length-take-le, set-append-left, take-suc-set, take-set-lt, drop-cons, take-length}
 
 -- the bytes on the way up, j still to be moved

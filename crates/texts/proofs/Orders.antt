@@ -6,7 +6,6 @@ use mathlib.Core.Bool.{Bool, true, false}
 use Rattle.stages.specs.Bytes.{Text, eqText, ltText}
 use Rattle.stages.proofs.Texts.{ltText-above}
 use Rattle.texts.specs.Orders.{orderOf, pickOrder}
-use Rattle.texts.specs.declared.Order.{Order}
 use Rattle.texts.specs.declared.Order.the-variants.{Less, Same, More}
 
 less : (p q : Bool) → pickOrder p q ≡ Less → p ≡ true

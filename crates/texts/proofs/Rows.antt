@@ -1,14 +1,14 @@
 -- Rows in bytes: what is written as a row is read back, a row takes two bytes for each unit, and patterns see the same in bytes as in units.
 -- Assumes nothing.
-use Prim.Native.Nat.{ℕ, zero, suc, _+_, _*_}
+use Prim.Native.Nat.{ℕ, _*_}
 use native.Mathlib.Omega.{arith}
 use mathlib.Core.Path.{_≡_, refl, ap}
-use mathlib.Core.Bool.{Bool, true, false, _&&_}
-use mathlib.Core.List.{List, [], _∷_, _++_}
+use mathlib.Core.Bool.{Bool, true, false}
+use mathlib.Core.List.{[], _∷_, _++_}
 use lib.ListN.{length}
 use Rattle.stages.specs.Bytes.{Text}
-use Rattle.stages.specs.Units.{Mark, L, E, Q, Cell, cell, N, Row, bytes}
-use Rattle.stages.specs.Pattern.{Sign, Signs, signs}
+use Rattle.stages.specs.Units.{L, E, Q, cell, N, Row}
+use Rattle.stages.specs.Pattern.{Signs, signs}
 use Rattle.texts.specs.Rows.{markByte, rowBytes, unitOf, rowOf, signsOf}
 
 pub rowOf-rowBytes : (r : Row) → rowOf (rowBytes r) ≡ r

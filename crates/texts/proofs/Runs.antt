@@ -1,16 +1,15 @@
 -- A longest run that reaches the end shows that all bytes pass, and one that does not that some byte fails. Assumes nothing.
-use Prim.Native.Nat.{ℕ, suc, _+_, _-_, _≤_, _<_}
+use Prim.Native.Nat.{ℕ, suc, _-_, _≤_, _<_}
 use native.Mathlib.Omega.{arith}
-use mathlib.Core.Path.{_≡_, refl, sym, ap, _∙_}
-use mathlib.Core.Bool.{Bool, true, false, _&&_}
-use mathlib.Core.List.{List, [], _∷_, _++_}
+use mathlib.Core.Path.{_≡_, sym, ap, _∙_}
+use mathlib.Core.Bool.{true, false}
 use lib.Dec.{eqb}
 use lib.ListN.{length, drop, getD, length-drop}
 use lib.Seq.{take-all, drop-cons}
-use borrow.Author.Tests.{eq-eqb, ne-eqb, eqb-true, eqb-false}
+use borrow.Author.Tests.{eqb-true, eqb-false}
 use Rattle.stages.specs.Bytes.{Text, part, all, span}
 use Rattle.stages.proofs.Bools.{apart, not-passed, either, and-left}
-use Rattle.stages.proofs.Texts.{Stops, all-back, span-join, span-all, span-stops}
+use Rattle.stages.proofs.Texts.{all-back, span-join, span-all, span-stops}
 use Rattle.texts.specs.Classes.{inClass, Runs}
 use Rattle.texts.specs.declared.Class.{Class}
 

@@ -1,20 +1,20 @@
 -- What the scanning loops hold, on plain lists: a law for each way through a body. Assumes nothing.
-use Prim.Native.Nat.{ℕ, zero, suc, _+_, _-_, _≤_, _<_}
+use Prim.Native.Nat.{ℕ, suc, _+_, _-_, _≤_, _<_}
 use native.Mathlib.Omega.{arith}
 use native.Mathlib.Nat.{sub-self}
 use native.Mathlib.Numerals.{add-one}
 use mathlib.Core.Path.{_≡_, refl, sym, ap, _∙_}
-use mathlib.Core.Bool.{Bool, true, false, _&&_, _||_}
-use mathlib.Core.List.{List, [], _∷_, _++_, append-assoc, append-nil}
-use lib.Dec.{eqb, ltb}
+use mathlib.Core.Bool.{Bool, true, false, _&&_}
+use mathlib.Core.List.{[], _∷_, _++_, append-assoc, append-nil}
+use lib.Dec.{eqb}
 use lib.ListN.{length, take, drop, getD, length-drop, drop-of-length-le}
 use lib.Seq.{drop-cons, take-suc, getD-drop}
 use borrow.Author.Tests.{lt-ltb, le-ltb, eq-eqb, ne-eqb}
 use Rattle.stages.specs.Bytes.{Text, part, span, longer, isIn, eqText, ltText}
+use Rattle.stages.proofs.Texts.{span-more, span-stop}
 use Rattle.texts.specs.Classes.{inClass, Runs}
 use Rattle.texts.specs.Orders.{orderOf}
 use Rattle.texts.specs.declared.Class.{Class}
-use Rattle.texts.specs.declared.Order.{Order}
 use Rattle.texts.specs.declared.Order.the-variants.{Less, Same, More}
 
 -- a byte is looked for in a set
@@ -43,15 +43,6 @@ part-more t a e h k =
     let f : a + (e - a) ≡ e = omega arith in
     rw s (take-suc (drop a t) (e - a) 0 l ∙ ap (λ (b : ℕ). take (e - a) (drop a t) ++ (b ∷ [])) (getD-drop a t (e - a) 0 ∙ ap (λ (n : ℕ). getD t n 0) f))
 
--- a run stops at a byte that fails the test, and has one more byte where it passes
-pub span-stop : (f : ℕ → Bool) (b : ℕ) (t : Text) → f b ≡ false → span f (b ∷ t) ≡ ([], b ∷ t)
-unfolding span
-span-stop f b t e = ap (λ (x : Bool). elim x as (λ y. Text × Text) [ true ↦ longer b (span f t) | false ↦ ([], b ∷ t) ]) e
-
-pub span-go : (f : ℕ → Bool) (b : ℕ) (t : Text) → f b ≡ true → span f (b ∷ t) ≡ longer b (span f t)
-unfolding span
-span-go f b t e = ap (λ (x : Bool). elim x as (λ y. Text × Text) [ true ↦ longer b (span f t) | false ↦ ([], b ∷ t) ]) e
-
 pub record Running (class : Class) (t : Text) (at i : ℕ) : Type 0 where
   pub onward : at ≤ i
   pub within : i ≤ length t
@@ -63,10 +54,10 @@ module _ (class : Class) (t : Text) (at : ℕ) where
 
   module _ (i : ℕ) (p : Running class t at i) where
     span-stops : i < length t → inClass class (getD t i 0) ≡ false → span (inClass class) (drop i t) ≡ ([], drop i t)
-    span-stops h e = rw (drop-cons t i 0) (span-stop (inClass class) (getD t i 0) (drop (suc i) t) e)
+    span-stops h e = rw (drop-cons t i 0) (span-stop (inClass class) (getD t i 0 ∷ drop (suc i) t) e)
 
     span-goes : i < length t → inClass class (getD t i 0) ≡ true → span (inClass class) (drop i t) ≡ longer (getD t i 0) (span (inClass class) (drop (i + 1) t))
-    span-goes h e = rw (drop-cons t i 0, add-one i) (span-go (inClass class) (getD t i 0) (drop (suc i) t) e)
+    span-goes h e = rw (drop-cons t i 0, add-one i) (span-more (inClass class) (getD t i 0) (drop (suc i) t) e)
 
     span-ends : length t ≤ i → span (inClass class) (drop i t) ≡ ([], drop i t)
     unfolding span

@@ -2,7 +2,6 @@
 use Prim.Native.Nat.{ℕ, _≤_}
 use mathlib.Core.Path.{_≡_}
 use mathlib.Core.Bool.{Bool}
-use mathlib.Core.List.{List}
 use lib.ListN.{length, drop}
 use Rattle.stages.specs.Bytes.{Text, part, span, notZero, isDigit, isNameStart, isNameByte, isLoginByte, isBlank, isOperator}
 use Rattle.texts.specs.declared.Class.{Class}

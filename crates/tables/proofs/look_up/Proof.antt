@@ -1,6 +1,5 @@
 -- `tables::look_up` meets its contract: the value of a known key is what stands behind its name. Assumes nothing.
 use native.Mathlib.Omega.{arith}
-use Rattle.tables.specs.Places.{Holds}
 use Rattle.tables.proofs.Finds.{is-known, look-known, look-fresh}
 use borrow.Author.Needs.{needs}
 use Rattle.tables.proofs.look_up.Statement.{statement}

@@ -1,15 +1,12 @@
 -- `texts::fill_zero` meets its contract: `i` zeros stand before the area as it was. Assumes nothing.
-use Prim.Native.Nat.{ℕ, zero, suc, _+_, _-_, _*_, _≤_, _<_}
-use mathlib.Core.Path.{_≡_, refl, sym, ap, _∙_}
-use mathlib.Core.List.{List, [], _∷_, _++_}
+use Prim.Native.Nat.{ℕ, _-_, _≤_}
+use mathlib.Core.Path.{_≡_, refl, ap, _∙_}
+use mathlib.Core.List.{List, _++_}
 use native.Mathlib.Omega.{arith}
-use native.Mathlib.Nat.{le-antisymm}
-use native.Mathlib.Numerals.{add-one}
-use borrow.Author.Needs.{needs}
 use lib.Seq.{drop-length}
 use mathlib.Core.List.{append-nil}
-use lib.ListN.{length, take, drop, set, replicate, length-set}
-use borrow.Author.Fill.{fill-none, fill-more}
+use lib.ListN.{length, drop, set, replicate, length-set}
+use borrow.Author.Fill.{fill-more}
 use Rattle.texts.proofs.fill_zero.Statement.{statement}
 use Rattle.texts.proofs.fill_zero.Tie as tie
 

@@ -1,5 +1,5 @@
 -- `texts::in_class` meets its contract: the array is the table of all bytes, whose rule is proved once. Assumes nothing.
-use mathlib.Core.Path.{_≡_, _∙_, ap}
+use mathlib.Core.Path.{_∙_, ap}
 use mathlib.Core.Bool.{not}
 use lib.Dec.{eqb}
 use lib.Bits.{bitAnd}

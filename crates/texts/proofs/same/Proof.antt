@@ -1,6 +1,6 @@
 -- `texts::same` meets its contract: texts of unlike length are not the same, and up to `i` these two are. Assumes nothing.
 use native.Mathlib.Omega.{arith}
-use Prim.Native.Nat.{_-_, _≤_}
+use Prim.Native.Nat.{_-_}
 use mathlib.Core.Path.{_≡_, refl, sym}
 use lib.ListN.{length}
 use Rattle.texts.proofs.Scans.{Alike, unlike-lengths, same-not, order-again, same-all}
