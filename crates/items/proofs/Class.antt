@@ -12,6 +12,7 @@ use lib.ListN.{length, drop, getD, drop-of-length-le, length-take, length-drop}
 use lib.Seq.{drop-cons}
 use Rattle.stages.specs.Numbers.{unended, bareOperator, substitution, unserved, badSyntax, tooDeep}
 use Rattle.stages.specs.Bytes.{Text, text, part, isNameStart}
+use Rattle.stages.specs.Outcome.{pick}
 use Rattle.stages.specs.Syntax.{Form, Mode, single, double, arith as sums}
 use Rattle.stages.specs.Items.{Item, fault, stop, byte, paren, quote, value, count, inner, sum, item, itemOf, ended, escaped, quotable}
 use Rattle.stages.specs.Items.{wrong, expansion, notServed, parenthesis, braced, opened, closed, outer}
@@ -23,7 +24,7 @@ use Rattle.modes.specs.declared.Mode.the-variants as mode
 use Rattle.modes.specs.declared.Form as code-form
 use Rattle.modes.specs.declared.Sort as code-sort
 use Rattle.modes.specs.declared.Sort.the-variants as sort-of
-use Rattle.items.specs.Shows.{Shows, Behind, isAt}
+use Rattle.items.specs.Shows.{Shows, Behind, isAt, nameOf}
 use Rattle.items.specs.declared.Item as code-item
 use Rattle.items.specs.declared.Item.the-variants as code
 
@@ -43,15 +44,22 @@ module _ (s : Text) (at d next k : ℕ) (e : next ≡ at + suc k) (w : next ≤ 
   shows-byte q b h = (h ∙ ap (byte q b) took, past)
 
   module _ (from to : ℕ) (f : from ≤ to) (t : to ≤ length s) where
-    pub shows-value : {i : Item} → i ≡ value (part s from to) k → Shows s at d (code.Value from to next) i
-    shows-value h = (h ∙ ap (value (part s from to)) took, past, record { onward = f; within = t })
+    pub shows-value : from ≡ nameOf at (to - from) (next - suc at) → {i : Item} → i ≡ value (part s from to) k → Shows s at d (code.Value from to next) i
+    shows-value q h = (h ∙ ap (value (part s from to)) took, past, record { onward = f; within = t }, q)
 
-    pub shows-count : {i : Item} → i ≡ count (part s from to) k → Shows s at d (code.Count from to next) i
-    shows-count h = (h ∙ ap (count (part s from to)) took, past, record { onward = f; within = t })
+    pub shows-count : from ≡ at + 3 → {i : Item} → i ≡ count (part s from to) k → Shows s at d (code.Count from to next) i
+    shows-count q h = (h ∙ ap (count (part s from to)) took, past, record { onward = f; within = t }, q)
 
-    pub shows-inner : (p : code-form.Form) (m : code-mode.Mode) → 0 < d → openIn m ≡ 0 → {i : Item} → i ≡ inner (part s from to) (formOf p) (modeOf m) k
+    pub shows-inner : from ≡ at + 2 → (p : code-form.Form) (m : code-mode.Mode) → 0 < d → openIn m ≡ 0 → {i : Item} → i ≡ inner (part s from to) (formOf p) (modeOf m) k
         → Shows s at d (code.Inner from to p m next) i
-    shows-inner p m z o h = (h ∙ ap (inner (part s from to) (formOf p) (modeOf m)) took, past, record { onward = f; within = t }, z, o)
+    shows-inner q p m z o h = (h ∙ ap (inner (part s from to) (formOf p) (modeOf m)) took, past, record { onward = f; within = t }, z, o, q)
+
+-- where a name begins behind `$`, and behind `${`
+pub plain-name : (at to : ℕ) → at + 1 ≤ to → at + 1 ≡ nameOf at (to - (at + 1)) (to - suc at)
+plain-name at to l = sym (ap (λ (x : Bool). pick x (at + 1) (at + 2)) (eq-eqb (to - suc at) (to - (at + 1)) (omega arith)))
+
+pub braced-name : (at to : ℕ) → at + 2 ≤ to → at + 2 ≡ nameOf at (to - (at + 2)) (to + 1 - suc at)
+braced-name at to l = sym (ap (λ (x : Bool). pick x (at + 1) (at + 2)) (ne-eqb (to + 1 - suc at) (to - (at + 2)) (λ e. omega arith)))
 
 pub shows-stop : (s : Text) (at d next k : ℕ) → next ≡ at + k → next ≤ length s → {i : Item} → i ≡ stop k → Shows s at d (code.Stop next) i
 shows-stop s at d next k e w h = (h ∙ ap stop (took′ next at k e), omega arith, w)

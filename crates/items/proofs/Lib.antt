@@ -1,2 +1,3 @@
 pub mod Class
-pub mod Braces
+pub mod Names
+pub mod Determined

@@ -6,6 +6,7 @@ use mathlib.Core.List.{[], _∷_}
 use lib.Dec.{eqb}
 use lib.ListN.{length}
 use Rattle.stages.specs.Bytes.{Text, part}
+use Rattle.stages.specs.Outcome.{pick}
 use Rattle.stages.specs.Syntax.{Form, suffix, prefix}
 use Rattle.stages.specs.Items.{fault, stop, byte, paren, quote, value, count, inner, sum, named, behindLength}
 use Rattle.stages.specs.Items as items
@@ -38,6 +39,10 @@ pub record Name (text : Text) (from to : ℕ) : Type 0 where
   pub onward : from ≤ to
   pub within : to ≤ length text
 
+-- where the name of `$name` or `${name}` begins, of n bytes where k bytes stand behind the `$`
+abbrev pub nameOf : ℕ → ℕ → ℕ → ℕ
+nameOf at n k = pick (eqb k n) (at + 1) (at + 2)
+
 -- the code's item at a place is the stage's, and its places lie in the text
 abbrev pub Shows : Text → ℕ → ℕ → Item → items.Item → Type 0
 Shows text at depth (Fault e) i = i ≡ fault e
@@ -45,8 +50,8 @@ Shows text at depth (Stop next) i = (i ≡ stop (next - at)) × (at ≤ next) ×
 Shows text at depth (Byte q b next) i = (i ≡ byte q b (next - suc at)) × Behind text at next
 Shows text at depth (Paren b n) i = (i ≡ paren b n) × (at < length text) × (n ≤ at + 1)
 Shows text at depth (Quote m) i = (i ≡ quote (modeOf m)) × (at < length text) × (openIn m ≡ 0)
-Shows text at depth (Value from to next) i = (i ≡ value (part text from to) (next - suc at)) × Behind text at next × Name text from to
-Shows text at depth (Count from to next) i = (i ≡ count (part text from to) (next - suc at)) × Behind text at next × Name text from to
+Shows text at depth (Value from to next) i = (i ≡ value (part text from to) (next - suc at)) × Behind text at next × Name text from to × (from ≡ nameOf at (to - from) (next - suc at))
+Shows text at depth (Count from to next) i = (i ≡ count (part text from to) (next - suc at)) × Behind text at next × Name text from to × (from ≡ at + 3)
 Shows text at depth (Inner from to f m next) i =
-    (i ≡ inner (part text from to) (formOf f) (modeOf m) (next - suc at)) × Behind text at next × Name text from to × (0 < depth) × (openIn m ≡ 0)
+    (i ≡ inner (part text from to) (formOf f) (modeOf m) (next - suc at)) × Behind text at next × Name text from to × (0 < depth) × (openIn m ≡ 0) × (from ≡ at + 2)
 Shows text at depth (Sum next) i = (i ≡ sum) × (next ≡ at + 3) × (next ≤ length text) × (0 < depth)

@@ -1,17 +1,18 @@
 // What stands at a place of a text: document 01's "Reading a line", a question for each function, none of them recursive. A place `at` is that of
 // the first byte of what stands there; `depth` says how many expansions may still open.
+mod braces;
+
 use modes::Form;
 use modes::Mode;
 use modes::Sort;
 use texts::Class;
 ghost use mathlib.Core.Path.{_≡_};
-ghost use Prim.Native.Nat.{ℕ, _+_, _-_, _≤_, _<_};
+ghost use Prim.Native.Nat.{ℕ, _+_, _≤_, _<_};
 ghost use lib.ListN.{length, drop, getD};
-ghost use Rattle.stages.specs.Bytes.{part};
 ghost use Rattle.stages.specs.Syntax.{arith};
-ghost use Rattle.stages.specs.Items.{item, escaped, expansion, parenthesis, braced, named, behindLength, behindName, behindColon, removal, closed};
-ghost use Rattle.modes.specs.Modes.{modeOf, openIn, formOf};
-ghost use Rattle.items.specs.Shows.{Shows, isAt, removalForm, counted};
+ghost use Rattle.stages.specs.Items.{item, escaped, expansion, parenthesis, closed};
+ghost use Rattle.modes.specs.Modes.{modeOf, openIn};
+ghost use Rattle.items.specs.Shows.{Shows, isAt};
 
 // What stands at a place; `next` is the place behind it, and a name stands from `from` to `to`.
 pub enum Item {
@@ -94,155 +95,6 @@ fn escaped_at(text: &[u8], at: usize, mode: Mode, depth: usize) -> Item
     }
 }
 
-// What `${name:` at `at` is, whose colon is at `to`.
-fn behind_colon(text: &[u8], at: usize, mode: Mode, depth: usize, to: usize) -> Item
-    requires { ⌜ (at + 2 ≤ to) × (to < length (now text)) × (0 < depth) ⌝ }
-    ensures { λ r. ⌜ Shows (now (text .entry)) at depth r (behindColon (modeOf mode) (part (now (text .entry)) (at + 2) to) (to + 1 - at) (drop (to + 1) (now (text .entry)))) ⌝ }
-{
-    if to + 1 >= text.len() {
-        return Item::Fault(modes::REFUSED_UNENDED);
-    }
-    let b = text[to + 1];
-    if texts::is_in(b, b"-=?+") {
-        return Item::Inner {
-            from: at + 2,
-            to: to,
-            form: modes::sign_form(b, true),
-            mode: modes::operand_mode(mode),
-            next: to + 2,
-        };
-    }
-    Item::Fault(modes::wrong_byte(modes::REFUSED_SYNTAX, b))
-}
-
-// The form of a removal.
-fn removal_form(prefix: bool, doubled: bool) -> Form
-    ensures { λ r. ⌜ formOf r ≡ removalForm «prefix» doubled ⌝ }
-{
-    if prefix {
-        return Form::Prefix(doubled);
-    }
-    Form::Suffix(doubled)
-}
-
-// What a removal `${name%` or `${name#` at `at` is, whose sign is at `to`.
-fn removal_at(text: &[u8], at: usize, depth: usize, to: usize, prefix: bool) -> Item
-    requires { ⌜ (at + 2 ≤ to) × (to < length (now text)) × (0 < depth) ⌝ }
-    ensures { λ r. ⌜ Shows (now (text .entry)) at depth r (removal (part (now (text .entry)) (at + 2) to) (removalForm «prefix») (getD (now (text .entry)) to 0) (to - at) (drop (to + 1) (now (text .entry)))) ⌝ }
-{
-    let sign = text[to];
-    if is_at(text, to + 1, sign) {
-        return Item::Inner {
-            from: at + 2,
-            to: to,
-            form: removal_form(prefix, true),
-            mode: Mode::Bare,
-            next: to + 2,
-        };
-    }
-    Item::Inner {
-        from: at + 2,
-        to: to,
-        form: removal_form(prefix, false),
-        mode: Mode::Bare,
-        next: to + 1,
-    }
-}
-
-// What `${name` at `at` is, whose name ends at `to`.
-fn behind_name(text: &[u8], at: usize, mode: Mode, depth: usize, to: usize) -> Item
-    requires { ⌜ (at + 2 ≤ to) × (to ≤ length (now text)) × (0 < depth) ⌝ }
-    ensures { λ r. ⌜ Shows (now (text .entry)) at depth r (behindName (modeOf mode) (part (now (text .entry)) (at + 2) to) (to - at) (drop to (now (text .entry)))) ⌝ }
-{
-    if to >= text.len() {
-        return Item::Fault(modes::REFUSED_UNENDED);
-    }
-    let b = text[to];
-    if b == b'}' {
-        return Item::Value {
-            from: at + 2,
-            to: to,
-            next: to + 1,
-        };
-    }
-    if b == b':' {
-        return behind_colon(text, at, mode, depth, to);
-    }
-    if texts::is_in(b, b"-=?+") {
-        return Item::Inner {
-            from: at + 2,
-            to: to,
-            form: modes::sign_form(b, false),
-            mode: modes::operand_mode(mode),
-            next: to + 1,
-        };
-    }
-    if b == b'%' {
-        return removal_at(text, at, depth, to, false);
-    }
-    if b == b'#' {
-        return removal_at(text, at, depth, to, true);
-    }
-    Item::Fault(modes::wrong_byte(modes::REFUSED_SYNTAX, b))
-}
-
-// What `${#name` at `at` is, whose name ends at `to`.
-fn behind_length(text: &[u8], at: usize, depth: usize, to: usize) -> Item
-    requires { ⌜ (at + 3 ≤ to) × (to ≤ length (now text)) ⌝ }
-    ensures { λ r. ⌜ Shows (now (text .entry)) at depth r (behindLength (part (now (text .entry)) (at + 3) to) (to - at) (drop to (now (text .entry)))) ⌝ }
-{
-    if to >= text.len() {
-        return Item::Fault(modes::REFUSED_UNENDED);
-    }
-    let b = text[to];
-    if b == b'}' {
-        return Item::Count {
-            from: at + 3,
-            to: to,
-            next: to + 1,
-        };
-    }
-    Item::Fault(modes::wrong_byte(modes::REFUSED_SYNTAX, b))
-}
-
-// What `${#` at `at` is.
-fn length_at(text: &[u8], at: usize, depth: usize) -> Item
-    requires { ⌜ at + 2 < length (now text) ⌝ }
-    ensures { λ r. ⌜ Shows (now (text .entry)) at depth r (counted (drop (at + 3) (now (text .entry)))) ⌝ }
-{
-    if at + 3 >= text.len() {
-        return Item::Fault(modes::REFUSED_UNENDED);
-    }
-    let b = text[at + 3];
-    if texts::in_class(Class::NameStart, b) {
-        let to = texts::run_end(text, at + 3, Class::NameByte);
-        return behind_length(text, at, depth, to);
-    }
-    Item::Fault(modes::wrong_byte(modes::REFUSED_UNSERVED, b))
-}
-
-// What `${` at `at` is.
-fn braced_at(text: &[u8], at: usize, mode: Mode, depth: usize) -> Item
-    requires { ⌜ at + 1 < length (now text) ⌝ }
-    ensures { λ r. ⌜ Shows (now (text .entry)) at depth r (braced (modeOf mode) depth (drop (at + 2) (now (text .entry)))) ⌝ }
-{
-    if depth == 0 {
-        return Item::Fault(modes::REFUSED_DEPTH);
-    }
-    if at + 2 >= text.len() {
-        return Item::Fault(modes::REFUSED_UNENDED);
-    }
-    let b = text[at + 2];
-    if b == b'#' {
-        return length_at(text, at, depth);
-    }
-    if texts::in_class(Class::NameStart, b) {
-        let to = texts::run_end(text, at + 2, Class::NameByte);
-        return behind_name(text, at, mode, depth, to);
-    }
-    Item::Fault(modes::wrong_byte(modes::REFUSED_UNSERVED, b))
-}
-
 // What `$(` at `at` is.
 fn parenthesis_at(text: &[u8], at: usize, depth: usize) -> Item
     requires { ⌜ at + 1 < length (now text) ⌝ }
@@ -282,7 +134,7 @@ fn expansion_at(text: &[u8], at: usize, mode: Mode, depth: usize) -> Item
         return parenthesis_at(text, at, depth);
     }
     if b == b'{' {
-        return braced_at(text, at, mode, depth);
+        return braces::braced_at(text, at, mode, depth);
     }
     if modes::is_not_served(mode, b) {
         return Item::Fault(modes::REFUSED_UNSERVED);

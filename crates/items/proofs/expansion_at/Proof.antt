@@ -2,7 +2,7 @@
 use mathlib.Core.Path.{_≡_, refl, sym, ap, _∙_}
 use native.Mathlib.Omega.{arith}
 use Rattle.modes.specs.Modes.{modeOf}
-use Rattle.items.proofs.Class.{same-item, shows-byte, shows-value, dollar-end, dollar-name, dollar-paren, dollar-brace, dollar-other, dollar-plain}
+use Rattle.items.proofs.Class.{same-item, shows-byte, shows-value, plain-name, dollar-end, dollar-name, dollar-paren, dollar-brace, dollar-other, dollar-plain}
 use borrow.Author.Needs.{needs}
 use Rattle.items.proofs.expansion_at.Statement.{statement}
 use Rattle.items.proofs.expansion_at.Tie as tie
@@ -40,7 +40,7 @@ returns-2 : tie.Need-returns-2
 returns-2 c =
     let a = c .before .before .before .before .before .before .args in
     let r = c .run-end .ensures in
-    shows-value (a .text .now) (a .at) (a .depth) _ _ (omega (arith, r .onward)) (r .within) _ _ (r .onward) (r .within) (dollar-name (modeOf (a .mode)) (a .depth) (a .text .now) (a .at) (omega (arith, c .before .before .before .before .if1 .left)) (sym (c .before .before .in-class .ensures) ∙ c .before .if2 .taken) _ r)
+    shows-value (a .text .now) (a .at) (a .depth) _ _ (omega (arith, r .onward)) (r .within) _ _ (r .onward) (r .within) (plain-name (a .at) _ (r .onward)) (dollar-name (modeOf (a .mode)) (a .depth) (a .text .now) (a .at) (omega (arith, c .before .before .before .before .if1 .left)) (sym (c .before .before .in-class .ensures) ∙ c .before .if2 .taken) _ r)
 
 parenthesis-at-requires : tie.Need-parenthesis-at-requires
 parenthesis-at-requires c κs = search needs

@@ -1,12 +1,12 @@
--- `items::braced_at` meets its contract: the depth first, then the byte behind. Assumes nothing.
+-- `items::braces::braced_at` meets its contract: the depth first, then the byte behind. Assumes nothing.
 use mathlib.Core.Path.{_≡_, refl, sym, ap, _∙_}
 use native.Mathlib.Omega.{arith}
 use Rattle.modes.specs.Modes.{modeOf}
 use Rattle.items.proofs.Class.{same-item}
-use Rattle.items.proofs.Braces.{brace-deep, brace-end, brace-length, brace-named, brace-wrong}
+use Rattle.items.proofs.Names.{brace-deep, brace-end, brace-length, brace-named, brace-wrong}
 use borrow.Author.Needs.{needs}
-use Rattle.items.proofs.braced_at.Statement.{statement}
-use Rattle.items.proofs.braced_at.Tie as tie
+use Rattle.items.proofs.braces.braced_at.Statement.{statement}
+use Rattle.items.proofs.braces.braced_at.Tie as tie
 
 returns : tie.Need-returns
 returns c =

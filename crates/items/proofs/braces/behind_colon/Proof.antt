@@ -1,14 +1,14 @@
--- `items::behind_colon` meets its contract: the byte behind decides. Assumes nothing.
+-- `items::braces::behind_colon` meets its contract: the byte behind decides. Assumes nothing.
 use Prim.Native.Nat.{suc, _+_, _-_}
 use mathlib.Core.Path.{_≡_, refl, sym, ap, _∙_}
 use native.Mathlib.Omega.{arith}
 use Rattle.stages.specs.Bytes.{part}
 use Rattle.modes.specs.Modes.{modeOf}
 use Rattle.items.proofs.Class.{shows-inner, inner-same}
-use Rattle.items.proofs.Braces.{colon-end, colon-sign, colon-wrong}
+use Rattle.items.proofs.Names.{colon-end, colon-sign, colon-wrong}
 use borrow.Author.Needs.{needs}
-use Rattle.items.proofs.behind_colon.Statement.{statement}
-use Rattle.items.proofs.behind_colon.Tie as tie
+use Rattle.items.proofs.braces.behind_colon.Statement.{statement}
+use Rattle.items.proofs.braces.behind_colon.Tie as tie
 
 add-if1 : tie.Need-add-if1
 add-if1 c = search needs
@@ -45,7 +45,7 @@ add-t19 c = search needs
 returns-2 : tie.Need-returns-2
 returns-2 c =
     let a = c .before .before .before .before .before .before .before .before .args in
-    shows-inner (a .text .now) (a .at) (a .depth) (a .to + 2) (a .to + 1 - a .at) (omega (arith, c .before .before .before .before .before .before .before .before .pre .0)) (omega (arith, c .before .before .before .before .before .before .if1 .left)) (a .at + 2) (a .to) (c .before .before .before .before .before .before .before .before .pre .0) (omega (arith, c .before .before .before .before .before .before .before .before .pre .1)) (c .before .sign-form .result) (c .operand-mode .result) (c .before .before .before .before .before .before .before .before .pre .2) (c .operand-mode .ensures .closed)
+    shows-inner (a .text .now) (a .at) (a .depth) (a .to + 2) (a .to + 1 - a .at) (omega (arith, c .before .before .before .before .before .before .before .before .pre .0)) (omega (arith, c .before .before .before .before .before .before .if1 .left)) (a .at + 2) (a .to) (c .before .before .before .before .before .before .before .before .pre .0) (omega (arith, c .before .before .before .before .before .before .before .before .pre .1)) refl (c .before .sign-form .result) (c .operand-mode .result) (c .before .before .before .before .before .before .before .before .pre .2) (c .operand-mode .ensures .closed)
     (colon-sign (modeOf (a .mode)) (a .text .now) (part (a .text .now) (a .at + 2) (a .to)) (a .to + 1 - a .at) (a .to + 1) (omega (arith, c .before .before .before .before .before .before .if1 .left)) (sym (c .before .before .before .is-in .ensures) ∙ c .before .before .if2 .taken) ∙ inner-same (part (a .text .now) (a .at + 2) (a .to)) (a .to + 1 - a .at) (sym (c .before .sign-form .ensures)) (sym (c .operand-mode .ensures .is)))
 
 wrong-byte-requires : tie.Need-wrong-byte-requires

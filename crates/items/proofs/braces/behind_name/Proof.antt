@@ -1,4 +1,4 @@
--- `items::behind_name` meets its contract: the byte behind decides. Assumes nothing.
+-- `items::braces::behind_name` meets its contract: the byte behind decides. Assumes nothing.
 use Prim.Native.Nat.{suc, _+_, _-_}
 use mathlib.Core.Path.{_≡_, refl, sym, ap, _∙_}
 use native.Mathlib.Omega.{arith}
@@ -6,11 +6,11 @@ use lib.ListN.{drop, getD}
 use Rattle.stages.specs.Bytes.{part}
 use Rattle.stages.specs.Syntax.{suffix, prefix}
 use Rattle.modes.specs.Modes.{modeOf}
-use Rattle.items.proofs.Class.{same-item, shows-value, shows-inner, inner-same}
-use Rattle.items.proofs.Braces.{name-end, name-close, name-colon, name-sign, name-suffix, name-prefix, name-wrong, colon-place, removal-place}
+use Rattle.items.proofs.Class.{same-item, shows-value, braced-name, shows-inner, inner-same}
+use Rattle.items.proofs.Names.{name-end, name-close, name-colon, name-sign, name-suffix, name-prefix, name-wrong, colon-place, removal-place}
 use borrow.Author.Needs.{needs}
-use Rattle.items.proofs.behind_name.Statement.{statement}
-use Rattle.items.proofs.behind_name.Tie as tie
+use Rattle.items.proofs.braces.behind_name.Statement.{statement}
+use Rattle.items.proofs.braces.behind_name.Tie as tie
 
 returns : tie.Need-returns
 returns c =
@@ -29,7 +29,7 @@ add-t13 c = search needs
 returns-2 : tie.Need-returns-2
 returns-2 c =
     let a = c .before .before .before .before .args in
-    shows-value (a .text .now) (a .at) (a .depth) (a .to + 1) (a .to - a .at) (omega (arith, c .before .before .before .before .pre .0)) (omega (arith, c .before .before .if1 .left)) (a .at + 2) (a .to) (c .before .before .before .before .pre .0) (c .before .before .before .before .pre .1) (name-close (modeOf (a .mode)) (a .text .now) (part (a .text .now) (a .at + 2) (a .to)) (a .to - a .at) (a .to) (omega (arith, c .before .before .if1 .left)) (c .if2 .taken))
+    shows-value (a .text .now) (a .at) (a .depth) (a .to + 1) (a .to - a .at) (omega (arith, c .before .before .before .before .pre .0)) (omega (arith, c .before .before .if1 .left)) (a .at + 2) (a .to) (c .before .before .before .before .pre .0) (c .before .before .before .before .pre .1) (braced-name (a .at) (a .to) (c .before .before .before .before .pre .0)) (name-close (modeOf (a .mode)) (a .text .now) (part (a .text .now) (a .at + 2) (a .to)) (a .to - a .at) (a .to) (omega (arith, c .before .before .if1 .left)) (c .if2 .taken))
 
 behind-colon-requires : tie.Need-behind-colon-requires
 behind-colon-requires c κs = search needs
@@ -60,7 +60,7 @@ add-t20 c = search needs
 returns-4 : tie.Need-returns-4
 returns-4 c =
     let a = c .before .before .before .before .before .before .before .before .before .before .args in
-    shows-inner (a .text .now) (a .at) (a .depth) (a .to + 1) (a .to - a .at) (omega (arith, c .before .before .before .before .before .before .before .before .before .before .pre .0)) (omega (arith, c .before .before .before .before .before .before .before .before .if1 .left)) (a .at + 2) (a .to) (c .before .before .before .before .before .before .before .before .before .before .pre .0) (c .before .before .before .before .before .before .before .before .before .before .pre .1) (c .before .sign-form .result) (c .operand-mode .result) (c .before .before .before .before .before .before .before .before .before .before .pre .2) (c .operand-mode .ensures .closed)
+    shows-inner (a .text .now) (a .at) (a .depth) (a .to + 1) (a .to - a .at) (omega (arith, c .before .before .before .before .before .before .before .before .before .before .pre .0)) (omega (arith, c .before .before .before .before .before .before .before .before .if1 .left)) (a .at + 2) (a .to) (c .before .before .before .before .before .before .before .before .before .before .pre .0) (c .before .before .before .before .before .before .before .before .before .before .pre .1) refl (c .before .sign-form .result) (c .operand-mode .result) (c .before .before .before .before .before .before .before .before .before .before .pre .2) (c .operand-mode .ensures .closed)
     (name-sign (modeOf (a .mode)) (a .text .now) (part (a .text .now) (a .at + 2) (a .to)) (a .to - a .at) (a .to) (omega (arith, c .before .before .before .before .before .before .before .before .if1 .left)) (c .before .before .before .before .before .before .if2 .left) (c .before .before .before .before .before .if3 .left) (sym (c .before .before .before .is-in .ensures) ∙ c .before .before .if4 .taken) ∙ inner-same (part (a .text .now) (a .at + 2) (a .to)) (a .to - a .at) (sym (c .before .sign-form .ensures)) (sym (c .operand-mode .ensures .is)))
 
 removal-at-requires : tie.Need-removal-at-requires
