@@ -121,6 +121,18 @@ pub variables-held : (t : Text) (v : Pairs) → variables t ≡ some v → held 
 unfolding variables
 variables-held t v e = table-of isName t v e .0
 
+pub variables-canonical : (t : Text) (v : Pairs) → Bytes t → variables t ≡ some v → t ≡ image (flat v)
+unfolding variables
+variables-canonical t v h e =
+    let k : (held t ≡ v) × Vars t = table-of isName t v e in
+    table-canonical isName t (k .1) h ∙ ap (λ (w : Pairs). image (flat w)) (k .0)
+
+pub variables-image : (v : Pairs) → Fine (flat v) → ordered isName (keys v) ≡ true → imageLength (flat v) ≤ imageLimit → variables (image (flat v)) ≡ some v
+variables-image v h r n =
+    variables-are (image (flat v))
+    (table-image isName v h (and-left (allTexts isName (keys v)) (rising (keys v)) r) (and-right (allTexts isName (keys v)) (rising (keys v)) r) n)
+    ∙ ap some (held-image v h)
+
 pub homes-of : (t : Text) → isSome (homes t) ≡ true → Homes t
 unfolding homes
 homes-of t e = some-of (homes t) e (λ v k. table-of isLogin t v k .1)
@@ -132,6 +144,18 @@ homes-are t w = table-is isLogin t w
 pub homes-held : (t : Text) (v : Pairs) → homes t ≡ some v → held t ≡ v
 unfolding homes
 homes-held t v e = table-of isLogin t v e .0
+
+pub homes-canonical : (t : Text) (v : Pairs) → Bytes t → homes t ≡ some v → t ≡ image (flat v)
+unfolding homes
+homes-canonical t v h e =
+    let k : (held t ≡ v) × Homes t = table-of isLogin t v e in
+    table-canonical isLogin t (k .1) h ∙ ap (λ (w : Pairs). image (flat w)) (k .0)
+
+pub homes-image : (v : Pairs) → Fine (flat v) → ordered isLogin (keys v) ≡ true → imageLength (flat v) ≤ imageLimit → homes (image (flat v)) ≡ some v
+homes-image v h r n =
+    homes-are (image (flat v))
+    (table-image isLogin v h (and-left (allTexts isLogin (keys v)) (rising (keys v)) r) (and-right (allTexts isLogin (keys v)) (rising (keys v)) r) n)
+    ∙ ap some (held-image v h)
 
 -- paths
 
@@ -203,3 +227,13 @@ module _ (t : Text) (w : texts t ≡ some (heldTexts t)) where
 
   pub texts-held-canonical : Bytes t → t ≡ image (heldTexts t)
   texts-held-canonical h = image-canonical t (heldTexts t) h w
+
+pub paths-canonical : (t : Text) (l : List Text) → Bytes t → pathsOf t ≡ some l → t ≡ image l
+paths-canonical t l h e =
+    let k : (heldTexts t ≡ l) × Paths t = paths-held t l e in
+    texts-held-canonical t (k .1 .table) h ∙ ap image (k .0)
+
+pub fields-canonical : (t : Text) (l : List Text) → Bytes t → fieldsOf t ≡ some l → t ≡ image l
+fields-canonical t l h e =
+    let k : (heldTexts t ≡ l) × Fields t = fields-held t l e in
+    texts-held-canonical t (k .1 .table) h ∙ ap image (k .0)

@@ -7,7 +7,7 @@ use mathlib.Core.Bool.{Bool, true, false, _&&_}
 use mathlib.Core.List.{List, [], _∷_, _++_, append-assoc, append-nil}
 use mathlib.Core.Option.{some}
 use lib.Dec.{leb}
-use lib.ListN.{length, take, drop, length-append, length-drop}
+use lib.ListN.{length, take, drop, set, length-append, length-drop}
 use lib.Seq.{take-at, drop-at, drop-drop, take-all, drop-length}
 use borrow.Rule.Slice.PartMut.{putMid, midOf}
 use borrow.Author.Tests.{leb-true, leb-false, le-leb}
@@ -101,6 +101,12 @@ pub record Fills (l : List Text) (old out : Text) (used : ℕ) : Type 0 where
   pub small : used ≤ length old
   pub is : out ≡ over (image l) old
 
+-- the version byte alone is the image of no texts
+pub fills-none : (old : Text) → 1 ≤ length old → Fills [] old (set old 0 1) 1
+unfolding image written over
+fills-none [] h = absurd (omega arith)
+fills-none (b ∷ t) h = record { long = refl; small = h; is = refl }
+
 image-snoc : (l : List Text) (t : Text) → image (l ++ (t ∷ [])) ≡ image l ++ framed t
 unfolding image written
 image-snoc l t = ap (λ (x : Text). 1 ∷ x) (written-append l (t ∷ []) ∙ rw (append-nil t))
@@ -108,6 +114,11 @@ image-snoc l t = ap (λ (x : Text). 1 ∷ x) (written-append l (t ∷ []) ∙ rw
 pub over-length : (t old : Text) → length t ≤ length old → length (over t old) ≡ length old
 unfolding over
 over-length t old h = simp (length-append, length-drop) (omega arith)
+
+-- an image that is handed over by one copy
+pub copied-over : (t part old left : Text) → part ≡ t → left ≡ part ++ drop (length part) old → left ≡ over t old
+unfolding over
+copied-over t part old left e q = q ∙ ap (λ (x : Text). x ++ drop (length x) old) e
 
 -- "Each field is written behind the last one.": `put_record(&mut out[used..], t)`
 module _ (l : List Text) (t old out ys : Text) (used : ℕ) (r : Put) (f : Fills l old out used)

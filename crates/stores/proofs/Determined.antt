@@ -2,9 +2,11 @@
 use Prim.Native.Nat.{ℕ}
 use native.Mathlib.Omega.{arith}
 use mathlib.Core.Path.{_≡_, refl, sym, ap, _∙_}
+use lib.ListN.{length, take}
 use Rattle.stages.specs.Bytes.{Text}
 use Rattle.stages.specs.Outcome.{Outcome, refused, done}
-use Rattle.stores.specs.Answers.{putOutcome, storedOutcome, Writes}
+use Rattle.stages.specs.Images.{held}
+use Rattle.stores.specs.Answers.{putOutcome, storedOutcome, recordIn, imageIn, Writes}
 use Rattle.stores.specs.declared.Put.{Put}
 use Rattle.stores.specs.declared.Put.the-variants.{Len, NoRoom}
 use Rattle.stores.specs.declared.Stored.{Stored}
@@ -33,11 +35,12 @@ stored-one (Used n) Full e = absurd (apart e)
 stored-one Full (Used m) e = absurd (apart (sym e))
 stored-one Full Full e = refl
 
--- `put_record` and `store`
-pub put-record-determined : (o : Outcome Text) (old left left′ : Text) (r s : Put) → Writes o old left (putOutcome r) → Writes o old left′ (putOutcome s)
-    → (r ≡ s) × (left ≡ left′)
-put-record-determined o old left left′ r s w w′ = (put-one r s (writes-once w w′ .0), writes-once w w′ .1)
+pub put-record-determined : (text out left left′ : Text) (r s : Put) → Writes (recordIn (length out) text) out left (putOutcome r)
+    → Writes (recordIn (length out) text) out left′ (putOutcome s) → (r ≡ s) × (left ≡ left′)
+put-record-determined text out left left′ r s w w′ = (put-one r s (writes-once w w′ .0), writes-once w w′ .1)
 
-pub store-determined : (o : Outcome Text) (old left left′ : Text) (r s : Stored) → Writes o old left (storedOutcome r) → Writes o old left′ (storedOutcome s)
+pub store-determined : (vars name value left left′ : Text) (used cap : ℕ) (r s : Stored)
+    → Writes (imageIn cap name value (held (take used vars))) vars left (storedOutcome r)
+    → Writes (imageIn cap name value (held (take used vars))) vars left′ (storedOutcome s)
     → (r ≡ s) × (left ≡ left′)
-store-determined o old left left′ r s w w′ = (stored-one r s (writes-once w w′ .0), writes-once w w′ .1)
+store-determined vars name value left left′ used cap r s w w′ = (stored-one r s (writes-once w w′ .0), writes-once w w′ .1)

@@ -57,10 +57,10 @@ add-next-2 : tie.Need-add-next-2
 add-next-2 c = search needs
 
 sub-put-record-2 : tie.Need-sub-put-record-2
-sub-put-record-2 c = omega (arith, has-room _ _ _ _ (c .before .before .before .before .before .before .before .before .before .fits2 .ensures) (c .before .before .before .before .before .before .before .before .if1 .left))
+sub-put-record-2 c = let tested = c .before .before .before .before .before .before .before .before in omega (arith, has-room _ _ _ _ (tested .before .fits2 .ensures) (tested .if1 .left))
 
 part-put-record-start-2 : tie.Need-part-put-record-start-2
-part-put-record-start-2 c = omega (arith, has-room _ _ _ _ (c .before .before .before .before .before .before .before .before .before .fits2 .ensures) (c .before .before .before .before .before .before .before .before .if1 .left))
+part-put-record-start-2 c = let tested = c .before .before .before .before .before .before .before .before in omega (arith, has-room _ _ _ _ (tested .before .fits2 .ensures) (tested .if1 .left))
 
 part-put-record-end-2 : tie.Need-part-put-record-end-2
 part-put-record-end-2 c = search needs
@@ -69,17 +69,21 @@ put-record-requires-2 : tie.Need-put-record-requires-2
 put-record-requires-2 c κs = search needs
 
 add-t14 : tie.Need-add-t14
-add-t14 c = omega (arith, has-room _ _ _ _ (c .before .before .before .before .before .before .before .before .before .before .before .before .before .fits2 .ensures) (c .before .before .before .before .before .before .before .before .before .before .before .before .if1 .left))
+add-t14 c = let tested = c .before .before .before .before .before .before .before .before .before .before .before .before in omega (arith, has-room _ _ _ _ (tested .before .fits2 .ensures) (tested .if1 .left))
 
 same-length : tie.Need-same-length
 same-length c = search needs
 
 returns-2 : tie.Need-returns-2
 returns-2 c =
-    let a = c .before .before .before .before .before .before .before .before .before .before .before .before .before .before .before .before .before .args in
+    let second = c .before .before in
+    let first = second .before .before .before .before in
+    let moved = first .before .before .before .before in
+    let tested = moved .before .before in
+    let a = tested .before .before .before .before .before .args in
     splice-kept (a .vars .now) (a .name .now) (a .value .now) (a .used) (a .at) (a .end) (a .cap) (omega arith) (omega arith) (omega arith) (omega arith) (omega arith)
-    (c .before .before .before .before .before .before .before .before .before .before .shift .last .0) (c .before .before .before .before .before .before .put-record .last .0) (has-room _ _ _ _ (c .before .before .before .before .before .before .before .before .before .before .before .before .before .fits2 .ensures) (c .before .before .before .before .before .before .before .before .before .before .before .before .if1 .left)) (c .before .before .before .before .before .before .before .before .before .before .shift .ensures) (c .before .before .before .before .before .before .before .before .before .before .shift .kept .0) (c .before .before .before .before .before .before .put-record .ensures)
-    (c .before .before .put-record2 .last .0) (c .before .before .put-record2 .ensures)
+    (moved .shift .last .0) (first .put-record .last .0) (has-room _ _ _ _ (tested .before .fits2 .ensures) (tested .if1 .left)) (moved .shift .ensures) (moved .shift .kept .0) (first .put-record .ensures)
+    (second .put-record2 .last .0) (second .put-record2 .ensures)
 
 pub splice-spec : {M : Type 1} → statement M
 splice-spec =
