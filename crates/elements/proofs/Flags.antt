@@ -1,13 +1,13 @@
 -- What a store of one flag does to `has`, for the loops over the 256 flags. Assumes nothing.
-use mathlib.Core.Path.{_≡_, refl, sym, _∙_, ap}
+use mathlib.Core.Path.{_≡_, sym, _∙_, ap}
 use mathlib.Core.Bool.{Bool, true, false, _||_, and-false}
 use mathlib.Core.List.{List, map}
 use Prim.Native.Nat.{ℕ, _+_, _≤_, _<_}
 use native.Mathlib.Omega.{arith}
 use native.Mathlib.Decide.{ℕ-discrete}
-use lib.ListN.{length, set, getD, length-map}
+use lib.ListN.{length, set, length-map}
 use lib.Dec.{leb, eqb}
-use borrow.Author.Tests.{le-leb, lt-leb, eq-eqb, ne-eqb}
+use borrow.Author.Tests.{lt-leb, eq-eqb, ne-eqb}
 use lib.Seq.{getD-set-same, getD-set-other}
 use Rattle.stages.specs.Bytes.{between}
 use Rattle.elements.specs.Sets.{has}
@@ -37,10 +37,7 @@ pub above-stored : (l l₀ : List Bool) (i : ℕ) (v : Bool) → i < length l
     → ((k : ℕ) → i ≤ k → has l k ≡ has l₀ k) → (k : ℕ) → i + 1 ≤ k → has (set l i v) k ≡ has l₀ k
 above-stored l l₀ i v fits above k h = stored-off l i v fits k (λ e. omega arith) ∙ above k (omega arith)
 
--- `between` from its bounds
-pub inside : (lo hi k : ℕ) → lo ≤ k → k ≤ hi → between lo k hi ≡ true
-inside lo hi k a b = rw (le-leb lo k a, le-leb k hi b)
-
+-- outside its bounds `between` fails
 pub below-range : (lo hi k : ℕ) → k < lo → between lo k hi ≡ false
 below-range lo hi k a = rw (lt-leb lo k a)
 

@@ -1,14 +1,15 @@
 -- The members of a bracket one after the other: a range takes three units, any other member one, and each adds to the set that is gathered. Assumes nothing.
-use Prim.Native.Nat.{ℕ, suc, _+_, _-_, _≤_, _<_}
+use Prim.Native.Nat.{ℕ, _+_, _-_, _≤_, _<_}
 use Prim.Native.Char.{code}
 use mathlib.Core.Path.{_≡_, refl, sym, _∙_, ap}
-use mathlib.Core.Bool.{Bool, true, false, not, xor, _||_, or-false, or-assoc, or-comm}
-use mathlib.Core.List.{List, [], _∷_}
+use mathlib.Core.Bool.{Bool, true, false, not, xor, _||_, or-false}
+use mathlib.Core.List.{[], _∷_}
 use native.Mathlib.Omega.{arith}
 use native.Mathlib.Decide.{decLt}
 use lib.Dec.{eqb}
 use lib.ListN.{length, drop, getD}
 use Rattle.stages.specs.Bytes.{Text, between}
+use Rattle.stages.proofs.Bools.{apart}
 use Rattle.stages.specs.Outcome.{pick}
 use Rattle.stages.specs.Pattern.{Sign, Signs, isLive, listed, inSet}
 use Rattle.texts.specs.Rows.{signsOf}
@@ -61,7 +62,7 @@ module _ (p : Text) (k : ℕ) where
     where
       go : Dec (k + 5 < length p) → k + 5 < length p
       go (yes h) = h
-      go (no f) = absurd (let q = range-short (omega arith) in let z : _≡_ {A = ℕ} 0 1 = cc in omega arith)
+      go (no f) = absurd (apart (range-short (omega arith)) y)
 
   -- what a member, or a range, lists
   pub lists-member : (x : ℕ) → k + 1 < length p → ranges (signsOf (drop k p)) ≡ false

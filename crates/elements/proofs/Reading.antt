@@ -1,22 +1,21 @@
 -- The piece that stands at a place is the stage's next element there, and the elements behind it begin behind the piece. Assumes nothing.
 use Prim.Native.Nat.{ℕ, zero, suc, _+_, _*_, _-_, _≤_, _<_}
-use Prim.Native.Char.{code}
 use mathlib.Core.Path.{_≡_, refl, sym, _∙_, ap}
-use mathlib.Core.Bool.{Bool, true, false, _&&_, _||_}
+use mathlib.Core.Bool.{Bool, true, false, _&&_, _||_, and-false}
 use mathlib.Core.List.{List, [], _∷_}
 use native.Mathlib.Omega.{arith}
 use lib.Dec.{eqb}
-use lib.ListN.{length, take, drop, getD, length-drop}
+use lib.ListN.{length, drop, length-drop}
 use lib.Seq.{drop-drop}
 use borrow.Author.Tests.{eqb-true, ne-eqb}
+use Rattle.stages.proofs.Bools.{and-right}
 use Rattle.stages.specs.Outcome.{pick}
-use Rattle.stages.specs.Bytes.{Text, part}
-use Rattle.stages.specs.Pattern.{Sign, Signs, isLive, Element, star, one, byte, set, Found, class, unclosed, closedAfter, find, bracket, others, skipped, bracketed, bracketLength, element, extra, elements, isClass, hasClass}
+use Rattle.stages.specs.Bytes.{Text}
+use Rattle.stages.specs.Pattern.{Sign, Signs, isLive, Element, byte, set, Found, class, unclosed, closedAfter, bracket, others, skipped, bracketed, bracketLength, element, extra, elements, isClass, hasClass}
 use Rattle.texts.specs.Rows.{signsOf}
-use Rattle.elements.specs.Heads.{begins}
 use Rattle.elements.specs.Pieces.{setFrom, bracketAt, pieceAt, behindOf, elementOf, isClassPiece, Lies}
 use Rattle.elements.specs.declared.Piece.{Piece}
-use Rattle.elements.specs.declared.Piece.the-variants.{Star, One, Byte, Class, Set}
+use Rattle.elements.specs.declared.Piece.the-variants.{Star, One, Byte}
 use Rattle.elements.proofs.Units.{signAt, unit-at, none-at, units-behind, units-of, units-there}
 use Rattle.elements.proofs.Searches.{found-inside}
 
@@ -35,12 +34,8 @@ class-skip path (suc k) (s ∷ r) = class-skip path k r
 
 -- a unit that is one active byte is no other
 other-byte : (b c : ℕ) (s : Sign) → (b ≡ c → ⊥) → isLive b s ≡ true → isLive c s ≡ false
-other-byte b c s n y = go (s .live) (eqb (s .byte) b) refl refl y
-  where
-    go : (l x : Bool) → s .live ≡ l → eqb (s .byte) b ≡ x → (l && x) ≡ true → isLive c s ≡ false
-    go true true e f g = rw (e, ne-eqb (s .byte) c (λ h. n (sym (eqb-true (s .byte) b f) ∙ h)))
-    go true false e f g = absurd (let z : _≡_ {A = ℕ} 0 1 = cc in omega arith)
-    go false x e f g = absurd (let z : _≡_ {A = ℕ} 0 1 = cc in omega arith)
+other-byte b c s n y =
+    rw (ne-eqb (s .byte) c (λ h. n (sym (eqb-true (s .byte) b (and-right (s .live) (eqb (s .byte) b) y)) ∙ h))) (and-false (s .live))
 
 -- a bracket behind its `[`, at the place k, by what its search finds
 module _ (p : Text) (k : ℕ) where

@@ -1,15 +1,14 @@
 -- The search for a bracket's end, unit by unit, and what stands behind its `[`. Assumes nothing.
-use Prim.Native.Nat.{ℕ, zero, suc, _+_, _*_, _-_, _≤_, _<_}
-use Prim.Native.Char.{code}
+use Prim.Native.Nat.{ℕ, suc, _+_, _*_, _-_, _≤_, _<_}
 use mathlib.Core.Path.{_≡_, refl, sym, _∙_, ap}
-use mathlib.Core.Bool.{Bool, true, false, not, _&&_, _||_, or-false}
-use mathlib.Core.List.{List, [], _∷_}
+use mathlib.Core.Bool.{Bool, true, false, not, _&&_, _||_, or-false, and-false}
+use mathlib.Core.List.{[], _∷_}
 use native.Mathlib.Omega.{arith}
 use lib.Dec.{eqb}
 use lib.ListN.{length, drop, getD}
 use Rattle.stages.specs.Bytes.{Text, isIn, text}
 use Rattle.stages.specs.Outcome.{pick}
-use Rattle.stages.specs.Pattern.{Sign, Signs, isLive, Found, class, unclosed, closedAfter, oneMore, opensClass, find, bracket, others, skipped}
+use Rattle.stages.specs.Pattern.{Sign, Signs, isLive, Found, class, unclosed, closedAfter, oneMore, opensClass, find, bracket, others}
 use Rattle.texts.specs.Rows.{signsOf}
 use Rattle.elements.specs.Heads.{begins, opens}
 use Rattle.elements.specs.Pieces.{searchOf, setFrom, bracketAt, pieceAt}
@@ -25,11 +24,7 @@ three b false = refl
 
 opens-both : (s : Sign) (r : Signs) → opensClass s r ≡ (isLive 91 s && (begins 58 r || (begins 46 r || begins 61 r)))
 unfolding opensClass begins
-opens-both s [] = sym (go (isLive 91 s))
-  where
-    go : (b : Bool) → (b && false) ≡ false
-    go true = refl
-    go false = refl
+opens-both s [] = sym (and-false (isLive 91 s))
 opens-both s (u ∷ r) = rw (three (u .byte) (u .live))
 
 -- a class opens at a place

@@ -1,17 +1,18 @@
 -- The unit at a place of a pattern's bytes, as the stage sees it: the law by which a walk over the bytes goes in step with one over signs. Assumes nothing.
 use Prim.Native.Nat.{ℕ, zero, suc, _+_, _*_, _-_, _≤_, _<_}
-use mathlib.Core.Path.{_≡_, refl, sym, _∙_, ap}
-use mathlib.Core.Bool.{Bool, true, false, and-false}
-use mathlib.Core.List.{List, [], _∷_}
+use mathlib.Core.Path.{_≡_, refl, _∙_, ap}
+use mathlib.Core.Bool.{true, false}
+use mathlib.Core.List.{[], _∷_}
 use native.Mathlib.Omega.{arith}
 use native.Mathlib.Decide.{decLt}
 use lib.Dec.{eqb}
-use lib.ListN.{length, take, drop, getD, length-drop, drop-of-length-le}
+use lib.ListN.{length, take, drop, getD, length-drop}
 use lib.Seq.{drop-cons, drop-nil, take-all}
 use borrow.Author.Tests.{eq-eqb, ne-eqb}
+use Rattle.stages.proofs.Bools.{apart}
 use Rattle.stages.specs.Outcome.{pick}
 use Rattle.stages.specs.Bytes.{Text}
-use Rattle.stages.specs.Pattern.{Sign, Signs, isLive}
+use Rattle.stages.specs.Pattern.{Sign, Signs}
 use Rattle.texts.specs.Rows.{signsOf}
 use Rattle.elements.specs.Heads.{begins}
 
@@ -91,7 +92,7 @@ module _ (p : Text) (k c : ℕ) where
     where
       go : Dec (k + 1 < length p) → k + 1 < length p
       go (yes h) = h
-      go (no n) = absurd (let f = live-beyond (omega arith) in let z : _≡_ {A = ℕ} 0 1 = cc in omega arith)
+      go (no n) = absurd (apart (live-beyond (omega arith)) y)
 
 -- a part from k to the end is what is left when k are dropped
 pub to-end : (v : Text) (k : ℕ) → take (length v - k) (drop k v) ≡ drop k v

@@ -1,10 +1,9 @@
 -- The stage's tests on a unit and those behind it, as tests on the units from a place on. Assumes nothing.
 use Prim.Native.Nat.{ℕ}
 use Prim.Native.Char.{code}
-use mathlib.Core.Bool.{Bool, true, false, _&&_}
-use mathlib.Core.List.{List, [], _∷_}
-use lib.Dec.{eqb}
-use Rattle.stages.specs.Pattern.{Sign, Signs, isLive, opensClass}
+use mathlib.Core.Bool.{Bool, false}
+use mathlib.Core.List.{[], _∷_}
+use Rattle.stages.specs.Pattern.{Signs, isLive, opensClass}
 
 -- the first unit is this byte, and active
 unfoldable pub begins : ℕ → Signs → Bool

@@ -2,11 +2,10 @@
 use Prim.Native.Nat.{ℕ, _+_, _*_, _^_, _≤_, _<_}
 use Prim.Native.Char.{code}
 use mathlib.Core.Bool.{Bool, true, false}
-use mathlib.Core.List.{List, [], _∷_}
-use lib.ListN.{drop}
+use mathlib.Core.List.{[], _∷_}
 use Rattle.stages.specs.Bytes.{Text, part}
 use Rattle.stages.specs.Outcome.{pick}
-use Rattle.stages.specs.Pattern.{Sign, Signs, isLive, Element, star, one, byte, set, Found, class, unclosed, closedAfter, bracket, others, skipped}
+use Rattle.stages.specs.Pattern.{Signs, isLive, Element, star, one, byte, set, Found, class, unclosed, closedAfter, bracket, others, skipped}
 use Rattle.texts.specs.Rows.{signsOf}
 use Rattle.elements.specs.declared.Search.{Search}
 use Rattle.elements.specs.declared.Search.the-variants.{Class as ClassMet, Unclosed, After}

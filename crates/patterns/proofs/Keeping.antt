@@ -1,17 +1,18 @@
 -- The pass that drops N units, unit by unit, and what patterns see of what it keeps. Assumes nothing.
-use Prim.Native.Nat.{ℕ, suc, _+_, _-_, _≤_, _<_}
+use Prim.Native.Nat.{ℕ, _+_, _-_, _≤_, _<_}
 use mathlib.Core.Path.{_≡_, refl, sym, _∙_, ap}
 use mathlib.Core.Bool.{Bool, true, false, _||_}
-use mathlib.Core.List.{List, [], _∷_, _++_, append-assoc, append-nil}
+use mathlib.Core.List.{[], _∷_, _++_, append-assoc, append-nil}
 use native.Mathlib.Omega.{arith}
 use lib.Dec.{eqb}
-use lib.ListN.{length, drop, getD, set, length-append, length-drop}
-use lib.Seq.{getD-append-add, getD-drop, set-at}
+use lib.ListN.{length, take, drop, getD, set, length-append, length-drop}
+use lib.Seq.{getD-append-add, getD-drop, set-at, take-at}
 use borrow.Author.Tests.{eqb-true}
-use Rattle.stages.specs.Outcome.{pick}
+use Rattle.stages.specs.Numbers.{bracketClass}
+use Rattle.stages.specs.Outcome.{refused, done, pick}
 use Rattle.stages.specs.Bytes.{Text}
-use Rattle.stages.specs.Units.{Mark, L, E, Q, Cell, cell, N, Row}
-use Rattle.stages.specs.Pattern.{Sign, Signs, signs}
+use Rattle.stages.specs.Units.{L, E, Q, cell, N, Row}
+use Rattle.stages.specs.Pattern.{signs, hasClass, elements, pattern}
 use Rattle.texts.specs.Rows.{rowBytes, rowOf, unitOf, signsOf}
 use Rattle.elements.proofs.Units.{two-on}
 use Rattle.patterns.specs.Kept.{isMark, withoutEmpty, kept, Dropped}
@@ -147,3 +148,29 @@ row-of-bytes (N ∷ r) = ap (λ (s : Row). N ∷ s) (row-of-bytes r)
 
 pub row-signs : (r : Row) → signsOf (kept (rowBytes r)) ≡ signs r
 row-signs r = kept-signs (rowBytes r) ∙ ap signs (row-of-bytes r)
+
+-- what a caller has who drops the N of a row and lends its front
+module _ {entry exit : Text} {count : ℕ} (d : Dropped entry exit count) where
+  pub dropped-front : take count exit ≡ kept entry
+  dropped-front = ap (λ (t : Text). take count t) (d .stands) ∙ take-at (kept entry) (drop (length (kept entry)) entry) count (sym (d .counts))
+
+  pub dropped-fits : count ≤ length exit
+  dropped-fits =
+      let n = d .counts in
+      omega (arith, ap length (d .stands) ∙ length-append (kept entry) (drop (length (kept entry)) entry))
+
+  pub dropped-signs : signsOf (take count exit) ≡ signs (rowOf entry)
+  dropped-signs = ap signsOf dropped-front ∙ kept-signs entry
+
+-- the same where the row stood in the bytes
+pub dropped-row : (r : Row) {exit : Text} {count : ℕ} → Dropped (rowBytes r) exit count → signsOf (take count exit) ≡ signs r
+dropped-row r d = dropped-signs d ∙ ap signs (row-of-bytes r)
+
+-- the pattern that a row makes, by the answer for 19
+pub pattern-refused : (path : Bool) (r : Row) → hasClass path 0 (signs r) ≡ true → pattern path r ≡ refused bracketClass
+unfolding pattern
+pattern-refused path r y = rw (y, pattern)
+
+pub pattern-done : (path : Bool) (r : Row) → hasClass path 0 (signs r) ≡ false → pattern path r ≡ done (elements path 0 (signs r))
+unfolding pattern
+pattern-done path r n = rw (n, pattern)

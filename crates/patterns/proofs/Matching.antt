@@ -8,15 +8,16 @@ use native.Mathlib.Numerals.{add-one}
 use lib.Dec.{eqb}
 use lib.ListN.{length, take, drop, getD, length-drop, drop-of-length-le}
 use lib.Seq.{drop-cons}
+use Rattle.stages.proofs.Bools.{no}
 use Rattle.stages.specs.Bytes.{Text}
-use Rattle.stages.specs.Pattern.{Element, star, one, byte, set, elements, hasClass, passes, takes, inSet, someEnd, matchesFrom}
+use Rattle.stages.specs.Pattern.{Element, one, byte, set, elements, hasClass, passes, takes, inSet, someEnd, matchesFrom}
 use Rattle.stages.specs.Paths.{active}
 use Rattle.texts.specs.Rows.{signsOf}
 use Rattle.elements.specs.Pieces.{pieceAt, behindOf, elementOf, isClassPiece, Lies}
 use Rattle.elements.specs.declared.Piece.{Piece}
 use Rattle.elements.specs.declared.Piece.the-variants.{Star, One, Byte, Class, Set}
 use Rattle.elements.proofs.Units.{to-end}
-use Rattle.elements.proofs.Reading.{next-inside, next-further, elements-on, class-on, piece-lies, elements-over, class-over}
+use Rattle.elements.proofs.Reading.{next-inside, next-further, elements-on, class-on, piece-lies, elements-over}
 use Rattle.patterns.specs.Steps.{isStar, isSlash, isSpecial, takesOne, from, behindStar, MeetsStar, RunSays}
 use Rattle.patterns.specs.declared.Run.{Run}
 use Rattle.patterns.specs.declared.Run.the-variants.{Whole, Fails, Star as StarMet}
@@ -50,7 +51,7 @@ module _ (path head first : Bool) (es : List Element) (b : ℕ) (t : Text) where
   step : (p : Text) (q : Piece) → isStar q ≡ false
       → matchesFrom path (elementOf p q ∷ es) head first (b ∷ t) ≡ (takesOne path head first (elementOf p q) b && matchesFrom path es (isSlash q) (isSlash q) t)
   unfolding elementOf takesOne
-  step p Star n = absurd (let z : _≡_ {A = ℕ} 0 1 = cc in omega arith)
+  step p Star n = absurd (no (sym n))
   step p One n = one-step
   step p (Byte c) n = byte-step c
   step p Class n = byte-step 91
@@ -59,7 +60,7 @@ module _ (path head first : Bool) (es : List Element) (b : ℕ) (t : Text) where
 -- no byte is left for it
 none-left : (path head first : Bool) (es : List Element) (p : Text) (q : Piece) → isStar q ≡ false → matchesFrom path (elementOf p q ∷ es) head first [] ≡ false
 unfolding matchesFrom elementOf
-none-left path head first es p Star n = absurd (let z : _≡_ {A = ℕ} 0 1 = cc in omega arith)
+none-left path head first es p Star n = absurd (no (sym n))
 none-left path head first es p One n = refl
 none-left path head first es p (Byte c) n = refl
 none-left path head first es p Class n = refl
@@ -70,10 +71,10 @@ met : (path head first : Bool) (p : Text) (n : ℕ) (t : Text) (q : Piece) → i
     → matchesFrom path (elementOf p q ∷ from path p n) head first t ≡ behindStar path p n first t
 unfolding matchesFrom elementOf behindStar
 met path head first p n t Star y = refl
-met path head first p n t One y = absurd (let z : _≡_ {A = ℕ} 0 1 = cc in omega arith)
-met path head first p n t (Byte c) y = absurd (let z : _≡_ {A = ℕ} 0 1 = cc in omega arith)
-met path head first p n t Class y = absurd (let z : _≡_ {A = ℕ} 0 1 = cc in omega arith)
-met path head first p n t (Set negative a e) y = absurd (let z : _≡_ {A = ℕ} 0 1 = cc in omega arith)
+met path head first p n t One y = absurd (no y)
+met path head first p n t (Byte c) y = absurd (no y)
+met path head first p n t Class y = absurd (no y)
+met path head first p n t (Set negative a e) y = absurd (no y)
 
 active-step : (p : Text) (q : Piece) (es : List Element) → active (elementOf p q ∷ es) ≡ (isSpecial q || active es)
 unfolding active elementOf
@@ -83,51 +84,59 @@ active-step p (Byte b) es = refl
 active-step p Class es = refl
 active-step p (Set negative a e) es = refl
 
--- the piece q at a place of the pattern, n the place behind it
-module _ (path : Bool) (p : Text) (at : ℕ) (h : at + 1 < length p) (q : Piece) (e : q ≡ pieceAt path at (signsOf (drop at p))) where
-  pub piece-inside : behindOf q at ≤ length p
-  piece-inside = rw e (next-inside path p at h)
+-- the piece q stands at a place of the pattern, n is the place behind it
+pub record Standing (path : Bool) (p : Text) (at : ℕ) (q : Piece) (n : ℕ) : Type 0 where
+  pub there : at + 1 < length p
+  pub is : q ≡ pieceAt path at (signsOf (drop at p))
+  pub ends : n ≡ behindOf q at
 
-  pub piece-further : at + 2 ≤ behindOf q at
-  piece-further = rw e (next-further path p at h)
+module _ {path : Bool} {p : Text} {at : ℕ} {q : Piece} {n : ℕ} (s : Standing path p at q n) where
+  pub piece-inside : n ≤ length p
+  piece-inside = rw (s .ends, s .is) (next-inside path p at (s .there))
+
+  pub piece-further : at + 2 ≤ n
+  piece-further = rw (s .ends, s .is) (next-further path p at (s .there))
 
   pub piece-within : Lies (length p) q
-  piece-within = rw e (piece-lies path p at h)
+  piece-within = rw (s .is) (piece-lies path p at (s .there))
 
-  module _ (n : ℕ) (f : n ≡ behindOf q at) where
-    parted : from path p at ≡ elementOf p q ∷ from path p n
-    parted = rw (f, e) (elements-on path p at h)
+  parted : from path p at ≡ elementOf p q ∷ from path p n
+  parted = rw (s .ends, s .is) (elements-on path p at (s .there))
 
-    pub class-step : hasClass path 0 (signsOf (drop at p)) ≡ (isClassPiece q || hasClass path 0 (signsOf (drop n p)))
-    class-step = rw (f, e) (class-on path p at h)
+  pub class-step : hasClass path 0 (signsOf (drop at p)) ≡ (isClassPiece q || hasClass path 0 (signsOf (drop n p)))
+  class-step = rw (s .ends, s .is) (class-on path p at (s .there))
 
-    pub special-step : active (from path p at) ≡ (isSpecial q || active (from path p n))
-    special-step = ap active parted ∙ active-step p q (from path p n)
+  pub special-step : active (from path p at) ≡ (isSpecial q || active (from path p n))
+  special-step = ap active parted ∙ active-step p q (from path p n)
 
-    module _ (head first : Bool) (t : Text) (k : ℕ) where
-      pub run-star : isStar q ≡ true → matchesFrom path (from path p at) head first (drop k t) ≡ behindStar path p n first (drop k t)
-      run-star y = ap (λ es. matchesFrom path es head first (drop k t)) parted ∙ met path head first p n (drop k t) q y
+  -- what the run does there with the text from k on
+  module _ (head first : Bool) (t : Text) (k : ℕ) where
+    abbrev running : Bool
+    running = matchesFrom path (from path p at) head first (drop k t)
 
-      pub run-short : isStar q ≡ false → length t ≤ k → matchesFrom path (from path p at) head first (drop k t) ≡ false
-      run-short y l =
-          ap (λ es. matchesFrom path es head first (drop k t)) parted
-          ∙ ap (λ u. matchesFrom path (elementOf p q ∷ from path p n) head first u) (drop-of-length-le t l)
+    seen : running ≡ matchesFrom path (elementOf p q ∷ from path p n) head first (drop k t)
+    seen = ap (λ (es : List Element). matchesFrom path es head first (drop k t)) parted
+
+    pub run-star : isStar q ≡ true → running ≡ behindStar path p n first (drop k t)
+    run-star y = seen ∙ met path head first p n (drop k t) q y
+
+    module _ (y : isStar q ≡ false) where
+      pub run-short : length t ≤ k → running ≡ false
+      run-short l =
+          seen ∙ ap (λ (u : Text). matchesFrom path (elementOf p q ∷ from path p n) head first u) (drop-of-length-le t l)
           ∙ none-left path head first (from path p n) p q y
 
-      stepped : isStar q ≡ false → k < length t → matchesFrom path (from path p at) head first (drop k t)
-          ≡ (takesOne path head first (elementOf p q) (getD t k 0) && matchesFrom path (from path p n) (isSlash q) (isSlash q) (drop (k + 1) t))
-      stepped y l =
-          ap (λ es. matchesFrom path es head first (drop k t)) parted
-          ∙ ap (λ u. matchesFrom path (elementOf p q ∷ from path p n) head first u) (drop-cons t k 0 l)
+      stepped : k < length t → running ≡ (takesOne path head first (elementOf p q) (getD t k 0) && matchesFrom path (from path p n) (isSlash q) (isSlash q) (drop (k + 1) t))
+      stepped l =
+          seen ∙ ap (λ (u : Text). matchesFrom path (elementOf p q ∷ from path p n) head first u) (drop-cons t k 0 l)
           ∙ rw (add-one k) (step path head first (from path p n) (getD t k 0) (drop (suc k) t) p q y)
 
-      pub run-fails : isStar q ≡ false → k < length t → takesOne path head first (elementOf p q) (getD t k 0) ≡ false
-          → matchesFrom path (from path p at) head first (drop k t) ≡ false
-      run-fails y l x = stepped y l ∙ rw x
+      pub run-fails : k < length t → takesOne path head first (elementOf p q) (getD t k 0) ≡ false → running ≡ false
+      run-fails l x = stepped l ∙ rw x
 
-      pub run-takes : isStar q ≡ false → k < length t → takesOne path head first (elementOf p q) (getD t k 0) ≡ true
-          → matchesFrom path (from path p at) head first (drop k t) ≡ matchesFrom path (from path p n) (isSlash q) (isSlash q) (drop (k + 1) t)
-      run-takes y l x = stepped y l ∙ rw x
+      pub run-takes : k < length t → takesOne path head first (elementOf p q) (getD t k 0) ≡ true → {x : Bool} → x ≡ isSlash q
+          → running ≡ matchesFrom path (from path p n) x x (drop (k + 1) t)
+      run-takes l x e = stepped l ∙ rw (x, e)
 
 -- behind the last element
 module _ (path head first : Bool) (p t : Text) (at k : ℕ) (h : length p ≤ at + 1) where

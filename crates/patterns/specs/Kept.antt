@@ -2,11 +2,11 @@
 use Prim.Native.Nat.{ℕ}
 use mathlib.Core.Path.{_≡_}
 use mathlib.Core.Bool.{Bool, _||_}
-use mathlib.Core.List.{List, [], _∷_, _++_}
+use mathlib.Core.List.{[], _∷_, _++_}
 use lib.Dec.{eqb}
 use lib.ListN.{length, drop}
 use Rattle.stages.specs.Bytes.{Text}
-use Rattle.stages.specs.Units.{Cell, cell, N, Row}
+use Rattle.stages.specs.Units.{cell, N, Row}
 use Rattle.texts.specs.Rows.{rowBytes, rowOf}
 
 -- the mark of a unit that is a byte

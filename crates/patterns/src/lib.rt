@@ -88,6 +88,7 @@ fn is_special(piece: Piece) -> bool
     }
 }
 
+// The element is a star.
 fn is_star(piece: Piece) -> bool
     ensures { λ r. ⌜ r ≡ isStar piece ⌝ }
 {

@@ -11,20 +11,28 @@ is-live-requires : tie.Need-is-live-requires
 is-live-requires c κs = search needs
 
 add-set-from : tie.Need-add-set-from
-add-set-from c = omega (arith, live-inside (c .before .before .before .args .pattern .now) (c .before .before .before .args .at) 33 (sym (c .before .is-live .ensures) ∙ c .if1 .taken))
+add-set-from c =
+    let a = c .before .before .before .args in
+    omega (arith, live-inside (a .pattern .now) (a .at) 33 (sym (c .before .is-live .ensures) ∙ c .if1 .taken))
 
 set-from-requires : tie.Need-set-from-requires
-set-from-requires c κs = omega (arith, live-inside (c .before .before .before .args .pattern .now) (c .before .before .before .args .at) 33 (sym (c .before .is-live .ensures) ∙ c .if1 .taken))
+set-from-requires c κs =
+    let a = c .before .before .before .args in
+    omega (arith, live-inside (a .pattern .now) (a .at) 33 (sym (c .before .is-live .ensures) ∙ c .if1 .taken))
 
 returns : tie.Need-returns
-returns c = let y = sym (c .before .before .is-live .ensures) ∙ c .before .if1 .taken in
-    c .set-from .ensures ∙ sym (bracket-others (c .before .before .before .before .args .pattern .now) (c .before .before .before .before .args .path) (c .before .before .before .before .args .at) y (live-inside (c .before .before .before .before .args .pattern .now) (c .before .before .before .before .args .at) 33 y))
+returns c =
+    let a = c .before .before .before .before .args in
+    let y = sym (c .before .before .is-live .ensures) ∙ c .before .if1 .taken in
+    c .set-from .ensures ∙ sym (bracket-others (a .pattern .now) (a .path) (a .at) y (live-inside (a .pattern .now) (a .at) 33 y))
 
 set-from-requires-2 : tie.Need-set-from-requires-2
 set-from-requires-2 c κs = search needs
 
 returns-2 : tie.Need-returns-2
-returns-2 c = c .set-from2 .ensures ∙ sym (bracket-plain (c .before .before .before .before .args .pattern .now) (c .before .before .before .before .args .path) (c .before .before .before .before .args .at) (sym (c .before .before .is-live .ensures) ∙ c .before .if1 .left))
+returns-2 c =
+    let a = c .before .before .before .before .args in
+    c .set-from2 .ensures ∙ sym (bracket-plain (a .pattern .now) (a .path) (a .at) (sym (c .before .before .is-live .ensures) ∙ c .before .if1 .left))
 
 pub bracket-at-spec : {M : Type 1} → statement M
 bracket-at-spec =

@@ -9,7 +9,9 @@ add-if1 : tie.Need-add-if1
 add-if1 c = search needs
 
 returns : tie.Need-returns
-returns c = sym (live-beyond (c .before .args .units .now) (c .before .args .at) (c .before .args .c) (c .if1 .taken))
+returns c =
+    let a = c .before .args in
+    sym (live-beyond (a .units .now) (a .at) (a .c) (c .if1 .taken))
 
 add-if2 : tie.Need-add-if2
 add-if2 c = search needs
@@ -18,13 +20,17 @@ shared-slice-read-if2 : tie.Need-shared-slice-read-if2
 shared-slice-read-if2 c = search needs
 
 returns-2 : tie.Need-returns-2
-returns-2 c = sym (live-quoted (c .before .before .before .args .units .now) (c .before .before .before .args .at) (c .before .before .before .args .c) (c .before .before .if1 .left) (c .if2 .taken))
+returns-2 c =
+    let a = c .before .before .before .args in
+    sym (live-quoted (a .units .now) (a .at) (a .c) (c .before .before .if1 .left) (c .if2 .taken))
 
 shared-slice-read-result : tie.Need-shared-slice-read-result
 shared-slice-read-result c = search needs
 
 returns-3 : tie.Need-returns-3
-returns-3 c = sym (live-at (c .before .before .before .before .args .units .now) (c .before .before .before .before .args .at) (c .before .before .before .before .args .c) (c .before .before .before .if1 .left) (c .before .if2 .left))
+returns-3 c =
+    let a = c .before .before .before .before .args in
+    sym (live-at (a .units .now) (a .at) (a .c) (c .before .before .before .if1 .left) (c .before .if2 .left))
 
 pub is-live-spec : {M : Type 1} → statement M
 is-live-spec =

@@ -9,7 +9,9 @@ sub-if1 : tie.Need-sub-if1
 sub-if1 c = search needs
 
 returns : tie.Need-returns
-returns c = sym (range-short (c .before .before .args .units .now) (c .before .before .args .at) (c .if1 .taken))
+returns c =
+    let a = c .before .before .args in
+    sym (range-short (a .units .now) (a .at) (c .if1 .taken))
 
 add-is-live : tie.Need-add-is-live
 add-is-live c = search needs
@@ -18,7 +20,9 @@ is-live-requires : tie.Need-is-live-requires
 is-live-requires c κs = search needs
 
 returns-2 : tie.Need-returns-2
-returns-2 c = c .is-live .ensures ∙ sym (range-long (c .before .before .before .args .units .now) (c .before .before .before .args .at) (c .before .if1 .left))
+returns-2 c =
+    let a = c .before .before .before .args in
+    c .is-live .ensures ∙ sym (range-long (a .units .now) (a .at) (c .before .if1 .left))
 
 pub is-range-spec : {M : Type 1} → statement M
 is-range-spec = tie.close (tie.spec sub-if1 returns add-is-live is-live-requires returns-2)

@@ -9,13 +9,17 @@ is-live-requires : tie.Need-is-live-requires
 is-live-requires c κs = search needs
 
 returns : tie.Need-returns
-returns c = piece-star (c .before .before .before .args .path) (c .before .before .before .args .pattern .now) (c .before .before .before .args .at) (c .before .before .before .pre) (sym (c .before .is-live .ensures) ∙ c .if1 .taken)
+returns c =
+    let a = c .before .before .before .args in
+    piece-star (a .path) (a .pattern .now) (a .at) (c .before .before .before .pre) (sym (c .before .is-live .ensures) ∙ c .if1 .taken)
 
 is-live-requires-2 : tie.Need-is-live-requires-2
 is-live-requires-2 c κs = search needs
 
 returns-2 : tie.Need-returns-2
-returns-2 c = piece-one (c .before .before .before .before .before .args .path) (c .before .before .before .before .before .args .pattern .now) (c .before .before .before .before .before .args .at) (c .before .before .before .before .before .pre) (sym (c .before .before .before .is-live .ensures) ∙ c .before .before .if1 .left) (sym (c .before .is-live2 .ensures) ∙ c .if2 .taken)
+returns-2 c =
+    let a = c .before .before .before .before .before .args in
+    piece-one (a .path) (a .pattern .now) (a .at) (c .before .before .before .before .before .pre) (sym (c .before .before .before .is-live .ensures) ∙ c .before .before .if1 .left) (sym (c .before .is-live2 .ensures) ∙ c .if2 .taken)
 
 is-live-requires-3 : tie.Need-is-live-requires-3
 is-live-requires-3 c κs = search needs
@@ -27,13 +31,17 @@ bracket-at-requires : tie.Need-bracket-at-requires
 bracket-at-requires c κs = search needs
 
 returns-3 : tie.Need-returns-3
-returns-3 c = c .bracket-at .ensures ∙ piece-bracket (c .before .before .before .before .before .before .before .before .args .path) (c .before .before .before .before .before .before .before .before .args .pattern .now) (c .before .before .before .before .before .before .before .before .args .at) (c .before .before .before .before .before .before .before .before .pre) (sym (c .before .before .before .before .before .before .is-live .ensures) ∙ c .before .before .before .before .before .if1 .left) (sym (c .before .before .before .before .is-live2 .ensures) ∙ c .before .before .before .if2 .left) (sym (c .before .before .is-live3 .ensures) ∙ c .before .if3 .taken)
+returns-3 c =
+    let a = c .before .before .before .before .before .before .before .before .args in
+    c .bracket-at .ensures ∙ piece-bracket (a .path) (a .pattern .now) (a .at) (c .before .before .before .before .before .before .before .before .pre) (sym (c .before .before .before .before .before .before .is-live .ensures) ∙ c .before .before .before .before .before .if1 .left) (sym (c .before .before .before .before .is-live2 .ensures) ∙ c .before .before .before .if2 .left) (sym (c .before .before .is-live3 .ensures) ∙ c .before .if3 .taken)
 
 shared-slice-read-t9 : tie.Need-shared-slice-read-t9
 shared-slice-read-t9 c = search needs
 
 returns-4 : tie.Need-returns-4
-returns-4 c = piece-byte (c .before .before .before .before .before .before .before .before .args .path) (c .before .before .before .before .before .before .before .before .args .pattern .now) (c .before .before .before .before .before .before .before .before .args .at) (c .before .before .before .before .before .before .before .before .pre) (sym (c .before .before .before .before .before .before .is-live .ensures) ∙ c .before .before .before .before .before .if1 .left) (sym (c .before .before .before .before .is-live2 .ensures) ∙ c .before .before .before .if2 .left) (sym (c .before .before .is-live3 .ensures) ∙ c .before .if3 .left)
+returns-4 c =
+    let a = c .before .before .before .before .before .before .before .before .args in
+    piece-byte (a .path) (a .pattern .now) (a .at) (c .before .before .before .before .before .before .before .before .pre) (sym (c .before .before .before .before .before .before .is-live .ensures) ∙ c .before .before .before .before .before .if1 .left) (sym (c .before .before .before .before .is-live2 .ensures) ∙ c .before .before .before .if2 .left) (sym (c .before .before .is-live3 .ensures) ∙ c .before .if3 .left)
 
 pub piece-at-spec : {M : Type 1} → statement M
 piece-at-spec =

@@ -1,12 +1,9 @@
 -- The search is made over the units from the first member on, and each of its findings is one answer. Assumes nothing.
-use mathlib.Core.Path.{_≡_, sym, _∙_, ap}
 use mathlib.Core.Bool.{true}
 use native.Mathlib.Omega.{arith}
 use lib.ListN.{drop, length-drop}
-use Rattle.stages.specs.Bytes.{Text}
 use Rattle.stages.specs.Pattern.{find}
 use Rattle.texts.specs.Rows.{signsOf}
-use Rattle.elements.specs.Pieces.{searchOf}
 use Rattle.elements.proofs.Units.{to-end}
 use Rattle.elements.proofs.Searches.{met-class, met-none, met-end, end-inside}
 use borrow.Author.Needs.{needs}
@@ -35,18 +32,26 @@ enum-known-n : tie.Need-enum-known-n
 enum-known-n c = search needs
 
 add-t12 : tie.Need-add-t12
-add-t12 c = let p = c .before .before .before .before .before .before .args .pattern .now in
-    let i = end-inside (c .before .before .before .before .before .before .args .path) (drop (c .before .before .before .before .before .before .args .from) p) (rw (to-end p (c .before .before .before .before .before .before .args .from)) at (c .before .before .before .search-end .ensures)) (c .before .n .given .1) in
-    omega (arith, i, length-drop (c .before .before .before .before .before .before .args .from) p)
+add-t12 c =
+    let a = c .before .before .before .before .before .before .args in
+    let p = a .pattern .now in
+    let i = end-inside (a .path) (drop (a .from) p) (rw (to-end p (a .from)) at (c .before .before .before .search-end .ensures)) (c .before .n .given .1) in
+    omega (arith, i, length-drop (a .from) p)
 
 returns : tie.Need-returns
-returns c = met-class (c .before .before .before .before .before .args .negative) (c .before .before .before .before .before .args .from) (find (c .before .before .before .before .before .args .path) true (signsOf (drop (c .before .before .before .before .before .args .from) (c .before .before .before .before .before .args .pattern .now)))) (rw (to-end (c .before .before .before .before .before .args .pattern .now) (c .before .before .before .before .before .args .from)) at (c .before .before .search-end .ensures)) (c .enum-told .given .1)
+returns c =
+    let a = c .before .before .before .before .before .args in
+    met-class (a .negative) (a .from) (find (a .path) true (signsOf (drop (a .from) (a .pattern .now)))) (rw (to-end (a .pattern .now) (a .from)) at (c .before .before .search-end .ensures)) (c .enum-told .given .1)
 
 returns-2 : tie.Need-returns-2
-returns-2 c = met-none (c .before .before .before .before .before .args .negative) (c .before .before .before .before .before .args .from) (find (c .before .before .before .before .before .args .path) true (signsOf (drop (c .before .before .before .before .before .args .from) (c .before .before .before .before .before .args .pattern .now)))) (rw (to-end (c .before .before .before .before .before .args .pattern .now) (c .before .before .before .before .before .args .from)) at (c .before .before .search-end .ensures)) (c .enum-told2 .given .1)
+returns-2 c =
+    let a = c .before .before .before .before .before .args in
+    met-none (a .negative) (a .from) (find (a .path) true (signsOf (drop (a .from) (a .pattern .now)))) (rw (to-end (a .pattern .now) (a .from)) at (c .before .before .search-end .ensures)) (c .enum-told2 .given .1)
 
 returns-3 : tie.Need-returns-3
-returns-3 c = met-end (c .before .before .before .before .before .before .args .negative) (c .before .before .before .before .before .before .args .from) (find (c .before .before .before .before .before .before .args .path) true (signsOf (drop (c .before .before .before .before .before .before .args .from) (c .before .before .before .before .before .before .args .pattern .now)))) (rw (to-end (c .before .before .before .before .before .before .args .pattern .now) (c .before .before .before .before .before .before .args .from)) at (c .before .before .before .search-end .ensures)) (c .before .n .given .1)
+returns-3 c =
+    let a = c .before .before .before .before .before .before .args in
+    met-end (a .negative) (a .from) (find (a .path) true (signsOf (drop (a .from) (a .pattern .now)))) (rw (to-end (a .pattern .now) (a .from)) at (c .before .before .before .search-end .ensures)) (c .before .n .given .1)
 
 pub set-from-spec : {M : Type 1} → statement M
 set-from-spec =

@@ -1,6 +1,6 @@
 -- What is kept of the units before `at` stands at the front, and behind it the row is as it was. The measure is what is left. Assumes nothing.
-use Prim.Native.Nat.{ℕ, _+_, _-_, _<_}
-use mathlib.Core.Path.{_≡_, refl, sym, _∙_, ap}
+use Prim.Native.Nat.{_-_}
+use mathlib.Core.Path.{sym, _∙_}
 use native.Mathlib.Omega.{arith}
 use borrow.Author.Needs.{needs}
 use borrow.Author.Tests.{not-true, not-false}
@@ -19,7 +19,9 @@ loop-holds : tie.Need-loop-holds Inv-loop μ-loop
 loop-holds c = going-start _
 
 add-loop : tie.Need-add-loop Inv-loop μ-loop
-add-loop c = omega (arith, going-length (c .loop .inv), c .loop .inv .within)
+add-loop c =
+    let l = c .loop in
+    omega (arith, going-length (l .inv), l .inv .within)
 
 slice-read-b : tie.Need-slice-read-b Inv-loop μ-loop
 slice-read-b c = omega arith
@@ -37,34 +39,54 @@ is-mark-requires : tie.Need-is-mark-requires Inv-loop μ-loop
 is-mark-requires c κs = search needs
 
 loop-less : tie.Need-loop-less Inv-loop μ-loop
-loop-less c = omega (arith, going-length (c .before .before .before .before .before .loop .inv))
+loop-less c =
+    let l = c .before .before .before .before .before .loop in
+    omega (arith, going-length (l .inv))
 
 loop-again : tie.Need-loop-again Inv-loop μ-loop
-loop-again c = going-skip (c .before .before .before .before .before .loop .inv) (omega (arith, going-length (c .before .before .before .before .before .loop .inv))) (sym (c .before .is-mark .ensures) ∙ not-true _ (c .if1 .taken))
+loop-again c =
+    let l = c .before .before .before .before .before .loop in
+    going-skip (l .inv) (omega (arith, going-length (l .inv))) (sym (c .before .is-mark .ensures) ∙ not-true _ (c .if1 .taken))
 
 slice-write-row : tie.Need-slice-write-row Inv-loop μ-loop
-slice-write-row c = omega (arith, c .before .before .before .before .before .loop .inv .order)
+slice-write-row c =
+    let l = c .before .before .before .before .before .loop in
+    omega (arith, l .inv .order)
 
 add-row : tie.Need-add-row Inv-loop μ-loop
-add-row c = omega (arith, c .before .before .before .before .before .loop .inv .order)
+add-row c =
+    let l = c .before .before .before .before .before .loop in
+    omega (arith, l .inv .order)
 
 slice-write-row-2 : tie.Need-slice-write-row-2 Inv-loop μ-loop
-slice-write-row-2 c = simp length-set (omega (arith, c .before .before .before .before .before .loop .inv .order))
+slice-write-row-2 c =
+    let l = c .before .before .before .before .before .loop in
+    simp length-set (omega (arith, l .inv .order))
 
 add-to : tie.Need-add-to Inv-loop μ-loop
-add-to c = omega (arith, c .before .before .before .before .before .loop .inv .order)
+add-to c =
+    let l = c .before .before .before .before .before .loop in
+    omega (arith, l .inv .order)
 
 loop-less-2 : tie.Need-loop-less-2 Inv-loop μ-loop
-loop-less-2 c = omega (arith, going-length (c .before .before .before .before .before .loop .inv))
+loop-less-2 c =
+    let l = c .before .before .before .before .before .loop in
+    omega (arith, going-length (l .inv))
 
 loop-again-2 : tie.Need-loop-again-2 Inv-loop μ-loop
-loop-again-2 c = going-keep (c .before .before .before .before .before .loop .inv) (omega (arith, going-length (c .before .before .before .before .before .loop .inv))) (sym (c .before .is-mark .ensures) ∙ not-false _ (c .if1 .left))
+loop-again-2 c =
+    let l = c .before .before .before .before .before .loop in
+    going-keep (l .inv) (omega (arith, going-length (l .inv))) (sym (c .before .is-mark .ensures) ∙ not-false _ (c .if1 .left))
 
 same-length : tie.Need-same-length Inv-loop μ-loop
-same-length c = going-length (c .before .loop .inv)
+same-length c =
+    let l = c .before .loop in
+    going-length (l .inv)
 
 returns : tie.Need-returns Inv-loop μ-loop
-returns c = going-end (c .before .loop .inv) (omega (arith, going-length (c .before .loop .inv)))
+returns c =
+    let l = c .before .loop in
+    going-end (l .inv) (omega (arith, going-length (l .inv)))
 
 pub drop-empty-spec : {M : Type 1} → statement M
 drop-empty-spec =

@@ -1,5 +1,5 @@
 -- Each case is the stage's test of that element; a set is looked up in its flags. Assumes nothing.
-use mathlib.Core.Path.{_≡_, sym, _∙_, ap}
+use mathlib.Core.Path.{sym, _∙_, ap}
 use mathlib.Core.Bool.{Bool, _&&_}
 use native.Mathlib.Omega.{arith}
 use Rattle.stages.specs.Pattern.{passes}
@@ -52,24 +52,34 @@ takes-member-requires c κs = search needs
 
 returns : tie.Need-returns
 unfolding takesOne elementOf
-returns c = sym (ap (λ (q : Piece). takesOne (c .before .before .before .args .path) (c .before .before .before .args .head) (c .before .before .before .args .first) (elementOf (c .before .before .before .args .pattern .now) q) (c .before .before .before .args .b)) (c .enum-told .given .1))
+returns c =
+    let a = c .before .before .before .args in
+    sym (ap (λ (q : Piece). takesOne (a .path) (a .head) (a .first) (elementOf (a .pattern .now) q) (a .b)) (c .enum-told .given .1))
 
 returns-2 : tie.Need-returns-2
 unfolding takesOne elementOf
-returns-2 c = c .passes-byte .ensures ∙ sym (ap (λ (q : Piece). takesOne (c .before .before .before .before .args .path) (c .before .before .before .before .args .head) (c .before .before .before .before .args .first) (elementOf (c .before .before .before .before .args .pattern .now) q) (c .before .before .before .before .args .b)) (c .before .enum-told2 .given .1))
+returns-2 c =
+    let a = c .before .before .before .before .args in
+    c .passes-byte .ensures ∙ sym (ap (λ (q : Piece). takesOne (a .path) (a .head) (a .first) (elementOf (a .pattern .now) q) (a .b)) (c .before .enum-told2 .given .1))
 
 returns-3 : tie.Need-returns-3
 unfolding takesOne elementOf
-returns-3 c = c .takes-byte .ensures ∙ sym (ap (λ (q : Piece). takesOne (c .before .before .before .before .before .args .path) (c .before .before .before .before .before .args .head) (c .before .before .before .before .before .args .first) (elementOf (c .before .before .before .before .before .args .pattern .now) q) (c .before .before .before .before .before .args .b)) (c .before .before .piece .given .1))
+returns-3 c =
+    let a = c .before .before .before .before .before .args in
+    c .takes-byte .ensures ∙ sym (ap (λ (q : Piece). takesOne (a .path) (a .head) (a .first) (elementOf (a .pattern .now) q) (a .b)) (c .before .before .piece .given .1))
 
 returns-4 : tie.Need-returns-4
 unfolding takesOne elementOf
-returns-4 c = c .takes-byte2 .ensures ∙ sym (ap (λ (q : Piece). takesOne (c .before .before .before .before .args .path) (c .before .before .before .before .args .head) (c .before .before .before .before .args .first) (elementOf (c .before .before .before .before .args .pattern .now) q) (c .before .before .before .before .args .b)) (c .before .enum-told3 .given .1))
+returns-4 c =
+    let a = c .before .before .before .before .args in
+    c .takes-byte2 .ensures ∙ sym (ap (λ (q : Piece). takesOne (a .path) (a .head) (a .first) (elementOf (a .pattern .now) q) (a .b)) (c .before .enum-told3 .given .1))
 
 returns-5 : tie.Need-returns-5
 unfolding takesOne elementOf
-returns-5 c = c .takes-member .ensures ∙ ap (λ (x : Bool). passes (c .before .before .before .before .before .before .before .args .path) (c .before .before .before .before .before .before .before .args .first) (c .before .before .before .before .before .before .before .args .b) && x) (c .before .set-of .ensures (c .before .before .before .before .before .before .before .args .b) (c .before .before .before .before .before .before .before .fits .b .fits))
-    ∙ sym (ap (λ (q : Piece). takesOne (c .before .before .before .before .before .before .before .args .path) (c .before .before .before .before .before .before .before .args .head) (c .before .before .before .before .before .before .before .args .first) (elementOf (c .before .before .before .before .before .before .before .args .pattern .now) q) (c .before .before .before .before .before .before .before .args .b)) (c .before .before .before .before .piece2 .given .1))
+returns-5 c =
+    let a = c .before .before .before .before .before .before .before .args in
+    c .takes-member .ensures ∙ ap (λ (x : Bool). passes (a .path) (a .first) (a .b) && x) (c .before .set-of .ensures (a .b) (c .before .before .before .before .before .before .before .fits .b .fits))
+    ∙ sym (ap (λ (q : Piece). takesOne (a .path) (a .head) (a .first) (elementOf (a .pattern .now) q) (a .b)) (c .before .before .before .before .piece2 .given .1))
 
 pub takes-one-spec : {M : Type 1} → statement M
 takes-one-spec =

@@ -1,5 +1,5 @@
 -- The part from k to the end is what is left when k bytes are dropped; the part up to k is the first k bytes. Assumes nothing.
-use mathlib.Core.Path.{_≡_, sym, _∙_}
+use mathlib.Core.Path.{sym, _∙_}
 use lib.Seq.{length-take-le}
 use Rattle.elements.proofs.Units.{to-end}
 use borrow.Author.Needs.{needs}
@@ -19,10 +19,14 @@ matches-requires : tie.Need-matches-requires
 matches-requires c κs = search needs
 
 returns : tie.Need-returns
-returns c = c .matches .ensures ∙ rw (to-end (c .before .before .before .before .before .args .value .now) (c .before .before .before .before .before .args .k), c .before .before .if1 .taken)
+returns c =
+    let a = c .before .before .before .before .before .args in
+    c .matches .ensures ∙ rw (to-end (a .value .now) (a .k), c .before .before .if1 .taken)
 
 slice-aggregate-matches : tie.Need-slice-aggregate-matches
-slice-aggregate-matches c = sym (length-take-le (c .before .before .before .before .args .k) (c .before .before .before .before .args .value .now) (c .before .before .before .before .pre))
+slice-aggregate-matches c =
+    let a = c .before .before .before .before .args in
+    sym (length-take-le (a .k) (a .value .now) (c .before .before .before .before .pre))
 
 matches-requires-2 : tie.Need-matches-requires-2
 matches-requires-2 c κs = search needs

@@ -1,8 +1,8 @@
 -- What the cut leaves is the part of the value before it, or behind it. Assumes nothing.
 use Prim.Native.Nat.{ℕ}
-use mathlib.Core.Path.{_≡_, sym, _∙_, ap}
+use mathlib.Core.Path.{sym, _∙_, ap}
 use mathlib.Core.Bool.{Bool, false}
-use lib.ListN.{length, take, drop}
+use lib.ListN.{take, drop}
 use lib.Seq.{length-take-le}
 use Rattle.stages.specs.Pattern.{elements}
 use Rattle.stages.specs.Removal.{cut, left, removed}
@@ -24,8 +24,10 @@ slice-aggregate-result c = sym (length-take-le _ _ (c .before .before .cut-place
 
 returns : tie.Need-returns
 unfolding removed
-returns c = ap (λ (k : ℕ). take k (c .before .before .before .before .before .before .args .value .now)) (cut-is (c .before .before .before .before .before .before .args .suffix) (c .before .before .before .before .before .before .args .long) (c .before .before .before .before .before .before .args .pattern .now) (c .before .before .before .before .before .before .args .value .now) (c .before .before .before .from-end .ensures) (c .before .before .cut-place .ensures))
-    ∙ ap (λ (s : Bool). left s (c .before .before .before .before .before .before .args .value .now) (cut (c .before .before .before .before .before .before .args .suffix) (c .before .before .before .before .before .before .args .long) (elements false 0 (signsOf (c .before .before .before .before .before .before .args .pattern .now))) (c .before .before .before .before .before .before .args .value .now))) (sym (c .before .if1 .taken))
+returns c =
+    let a = c .before .before .before .before .before .before .args in
+    ap (λ (k : ℕ). take k (a .value .now)) (cut-is (a .suffix) (a .long) (a .pattern .now) (a .value .now) (c .before .before .before .from-end .ensures) (c .before .before .cut-place .ensures))
+    ∙ ap (λ (s : Bool). left s (a .value .now) (cut (a .suffix) (a .long) (elements false 0 (signsOf (a .pattern .now))) (a .value .now))) (sym (c .before .if1 .taken))
 
 sub-result : tie.Need-sub-result
 sub-result c = search needs
@@ -38,9 +40,11 @@ part-result-end c = search needs
 
 returns-2 : tie.Need-returns-2
 unfolding removed
-returns-2 c = to-end (c .before .before .before .before .before .before .args .value .now) (c .before .before .cut-place .result)
-    ∙ ap (λ (k : ℕ). drop k (c .before .before .before .before .before .before .args .value .now)) (cut-is (c .before .before .before .before .before .before .args .suffix) (c .before .before .before .before .before .before .args .long) (c .before .before .before .before .before .before .args .pattern .now) (c .before .before .before .before .before .before .args .value .now) (c .before .before .before .from-end .ensures) (c .before .before .cut-place .ensures))
-    ∙ ap (λ (s : Bool). left s (c .before .before .before .before .before .before .args .value .now) (cut (c .before .before .before .before .before .before .args .suffix) (c .before .before .before .before .before .before .args .long) (elements false 0 (signsOf (c .before .before .before .before .before .before .args .pattern .now))) (c .before .before .before .before .before .before .args .value .now))) (sym (c .before .if1 .left))
+returns-2 c =
+    let a = c .before .before .before .before .before .before .args in
+    to-end (a .value .now) (c .before .before .cut-place .result)
+    ∙ ap (λ (k : ℕ). drop k (a .value .now)) (cut-is (a .suffix) (a .long) (a .pattern .now) (a .value .now) (c .before .before .before .from-end .ensures) (c .before .before .cut-place .ensures))
+    ∙ ap (λ (s : Bool). left s (a .value .now) (cut (a .suffix) (a .long) (elements false 0 (signsOf (a .pattern .now))) (a .value .now))) (sym (c .before .if1 .left))
 
 pub removed-spec : {M : Type 1} → statement M
 removed-spec =

@@ -1,15 +1,14 @@
 -- The flags below `i` are those of the set with the range, and those from `i` on are as they were. Assumes nothing.
-use mathlib.Core.Path.{_≡_, refl, sym, _∙_, ap}
-use mathlib.Core.Bool.{_||_}
+use mathlib.Core.Path.{_≡_, refl}
+use mathlib.Core.Bool.{_||_, true}
 use Prim.Native.Nat.{ℕ, _+_, _≤_, _<_, _-_}
 use native.Mathlib.Omega.{arith}
-use borrow.Author.Needs.{needs}
 use lib.ListN.{length, length-set}
 use native.Mathlib.Decide.{decLt}
-use mathlib.Core.Bool.{Bool, true, false}
 use Rattle.elements.specs.Sets.{has}
 use Rattle.stages.specs.Bytes.{between}
-use Rattle.elements.proofs.Flags.{counted, below-stored, above-stored, inside, below-range, above-range}
+use Rattle.stages.proofs.Bools.{between-true}
+use Rattle.elements.proofs.Flags.{counted, below-stored, above-stored, below-range, above-range}
 use Rattle.elements.proofs.ByteSet.with_range.Statement.{statement}
 use Rattle.elements.proofs.ByteSet.with_range.Tie as tie
 
@@ -53,7 +52,7 @@ loop-again c =
       omega arith,
       simp length-set (inv .4),
       below-stored (l .self .on) (l .i) true (λ k. between (a .lo) k (a .hi) || has (a .t1 .on) k) fits
-          (rw (inside (a .lo) (a .hi) (l .i) (inv .3) (omega arith))) (inv .5),
+          (rw (between-true (a .lo) (l .i) (a .hi) (inv .3) (omega arith))) (inv .5),
       above-stored (l .self .on) (a .t1 .on) (l .i) true fits (inv .6),
     )
 
