@@ -16,17 +16,10 @@ enum Token {
 }
 
 /// Two-byte signs stand first, so that the longer one is taken.
-const SIGNS: [&str; 13] = [
-    "<=", ">=", "==", "!=", "<", ">", "+", "-", "*", "/", "%", "(", ")",
-];
+const SIGNS: [&str; 13] = ["<=", ">=", "==", "!=", "<", ">", "+", "-", "*", "/", "%", "(", ")"];
 
 /// The binary operators from the loosest to the tightest level.
-const LEVELS: [&[&str]; 4] = [
-    &["==", "!="],
-    &["<", "<=", ">", ">="],
-    &["+", "-"],
-    &["*", "/", "%"],
-];
+const LEVELS: [&[&str]; 4] = [&["==", "!="], &["<", "<=", ">", ">="], &["+", "-"], &["*", "/", "%"]];
 
 #[derive(Debug)]
 enum Tree {
@@ -38,11 +31,7 @@ enum Tree {
 
 /// What the text comes to, or its first fault.
 pub fn result(text: &[u8], variables: &Variables) -> Result<i64, Number> {
-    let mut parser = Parser {
-        rest: text,
-        next: Token::End,
-        open: 0,
-    };
+    let mut parser = Parser { rest: text, next: Token::End, open: 0 };
     parser.advance()?;
     let tree = parser.binary(0)?;
     if parser.next != Token::End {

@@ -48,14 +48,7 @@ pub fn expand(
     out: &mut [u8],
 ) -> Answer {
     work.fill(0);
-    let given = Given {
-        line,
-        variables,
-        used,
-        homes,
-        paths,
-        work: work.len(),
-    };
+    let given = Given { line, variables, used, homes, paths, work: work.len() };
     let written = given.expand(out.len());
     answer(written, variables, used, out)
 }
@@ -71,14 +64,7 @@ pub fn normalise(
     out: &mut [u8],
 ) -> Answer {
     work.fill(0);
-    let given = Given {
-        line,
-        variables,
-        used,
-        homes,
-        paths,
-        work: work.len(),
-    };
+    let given = Given { line, variables, used, homes, paths, work: work.len() };
     let written = given.expand(limits::IMAGE).and_then(|written| {
         let out = quoted(&written.out, out.len())?;
         Ok(Written { out, ..written })
@@ -88,37 +74,19 @@ pub fn normalise(
 
 /// The quoter: an image of fields into a quoted line.
 pub fn quote(fields: &[u8], out: &mut [u8]) -> Answer {
-    let written = quoted(fields, out.len()).map(|line| Written {
-        out: line,
-        variables: Vec::new(),
-    });
+    let written = quoted(fields, out.len()).map(|line| Written { out: line, variables: Vec::new() });
     answer(written, &mut [], 0, out)
 }
 
 /// Writes what was accepted over the beginnings of the buffers, or leaves them as they are.
-fn answer(
-    written: Result<Written, Refusal>,
-    variables: &mut [u8],
-    used: usize,
-    out: &mut [u8],
-) -> Answer {
+fn answer(written: Result<Written, Refusal>, variables: &mut [u8], used: usize, out: &mut [u8]) -> Answer {
     match written {
         Ok(written) => {
             out[..written.out.len()].copy_from_slice(&written.out);
             variables[..written.variables.len()].copy_from_slice(&written.variables);
-            Answer {
-                number: ACCEPTED,
-                place: 0,
-                length: written.out.len(),
-                used: written.variables.len(),
-            }
+            Answer { number: ACCEPTED, place: 0, length: written.out.len(), used: written.variables.len() }
         }
-        Err(refusal) => Answer {
-            number: refusal.number as u8,
-            place: refusal.place,
-            length: 0,
-            used,
-        },
+        Err(refusal) => Answer { number: refusal.number as u8, place: refusal.place, length: 0, used },
     }
 }
 
@@ -175,11 +143,7 @@ fn expand_words(
 }
 
 /// The fields of one word; every field is checked for 19 before any goes to the output.
-fn expand_word(
-    word: &Word,
-    expander: &mut Expander,
-    paths: &[Vec<u8>],
-) -> Result<Vec<Vec<u8>>, Number> {
+fn expand_word(word: &Word, expander: &mut Expander, paths: &[Vec<u8>]) -> Result<Vec<Vec<u8>>, Number> {
     let row = expander.row(&word.parts)?;
     let mut fields = Vec::new();
     for field in split(row.units(), expander.variables.value(b"IFS")) {
@@ -192,10 +156,7 @@ fn expand_word(
 fn found(field: &[Unit], paths: &[Vec<u8>]) -> Result<Vec<Vec<u8>>, Number> {
     let pattern = pattern::read(field, Purpose::Paths)?;
     let mut found: Vec<Vec<u8>> = Vec::new();
-    if pattern
-        .iter()
-        .any(|element| !matches!(element, Element::Byte(_)))
-    {
+    if pattern.iter().any(|element| !matches!(element, Element::Byte(_))) {
         let matching = paths.iter().filter(|path| matches_path(&pattern, path));
         found.extend(matching.cloned());
     }

@@ -136,15 +136,7 @@ fn lines_answer(job: Job, lent: &Lent) -> Result<(Answer, String), String> {
         Job::Expand => expand,
         Job::Normalise => normalise,
     };
-    let answer = call(
-        &lent.line,
-        &mut variables,
-        lent.used,
-        &lent.homes,
-        &lent.paths,
-        &mut work,
-        &mut out,
-    );
+    let answer = call(&lent.line, &mut variables, lent.used, &lent.homes, &lent.paths, &mut work, &mut out);
     if work.iter().any(|&byte| byte != 0) {
         return Err("the work area is not zero".to_string());
     }

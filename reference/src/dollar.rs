@@ -12,11 +12,7 @@ impl Reader<'_> {
         match self.peek(1) {
             Some(byte) if begins_name(byte) => {
                 self.at += 1;
-                Ok(Part::Parameter {
-                    name: self.name(),
-                    form: Form::Plain,
-                    quoted,
-                })
+                Ok(Part::Parameter { name: self.name(), form: Form::Plain, quoted })
             }
             Some(b'(') if self.peek(2) == Some(b'(') => self.opened(|reader| {
                 reader.at += 3;
@@ -29,17 +25,11 @@ impl Reader<'_> {
                 let (name, form) = reader.brace(setting)?;
                 Ok(Part::Parameter { name, form, quoted })
             }),
-            Some(b'@' | b'*' | b'#' | b'?' | b'-' | b'$' | b'!' | b'0'..=b'9') => {
-                Err(Number::NotServed)
-            }
+            Some(b'@' | b'*' | b'#' | b'?' | b'-' | b'$' | b'!' | b'0'..=b'9') => Err(Number::NotServed),
             Some(b'\'') if setting == Setting::Bare => Err(Number::NotServed),
             _ => {
                 self.at += 1;
-                Ok(if quoted {
-                    Part::Quoted(b'$')
-                } else {
-                    Part::Literal(b'$')
-                })
+                Ok(if quoted { Part::Quoted(b'$') } else { Part::Literal(b'$') })
             }
         }
     }
@@ -106,27 +96,15 @@ impl Reader<'_> {
             Setting::Bare => self.bare(BareEnd::Operand)?,
             Setting::Double | Setting::Arithmetic => self.double(DoubleEnd::Operand)?,
         };
-        Ok(Form::Choice {
-            choice,
-            colon,
-            operand,
-        })
+        Ok(Form::Choice { choice, colon, operand })
     }
 
     fn removal(&mut self, end: End, sign: u8) -> Result<Form, Number> {
         let longest = self.peek(0) == Some(sign);
         self.at += usize::from(longest);
-        let extent = if longest {
-            Extent::Longest
-        } else {
-            Extent::Shortest
-        };
+        let extent = if longest { Extent::Longest } else { Extent::Shortest };
         let operand = self.bare(BareEnd::Operand)?;
-        Ok(Form::Removal {
-            end,
-            extent,
-            operand,
-        })
+        Ok(Form::Removal { end, extent, operand })
     }
 }
 

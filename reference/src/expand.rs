@@ -1,4 +1,4 @@
-//! Expanding: the parts of a word, an operand or an arithmetic text become a row, each part worked out before it is added.
+//! Expanding: the parts of a word, an operand or an arithmetic text become a row, each worked out before it is added.
 
 use crate::arithmetic;
 use crate::image::Pair;
@@ -71,20 +71,12 @@ impl Expander<'_> {
                 let length = self.value(name).len().to_string();
                 Ok(marked(length.as_bytes(), mark))
             }
-            Form::Choice {
-                choice,
-                colon,
-                operand,
-            } => {
+            Form::Choice { choice, colon, operand } => {
                 let value = self.variables.value(name);
                 let missing = value.is_none_or(|value| *colon && value.is_empty());
                 self.choose(name, *choice, missing, operand, mark)
             }
-            Form::Removal {
-                end,
-                extent,
-                operand,
-            } => {
+            Form::Removal { end, extent, operand } => {
                 let operand = self.row(operand)?;
                 let pattern = pattern::read(operand.units(), Purpose::Removal)?;
                 self.most_stars = self.most_stars.max(pattern::stars(&pattern));

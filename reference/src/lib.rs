@@ -1,4 +1,4 @@
-//! The independent program Drunquill's word expander is held against: document 01 in plain Rust, as simply as it can be said.
+//! The independent program that Drunquill's word expander is held against: document 01 said as simply as Rust can.
 
 mod arithmetic;
 mod calls;

@@ -39,14 +39,9 @@ fn beginnings(pattern: &[Element], text: &[u8], purpose: Purpose) -> Vec<bool> {
         let mut next = vec![false; text.len() + 1];
         for length in 0..=text.len() {
             next[length] = if *element == Element::Any {
-                matched[length]
-                    || (length > 0
-                        && next[length - 1]
-                        && takes(pattern, index, text, length - 1, purpose))
+                matched[length] || (length > 0 && next[length - 1] && takes(pattern, index, text, length - 1, purpose))
             } else {
-                length > 0
-                    && matched[length - 1]
-                    && takes(pattern, index, text, length - 1, purpose)
+                length > 0 && matched[length - 1] && takes(pattern, index, text, length - 1, purpose)
             };
         }
         matched = next;

@@ -42,9 +42,6 @@ pub struct Refusal {
 impl Number {
     /// The refusal of this number at a word's place.
     pub fn at(self, place: usize) -> Refusal {
-        Refusal {
-            number: self,
-            place,
-        }
+        Refusal { number: self, place }
     }
 }

@@ -22,12 +22,12 @@ pub enum Element {
 
 /// A byte of the pattern, N gone.
 #[derive(Clone, Copy)]
-struct Sign {
+struct PatternByte {
     byte: u8,
     active: bool,
 }
 
-impl Sign {
+impl PatternByte {
     fn is(self, byte: u8) -> bool {
         self.active && self.byte == byte
     }
@@ -35,9 +35,9 @@ impl Sign {
 
 /// The pattern these units are.
 pub fn read(units: &[Unit], purpose: Purpose) -> Result<Vec<Element>, Number> {
-    let signs: Vec<Sign> = units.iter().filter_map(sign).collect();
+    let bytes: Vec<PatternByte> = units.iter().filter_map(pattern_byte).collect();
     let mut elements = Vec::new();
-    let mut rest = signs.as_slice();
+    let mut rest = bytes.as_slice();
     while let [first, behind @ ..] = rest {
         rest = behind;
         if first.is(b'*') {
@@ -60,26 +60,23 @@ pub fn stars(pattern: &[Element]) -> usize {
     pattern.iter().filter(star).count()
 }
 
-fn sign(unit: &Unit) -> Option<Sign> {
+fn pattern_byte(unit: &Unit) -> Option<PatternByte> {
     match *unit {
-        Unit::Byte(byte, mark) => Some(Sign {
-            byte,
-            active: mark != Mark::Quoted,
-        }),
+        Unit::Byte(byte, mark) => Some(PatternByte { byte, active: mark != Mark::Quoted }),
         Unit::Empty => None,
     }
 }
 
-/// The set a closed bracket stands for and how many signs it takes behind its `[`; `None` if it is no bracket.
+/// The set a closed bracket stands for and how many bytes it takes behind its `[`; `None` if it is no bracket.
 fn bracket(
-    first: Sign,
-    behind: &[Sign],
+    first: PatternByte,
+    behind: &[PatternByte],
     purpose: Purpose,
 ) -> Result<Option<([bool; 256], usize)>, Number> {
     if !first.is(b'[') {
         return Ok(None);
     }
-    let negated = behind.first().is_some_and(|sign| sign.is(b'!'));
+    let negated = behind.first().is_some_and(|first| first.is(b'!'));
     let start = usize::from(negated);
     let Some(length) = search(&behind[start..], purpose)? else {
         return Ok(None);
@@ -92,29 +89,29 @@ fn bracket(
 }
 
 /// How many members stand before the closing `]`, if there is one; a class met on the way is 19.
-fn search(signs: &[Sign], purpose: Purpose) -> Result<Option<usize>, Number> {
-    for (at, sign) in signs.iter().enumerate() {
-        if purpose == Purpose::Paths && sign.byte == b'/' {
+fn search(bytes: &[PatternByte], purpose: Purpose) -> Result<Option<usize>, Number> {
+    for (at, member) in bytes.iter().enumerate() {
+        if purpose == Purpose::Paths && member.byte == b'/' {
             return Ok(None);
         }
-        if at > 0 && sign.is(b']') {
+        if at > 0 && member.is(b']') {
             return Ok(Some(at));
         }
-        if sign.is(b'[') && signs.get(at + 1).is_some_and(|&next| begins_class(next)) {
+        if member.is(b'[') && bytes.get(at + 1).is_some_and(|&next| begins_class(next)) {
             return Err(Number::BracketClass);
         }
     }
     Ok(None)
 }
 
-fn begins_class(sign: Sign) -> bool {
-    sign.is(b':') || sign.is(b'.') || sign.is(b'=')
+fn begins_class(next: PatternByte) -> bool {
+    next.is(b':') || next.is(b'.') || next.is(b'=')
 }
 
 /// The set of these members, ranges taken from the left.
-fn members(signs: &[Sign]) -> [bool; 256] {
+fn members(bytes: &[PatternByte]) -> [bool; 256] {
     let mut set = [false; 256];
-    let mut rest = signs;
+    let mut rest = bytes;
     loop {
         match rest {
             [low, dash, high, behind @ ..] if dash.is(b'-') => {

@@ -34,12 +34,7 @@ impl Program {
         let mut variables = table(folder, "vars.tab")?;
         let used = variables.len();
         variables.resize(limits::IMAGE, 0);
-        Ok(Program {
-            variables,
-            used,
-            homes: table(folder, "homes.tab")?,
-            paths: table(folder, "paths.tab")?,
-        })
+        Ok(Program { variables, used, homes: table(folder, "homes.tab")?, paths: table(folder, "paths.tab")? })
     }
 
     fn answer(&mut self, line: &[u8]) -> Vec<u8> {

@@ -39,11 +39,7 @@ pub struct Reader<'a> {
 
 /// All words of the line, or the first fault met from the left.
 pub fn read(line: &[u8]) -> Result<Vec<Word>, Refusal> {
-    let mut reader = Reader {
-        line,
-        at: 0,
-        open: 0,
-    };
+    let mut reader = Reader { line, at: 0, open: 0 };
     let mut words = Vec::new();
     while let Some(byte) = reader.peek(0) {
         if is_separator(byte) {
@@ -174,8 +170,7 @@ impl Reader<'_> {
         if next == b'\n' {
             return Err(Number::Syntax);
         }
-        let quotes = matches!(next, b'$' | b'`' | b'"' | b'\\')
-            || (end == DoubleEnd::Operand && next == b'}');
+        let quotes = matches!(next, b'$' | b'`' | b'"' | b'\\') || (end == DoubleEnd::Operand && next == b'}');
         self.at += if quotes { 2 } else { 1 };
         Ok(Part::Quoted(if quotes { next } else { b'\\' }))
     }
@@ -218,10 +213,7 @@ impl Reader<'_> {
     }
 
     /// Reads the inside of `${` or `$((` with one more expansion open.
-    pub(crate) fn opened<T>(
-        &mut self,
-        inside: impl FnOnce(&mut Self) -> Result<T, Number>,
-    ) -> Result<T, Number> {
+    pub(crate) fn opened<T>(&mut self, inside: impl FnOnce(&mut Self) -> Result<T, Number>) -> Result<T, Number> {
         if self.open == limits::OPEN_EXPANSIONS {
             return Err(Number::TooDeep);
         }

@@ -13,10 +13,7 @@ pub struct Variables {
 
 impl Variables {
     pub fn new(pairs: Vec<Pair>, room: usize) -> Self {
-        Variables {
-            values: pairs.into_iter().collect(),
-            room,
-        }
+        Variables { values: pairs.into_iter().collect(), room }
     }
 
     pub fn value(&self, name: &[u8]) -> Option<&[u8]> {

@@ -13,10 +13,10 @@ use Rattle.stages.specs.Outcome.{refused, done, Placed, refusedAt, doneAt, at, 
 use Rattle.stages.specs.Syntax.{Parts, Word, word}
 use Rattle.stages.specs.Read.{Taken, Words, parts, words, wordAt, readLine}
 use Rattle.stages.proofs.Read.{Good, stays, leaves, word-good}
+use Rattle.stages.proofs.Texts.{span-more, span-stop}
 use Rattle.stages.proofs.Words.{words-none, words-blank, words-operator, words-word, FirstWord, first-word}
 use Rattle.texts.specs.Classes.{Runs}
 use Rattle.texts.specs.declared.Class.the-variants.{Blank}
-use Rattle.texts.proofs.Scans.{span-stop, span-go}
 use Rattle.items.proofs.Class.{part-length}
 use Rattle.reading.specs.Says.{ReadTo, ReadSays, blanksEnd, NextAt, NextNone, NextSays, WordTo, WordSays, verdict}
 use Rattle.reading.specs.declared.Reading.{Reading}
@@ -41,11 +41,11 @@ record Skips (n : ℕ) (t : Text) (p : Text × Text) : Type 0 where
 skip-cons : (n b : ℕ) (t : Text) → Skips (suc n) t (span isBlank t) → (x : Bool) → isBlank b ≡ x → Skips n (b ∷ t) (span isBlank (b ∷ t))
 skip-cons n b t s true e =
     let k : suc n + length (span isBlank t .0) ≡ n + suc (length (span isBlank t .0)) = omega arith in
-    rw (span-go isBlank b t e)
+    rw (span-more isBlank b t e)
     (record { is = words-blank n b t e ∙ s .is ∙ ap (λ (i : ℕ). words (i, span isBlank t .1)) k; starts = s .starts })
 skip-cons n b t s false e =
     let k : n ≡ n + 0 = omega arith in
-    rw (span-stop isBlank b t e)
+    rw (span-stop isBlank (b ∷ t) e)
     (record { is = ap (λ (i : ℕ). words (i, b ∷ t)) k; starts = λ c u h. let q : b ≡ c = cc in ap isBlank (sym q) ∙ e })
 
 skips : (n : ℕ) (t : Text) → Skips n t (span isBlank t)

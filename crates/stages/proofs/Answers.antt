@@ -162,7 +162,7 @@ homes-fine t h e = let b : (held t ≡ h) × Table isLogin t = table-of isLogin 
 paths-fine : (t : Text) (l : List Text) → pathsOf t ≡ some l → Fine l
 paths-fine t l e = let b : (heldTexts t ≡ l) × Paths t = paths-held t l e in rw (← b .0) (texts-held-fine t (b .1 .table))
 
-expanded-safe : (g : Given) (out : ℕ) → SafeAt (length (g .line)) (Ready (length (g .vars)) out) (expanded g out)
+pub expanded-safe : (g : Given) (out : ℕ) → SafeAt (length (g .line)) (Ready (length (g .vars)) out) (expanded g out)
 unfolding expanded
 expanded-safe g out =
     safe-then _ (safe-require (leb workLeast (length (g .work))) workTooSmall 0 (early refl))

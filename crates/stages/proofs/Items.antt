@@ -1,4 +1,5 @@
--- Laws of items: a fault's number is from 7 to 12, and a text ends only where its mode lets it end. Assumes nothing.
+-- Laws of items: a fault's number is from 7 to 12, a text ends only where its mode lets it end, names are names, and bytes are bytes of the text but
+-- for a literal `$` or backslash. Assumes nothing.
 use Prim.Native.Nat.{ℕ, zero, suc, _+_}
 use Prim.Native.Char.{code}
 use mathlib.Core.Path.{_≡_, refl}
@@ -6,157 +7,221 @@ use mathlib.Core.Bool.{Bool, true, false}
 use mathlib.Core.List.{[], _∷_}
 use lib.Dec.{eqb}
 use lib.ListN.{length}
+use Rattle.stages.specs.Numbers.{unended, unserved, badSyntax, tooDeep}
 use Rattle.stages.specs.Bytes.{Text, text, between, isIn, isBlank, isOperator, isNameStart, isNameByte, span}
 use Rattle.stages.specs.Outcome.{pick}
+use Rattle.stages.specs.Images.{isName}
 use Rattle.stages.specs.Syntax.{Form, Mode, suffix, prefix, word, bare, single, double, operand, arith}
-use Rattle.stages.specs.Items.{Item, fault, stop, byte, paren, quote, value, count, inner, sum, item, itemOf, sort, Sort}
+use Rattle.stages.specs.Items.{Item, fault, stop, byte, paren, quote, value, count, inner, sum, item, ended, itemOf, sort, Sort}
 use Rattle.stages.specs.Items.{backquote, closes, operator, quotes, quotes2, backslash, dollar, bad, opening, closing, literal}
 use Rattle.stages.specs.Items.{wrong, quotable, notServed, escaped, behindColon, removal, behindName, behindLength, named, braced}
 use Rattle.stages.specs.Items.{parenthesis, expansion, outer, opened, closed}
+use Rattle.stages.proofs.Bools.{and-both}
+use Rattle.stages.proofs.Texts.{span-all, span-more, start-name-byte}
+use Rattle.stages.proofs.Outcomes.{Each}
 
--- a fault's number is from 7 to 12, and the item ends its text only where `s` allows it
-pub data Fair : Bool → Item → Type 0 where
-  faults : {s : Bool} {n : ℕ} → between 7 n 12 ≡ true → Fair s (fault n)
-  stops : {k : ℕ} → Fair true (stop k)
-  a-byte : {s q : Bool} {b k : ℕ} → Fair s (byte q b k)
-  a-paren : {s : Bool} {b n : ℕ} → Fair s (paren b n)
-  a-quote : {s : Bool} {m : Mode} → Fair s (quote m)
-  a-value : {s : Bool} {x : Text} {k : ℕ} → Fair s (value x k)
-  a-count : {s : Bool} {x : Text} {k : ℕ} → Fair s (count x k)
-  an-inner : {s : Bool} {x : Text} {f : Form} {m : Mode} {k : ℕ} → Fair s (inner x f m k)
-  a-sum : {s : Bool} → Fair s sum
+-- a fault's number is from 7 to 12, the item ends its text only where `s` allows it, P holds of its byte, and its name is a name
+pub data Fair (P : ℕ → Type 0) : Bool → Item → Type 0 where
+  faults : {s : Bool} {n : ℕ} → between unended n tooDeep ≡ true → Fair P s (fault n)
+  stops : {k : ℕ} → Fair P true (stop k)
+  a-byte : {s q : Bool} {b k : ℕ} → P b → Fair P s (byte q b k)
+  a-paren : {s : Bool} {b n : ℕ} → P b → Fair P s (paren b n)
+  a-quote : {s : Bool} {m : Mode} → Fair P s (quote m)
+  a-value : {s : Bool} {x : Text} {k : ℕ} → isName x ≡ true → Fair P s (value x k)
+  a-count : {s : Bool} {x : Text} {k : ℕ} → isName x ≡ true → Fair P s (count x k)
+  an-inner : {s : Bool} {x : Text} {f : Form} {m : Mode} {k : ℕ} → isName x ≡ true → Fair P s (inner x f m k)
+  a-sum : {s : Bool} → Fair P s sum
 
-pick-fair : {s : Bool} (x : Bool) {i j : Item} → Fair s i → Fair s j → Fair s (pick x i j)
-pick-fair true h k = h
-pick-fair false h k = k
+pick-where : {P : ℕ → Type 0} {s : Bool} (x : Bool) {i j : Item} → (x ≡ true → Fair P s i) → Fair P s j → Fair P s (pick x i j)
+pick-where true h k = h refl
+pick-where false h k = k
 
-module _ (s : Bool) where
-  wrong-fair : (n : ℕ) (t : Text) → between 7 n 12 ≡ true → Fair s (wrong n t)
+pick-fair : {P : ℕ → Type 0} {s : Bool} (x : Bool) {i j : Item} → Fair P s i → Fair P s j → Fair P s (pick x i j)
+pick-fair x h k = pick-where x (λ _. h) k
+
+-- the longest run from a byte that begins a name
+span-name : (b : ℕ) (t : Text) → isNameStart b ≡ true → isName (span isNameByte (b ∷ t) .0) ≡ true
+unfolding isName
+span-name b t e = rw (span-more isNameByte b t (start-name-byte b e)) (and-both e (span-all isNameByte t))
+
+module _ (P : ℕ → Type 0) (s : Bool) where
+  wrong-fair : (n : ℕ) (t : Text) → between unended n tooDeep ≡ true → Fair P s (wrong n t)
   unfolding wrong
   wrong-fair n [] h = faults refl
   wrong-fair n (b ∷ t) h = pick-fair (eqb b (code "`")) (faults refl) (faults h)
 
-  escaped-fair : (m : Mode) (t : Text) → Fair s (escaped m t)
-  unfolding escaped
-  escaped-fair m [] = faults refl
-  escaped-fair m (b ∷ t) = pick-fair (eqb b (code "\n")) (faults refl) (pick-fair (quotable m b) a-byte a-byte)
+  module _ (x : Text) (e : isName x ≡ true) where
+    colon-fair : (m : Mode) (k : ℕ) (t : Text) → Fair P s (behindColon m x k t)
+    unfolding behindColon
+    colon-fair m k [] = wrong-fair badSyntax [] refl
+    colon-fair m k (b ∷ t) = pick-fair (isIn b (text "-=?+")) (an-inner e) (wrong-fair badSyntax (b ∷ t) refl)
 
-  colon-fair : (m : Mode) (x : Text) (k : ℕ) (t : Text) → Fair s (behindColon m x k t)
-  unfolding behindColon
-  colon-fair m x k [] = wrong-fair 11 [] refl
-  colon-fair m x k (b ∷ t) = pick-fair (isIn b (text "-=?+")) an-inner (wrong-fair 11 (b ∷ t) refl)
+    removal-fair : (f : Bool → Form) (sign k : ℕ) (t : Text) → Fair P s (removal x f sign k t)
+    unfolding removal
+    removal-fair f sign k [] = an-inner e
+    removal-fair f sign k (b ∷ t) = pick-fair (eqb b sign) (an-inner e) (an-inner e)
 
-  removal-fair : (x : Text) (f : Bool → Form) (sign k : ℕ) (t : Text) → Fair s (removal x f sign k t)
-  unfolding removal
-  removal-fair x f sign k [] = an-inner
-  removal-fair x f sign k (b ∷ t) = pick-fair (eqb b sign) an-inner an-inner
+    name-fair : (m : Mode) (k : ℕ) (t : Text) → Fair P s (behindName m x k t)
+    unfolding behindName
+    name-fair m k [] = wrong-fair badSyntax [] refl
+    name-fair m k (b ∷ t) =
+        pick-fair (eqb b (code "}")) (a-value e)
+        (pick-fair (eqb b (code ":")) (colon-fair m (suc k) t)
+        (pick-fair (isIn b (text "-=?+")) (an-inner e)
+        (pick-fair (eqb b (code "%")) (removal-fair suffix b k t)
+        (pick-fair (eqb b (code "#")) (removal-fair prefix b k t) (wrong-fair badSyntax (b ∷ t) refl)))))
 
-  name-fair : (m : Mode) (x : Text) (k : ℕ) (t : Text) → Fair s (behindName m x k t)
-  unfolding behindName
-  name-fair m x k [] = wrong-fair 11 [] refl
-  name-fair m x k (b ∷ t) =
-      pick-fair (eqb b (code "}")) a-value
-      (pick-fair (eqb b (code ":")) (colon-fair m x (suc k) t)
-      (pick-fair (isIn b (text "-=?+")) an-inner
-      (pick-fair (eqb b (code "%")) (removal-fair x suffix b k t)
-      (pick-fair (eqb b (code "#")) (removal-fair x prefix b k t) (wrong-fair 11 (b ∷ t) refl)))))
+    length-fair : (k : ℕ) (t : Text) → Fair P s (behindLength x k t)
+    unfolding behindLength
+    length-fair k [] = wrong-fair badSyntax [] refl
+    length-fair k (b ∷ t) = pick-fair (eqb b (code "}")) (a-count e) (wrong-fair badSyntax (b ∷ t) refl)
 
-  length-fair : (x : Text) (k : ℕ) (t : Text) → Fair s (behindLength x k t)
-  unfolding behindLength
-  length-fair x k [] = wrong-fair 11 [] refl
-  length-fair x k (b ∷ t) = pick-fair (eqb b (code "}")) a-count (wrong-fair 11 (b ∷ t) refl)
-
-  named-fair : (f : Text → Text → Item) → ((x u : Text) → Fair s (f x u)) → (t : Text) → Fair s (named f t)
+  named-fair : (f : Text → Text → Item) → ((x u : Text) → isName x ≡ true → Fair P s (f x u)) → (t : Text) → Fair P s (named f t)
   unfolding named
-  named-fair f h [] = wrong-fair 10 [] refl
+  named-fair f h [] = wrong-fair unserved [] refl
   named-fair f h (b ∷ t) =
-      pick-fair (isNameStart b) (h (span isNameByte (b ∷ t) .0) (span isNameByte (b ∷ t) .1)) (wrong-fair 10 (b ∷ t) refl)
+      pick-where (isNameStart b) (λ e. h (span isNameByte (b ∷ t) .0) (span isNameByte (b ∷ t) .1) (span-name b t e)) (wrong-fair unserved (b ∷ t) refl)
 
-  braced-fair : (m : Mode) (d : ℕ) (t : Text) → Fair s (braced m d t)
+  braced-fair : (m : Mode) (d : ℕ) (t : Text) → Fair P s (braced m d t)
   unfolding braced
   braced-fair m zero t = faults refl
-  braced-fair m (suc d) [] = wrong-fair 10 [] refl
+  braced-fair m (suc d) [] = wrong-fair unserved [] refl
   braced-fair m (suc d) (b ∷ t) =
       pick-fair (eqb b (code "#"))
-      (named-fair (λ x u. behindLength x (length x + 3) u) (λ x u. length-fair x (length x + 3) u) t)
-      (named-fair (λ x u. behindName m x (length x + 2) u) (λ x u. name-fair m x (length x + 2) u) (b ∷ t))
+      (named-fair (λ x u. behindLength x (length x + 3) u) (λ x u e. length-fair x e (length x + 3) u) t)
+      (named-fair (λ x u. behindName m x (length x + 2) u) (λ x u e. name-fair x e m (length x + 2) u) (b ∷ t))
 
-  parenthesis-fair : (d : ℕ) (t : Text) → Fair s (parenthesis d t)
+  parenthesis-fair : (d : ℕ) (t : Text) → Fair P s (parenthesis d t)
   unfolding parenthesis
   parenthesis-fair zero [] = faults refl
   parenthesis-fair (suc d) [] = faults refl
   parenthesis-fair zero (b ∷ t) = pick-fair (eqb b (code "(")) (faults refl) (faults refl)
   parenthesis-fair (suc d) (b ∷ t) = pick-fair (eqb b (code "(")) a-sum (faults refl)
 
-  expansion-fair : (m : Mode) (d : ℕ) (t : Text) → Fair s (expansion m d t)
-  unfolding expansion
-  expansion-fair m d [] = a-byte
-  expansion-fair m d (b ∷ t) =
-      pick-fair (isNameStart b) a-value
-      (pick-fair (eqb b (code "(")) (parenthesis-fair d t)
-      (pick-fair (eqb b (code "{")) (braced-fair m d t) (pick-fair (notServed m b) (faults refl) a-byte)))
-
-  opened-fair : (m : Mode) (b : ℕ) → Fair s (opened m b)
+  opened-fair : (m : Mode) (b : ℕ) → P b → Fair P s (opened m b)
   unfolding opened
-  opened-fair word b = a-byte
-  opened-fair bare b = a-byte
-  opened-fair single b = a-byte
-  opened-fair double b = a-byte
-  opened-fair operand b = a-byte
-  opened-fair (arith n) b = a-paren
+  opened-fair word b p = a-byte p
+  opened-fair bare b p = a-byte p
+  opened-fair single b p = a-byte p
+  opened-fair double b p = a-byte p
+  opened-fair operand b p = a-byte p
+  opened-fair (arith n) b p = a-paren p
 
-outer-fair : (t : Text) → Fair true (outer t)
+outer-fair : (P : ℕ → Type 0) (t : Text) → Fair P true (outer t)
 unfolding outer
-outer-fair [] = faults refl
-outer-fair (b ∷ t) = pick-fair (eqb b (code ")")) stops (pick-fair (eqb b (code "`")) (faults refl) (faults refl))
+outer-fair P [] = faults refl
+outer-fair P (b ∷ t) = pick-fair (eqb b (code ")")) stops (pick-fair (eqb b (code "`")) (faults refl) (faults refl))
 
-closed-fair : (m : Mode) (b : ℕ) (t : Text) → Fair true (closed m b t)
+closed-fair : (P : ℕ → Type 0) (m : Mode) (b : ℕ) (t : Text) → P b → Fair P true (closed m b t)
 unfolding closed
-closed-fair word b t = a-byte
-closed-fair bare b t = a-byte
-closed-fair single b t = a-byte
-closed-fair double b t = a-byte
-closed-fair operand b t = a-byte
-closed-fair (arith zero) b t = outer-fair t
-closed-fair (arith (suc n)) b t = a-paren
+closed-fair P word b t p = a-byte p
+closed-fair P bare b t p = a-byte p
+closed-fair P single b t p = a-byte p
+closed-fair P double b t p = a-byte p
+closed-fair P operand b t p = a-byte p
+closed-fair P (arith zero) b t p = outer-fair P t
+closed-fair P (arith (suc n)) b t p = a-paren p
 
-of-fair : (s : Sort) (m : Mode) (d b : ℕ) (t : Text) → Fair true (itemOf s m d b t)
-unfolding itemOf
-of-fair backquote m d b t = faults refl
-of-fair closes m d b t = stops
-of-fair operator m d b t = faults refl
-of-fair quotes m d b t = a-quote
-of-fair quotes2 m d b t = a-quote
-of-fair backslash m d b t = escaped-fair true m t
-of-fair dollar m d b t = expansion-fair true m d t
-of-fair bad m d b t = faults refl
-of-fair opening m d b t = opened-fair true m b
-of-fair closing m d b t = closed-fair m b t
-of-fair literal m d b t = a-byte
+-- P holds of the two bytes that may stand for themselves
+module _ (P : ℕ → Type 0) (p : P (code "$")) (q : P (code "\\")) where
+  escaped-fair : (s : Bool) (m : Mode) (t : Text) → Each P t → Fair P s (escaped m t)
+  unfolding escaped
+  escaped-fair s m [] h = faults refl
+  escaped-fair s m (b ∷ t) h = pick-fair (eqb b (code "\n")) (faults refl) (pick-fair (quotable m b) (a-byte (h .0)) (a-byte q))
 
-pub item-fair : (m : Mode) (d b : ℕ) (t : Text) → Fair true (item m d (b ∷ t))
-unfolding item
-item-fair m d b t = of-fair (sort m b) m d b t
+  expansion-fair : (s : Bool) (m : Mode) (d : ℕ) (t : Text) → Fair P s (expansion m d t)
+  unfolding expansion
+  expansion-fair s m d [] = a-byte p
+  expansion-fair s m d (b ∷ t) =
+      pick-where (isNameStart b) (λ e. a-value (span-name b t e))
+      (pick-fair (eqb b (code "(")) (parenthesis-fair P s d t)
+      (pick-fair (eqb b (code "{")) (braced-fair P s m d t) (pick-fair (notServed m b) (faults refl) (a-byte p))))
+
+  of-fair : (s : Sort) (m : Mode) (d b : ℕ) (t : Text) → Each P (b ∷ t) → Fair P true (itemOf s m d b t)
+  unfolding itemOf
+  of-fair backquote m d b t h = faults refl
+  of-fair closes m d b t h = stops
+  of-fair operator m d b t h = faults refl
+  of-fair quotes m d b t h = a-quote
+  of-fair quotes2 m d b t h = a-quote
+  of-fair backslash m d b t h = escaped-fair true m t (h .1)
+  of-fair dollar m d b t h = expansion-fair true m d t
+  of-fair bad m d b t h = faults refl
+  of-fair opening m d b t h = opened-fair P true m b (h .0)
+  of-fair closing m d b t h = closed-fair P m b t (h .0)
+  of-fair literal m d b t h = a-byte (h .0)
+
+  pub item-passes : (m : Mode) (d b : ℕ) (t : Text) → Each P (b ∷ t) → Fair P true (item m d (b ∷ t))
+  unfolding item
+  item-passes m d b t h = of-fair (sort m b) m d b t h
+
+-- the same where bytes do not matter
+abbrev pub AnyByte : ℕ → Type 0
+AnyByte b = Unit {0}
+
+any-bytes : (t : Text) → Each AnyByte t
+any-bytes [] = tt
+any-bytes (b ∷ t) = (tt, any-bytes t)
+
+pub item-fair : (m : Mode) (d b : ℕ) (t : Text) → Fair AnyByte true (item m d (b ∷ t))
+item-fair m d b t = item-passes AnyByte tt tt m d b t (any-bytes (b ∷ t))
 
 -- an item ends its text or goes on
-pub data View : Item → Type 0 where
-  ends : {k : ℕ} → View (stop k)
-  on : {i : Item} → Fair false i → View i
+pub data View (P : ℕ → Type 0) : Item → Type 0 where
+  ends : {k : ℕ} → View P (stop k)
+  on : {i : Item} → Fair P false i → View P i
 
-pub view : {i : Item} → Fair true i → View i
+pub view : {P : ℕ → Type 0} {i : Item} → Fair P true i → View P i
 view (faults h) = on (faults h)
 view stops = ends
-view a-byte = on a-byte
-view a-paren = on a-paren
+view (a-byte p) = on (a-byte p)
+view (a-paren p) = on (a-paren p)
 view a-quote = on a-quote
-view a-value = on a-value
-view a-count = on a-count
-view an-inner = on an-inner
+view (a-value e) = on (a-value e)
+view (a-count e) = on (a-count e)
+view (an-inner e) = on (an-inner e)
 view a-sum = on a-sum
+
+-- the name of an item is a name
+abbrev pub Named : Item → Type 0
+Named (fault n) = Unit {0}
+Named (stop k) = Unit {0}
+Named (byte q b k) = Unit {0}
+Named (paren b n) = Unit {0}
+Named (quote m) = Unit {0}
+Named (value x k) = isName x ≡ true
+Named (count x k) = isName x ≡ true
+Named (inner x f m k) = isName x ≡ true
+Named sum = Unit {0}
+
+fair-named : {P : ℕ → Type 0} {s : Bool} {i : Item} → Fair P s i → Named i
+fair-named (faults h) = tt
+fair-named stops = tt
+fair-named (a-byte p) = tt
+fair-named (a-paren p) = tt
+fair-named a-quote = tt
+fair-named (a-value e) = e
+fair-named (a-count e) = e
+fair-named (an-inner e) = e
+fair-named a-sum = tt
+
+ended-named : (m : Mode) → Named (ended m)
+unfolding ended
+ended-named word = tt
+ended-named bare = tt
+ended-named single = tt
+ended-named double = tt
+ended-named operand = tt
+ended-named (arith n) = tt
+
+pub item-named : (m : Mode) (d : ℕ) (t : Text) (i : Item) → item m d t ≡ i → Named i
+unfolding item
+item-named m d [] i e = rw (← e) (ended-named m)
+item-named m d (b ∷ t) i e = rw (← e) (fair-named (item-fair m d b t))
 
 -- a word goes on at a byte that is no blank
 data Goes (s : Sort) : Type 0 where
-  goes : ((d b : ℕ) (t : Text) → Fair false (itemOf s word d b t)) → Goes s
+  goes : ((d b : ℕ) (t : Text) → Fair AnyByte false (itemOf s word d b t)) → Goes s
 
 pick-goes : (x : Bool) {s u : Sort} → Goes s → Goes u → Goes (pick x s u)
 pick-goes true h k = h
@@ -169,9 +234,9 @@ faulty-goes = (
   goes (λ d b t. faults refl),
   goes (λ d b t. a-quote),
   goes (λ d b t. a-quote),
-  goes (λ d b t. escaped-fair false word t),
-  goes (λ d b t. expansion-fair false word d t),
-  goes (λ d b t. a-byte),
+  goes (λ d b t. escaped-fair AnyByte tt tt false word t (any-bytes t)),
+  goes (λ d b t. expansion-fair AnyByte tt tt false word d t),
+  goes (λ d b t. a-byte tt),
 )
 
 word-sort : (b : ℕ) → isBlank b ≡ false → Goes (sort word b)
@@ -181,9 +246,9 @@ word-sort b e =
     rw e (pick-goes (eqb b (code "`")) (g .0) (pick-goes (isOperator b) (g .1) (pick-goes (eqb b (code "'")) (g .2) (pick-goes (eqb b (code "\"")) (g .3)
     (pick-goes (eqb b (code "\\")) (g .4) (pick-goes (eqb b (code "$")) (g .5) (g .6)))))))
 
-pub word-goes : (d b : ℕ) (t : Text) → isBlank b ≡ false → Fair false (item word d (b ∷ t))
+pub word-goes : (d b : ℕ) (t : Text) → isBlank b ≡ false → Fair AnyByte false (item word d (b ∷ t))
 unfolding item
 word-goes d b t e = go (word-sort b e)
   where
-    go : {s : Sort} → Goes s → Fair false (itemOf s word d b t)
+    go : {s : Sort} → Goes s → Fair AnyByte false (itemOf s word d b t)
     go (goes h) = h d b t

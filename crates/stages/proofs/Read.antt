@@ -14,7 +14,7 @@ use Rattle.stages.specs.Outcome.{Outcome, refused, done, _>>=_}
 use Rattle.stages.specs.Syntax.{Form, Parts, Mode, plain, end, lit, quo, par, len, ari, word, bare, single, double, operand, arith as sums}
 use Rattle.stages.specs.Items.{Item, fault, stop, byte, paren, quote, value, count, inner, sum, item, ended}
 use Rattle.stages.specs.Read.{Taken, Reader, put, nest, readItem, Ask, askSize, askStep, parts}
-use Rattle.stages.proofs.Items.{Fair, faults, a-byte, a-paren, a-quote, a-value, a-count, an-inner, a-sum, View, ends, on, view, item-fair, word-goes}
+use Rattle.stages.proofs.Items.{AnyByte, Fair, faults, a-byte, a-paren, a-quote, a-value, a-count, an-inner, a-sum, View, ends, on, view, item-fair, word-goes}
 
 -- What is left is no longer than the text, and a number is from 7 to 12.
 
@@ -38,20 +38,20 @@ module _ (k : ℕ) (rec : Reader) (g : (m : Mode) (d : ℕ) (t : Text) → lengt
   nest-good f m d i j (stays h) l n = stays h
   nest-good f m d i j (leaves {p = p} l) h n = put-good (f (p .0)) (g m d (p .1) (omega arith)) (omega arith)
 
-  going-good : (m : Mode) (d b : ℕ) (t : Text) {i : Item} → Fair false i → length t < k → Good (length t) (readItem rec m d (b ∷ t) i)
+  going-good : (m : Mode) (d b : ℕ) (t : Text) {i : Item} → Fair AnyByte false i → length t < k → Good (length t) (readItem rec m d (b ∷ t) i)
   unfolding readItem
   going-good m d b t (faults w) h = stays w
-  going-good m d b t (a-byte {k = n}) h = let e = drop-le n t in put-good _ (g m d (drop n t) (omega arith)) e
-  going-good m d b t (a-paren {n = n}) h = put-good _ (g (sums n) d t h) (omega arith)
+  going-good m d b t (a-byte {k = n} _) h = let e = drop-le n t in put-good _ (g m d (drop n t) (omega arith)) e
+  going-good m d b t (a-paren {n = n} _) h = put-good _ (g (sums n) d t h) (omega arith)
   going-good m d b t (a-quote {m = n}) h = nest-good quo m d (length t) (length t) (g n d t h) h (omega arith)
-  going-good m d b t (a-value {k = n}) h = let e = drop-le n t in put-good _ (g m d (drop n t) (omega arith)) e
-  going-good m d b t (a-count {k = n}) h = let e = drop-le n t in put-good _ (g m d (drop n t) (omega arith)) e
-  going-good m d b t (an-inner {x = x} {f = f} {m = n} {k = j}) h =
+  going-good m d b t (a-value {k = n} _) h = let e = drop-le n t in put-good _ (g m d (drop n t) (omega arith)) e
+  going-good m d b t (a-count {k = n} _) h = let e = drop-le n t in put-good _ (g m d (drop n t) (omega arith)) e
+  going-good m d b t (an-inner {x = x} {f = f} {m = n} {k = j} _) h =
       let e = drop-le j t in nest-good (par x f) m d (length (drop j t)) (length t) (g n (d - 1) (drop j t) (omega arith)) (omega arith) e
   going-good m d b t a-sum h =
       let e = drop-le 2 t in nest-good ari m d (length (drop 2 t)) (length t) (g (sums 0) (d - 1) (drop 2 t) (omega arith)) (omega arith) e
 
-  fair-good : (m : Mode) (d b : ℕ) (t : Text) {i : Item} → View i → length t < k → Good (suc (length t)) (readItem rec m d (b ∷ t) i)
+  fair-good : (m : Mode) (d b : ℕ) (t : Text) {i : Item} → View AnyByte i → length t < k → Good (suc (length t)) (readItem rec m d (b ∷ t) i)
   unfolding readItem
   fair-good m d b t (ends {k = n}) h = leaves {p = (end, drop n (b ∷ t))} (drop-le n (b ∷ t))
   fair-good m d b t (on w) h = wider (going-good m d b t w h) (omega arith)

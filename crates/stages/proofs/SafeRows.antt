@@ -63,7 +63,7 @@ value-safe v x f = go (lookup x v) refl
     go none e = rw e
     go (some t) e = rw e (lookup-fine x t v f e)
 
-store-safe : (room : ℕ) (x t : Text) (v : Pairs) → isName x ≡ true → NoZero t → Kept room v → Safe (Kept room) (store room x t v)
+pub store-safe : (room : ℕ) (x t : Text) (v : Pairs) → isName x ≡ true → NoZero t → Kept room v → Safe (Kept room) (store room x t v)
 unfolding store
 store-safe room x t v n z k =
     let size : ℕ = imageLength (flat (stored x t v)) in
@@ -87,11 +87,11 @@ left-safe : (x : Bool) (k : ℕ) (t : Text) → NoZero t → NoZero (pick x (tak
 left-safe true k t z = all-take notZero k t z
 left-safe false k t z = all-drop notZero k t z
 
-removed-safe : (x long : Bool) (p : List Element) (t : Text) → NoZero t → NoZero (removed x long p t)
+pub removed-safe : (x long : Bool) (p : List Element) (t : Text) → NoZero t → NoZero (removed x long p t)
 unfolding removed
 removed-safe x long p t z = left-safe x (cut x long p t) t z
 
-pattern-safe : (path : Bool) (r : Row) → Safe (λ (p : List Element). Unit {0}) (pattern path r)
+pub pattern-safe : (path : Bool) (r : Row) → Safe (λ (p : List Element). Unit {0}) (pattern path r)
 unfolding pattern
 pattern-safe path r = either (hasClass path 0 (signs r)) (λ e. rw (e, pattern) (refuses refl)) (λ e. rw (e, pattern) (gives tt))
 
@@ -110,7 +110,7 @@ module _ (room : ℕ) (x : Text) (n : isName x ≡ true) where
       safe-bind _ (pattern-safe false (p .0))
       (λ es _. gives (marked-safe (expanded m) (removed s long es (value (p .1) x)) (removed-safe s long es (value (p .1) x) (value-safe (p .1) x (h .1 .fine))), h .1))
 
-  parameter-safe : (q : Mark → Pairs → Made) → ((m : Mark) (v : Pairs) → Kept room v → Safe (SafeMade room) (q m v)) → (f : Form) (m : Mark) (v : Pairs) → Kept room v
+  pub parameter-safe : (q : Mark → Pairs → Made) → ((m : Mark) (v : Pairs) → Kept room v → Safe (SafeMade room) (q m v)) → (f : Form) (m : Mark) (v : Pairs) → Kept room v
       → Safe (SafeMade room) (parameter room q x f m v)
   unfolding parameter
   parameter-safe q h plain m v k = given-safe m v k

@@ -92,7 +92,7 @@ module _ (K : Pairs → Type 0) where
 
 -- tokens: what is behind one is shorter than the text, but for an empty one
 
-abbrev Lexes : Text → Token × Text → Type 0
+abbrev pub Lexes : Text → Token × Text → Type 0
 Lexes t p = length (p .1) ≤ length t - 1
 
 paired-safe : (b : ℕ) (t : Text) (alone : Lexed) (both : Token) → Safe (Lexes (b ∷ t)) alone → Safe (Lexes (b ∷ t)) (paired alone both t)
@@ -113,7 +113,7 @@ digit-name-byte : (b : ℕ) → isDigit b ≡ true → isNameByte b ≡ true
 unfolding isNameByte
 digit-name-byte b e = or-right (isNameStart b) e
 
-token-safe : (t : Text) → Safe (Lexes t) (token t)
+pub token-safe : (t : Text) → Safe (Lexes t) (token t)
 unfolding token
 token-safe [] = gives {a = (stop, [])} (omega arith)
 token-safe (b ∷ t) =
@@ -131,11 +131,11 @@ token-safe (b ∷ t) =
 -- the reader of an expression
 
 -- what is behind the tree is no longer than the text
-abbrev Grows : ℕ → Tree × Text → Type 0
+abbrev pub Grows : ℕ → Tree × Text → Type 0
 Grows n q = length (q .1) ≤ n
 
 module _ (n : ℕ) (rec : Grow) (ih : (a : Task × ℕ × Text) → length (a .2) < n → Safe (Grows (length (a .2))) (rec a)) where
-  expression-safe : (d k : ℕ) (t : Text) → length t < n → Safe (Grows (length t)) (expression rec d k t)
+  pub expression-safe : (d k : ℕ) (t : Text) → length t < n → Safe (Grows (length t)) (expression rec d k t)
   expression-safe d k t h =
       safe-bind (λ p. rec (further k (p .0), d, p .1)) (ih (operand, d, t) h) (λ p l. safe-weaker (λ q m. omega arith) (ih (further k (p .0), d, p .1) (omega arith)))
 
@@ -211,7 +211,7 @@ grow-step-safe (further k l, d, b ∷ t) rec ih =
     safe-bind (λ p. furtherAt rec d k l (b ∷ t) p) (token-safe (b ∷ t))
     (λ p h. further-safe (suc (length t)) rec ih d k l (b ∷ t) (p .0) (p .1) (omega arith) (omega arith))
 
-grow-safe : (a : Task × ℕ × Text) → Safe (Grows (length (a .2))) (grow a)
+pub grow-safe : (a : Task × ℕ × Text) → Safe (Grows (length (a .2))) (grow a)
 unfolding grow
 grow-safe a = by-fix growSize (refused 0) growStep (λ (b : Task × ℕ × Text) (r : Grown). Safe (Grows (length (b .2))) r) grow-step-safe a
 
@@ -224,7 +224,7 @@ whole-safe l (op o) t = refuses refl
 whole-safe l opens t = refuses refl
 whole-safe l shuts t = refuses refl
 
-tree-safe : (t : Text) → Numbered (tree t)
+pub tree-safe : (t : Text) → Numbered (tree t)
 unfolding tree
 tree-safe t =
     safe-bind _ (expression-safe (suc (length t)) grow (λ a _. grow-safe a) openLimit 1 t (omega arith))

@@ -3,29 +3,27 @@
 use std::process::ExitCode;
 
 use reference::generate::random::Random;
-use reference::shells::{lines, reference, Folder, Outcome, Shell, Table};
+use reference::shells::script::is_harmless;
+use reference::shells::{differences, lines, reference, Folder, Outcome, Shell, Table};
 
 fn main() -> ExitCode {
     let words: Vec<String> = std::env::args().skip(1).collect();
-    let [seed, count] = &words[..] else {
-        return usage();
-    };
-    let (Ok(seed), Ok(count)) = (seed.parse(), count.parse()) else {
-        return usage();
-    };
-    let missing: Vec<&str> = Shell::ALL
-        .into_iter()
-        .filter(|shell| !shell.is_installed())
-        .map(Shell::name)
-        .collect();
+    let words: Vec<&str> = words.iter().map(String::as_str).collect();
+    let missing: Vec<&str> = Shell::ALL.into_iter().filter(|shell| !shell.is_installed()).map(Shell::name).collect();
     if !missing.is_empty() {
-        eprintln!(
-            "not installed, so nothing is compared: {}",
-            missing.join(", ")
-        );
+        let missing = missing.join(", ");
+        eprintln!("not installed, so nothing is compared: {missing}");
         return ExitCode::FAILURE;
     }
-    match compare(seed, count) {
+    let differ = match words[..] {
+        ["--differences"] => show_differences(),
+        [seed, count] => match (seed.parse(), count.parse()) {
+            (Ok(seed), Ok(count)) => compare(seed, count),
+            _ => return usage(),
+        },
+        _ => return usage(),
+    };
+    match differ {
         Ok(0) => ExitCode::SUCCESS,
         Ok(_) => ExitCode::FAILURE,
         Err(error) => {
@@ -35,24 +33,37 @@ fn main() -> ExitCode {
     }
 }
 
+/// Prints what docs/SHELLS.md lists; how many of its lines show no difference.
+fn show_differences() -> std::io::Result<usize> {
+    let (text, alike) = differences::measured(&Folder::new()?)?;
+    print!("{text}");
+    Ok(alike)
+}
+
 fn usage() -> ExitCode {
-    eprintln!("usage: shells SEED COUNT");
+    eprintln!("usage: shells SEED COUNT, or shells --differences");
     ExitCode::FAILURE
 }
 
-/// Compares so many accepted lines and says how many differ.
+/// Compares so many accepted lines and says how many differ, and how many more were made but not compared.
 fn compare(seed: u64, count: usize) -> std::io::Result<usize> {
     let folder = Folder::new()?;
-    let (mut compared, mut differ, mut case) = (0, 0, 0);
-    while compared < count {
+    let (mut compared, mut differ, mut refused, mut left_out) = (0, 0, 0, 0);
+    for case in 0.. {
+        if compared == count {
+            break;
+        }
         let random = &mut Random::new(seed, case);
-        case += 1;
         let variables = lines::variables(random);
         let line = lines::line(random);
-        let wanted = match reference(&line, &variables) {
-            Ok(wanted) if lines::stays_in_table(&wanted) => wanted,
-            _ => continue,
+        let Ok(wanted) = reference(&line, &variables) else {
+            refused += 1;
+            continue;
         };
+        if !is_harmless(&line) || !lines::splits_alike(&line, &variables) || !lines::stays_in_table(&wanted) {
+            left_out += 1;
+            continue;
+        }
         compared += 1;
         for shell in Shell::ALL {
             let given = shell.outcome(&folder, &line, &variables)?;
@@ -62,6 +73,7 @@ fn compare(seed: u64, count: usize) -> std::io::Result<usize> {
             }
         }
     }
+    println!("not compared: {refused} lines refused by the reference, {left_out} left out");
     println!("{compared} lines, {differ} differ");
     Ok(differ)
 }
@@ -69,11 +81,7 @@ fn compare(seed: u64, count: usize) -> std::io::Result<usize> {
 fn report(shell: Shell, line: &[u8], before: &Table, wanted: &Outcome, given: Option<&Outcome>) {
     println!("{}: {}", shell.name(), line.escape_ascii());
     println!("  variables {}", shown(before));
-    println!(
-        "  reference {} {}",
-        fields(wanted),
-        shown(&wanted.variables)
-    );
+    println!("  reference {} {}", fields(wanted), shown(&wanted.variables));
     match given {
         Some(given) => println!("  shell     {} {}", fields(given), shown(&given.variables)),
         None => println!("  shell     fails"),
@@ -82,14 +90,10 @@ fn report(shell: Shell, line: &[u8], before: &Table, wanted: &Outcome, given: Op
 
 fn fields(outcome: &Outcome) -> String {
     let fields = outcome.fields.iter();
-    fields
-        .map(|field| format!("<{}>", field.escape_ascii()))
-        .collect()
+    fields.map(|field| format!("<{}>", field.escape_ascii())).collect()
 }
 
 fn shown(table: &Table) -> String {
-    let pair = |(name, value): (&Vec<u8>, &Vec<u8>)| {
-        format!("{}={} ", name.escape_ascii(), value.escape_ascii())
-    };
+    let pair = |(name, value): (&Vec<u8>, &Vec<u8>)| format!("{}={} ", name.escape_ascii(), value.escape_ascii());
     table.iter().map(pair).collect()
 }

@@ -5,35 +5,27 @@ use super::random::Random;
 use super::tables::NAMES;
 
 const LITERALS: [&str; 24] = [
-    "a", "b", "c", "x", "1", ".", "/", "-", "=", ":", "~", "!", "^", "]", "}", "{", ",", "%", "@",
-    "abc", "a/b", ".hid", "\u{e9}", "+",
+    "a", "b", "c", "x", "1", ".", "/", "-", "=", ":", "~", "!", "^", "]", "}", "{", ",", "%", "@", "abc", "a/b",
+    ".hid", "\u{e9}", "+",
 ];
 const WILD: [&str; 16] = [
-    "*", "?", "[a-c]", "[!a]", "[abc]", "[]a]", "[a-]", "[c-a]", "[a", "[!", "*.b", "a?", "[a/b]",
-    "[--a]", "*/*", "[a-c-e]",
+    "*", "?", "[a-c]", "[!a]", "[abc]", "[]a]", "[a-]", "[c-a]", "[a", "[!", "*.b", "a?", "[a/b]", "[--a]", "*/*",
+    "[a-c-e]",
 ];
 const CLASSES: [&str; 6] = ["[[:a]", "[[:alpha:]]", "[a[.x]", "[[=", "[![:", "[a/[:x]"];
 const OPERAND_ONLY: [&str; 10] = [" ", "  ", "\t", "\n", "|", ";", "(", ")", "#", "<&>"];
-const QUOTED: [&str; 14] = [
-    "", "a", " ", "a b", "*", "?", "[a]", "\\", ":", "|", "#", "\n", "~", "}",
+const QUOTED: [&str; 14] = ["", "a", " ", "a b", "*", "?", "[a]", "\\", ":", "|", "#", "\n", "~", "}"];
+const ESCAPES: [&str; 10] = ["\\a", "\\$", "\\`", "\\\"", "\\\\", "\\}", "\\*", "\\ ", "\\'", "\\~"];
+const SPICE: [&str; 22] = [
+    "$((1)`", "${x`", "${#x`", "${x:`", "`", "$1", "$@", "$'a'", "$(", "$$", "|", "&", "(", "${", "${x.}", "${#x-}",
+    "${}", "\\\n", "$((1)", "\"", "'", "${x:",
 ];
-const ESCAPES: [&str; 10] = [
-    "\\a", "\\$", "\\`", "\\\"", "\\\\", "\\}", "\\*", "\\ ", "\\'", "\\~",
-];
-const SPICE: [&str; 18] = [
-    "`", "$1", "$@", "$'a'", "$(", "$$", "|", "&", "(", "${", "${x.}", "${#x-}", "${}", "\\\n",
-    "$((1)", "\"", "'", "${x:",
-];
-const TILDES: [&str; 10] = [
-    "~", "~/", "~/a", "~crew", "~crew/x", "~nobody", "~a", "~x-y.z/", "~-", "~crew:",
-];
-const FORMS: [&str; 13] = [
-    "-", ":-", "=", ":=", "?", ":?", "+", ":+", "%", "%%", "#", "##", ":-",
-];
+const TILDES: [&str; 10] = ["~", "~/", "~/a", "~crew", "~crew/x", "~nobody", "~a", "~x-y.z/", "~-", "~crew:"];
+const FORMS: [&str; 13] = ["-", ":-", "=", ":=", "?", ":?", "+", ":+", "%", "%%", "#", "##", ":-"];
 
 /// Where pieces stand: which bytes are bare there, and which quotes may open.
 #[derive(Clone, Copy, PartialEq, Eq)]
-pub enum Place {
+pub enum Setting {
     Word,
     BareOperand,
     Double,
@@ -44,11 +36,7 @@ pub fn line(random: &mut Random) -> Vec<u8> {
     let words = *random.pick(&[1, 1, 1, 2, 2, 3, 4]);
     let mut line = Vec::new();
     for _ in 0..words {
-        line.extend(if random.once_in(14) {
-            deep(random)
-        } else {
-            word(random)
-        });
+        line.extend(if random.once_in(14) { deep(random) } else { word(random) });
         line.extend(random.text(&[" ", " ", " ", "  ", "\t", "\n", ""]));
     }
     line
@@ -59,7 +47,7 @@ pub fn word(random: &mut Random) -> Vec<u8> {
     if random.once_in(9) {
         word.extend(random.text(&TILDES));
     }
-    word.extend(pieces(random, 0, Place::Word));
+    word.extend(pieces(random, 0, Setting::Word));
     word
 }
 
@@ -70,7 +58,7 @@ pub fn name(random: &mut Random) -> Vec<u8> {
     }
 }
 
-/// An expansion nested 7, 8 or 9 deep, each level of any kind that its setting allows.
+/// An expansion nested 7, 8 or 9 deep, each level of any kind.
 pub fn deep(random: &mut Random) -> Vec<u8> {
     let depth = random.between(7, 9);
     let (mut open, mut close) = (Vec::new(), Vec::new());
@@ -91,48 +79,41 @@ pub fn deep(random: &mut Random) -> Vec<u8> {
     [open, inside, close].concat()
 }
 
-pub fn pieces(random: &mut Random, depth: usize, place: Place) -> Vec<u8> {
+pub fn pieces(random: &mut Random, depth: usize, setting: Setting) -> Vec<u8> {
     let most = if depth == 0 { 4 } else { 3 };
     let count = random.below(most + 1);
     let mut text = Vec::new();
     for _ in 0..count {
-        text.extend(piece(random, depth, place));
+        text.extend(piece(random, depth, setting));
     }
     text
 }
 
-fn piece(random: &mut Random, depth: usize, place: Place) -> Vec<u8> {
-    let quoted = matches!(place, Place::Double | Place::DoubleOperand);
+fn piece(random: &mut Random, depth: usize, setting: Setting) -> Vec<u8> {
+    let quoted = matches!(setting, Setting::Double | Setting::DoubleOperand);
     match random.below(28) {
-        0..=5 => literal(random, place),
+        0..=5 => literal(random, setting),
         6..=8 if !quoted => random.text(&WILD),
         9..=10 if !quoted => quotes(random, depth),
         11 => random.text(&ESCAPES),
         12..=16 => [b"$".to_vec(), name(random)].concat(),
         17..=23 if depth < 4 => brace(random, depth + 1, quoted),
-        24 if depth < 4 => [
-            b"$((".to_vec(),
-            expression::text(random, depth + 1),
-            b"))".to_vec(),
-        ]
-        .concat(),
+        24 if depth < 4 => [b"$((".to_vec(), expression::text(random, depth + 1), b"))".to_vec()].concat(),
         25 if random.once_in(5) => random.text(&SPICE),
         26 if !quoted && random.once_in(3) => random.text(&CLASSES),
-        _ => literal(random, place),
+        _ => literal(random, setting),
     }
 }
 
-fn literal(random: &mut Random, place: Place) -> Vec<u8> {
-    let literal = match place {
-        Place::Word => random.text(&LITERALS),
-        Place::BareOperand if random.once_in(3) => random.text(&OPERAND_ONLY),
-        Place::BareOperand => random.text(&LITERALS),
-        Place::Double | Place::DoubleOperand if random.once_in(3) => {
-            random.text(&["'", " ", "\\a", "*", "|", "$"])
-        }
-        Place::Double | Place::DoubleOperand => random.text(&LITERALS),
+fn literal(random: &mut Random, setting: Setting) -> Vec<u8> {
+    let literal = match setting {
+        Setting::Word => random.text(&LITERALS),
+        Setting::BareOperand if random.once_in(3) => random.text(&OPERAND_ONLY),
+        Setting::BareOperand => random.text(&LITERALS),
+        Setting::Double | Setting::DoubleOperand if random.once_in(3) => random.text(&["'", " ", "\\a", "*", "|", "$"]),
+        Setting::Double | Setting::DoubleOperand => random.text(&LITERALS),
     };
-    let operand = matches!(place, Place::BareOperand | Place::DoubleOperand);
+    let operand = matches!(setting, Setting::BareOperand | Setting::DoubleOperand);
     if operand && literal == b"}" {
         return b"\\}".to_vec();
     }
@@ -143,12 +124,7 @@ fn quotes(random: &mut Random, depth: usize) -> Vec<u8> {
     if random.once_in(2) {
         return [b"'".to_vec(), random.text(&QUOTED), b"'".to_vec()].concat();
     }
-    [
-        b"\"".to_vec(),
-        pieces(random, depth, Place::Double),
-        b"\"".to_vec(),
-    ]
-    .concat()
+    [b"\"".to_vec(), pieces(random, depth, Setting::Double), b"\"".to_vec()].concat()
 }
 
 /// `${...}`, whose operand is read as the setting around it asks.
@@ -162,17 +138,6 @@ pub fn brace(random: &mut Random, depth: usize, quoted: bool) -> Vec<u8> {
     }
     let form = random.text(&FORMS);
     let removal = matches!(form[0], b'%' | b'#');
-    let place = if quoted && !removal {
-        Place::DoubleOperand
-    } else {
-        Place::BareOperand
-    };
-    [
-        b"${".to_vec(),
-        name,
-        form,
-        pieces(random, depth, place),
-        b"}".to_vec(),
-    ]
-    .concat()
+    let setting = if quoted && !removal { Setting::DoubleOperand } else { Setting::BareOperand };
+    [b"${".to_vec(), name, form, pieces(random, depth, setting), b"}".to_vec()].concat()
 }

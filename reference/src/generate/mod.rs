@@ -1,11 +1,12 @@
-//! Cases made from a seed: lines and tables of every kind, to be answered by the reference and by what is held against it.
+//! Cases made from a seed: lines and tables of every kind, for the reference and what is held against it to answer.
 
 mod damage;
 mod expression;
+mod focus;
 pub mod grammar;
 pub mod random;
 mod sizes;
-mod stars;
+pub mod stars;
 pub mod tables;
 pub mod tally;
 
@@ -16,16 +17,19 @@ use crate::case::{Call, Job, Lent};
 use crate::image::of_texts;
 use crate::limits;
 
-const MOST_STARS: usize = 3;
+/// The most stars one pattern of a case has.
+pub const MOST_STARS: usize = 3;
 
 /// The call of this case; the same for the same seed and case.
 pub fn call(seed: u64, case: u64) -> Call {
     let random = &mut Random::new(seed, case);
     let call = match random.below(100) {
-        0..=2 => sizes::call(random),
-        3..=8 => quote(random),
+        0..=3 => sizes::call(random),
+        4..=8 => quote(random),
         9..=12 => malformed(random),
         13..=17 => storing(random),
+        18..=27 => focused(random, focus::patterns),
+        28..=34 => focused(random, focus::splitting),
         _ => lines(random),
     };
     match call {
@@ -81,6 +85,12 @@ fn storing(random: &mut Random) -> Call {
     let mut lent = ordinary(random);
     lent.line = damage::storing(random);
     lent.variables_buffer = lent.variables.len() + random.below(60);
+    Call::Lines(job(random), lent)
+}
+
+fn focused(random: &mut Random, focus: fn(&mut Random, &mut Lent)) -> Call {
+    let mut lent = ordinary(random);
+    focus(random, &mut lent);
     Call::Lines(job(random), lent)
 }
 

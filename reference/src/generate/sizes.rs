@@ -15,8 +15,8 @@ pub fn call(random: &mut Random) -> Call {
         14..=15 => variables(random, &mut lent),
         16 => lent.homes = filled(Kind::Pairs, about(random, limits::IMAGE)),
         17..=18 => output(random, &mut lent),
-        19 => store(random, &mut lent),
-        20..=21 => return quoter(random),
+        19..=20 => store(random, &mut lent),
+        21 => return quoter(random),
         22 => quoted(random, &mut lent),
         _ => paths(random, &mut lent),
     }
@@ -59,30 +59,9 @@ fn row(random: &mut Random, lent: &mut Lent) {
     let fill = *random.pick(b"xxx :1");
     let mut table = Table::from([(b"e".to_vec(), vec![]), (b"v".to_vec(), vec![fill; length])]);
     lent.line = random.text(&[
-        "$v",
-        "\"$v\"",
-        "a$v",
-        "$v$e",
-        "$v''",
-        "$v\"\"",
-        "$v\\a",
-        "a ${u-$v}",
-        "${u-\"$v\"}",
-        "${u=$v}$u",
-        "${u=${v}a}",
-        "${v%x}$e",
-        "$v${v%%x*}",
-        "x$v${v##*}",
-        "$(( 1$v ))",
-        "$((0$v))",
-        "$v$((1/0))",
-        "$v${u?}",
-        "${#v}$v",
-        "${v+a$v}",
-        "\"${u:-$v}\"a",
-        "${e:=a}$v",
-        "${v#${v}}a",
-        "${v%%\"$v\"}a",
+        "$v", "\"$v\"", "a$v", "$v$e", "$v''", "$v\"\"", "$v\\a", "a ${u-$v}", "${u-\"$v\"}", "${u=$v}$u",
+        "${u=${v}a}", "${v%x}$e", "$v${v%%x*}", "x$v${v##*}", "$(( 1$v ))", "$((0$v))", "$v$((1/0))", "$v${u?}",
+        "${#v}$v", "${v+a$v}", "\"${u:-$v}\"a", "${e:=a}$v", "${v#${v}}a", "${v%%\"$v\"}a",
     ]);
     if random.once_in(6) {
         let value = table.remove(b"v".as_slice()).unwrap_or_default();
@@ -111,10 +90,7 @@ fn variables(random: &mut Random, lent: &mut Lent) {
 fn output(random: &mut Random, lent: &mut Lent) {
     let length = about(random, limits::IMAGE);
     let value = 1_000;
-    given(
-        lent,
-        image(&Table::from([(b"v".to_vec(), vec![b'x'; value])])),
-    );
+    given(lent, image(&Table::from([(b"v".to_vec(), vec![b'x'; value])])));
     let last = length - 1 - 8 * (value + 2) - 2;
     lent.line = [b"$v ".repeat(8), vec![b'y'; last]].concat();
     lent.out = *random.pick(&[8_191, 8_192, 8_193, 9_000]);
@@ -153,11 +129,7 @@ fn quoted(random: &mut Random, lent: &mut Lent) {
 /// Paths whose image is 32,768 bytes or one more: one long path, or many of one byte more each.
 fn paths(random: &mut Random, lent: &mut Lent) {
     let length = limits::PATHS_IMAGE + random.below(2);
-    lent.paths = if random.once_in(2) {
-        filled(Kind::Paths, length)
-    } else {
-        many_paths(length)
-    };
+    lent.paths = if random.once_in(2) { filled(Kind::Paths, length) } else { many_paths(length) };
     lent.line = random.text(&["a*", "*", "[x]?*", "x*y", "q", "0?", "00[0-3]?"]);
 }
 

@@ -36,8 +36,6 @@ pub fn most(lent: &Lent) -> usize {
 pub fn thin(lent: &mut Lent, allowed: usize) {
     if most(lent) > allowed {
         let bytes = lent.line.iter_mut().chain(lent.variables.iter_mut());
-        bytes
-            .filter(|byte| **byte == b'*')
-            .for_each(|byte| *byte = b'?');
+        bytes.filter(|byte| **byte == b'*').for_each(|byte| *byte = b'?');
     }
 }

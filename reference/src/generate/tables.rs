@@ -6,58 +6,23 @@ use super::random::Random;
 use crate::image::of_texts;
 use crate::limits;
 
-pub const NAMES: [&str; 12] = [
-    "x", "y", "z", "v", "e", "n", "t", "A1", "_a", "name_9", "HOME", "IFS",
-];
+pub const NAMES: [&str; 12] = ["x", "y", "z", "v", "e", "n", "t", "A1", "_a", "name_9", "HOME", "IFS"];
 
-const IFS: [&str; 14] = [
-    "", " ", ":", " :", " \t\n", "0", "a-", "-", "$~", "\\", "*/", "\n,", "'\"", "\u{e9} ",
-];
+const IFS: [&str; 14] = ["", " ", ":", " :", " \t\n", "0", "a-", "-", "$~", "\\", "*/", "\n,", "'\"", "\u{e9} "];
 
 const VALUES: [&str; 34] = [
-    "",
-    "",
-    "a",
-    "a b",
-    " a  b ",
-    ":a::b:",
-    " : a :",
-    "*",
-    "?",
-    "[a-c]",
-    "[!a]",
-    "[[:a]",
-    "a/b",
-    ".",
-    ".hid",
-    "~",
-    "\\*",
-    "'",
-    "\"a\"",
-    "$x",
-    "`a`",
-    "}",
-    "-1",
-    "+7",
-    "0x10",
-    "010",
-    "08",
-    "1+1",
-    "(1",
-    "9223372036854775807",
-    "-9223372036854775808",
-    "9223372036854775808",
-    "-0x8000000000000000",
-    "a\tb\nc",
+    "", "", "a", "a b", " a  b ", ":a::b:", " : a :", "*", "?", "[a-c]", "[!a]", "[[:a]", "a/b", ".", ".hid", "~",
+    "\\*", "'", "\"a\"", "$x", "`a`", "}", "-1", "+7", "0x10", "010", "08", "1+1", "(1", "9223372036854775807",
+    "-9223372036854775808", "9223372036854775808", "-0x8000000000000000", "a\tb\nc",
 ];
 
 const LOGINS: [&str; 7] = ["-", ".", "1", "_", "a", "crew", "x-y.z"];
 const DIRECTORIES: [&str; 6] = ["", "/", "/home/crew", "/a b", "*", "~"];
 
 const PATHS: [&str; 34] = [
-    ".", "..", ".a", ".hid", ".hid/.x", "/", "/a", "//", "1", "[a]", "[ab", "a", "a b", "a'b",
-    "a*b", "a-c", "a.b", "a/.b", "a/b", "a/b/c", "a/b/d", "a:b", "ab", "abc", "b", "b/c", "c",
-    "d/.e/f", "d/e/f", "x", "x y", "{a}", "~", "\u{e9}",
+    ".", "..", ".a", ".hid", ".hid/.x", "/", "/a", "//", "1", "[a]", "[ab", "a", "a b", "a'b", "a*b", "a-c", "a.b",
+    "a/.b", "a/b", "a/b/c", "a/b/d", "a:b", "ab", "abc", "b", "b/c", "c", "d/.e/f", "d/e/f", "x", "x y", "{a}", "~",
+    "\u{e9}",
 ];
 
 pub type Table = BTreeMap<Vec<u8>, Vec<u8>>;
@@ -108,7 +73,7 @@ pub fn image(table: &Table) -> Vec<u8> {
     of_texts(&texts)
 }
 
-/// Which rule of its kind of table an image breaks by its texts.
+/// The kinds of tables, by the shape of their records.
 #[derive(Clone, Copy, PartialEq, Eq)]
 pub enum Kind {
     Pairs,
@@ -143,11 +108,7 @@ fn cut(random: &mut Random, image: &[u8]) -> usize {
 }
 
 fn too_long(random: &mut Random, kind: Kind) -> Vec<u8> {
-    let limit = if kind == Kind::Paths {
-        limits::PATHS_IMAGE
-    } else {
-        limits::IMAGE
-    };
+    let limit = if kind == Kind::Paths { limits::PATHS_IMAGE } else { limits::IMAGE };
     if kind == Kind::Paths && !random.once_in(6) {
         return bad_texts(random, kind);
     }
@@ -163,7 +124,11 @@ pub fn filled(kind: Kind, length: usize) -> Vec<u8> {
 }
 
 fn bad_texts(random: &mut Random, kind: Kind) -> Vec<u8> {
-    let pairs: [&[&str]; 10] = [
+    // The first three have keys that are logins but not names.
+    let pairs: [&[&str]; 13] = [
+        &["1", ""],
+        &["a.b", ""],
+        &["-", ""],
         &["a", "", "a", ""],
         &["b", "", "a", ""],
         &["ab", "", "a", ""],

@@ -39,13 +39,7 @@ impl fmt::Display for Tally {
         for (number, count) in self.numbers.iter().enumerate() {
             writeln!(out, "{number:2} {count}")?;
         }
-        let Tally {
-            expand,
-            normalise,
-            quote,
-            bytes,
-            ..
-        } = self;
+        let Tally { expand, normalise, quote, bytes, .. } = self;
         writeln!(out, "expand {expand}, normalise {normalise}, quote {quote}")?;
         writeln!(out, "{bytes} bytes")
     }

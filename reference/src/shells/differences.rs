@@ -1,1 +1,159 @@
-//! The lines of docs/SHELLS.md, one for each house rule on which document 01 and the shells part.
+//! The lines of docs/SHELLS.md: for each rule of document 01 on which a shell parts from it, one that shows it.
+
+use std::io;
+
+use super::script::is_harmless;
+use super::{reference, Folder, Outcome, Shell, Table};
+
+/// A phrase of document 01, a line, and the variables it is expanded with.
+type Difference = (&'static str, &'static str, &'static [(&'static str, &'static str)]);
+
+const READING: &[Difference] = &[
+    ("Bare `|&;<>()` [...] are 8", "a|b", &[]),
+    ("`#` at a word's start [is] 8", "a #b", &[]),
+    ("A backquote outside single quotes [...] is 9", "`a`", &[]),
+    ("`$(` otherwise is 9", "$(a)", &[]),
+    ("before a newline it is 11, also in double quotes", "a\\\nb \"c\\\nd\"", &[]),
+    ("`$` before a digit or one of `@*#?-$!` is 10", "a$1 $# $?", &[]),
+    ("and so is `$'` in bare text", "$'a\\tb'", &[]),
+    ("Any other `$` is literal", "$\"a\"", &[]),
+    ("Any other `$` is literal", "$x$%", &[("x", "a b")]),
+    ("a byte that cannot begin the name is 10", "a${1} ${#}", &[]),
+    ("a byte that cannot begin the name is 10", "${!x}", &[("x", "y"), ("y", "z")]),
+    ("anything else is 11", "${x:1}", &[("x", "abc")]),
+    ("anything else is 11", "${x/b/c}", &[("x", "abc")]),
+    ("a plain `\"` is 11", "\"${u-\"a b\"}\"", &[]),
+    ("Within `\"...\"` a backslash quotes only `$`, backquote, `\"`, `\\`", "${u-\"\\}\"}", &[]),
+    ("which counts as outside the quotes or arithmetic around it", "\"${x#${u-'}'}}\"", &[("x", "}a")]),
+    ("a quote or backslash anywhere in the text outside operands, is 11", "$((\"1\"+1))", &[]),
+    ("an outer `)` followed by another byte [...] is 11", "$((1)+1)", &[]),
+    ("the ninth is 12", "${u-${u-${u-${u-${u-${u-${u-${u-${u-a}}}}}}}}}", &[]),
+];
+
+const EXPANDING: &[Difference] = &[
+    ("a bare `~` starting a word of the line", "${u-~} ${u:-~/x}", &[("HOME", "/h")]),
+    ("a bare `~` starting a word of the line", "${x#~}", &[("HOME", "/h"), ("x", "/h/x")]),
+    ("otherwise the homes table", "~root", &[("HOME", "/h")]),
+    ("Empty login means HOME", "~/x", &[]),
+    ("Empty login means HOME (even if empty)", "~ ~/x", &[("HOME", "")]),
+    ("The operand is always expanded", "${u%${w=a}}", &[]),
+    (
+        "holds at most 2,048 units",
+        "$((0$v$v$v$v$v$v$v$v$v$v$v$v$v$v$v$v$v$v$v$v$v$v$v$v$v$v$v$v$v$v$v$v))",
+        &[("v", "                                                                ")],
+    ),
+    ("the length in bytes", "${#x}", &[("LC_ALL", "C.UTF-8"), ("x", "\u{e9}")]),
+];
+
+const ARITHMETIC: &[Difference] = &[
+    ("Signs are single tokens", "$((--x))", &[("x", "5")]),
+    ("parentheses, unary `+ -`, then `* / %`, then `+ -`, then [...]", "$((1<<2))", &[]),
+    ("parentheses, unary `+ -`, then `* / %`, then `+ -`, then [...]", "$((x=5))", &[]),
+    ("parentheses, unary `+ -`, then `* / %`, then `+ -`, then [...]", "$((1?2:3))", &[]),
+    ("parentheses, unary `+ -`, then `* / %`, then `+ -`, then [...]", "$((!0))", &[]),
+    ("its value must be an optional sign and a constant", "$((x))", &[("x", "1+1")]),
+    ("its value must be an optional sign and a constant", "$((x))", &[("x", "y"), ("y", "3")]),
+    ("nothing more, else 15", "$((x))", &[("x", " 1")]),
+    ("Results out of range are 17", "$((9223372036854775807+1))", &[]),
+    ("above 9223372036854775807 it is 17", "$((9223372036854775808))", &[]),
+    ("17 if out of range with its sign", "$((x))", &[("x", "9223372036854775808")]),
+    ("as is the smallest number `/` or `%` -1", "$((x%-1))", &[("x", "-9223372036854775808")]),
+    ("Empty text is 16", "$(( ))", &[]),
+    ("A constant is the longest run of letters, digits, `_`", "$((2#11))", &[]),
+    ("`0x` or `0X` and a digit or more hexadecimal, else 15", "$((0x))", &[]),
+    (
+        "More than 32 open parentheses and unary signs, together, is 12",
+        "$((- - - - - - - - - - - - - - - - - - - - - - - - - - - - - - - - - 1))",
+        &[],
+    ),
+];
+
+const FIELDS: &[Difference] = &[
+    ("A delimiter is an E unit", "[a-]$u[a-c]", &[("IFS", "a-")]),
+    ("A delimiter is an E unit", "a:b${IFS=:}", &[]),
+    ("IFS as it stands after the word's own stores", "$x${IFS:= }", &[("IFS", ""), ("x", "a b")]),
+    ("then drop white ones, at most one hard one", "$x$y", &[("IFS", " :"), ("x", "a "), ("y", ":b")]),
+    ("Text is bytes", "${x#?}", &[("LC_ALL", "C.UTF-8"), ("x", "\u{e9}a")]),
+    ("A backslash from an expansion is a plain byte", "${x#$y}", &[("x", "\\abc"), ("y", "\\*")]),
+    ("A backslash from an expansion is a plain byte", "$y", &[("y", "\\a*")]),
+    ("optional active `!` for all others", "${x#[^a]}", &[("x", "bcd")]),
+    ("is 19, closed or not, whatever the text", "${x#[[:alpha:]]}", &[("x", "bcd")]),
+    ("is 19, closed or not, whatever the text", "[[:alpha:]]", &[]),
+    ("becomes all matching paths in order", ".*", &[]),
+    ("becomes all matching paths in order", "*/ d//b*", &[]),
+];
+
+/// Every difference as docs/SHELLS.md lists it, and how many lines show none.
+pub fn measured(folder: &Folder) -> io::Result<(String, usize)> {
+    let (mut text, mut alike) = (String::new(), 0);
+    for (title, list) in [
+        ("Reading", READING),
+        ("Expansion", EXPANDING),
+        ("Arithmetic", ARITHMETIC),
+        ("Splitting, patterns, paths", FIELDS),
+    ] {
+        text.push_str(&format!("## {title}\n\n"));
+        for difference in list {
+            let (shown, parts) = measure(folder, difference)?;
+            text.push_str(&shown);
+            alike += usize::from(!parts);
+        }
+    }
+    Ok((text, alike))
+}
+
+/// One difference as text, and whether a shell does part there, as it does from any line it must not run.
+fn measure(folder: &Folder, (phrase, line, pairs): &Difference) -> io::Result<(String, bool)> {
+    let before: Table = pairs.iter().map(|(name, value)| ((*name).into(), (*value).into())).collect();
+    let line = line.as_bytes();
+    let wanted = reference(line, &before);
+    let mut text = format!("- {phrase}\n\n      line         {}", printable(line));
+    for (name, value) in &before {
+        text.push_str(&format!("   {}='{}'", printable(name), printable(value)));
+    }
+    let given = match &wanted {
+        Ok(outcome) => shown(outcome, &before),
+        Err(number) => format!("refused with {number}"),
+    };
+    text.push_str(&format!("\n      document 01  {given}\n"));
+    let harmless = is_harmless(line);
+    let mut parts = !harmless;
+    for shell in Shell::ALL {
+        let given = match harmless {
+            true => shell.outcome(folder, line, &before)?,
+            false => None,
+        };
+        parts |= given.as_ref() != wanted.as_ref().ok();
+        let given = match &given {
+            Some(outcome) => shown(outcome, &before),
+            None if harmless => "fails".to_string(),
+            None => "not run".to_string(),
+        };
+        text.push_str(&format!("      {:11}  {given}\n", shell.name()));
+    }
+    Ok((text + "\n", parts))
+}
+
+/// The fields, and the variables that have changed.
+fn shown(outcome: &Outcome, before: &Table) -> String {
+    let fields = outcome.fields.iter();
+    let mut words: Vec<String> = fields.map(|field| format!("<{}>", printable(field))).collect();
+    if words.is_empty() {
+        words.push("no fields".to_string());
+    }
+    for (name, value) in &outcome.variables {
+        if before.get(name) != Some(value) {
+            words.push(format!("{}='{}'", printable(name), printable(value)));
+        }
+    }
+    words.join(" ")
+}
+
+/// The bytes as they are, but those that do not print as `\xNN`.
+fn printable(bytes: &[u8]) -> String {
+    let byte = |&byte: &u8| match byte {
+        b' '..=b'~' => char::from(byte).to_string(),
+        _ => format!("\\x{byte:02x}"),
+    };
+    bytes.iter().map(byte).collect()
+}

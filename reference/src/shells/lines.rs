@@ -9,57 +9,36 @@ const NAMES: [&str; 9] = ["x", "y", "v", "e", "n", "A1", "_a", "name_9", "IFS"];
 const UNSET: [&str; 2] = ["u", "w"];
 const NUMBERS: [&str; 2] = ["n", "A1"];
 
-const IFS: [&str; 9] = ["", " ", ":", " :", " \t\n", "0", "1,", ",", "x:"];
-const VALUES: [&str; 20] = [
-    "", "a", "a b", " a  b ", ":a::b:", " : a :", "*", "?", "[a-c]", "a*", "d/*", "a/b", "x.y",
-    "'", "\"a\"", "$x", "}", "a\tb\nc", "-1", "a:b c",
+const IFS: [&str; 9] = ["", " ", ":", " :", " \t\n", "0", "^1", ",", "x:"];
+const VALUES: &[&str] = &[
+    "", "a", "a b", " a  b ", ":a::b:", " : a :", "*", "?", "[a-c]", "a*", "d/*", "a/b", "x.y", "'", "\"a\"", "$x",
+    "}", "a\tb\nc", "-1", "a:b c", "a^b^^c", "^",
 ];
-const NUMBER_VALUES: [&str; 8] = [
-    "",
-    "0",
-    "-1",
-    "+7",
-    "0x10",
-    "010",
-    "9223372036854775807",
-    "12",
-];
+const NUMBER_VALUES: [&str; 8] = ["", "0", "-1", "+7", "0x10", "010", "9223372036854775807", "12"];
 
-const LITERALS: [&str; 16] = [
-    "a", "b", "c", "x", "1", "-", "=", ":", "!", "%", "@", "abc", "d/", ",", "+", "x.y",
+const LITERALS: &[&str] =
+    &["a", "b", "c", "x", "1", "-", "=", ":", "!", "%", "@", "abc", "d/", ",", "+", "x.y", "{", "]"];
+const WILD: &[&str] = &[
+    "*", "?", "[a-c]", "[!a]", "[abc]", "a*", "?b", "d/*", "[a-]", "*b", ".h*", "d/.[e]", "[]a]", "*/?", "[!]a]",
+    "[a-c-e]", "[--a]", "['!'a]", "[\"]\"a]", "[a'-'c]", "[c-a]", "[!c-a]", "[", "[]", "[!", "[a", "[\\!a]", "[!!a]",
+    "[a-c]*", "[]-a]", "[a\\]]",
 ];
-const WILD: [&str; 14] = [
-    "*", "?", "[a-c]", "[!a]", "[abc]", "a*", "?b", "d/*", "[a-]", "*b", ".h*", "d/.[e]", "[]a]",
-    "*/?",
-];
-const QUOTED: [&str; 12] = [
-    "", "a", " ", "a b", "*", "?", "[a]", ":", "#", "~", "}", "$x",
-];
-const ESCAPES: [&str; 8] = ["\\a", "\\$", "\\\"", "\\\\", "\\*", "\\ ", "\\'", "\\~"];
+const QUOTED: [&str; 12] = ["", "a", " ", "a b", "*", "?", "[a]", ":", "#", "~", "$x", "}"];
+/// The texts without a brace stand first; a removal's operand has only these.
+const BRACELESS: usize = 11;
+const ESCAPES: &[&str] = &["\\}", "\\a", "\\$", "\\\"", "\\\\", "\\*", "\\ ", "\\'", "\\~"];
 const DOUBLE_ESCAPES: [&str; 5] = ["\\a", "\\$", "\\\"", "\\\\", "\\*"];
 const CHOICES: [&str; 7] = ["-", ":-", "+", ":+", "?", "=", ":="];
 /// The choices that store nothing stand first; a removal's operand has only these.
 const STORELESS: usize = 5;
 const REMOVALS: [&str; 4] = ["%", "%%", "#", "##"];
-const CONSTANTS: [&str; 12] = [
-    "0",
-    "1",
-    "2",
-    "3",
-    "7",
-    "10",
-    "010",
-    "0x1F",
-    "2147483648",
-    "9223372036854775807",
-    "0x7fffffffffffffff",
-    "100",
-];
+const CONSTANTS: [&str; 12] =
+    ["0", "1", "2", "3", "7", "10", "010", "0x1F", "2147483648", "9223372036854775807", "0x7fffffffffffffff", "100"];
 const OPERATORS: [&str; 11] = ["*", "/", "%", "+", "-", "<", "<=", ">", ">=", "==", "!="];
 
 /// Where pieces stand.
 #[derive(Clone, Copy, PartialEq, Eq)]
-enum Place {
+enum Setting {
     Word,
     Operand,
     Double,
@@ -74,7 +53,7 @@ pub fn variables(random: &mut Random) -> Table {
             "IFS" => random.text(&IFS),
             _ if random.once_in(4) => continue,
             _ if NUMBERS.contains(&name) => random.text(&NUMBER_VALUES),
-            _ => random.text(&VALUES),
+            _ => random.text(VALUES),
         };
         table.insert(name.into(), value);
     }
@@ -83,11 +62,7 @@ pub fn variables(random: &mut Random) -> Table {
 
 pub fn line(random: &mut Random) -> Vec<u8> {
     let words = random.between(1, 4);
-    let mut lines = Lines {
-        random,
-        depth: 0,
-        in_removal: false,
-    };
+    let mut lines = Lines { random, depth: 0, in_removal: false };
     let mut line = Vec::new();
     for _ in 0..words {
         line.extend(lines.word());
@@ -99,13 +74,18 @@ pub fn line(random: &mut Random) -> Vec<u8> {
 /// slash at its start, at its end or next to another.
 pub fn stays_in_table(outcome: &Outcome) -> bool {
     let wild = |field: &[u8]| field.iter().any(|byte| b"*?[".contains(byte));
-    let slash = |field: &[u8]| {
-        field.starts_with(b"/") || field.ends_with(b"/") || field.windows(2).any(|two| two == b"//")
-    };
-    !outcome
-        .fields
-        .iter()
-        .any(|field| wild(field) && slash(field))
+    let slash =
+        |field: &[u8]| field.starts_with(b"/") || field.ends_with(b"/") || field.windows(2).any(|two| two == b"//");
+    !outcome.fields.iter().any(|field| wild(field) && slash(field))
+}
+
+/// Whether no expansion stands directly behind another while IFS has white and hard bytes: dash takes a white
+/// delimiter that ends one and a hard one that begins the next for two.
+pub fn splits_alike(line: &[u8], variables: &Table) -> bool {
+    let ifs = variables.get(b"IFS".as_slice());
+    let mixed = ifs.is_some_and(|ifs| ifs.contains(&b' ') && ifs.contains(&b':'));
+    let ends = |byte: u8| byte.is_ascii_alphanumeric() || b"_})".contains(&byte);
+    !mixed || !line.windows(2).any(|two| ends(two[0]) && two[1] == b'$')
 }
 
 /// How deep the line being made is, and whether inside a removal's operand, where nothing is stored.
@@ -121,28 +101,28 @@ impl Lines<'_> {
         if self.random.once_in(10) {
             word.extend(self.random.text(&["~ ", "~/a ", "~/ ", "~nologin9/x "]));
         }
-        word.extend(self.pieces(Place::Word));
+        word.extend(self.pieces(Setting::Word));
         word.extend(self.random.text(&[" ", "  ", "\t"]));
         word
     }
 
-    fn pieces(&mut self, place: Place) -> Vec<u8> {
+    fn pieces(&mut self, setting: Setting) -> Vec<u8> {
         let most = if self.depth == 0 { 4 } else { 3 };
         let count = self.random.between(0, most);
-        (0..count).flat_map(|_| self.piece(place)).collect()
+        (0..count).flat_map(|_| self.piece(setting)).collect()
     }
 
-    fn piece(&mut self, place: Place) -> Vec<u8> {
-        let quoted = matches!(place, Place::Double | Place::DoubleOperand);
+    fn piece(&mut self, setting: Setting) -> Vec<u8> {
+        let quoted = matches!(setting, Setting::Double | Setting::DoubleOperand);
         match self.random.below(24) {
-            5..=7 if !quoted => self.random.text(&WILD),
+            5..=7 if !quoted => self.random.text(WILD),
             8..=10 if !quoted => self.quotes(),
             11 if quoted => self.random.text(&DOUBLE_ESCAPES),
-            11 => self.random.text(&ESCAPES),
+            11 => self.random.text(ESCAPES),
             12..=15 => [b"$".to_vec(), self.name()].concat(),
             16..=21 if self.depth < DEEPEST => self.brace(quoted),
             22 if self.depth < DEEPEST => self.arithmetic(),
-            _ => self.literal(place),
+            _ => self.literal(setting),
         }
     }
 
@@ -153,22 +133,21 @@ impl Lines<'_> {
         }
     }
 
-    fn literal(&mut self, place: Place) -> Vec<u8> {
+    fn literal(&mut self, setting: Setting) -> Vec<u8> {
         let special = self.random.once_in(4);
-        match place {
-            Place::Operand if special => self.random.text(&[" ", "  ", "a b", "#"]),
-            Place::Double | Place::DoubleOperand if special => {
-                self.random.text(&["'", " ", "*", "?"])
-            }
-            _ => self.random.text(&LITERALS),
+        match setting {
+            Setting::Operand if special => self.random.text(&[" ", "  ", "a b", "#"]),
+            Setting::Double | Setting::DoubleOperand if special => self.random.text(&["'", " ", "*", "?"]),
+            _ => self.random.text(LITERALS),
         }
     }
 
     fn quotes(&mut self) -> Vec<u8> {
         if self.random.once_in(2) {
-            return between("'", self.random.text(&QUOTED), "'");
+            let quoted = if self.in_removal { &QUOTED[..BRACELESS] } else { &QUOTED };
+            return between("'", self.random.text(quoted), "'");
         }
-        between("\"", self.pieces(Place::Double), "\"")
+        between("\"", self.pieces(Setting::Double), "\"")
     }
 
     fn brace(&mut self, quoted: bool) -> Vec<u8> {
@@ -184,28 +163,20 @@ impl Lines<'_> {
         between("${", inside, "}")
     }
 
-    /// One of `-=?+`; IFS is stored only with bytes that no pattern here holds, since bash spoils those.
+    /// One of `-=?+`. IFS is stored only if unset, and only with bytes that stand bare in no line here.
     fn choice(&mut self, name: Vec<u8>, quoted: bool) -> Vec<u8> {
-        let choices = if self.in_removal {
-            &CHOICES[..STORELESS]
-        } else {
-            &CHOICES
-        };
+        let choices = if self.in_removal { &CHOICES[..STORELESS] } else { &CHOICES };
         let choice = self.random.text(choices);
         if name == b"IFS" && choice.ends_with(b"=") {
-            return [name, choice, self.random.text(&[":", ", ", "", "x"])].concat();
+            return [name, self.random.text(&["=^", "=\t", "="])].concat();
         }
-        let place = if quoted {
-            Place::DoubleOperand
-        } else {
-            Place::Operand
-        };
-        [name, choice, self.pieces(place)].concat()
+        let setting = if quoted { Setting::DoubleOperand } else { Setting::Operand };
+        [name, choice, self.pieces(setting)].concat()
     }
 
     fn removal(&mut self) -> Vec<u8> {
         let outer = std::mem::replace(&mut self.in_removal, true);
-        let removal = [self.random.text(&REMOVALS), self.pieces(Place::Operand)].concat();
+        let removal = [self.random.text(&REMOVALS), self.pieces(Setting::Operand)].concat();
         self.in_removal = outer;
         removal
     }

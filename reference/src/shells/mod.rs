@@ -2,7 +2,7 @@
 
 pub mod differences;
 pub mod lines;
-mod script;
+pub mod script;
 
 use std::collections::BTreeMap;
 use std::fs;
@@ -18,14 +18,12 @@ use crate::number::ACCEPTED;
 pub type Table = BTreeMap<Vec<u8>, Vec<u8>>;
 
 /// The names whose values are compared after each line.
-pub const NAMES: [&str; 12] = [
-    "A1", "HOME", "IFS", "_a", "e", "n", "name_9", "u", "v", "w", "x", "y",
-];
+pub const NAMES: [&str; 12] = ["A1", "HOME", "IFS", "_a", "e", "n", "name_9", "u", "v", "w", "x", "y"];
 
 /// The files of the folder, directories among them before what they hold.
 pub const PATHS: [&str; 24] = [
-    "-", ".hid", "1", "=", "[a]", "a", "a b", "a'b", "a*b", "a-c", "a.b", "a:b", "ab", "abc", "b",
-    "c", "d", "d/.e", "d/b", "d/c", "d/e", "d/e/f", "x", "x y",
+    "-", ".hid", "1", "=", "[a]", "a", "a b", "a'b", "a*b", "a-c", "a.b", "a:b", "ab", "abc", "b", "c", "d", "d/.e",
+    "d/b", "d/c", "d/e", "d/e/f", "x", "x y",
 ];
 
 const DIRECTORIES: [&str; 2] = ["d", "d/e"];
@@ -68,21 +66,10 @@ impl Shell {
     }
 
     /// What the shell makes of the line in the folder; `None` if it fails, an error if the line is not harmless.
-    pub fn outcome(
-        self,
-        folder: &Folder,
-        line: &[u8],
-        variables: &Table,
-    ) -> io::Result<Option<Outcome>> {
+    pub fn outcome(self, folder: &Folder, line: &[u8], variables: &Table) -> io::Result<Option<Outcome>> {
         let harmless = script::is_harmless(line);
-        if !harmless
-            || !variables
-                .values()
-                .all(|value| script::is_harmless_value(value))
-        {
-            return Err(io::Error::other(
-                "a line that could run something is not run",
-            ));
+        if !harmless || !variables.values().all(|value| script::is_harmless_value(value)) {
+            return Err(io::Error::other("a line that could run something is not run"));
         }
         let script = folder.0.join(".script");
         fs::write(&script, script::script(line, variables, &NAMES))?;
@@ -94,11 +81,7 @@ impl Shell {
             .env("LC_ALL", "C")
             .stdin(Stdio::null())
             .output()?;
-        Ok(output
-            .status
-            .success()
-            .then(|| parsed(&output.stdout))
-            .flatten())
+        Ok(output.status.success().then(|| parsed(&output.stdout)).flatten())
     }
 }
 
@@ -120,10 +103,7 @@ fn parsed(printed: &[u8]) -> Option<Outcome> {
 
 /// What the reference makes of the line, or its number.
 pub fn reference(line: &[u8], variables: &Table) -> Result<Outcome, u8> {
-    let texts: Vec<&Vec<u8>> = variables
-        .iter()
-        .flat_map(|(key, value)| [key, value])
-        .collect();
+    let texts: Vec<&Vec<u8>> = variables.iter().flat_map(|(key, value)| [key, value]).collect();
     let mut variables = of_texts(&texts);
     let used = variables.len();
     variables.resize(limits::IMAGE, 0);

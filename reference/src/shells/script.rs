@@ -4,7 +4,8 @@
 use super::Table;
 
 /// Whether the line holds nothing a shell could run: no backquote, no `$(` but that of a closed `$((...))`, and
-/// outside of these no operator and no newline.
+/// outside of these no operator and no newline. A byte behind a backslash is passed over, and so is the second `$`
+/// of `$$`, which opens nothing.
 pub fn is_harmless(line: &[u8]) -> bool {
     let mut at = 0;
     while at < line.len() {
@@ -13,6 +14,8 @@ pub fn is_harmless(line: &[u8]) -> bool {
                 Some(length) => at += length,
                 None => return false,
             }
+        } else if line[at] == b'\\' || line[at..].starts_with(b"$$") {
+            at += 2;
         } else if b"`|&;<>()\n".contains(&line[at]) {
             return false;
         } else {
@@ -22,12 +25,13 @@ pub fn is_harmless(line: &[u8]) -> bool {
     true
 }
 
-/// How long the `$((...))` is that begins here, if its parentheses balance and the last two stand together.
+/// How long the `$((...))` is that begins here, if its parentheses balance and the last two stand together; `None`
+/// too if it holds a quote, a backslash, or a `[`, behind which bash would expand once more.
 fn arithmetic_length(text: &[u8]) -> Option<usize> {
     let mut open = 0;
     for (at, byte) in text.iter().enumerate() {
         match byte {
-            b'`' | b'\'' | b'"' | b'\\' => return None,
+            b'`' | b'\'' | b'"' | b'\\' | b'[' => return None,
             b'(' => open += 1,
             b')' => open -= 1,
             _ => {}

@@ -1,8 +1,6 @@
 //! Arithmetic: constants, names, precedence, the order of faults, the limits of 64 bits.
 
-use reference::number::Number::{
-    self, ArithmeticSyntax, NotANumber, Overflow, TooDeep, ZeroDivisor,
-};
+use reference::number::Number::{self, ArithmeticSyntax, NotANumber, Overflow, TooDeep, ZeroDivisor};
 
 use crate::support::{gives, refuses, World};
 
@@ -51,27 +49,11 @@ fn constants() {
     is("0x7fffFFFFffffFFFF", "9223372036854775807");
     is("0777777777777777777777", "9223372036854775807");
     is("0X1f+010+00", "39");
-    faults(
-        NotANumber,
-        &[
-            "08",
-            "0x",
-            "0xg",
-            "1a",
-            "1_",
-            "0X",
-            "0b1",
-            "9z9",
-            "99999999999999999999a",
-        ],
-    );
+    faults(NotANumber, &["08", "0x", "0xg", "1a", "1_", "0X", "0b1", "9z9", "99999999999999999999a"]);
     faults(
         Overflow,
         &[
-            "9223372036854775808",
-            "-9223372036854775808",
-            "0x8000000000000000",
-            "01000000000000000000000",
+            "9223372036854775808", "-9223372036854775808", "0x8000000000000000", "01000000000000000000000",
             "99999999999999999999999999",
         ],
     );
@@ -80,18 +62,8 @@ fn constants() {
 #[test]
 fn reading_faults_in_order() {
     faults(NotANumber, &["1 08", "1/0+08", "(08", "1 08 )"]);
-    faults(
-        ArithmeticSyntax,
-        &[
-            "", " ", "1 1 08", "* 08", "1+", "()", "(1", "1=2", "!1", "1!", "a b",
-        ],
-    );
-    faults(
-        ArithmeticSyntax,
-        &[
-            "1&&1", "1<<1", "1**2", "~1", "1?2:3", "1,2", "x=1", "é", "1===1",
-        ],
-    );
+    faults(ArithmeticSyntax, &["", " ", "1 1 08", "* 08", "1+", "()", "(1", "1=2", "!1", "1!", "a b"]);
+    faults(ArithmeticSyntax, &["1&&1", "1<<1", "1**2", "~1", "1?2:3", "1,2", "x=1", "é", "1===1"]);
     faults(Overflow, &["1 9223372036854775808"]);
 }
 
@@ -160,15 +132,7 @@ fn working_out_faults() {
 
 #[test]
 fn results_are_expansions() {
-    gives(
-        &World::empty().set("IFS", "0"),
-        "$((101)) \"$((101))\"",
-        &["1", "1", "101"],
-    );
+    gives(&World::empty().set("IFS", "0"), "$((101)) \"$((101))\"", &["1", "1", "101"]);
     gives(&World::empty().set("IFS", "-"), "$((0-1))", &["", "1"]);
-    gives(
-        &World::empty(),
-        "$((${u-1}${v=2} + $((3)) + ${#v}))",
-        &["16"],
-    );
+    gives(&World::empty(), "$((${u-1}${v=2} + $((3)) + ${#v}))", &["16"]);
 }

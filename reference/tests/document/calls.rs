@@ -25,15 +25,7 @@ fn faulty(faults: std::ops::RangeInclusive<u8>) -> u8 {
     line[2] = if bad(Number::Operator) { b'|' } else { b'a' };
     let homes = image(Number::Homes);
     let paths = image(Number::Paths);
-    let answer = reference::expand(
-        &line,
-        &mut variables,
-        used,
-        &homes,
-        &paths,
-        &mut work,
-        &mut [],
-    );
+    let answer = reference::expand(&line, &mut variables, used, &homes, &paths, &mut work, &mut []);
     assert!(work.iter().all(|&byte| byte == 0));
     assert_eq!((answer.place, answer.length, answer.used), (0, 0, used));
     answer.number
@@ -106,17 +98,21 @@ fn bytes_behind_the_images_stay() {
 }
 
 #[test]
+fn bytes_behind_are_the_given_ones_though_a_longer_image_stood_there() {
+    let before = storing(b"", 9).1;
+    let (answer, after) = storing(b"${a:=${u%${a:=longer-and-longer}}s}", 40);
+    assert_eq!((answer.number, answer.used), (ACCEPTED, 16));
+    assert_eq!(&after[..16], of_texts(&["a", "s", "b", "long"]));
+    assert_eq!(&after[16..], &before[16..]);
+}
+
+#[test]
 fn a_refusal_undoes_stores() {
     let before = storing(b"", 9).1;
     for (line, out, number, place) in [
         (&b"${a:=longest} ${c:?}"[..], 40, Number::Missing, 14),
         (b"${a:=longest}", 8, Number::NoRoomForOutput, 0),
-        (
-            b"x ${c:=012345678901234567890}",
-            40,
-            Number::NoRoomForVariable,
-            2,
-        ),
+        (b"x ${c:=012345678901234567890}", 40, Number::NoRoomForVariable, 2),
     ] {
         let (answer, after) = storing(line, out);
         assert_eq!((answer.number, answer.place), (number as u8, place));
@@ -130,9 +126,7 @@ fn a_store_is_measured_at_once() {
     let fits = World::empty().set("v", "").variables_buffer(10);
     gives(&fits, "${v:=abcd}", &["abcd"]);
     refuses(&fits, "${v:=abcde}", Number::NoRoomForVariable, 0);
-    let world = World::empty()
-        .set("f", "x".repeat(8_192 - 12))
-        .variables_buffer(9_999);
+    let world = World::empty().set("f", "x".repeat(8_192 - 12)).variables_buffer(9_999);
     gives(&world, "${v=}", &[]);
     refuses(&world, "${v=ab}", Number::NoRoomForVariable, 0);
     gives(&world, "${v=a}", &["a"]);
@@ -143,12 +137,22 @@ fn the_normaliser_has_its_own_room() {
     let (answer, _) = storing(b"", 0);
     assert_eq!((answer.number, answer.length), (ACCEPTED, 0));
     let (answer, _) = storing(b"a", 2);
-    assert_eq!(
-        (answer.number, answer.place),
-        (Number::NoRoomForOutput as u8, 0)
-    );
+    assert_eq!((answer.number, answer.place), (Number::NoRoomForOutput as u8, 0));
     let (answer, _) = storing(b"a b", 7);
     assert_eq!((answer.number, answer.length), (ACCEPTED, 7));
+}
+
+#[test]
+fn the_normalisers_expander_refuses_at_the_word() {
+    let mut variables = of_texts(&["v".to_string(), "x".repeat(2_045)]);
+    let used = variables.len();
+    let (work, out) = (&mut vec![0; limits::WORK_AREA], &mut vec![0; 9_000]);
+    let mut call = |line: &[u8]| reference::normalise(line, &mut variables, used, &none(), &none(), work, out);
+    let room = Number::NoRoomForOutput as u8;
+    let answer = call(b"$v $v $v $v ab");
+    assert_eq!((answer.number, answer.place), (room, 12));
+    let answer = call(b"$v $v $v $v a");
+    assert_eq!((answer.number, answer.place), (room, 0));
 }
 
 #[test]
@@ -161,15 +165,9 @@ fn the_quoter() {
     };
     assert_eq!(call(&none(), 0), (ACCEPTED, 0, 0));
     assert_eq!(call(b"", 0), (Number::Fields as u8, 0, 0));
-    assert_eq!(
-        call(&of_texts(&[""]), 1),
-        (Number::NoRoomForOutput as u8, 0, 0)
-    );
+    assert_eq!(call(&of_texts(&[""]), 1), (Number::NoRoomForOutput as u8, 0, 0));
     assert_eq!(call(&of_texts(&[""]), 3), (ACCEPTED, 0, 2));
-    assert_eq!(
-        call(&of_texts(&["x".repeat(2_046)]), 9_999),
-        (ACCEPTED, 0, 2_048)
-    );
+    assert_eq!(call(&of_texts(&["x".repeat(2_046)]), 9_999), (ACCEPTED, 0, 2_048));
     let long = of_texts(&["x".repeat(2_047)]);
     assert_eq!(call(&long, 9_999), (Number::NoRoomForOutput as u8, 0, 0));
     assert_eq!(call(&vec![1; 8_193], 0), (Number::Fields as u8, 0, 0));

@@ -20,10 +20,7 @@ fn tilde() {
     for (line, fields) in [
         ("~ ~/x ~crew/y ~none", &["/h *", "/h */x", "/c d/y", ""][..]),
         ("~nobody/x a~ ~~ x=~", &["~nobody/x", "a~", "~~", "x=~"]),
-        (
-            r"~c'rew' ~\crew ~$e/ ~crew: ''~",
-            &["~crew", "~crew", "~/", "~crew:", "~"],
-        ),
+        (r"~c'rew' ~\crew ~$e/ ~crew: ''~", &["~crew", "~crew", "~/", "~crew:", "~"]),
         ("${u-~} \"~\" \\~", &["~", "~", "~"]),
     ] {
         gives(&world(), line, fields);
@@ -31,17 +28,8 @@ fn tilde() {
     gives(&World::empty(), "~ ~/a", &["~", "~/a"]);
     gives(&World::empty().set("HOME", ""), "~ ~/a", &["", "/a"]);
     gives(&World::empty(), "${HOME=/n} ~", &["/n", "/n"]);
-    gives(
-        &World::empty().set("HOME", "x".repeat(2_047)),
-        "~",
-        &[&"x".repeat(2_047)],
-    );
-    refuses(
-        &World::empty().set("HOME", "x".repeat(2_048)),
-        "a ~",
-        TooManyUnits,
-        2,
-    );
+    gives(&World::empty().set("HOME", "x".repeat(2_047)), "~", &[&"x".repeat(2_047)]);
+    refuses(&World::empty().set("HOME", "x".repeat(2_048)), "a ~", TooManyUnits, 2);
 }
 
 #[test]
@@ -58,11 +46,7 @@ fn missing_values() {
     }
     refuses(&world(), "a ${u?$((1/0))}", Missing, 2);
     refuses(&world(), "${e:?}", Missing, 0);
-    gives(
-        &world(),
-        "${v-$((1/0))}${u+$((1/0))}${v=$((1/0))}",
-        &["a", "ba", "b"],
-    );
+    gives(&world(), "${v-$((1/0))}${u+$((1/0))}${v=$((1/0))}", &["a", "ba", "b"]);
 }
 
 #[test]
@@ -89,11 +73,7 @@ fn marks_of_operands() {
     ] {
         gives(&world(), line, fields);
     }
-    gives(
-        &World::empty().set("IFS", "$~"),
-        "${u-$a~$~b}",
-        &["", "", "", "b"],
-    );
+    gives(&World::empty().set("IFS", "$~"), "${u-$a~$~b}", &["", "", "", "b"]);
 }
 
 #[test]
@@ -102,16 +82,7 @@ fn the_row_is_full() {
     for line in ["$x$e", "$x${u+$x}", "${u-$x}$e", "${x%}${e#}", "$x${x##*}"] {
         assert!(full.expand(line).is_ok(), "{line}");
     }
-    for line in [
-        "$x.",
-        "$x''",
-        "$x\"\"",
-        "$x$((1))",
-        "\"$x\"",
-        "${u-$x.}",
-        "${u-''$x}",
-        "${#x}$x",
-    ] {
+    for line in ["$x.", "$x''", "$x\"\"", "$x$((1))", "\"$x\"", "${u-$x.}", "${u-''$x}", "${#x}$x"] {
         refuses(&full, line, TooManyUnits, 0);
     }
     refuses(&full, "$x$((1/0))", Number::ZeroDivisor, 0);
@@ -121,10 +92,20 @@ fn the_row_is_full() {
 }
 
 #[test]
+fn what_counts_as_a_unit() {
+    let world = World::empty().set("x", "y".repeat(2_047));
+    for line in ["$x\\a", "$x''", "$x\"\"", "\"$x\"", "${u-\"$x\"}", "$x\\\\"] {
+        assert!(world.expand(line).is_ok(), "{line}");
+    }
+    for line in ["$x'a'", "$x\\aa", "\"$x\\$\"", "${u-\"$x\"a}", "$x\"\"''"] {
+        refuses(&world, line, TooManyUnits, 0);
+    }
+    gives(&world, "\"${u-a}${u-\\}}\"", &["a}"]);
+}
+
+#[test]
 fn the_order_of_a_store_on_a_full_row() {
-    let tight = World::empty()
-        .set("x", "y".repeat(2_048))
-        .variables_buffer(2_100);
+    let tight = World::empty().set("x", "y".repeat(2_048)).variables_buffer(2_100);
     refuses(&tight, "$x${u=$x}", NoRoomForVariable, 0);
     refuses(&tight, "$x${u=$x.}", TooManyUnits, 0);
     refuses(&tight, "$x${u=z}", TooManyUnits, 0);
@@ -133,19 +114,10 @@ fn the_order_of_a_store_on_a_full_row() {
 
 #[test]
 fn removals() {
-    let world = World::empty()
-        .set("x", "a.b.c")
-        .set("p", "*.")
-        .set("l", "z".repeat(5_000));
+    let world = World::empty().set("x", "a.b.c").set("p", "*.").set("l", "z".repeat(5_000));
     for (line, fields) in [
-        (
-            "${x%.*} ${x%%.*} ${x#*.} ${x##*.}",
-            &["a.b", "a", "b.c", "c"][..],
-        ),
-        (
-            "${x#$p} ${x#\"$p\"} ${x%q} ${x%}",
-            &["b.c", "a.b.c", "a.b.c", "a.b.c"],
-        ),
+        ("${x%.*} ${x%%.*} ${x#*.} ${x##*.}", &["a.b", "a", "b.c", "c"][..]),
+        ("${x#$p} ${x#\"$p\"} ${x%q} ${x%}", &["b.c", "a.b.c", "a.b.c", "a.b.c"]),
         ("${x##*} \"${x%%*}\" ${x%*}", &["", "a.b.c"]),
         ("${u%a}${u##*} ${l%%z*}${#l}", &["5000"]),
         ("${x%${u=c}}$u ${n#${n=ab}}", &["a.b.c"]),
@@ -161,9 +133,6 @@ fn removals() {
 
 #[test]
 fn names_are_exact_bytes() {
-    let world = World::empty()
-        .set("home", "/x")
-        .set("Ifs", "b")
-        .set("v", "abc");
+    let world = World::empty().set("home", "/x").set("Ifs", "b").set("v", "abc");
     gives(&world, "~ $v", &["~", "abc"]);
 }

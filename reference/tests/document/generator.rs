@@ -3,7 +3,7 @@
 use std::collections::BTreeSet;
 
 use reference::case::{case, replay, Call};
-use reference::generate::{call, tally::Tally};
+use reference::generate::{call, stars, tally::Tally, MOST_STARS};
 use reference::limits;
 
 const SEED: u64 = 2_001;
@@ -15,17 +15,18 @@ fn every_number_comes_up() {
     for (number, count) in tally.numbers.iter().enumerate() {
         assert!(*count >= 20, "{number} comes up {count} times");
     }
-    assert!(tally.expand.min(tally.normalise).min(tally.quote) > 1_000);
+    assert!(tally.expand.min(tally.normalise).min(tally.quote) > 500);
     assert!(tally.bytes < 2_000 * CASES as usize);
 }
 
 #[test]
 fn limits_come_up() {
-    let [mut lines, mut variables, mut homes, mut paths, mut fields] =
-        <[BTreeSet<usize>; 5]>::default();
+    let [mut lines, mut variables, mut homes, mut paths, mut fields] = <[BTreeSet<usize>; 5]>::default();
     for number in 0..CASES {
         match call(SEED, number) {
             Call::Lines(_, lent) => {
+                assert!(lent.variables.len() <= lent.variables_buffer);
+                assert!(stars::most(&lent) <= MOST_STARS);
                 lines.insert(lent.line.len());
                 variables.insert(lent.used);
                 homes.insert(lent.homes.len());

@@ -8,6 +8,7 @@ mod patterns;
 mod program;
 mod reading;
 mod recipes;
+mod shells;
 mod splitting;
 mod support;
 mod tables;

@@ -11,9 +11,7 @@ fn matches(operand: &str, value: &str) -> bool {
     let world = World::empty().set("x", value).set("IFS", "");
     let line = format!("${{x##{operand}}}");
     let outcome = world.expand(&line);
-    let fields = outcome
-        .unwrap_or_else(|refusal| panic!("{line}: {refusal:?}"))
-        .fields;
+    let fields = outcome.unwrap_or_else(|refusal| panic!("{line}: {refusal:?}")).fields;
     fields.is_empty()
 }
 
@@ -39,9 +37,7 @@ fn brackets() {
     set("[:x]", ":x", "[");
     set("[a[]", "a[", "]");
     set("[!]", "", "!]");
-    assert!(
-        matches("[!]", "[!]") && matches("[", "[") && matches("[]", "[]") && matches("[a", "[a")
-    );
+    assert!(matches("[!]", "[!]") && matches("[", "[") && matches("[]", "[]") && matches("[a", "[a"));
 }
 
 #[test]
@@ -74,17 +70,12 @@ fn whole_text_and_active_bytes() {
 #[test]
 fn classes_are_refused() {
     let world = World::empty().set("x", "a");
-    for operand in [
-        "[[:a]", "[a[.]", "[![=", "[[''=x]", "[][:]", "*[a-[:]", "a[[:",
-    ] {
+    for operand in ["[[:a]", "[a[.]", "[![=", "[[''=x]", "[][:]", "*[a-[:]", "a[[:"] {
         refuses(&world, format!("${{x%{operand}}}"), BracketClass, 0);
         refuses(&world, format!("a {operand}"), BracketClass, 2);
     }
     for operand in ["[:a:]", "[a][:b]", "[[':'a]", "['['=]", "[:", "a[="] {
-        assert!(
-            world.expand(format!("${{x%{operand}}}")).is_ok(),
-            "{operand}"
-        );
+        assert!(world.expand(format!("${{x%{operand}}}")).is_ok(), "{operand}");
     }
     gives(&world, "[a/[:x]", &["[a/[:x]"]);
     refuses(&world, "[[:/", BracketClass, 0);
@@ -100,11 +91,9 @@ fn fields_are_checked_in_order_before_the_output() {
 
 #[test]
 fn paths() {
-    let world = [
-        ".a", ".b/.c", "/r", "[x", "a", "a.b", "b/.c", "b/c", "b/d/e",
-    ]
-    .iter()
-    .fold(World::empty(), |world, path| world.path(path));
+    let world = [".a", ".b/.c", "/r", "[x", "a", "a.b", "b/.c", "b/c", "b/d/e"]
+        .iter()
+        .fold(World::empty(), |world, path| world.path(path));
     for (line, fields) in [
         ("*", &["[x", "a", "a.b"][..]),
         ("?", &["a"]),

@@ -54,10 +54,7 @@ fn variables_carry_over_on_acceptance_only() {
     let folder = Folder::new("variables");
     folder.write("vars.tab", &of_texts(&["v", "1"]));
     let lines = b"${u=a}\n${v+$u}\n${w=x}${n?}\n${w-none}\n${v}\n";
-    assert_eq!(
-        folder.says(lines),
-        "ok 'a'\nok 'a'\nno 13 0\nok 'none'\nok '1'\n"
-    );
+    assert_eq!(folder.says(lines), "ok 'a'\nok 'a'\nno 13 0\nok 'none'\nok '1'\n");
 }
 
 #[test]

@@ -1,8 +1,6 @@
 //! Reading a line: words, quotes, `$` and its refusals, operands, arithmetic texts, depth.
 
-use reference::number::Number::{
-    self, CommandSubstitution, LineEnds, NotServed, Operator, Syntax, TooDeep,
-};
+use reference::number::Number::{self, CommandSubstitution, LineEnds, NotServed, Operator, Syntax, TooDeep};
 
 use crate::support::{gives, refuses, World};
 
@@ -42,11 +40,7 @@ fn operators() {
             &[&format!("{operator}{operator}{operator}#")],
         );
     }
-    refused(&[
-        ("#", Operator, 0),
-        ("a #b", Operator, 2),
-        ("a|'", Operator, 0),
-    ]);
+    refused(&[("#", Operator, 0), ("a #b", Operator, 2), ("a|'", Operator, 0)]);
 }
 
 #[test]
@@ -115,6 +109,7 @@ fn parameters_not_served() {
 fn literal_dollars() {
     given(&[
         ("$", &["$"]),
+        ("$\u{e9}", &["$\u{e9}"]),
         ("a$ $%", &["a$", "$%"]),
         (r#""$'$""#, &["$'$"]),
         (r#"$"a""#, &["$a"]),
@@ -143,11 +138,7 @@ fn braces() {
         (r"${x\", Syntax, 0),
     ]);
     let world = World::empty().set("x", "a%").set("long_9", "v");
-    gives(
-        &world,
-        "${x%%%} $long_9. ${long_9}9 ${#x}",
-        &["a", "v.", "v9", "2"],
-    );
+    gives(&world, "${x%%%} $long_9. ${long_9}9 ${#x}", &["a", "v.", "v9", "2"]);
     gives(&world, "${#u}", &["0"]);
 }
 
@@ -209,26 +200,10 @@ fn depth() {
     let open = "${u-".repeat(8);
     refuses(&World::empty(), format!("a {open}${{`"), TooDeep, 2);
     refuses(&World::empty(), format!("{open}$(("), TooDeep, 0);
-    refuses(
-        &World::empty(),
-        format!("{open}$(`"),
-        CommandSubstitution,
-        0,
-    );
+    refuses(&World::empty(), format!("{open}$(`"), CommandSubstitution, 0);
     refuses(&World::empty(), format!("{open}$u"), LineEnds, 0);
-    let mixed = format!(
-        "{}{}1{}{}",
-        "${u-".repeat(4),
-        "$((".repeat(4),
-        "))".repeat(4),
-        "}".repeat(4)
-    );
+    let mixed = format!("{}{}1{}{}", "${u-".repeat(4), "$((".repeat(4), "))".repeat(4), "}".repeat(4));
     gives(&World::empty(), &mixed, &["1"]);
-    refuses(
-        &World::empty().set("x", "1"),
-        format!("${{x-{mixed}${{u?{}}}}}", nested(7)),
-        TooDeep,
-        0,
-    );
+    refuses(&World::empty().set("x", "1"), format!("${{x-{mixed}${{u?{}}}}}", nested(7)), TooDeep, 0);
     gives(&World::empty(), format!("{0}{0}", nested(8)), &["aa"]);
 }

@@ -10,10 +10,7 @@ use crate::support::{gives, refuses, stores, World};
 fn c1_to_c12() {
     let world = World::recipes();
     let table: [(&str, &[&str]); 10] = [
-        (
-            r#"cp "$job" $job"#,
-            &["cp", "north field", "north", "field"],
-        ),
+        (r#"cp "$job" $job"#, &["cp", "north field", "north", "field"]),
         ("*.raw", &["a b.raw", "p1.raw", "p2.raw"]),
         (r#""*".raw"#, &["*.raw"]),
         (r#"$tilt "$tilt""#, &[""]),
@@ -21,10 +18,7 @@ fn c1_to_c12() {
         (r#"${tilt:="a b"}"#, &["a", "b"]),
         ("${job%% *} ${job##*o}", &["north", "rth", "field"]),
         ("$((7/-2)) $((-7%3))", &["-3", "-1"]),
-        (
-            "~/out '~'/out ~nobody",
-            &["/home/crew/out", "~/out", "~nobody"],
-        ),
+        ("~/out '~'/out ~nobody", &["/home/crew/out", "~/out", "~nobody"]),
         ("''", &[""]),
     ];
     for (line, fields) in table {

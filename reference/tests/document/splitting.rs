@@ -3,11 +3,7 @@
 use crate::support::{gives, World};
 
 fn split(ifs: &str, value: &str, fields: &[&str]) {
-    gives(
-        &World::empty().set("IFS", ifs).set("x", value),
-        "$x",
-        fields,
-    );
+    gives(&World::empty().set("IFS", ifs).set("x", value), "$x", fields);
 }
 
 #[test]
@@ -34,11 +30,7 @@ fn hard_delimiters() {
 #[test]
 fn only_expansions_are_split() {
     let world = World::empty().set("IFS", "x:");
-    gives(
-        &world,
-        "axb \"$y\"x ${u-axb}${u-'x'}",
-        &["axb", "x", "a", "bx"],
-    );
+    gives(&world, "axb \"$y\"x ${u-axb}${u-'x'}", &["axb", "x", "a", "bx"]);
     gives(&world, "${u-:}''${u-:}", &["", ""]);
     gives(&world, "a${u-:}''", &["a", ""]);
     gives(&World::empty(), "${u- }''${u- }", &[""]);

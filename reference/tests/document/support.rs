@@ -33,13 +33,8 @@ impl World {
 
     /// The set of document 01's spoiled recipes.
     pub fn recipes() -> World {
-        let world = World::empty()
-            .set("job", "north field")
-            .set("note", "")
-            .set("HOME", "/home/crew");
-        [".hid.raw", "a b.raw", "n/p1.raw", "p1.raw", "p2.raw"]
-            .iter()
-            .fold(world, |world, path| world.path(path))
+        let world = World::empty().set("job", "north field").set("note", "").set("HOME", "/home/crew");
+        [".hid.raw", "a b.raw", "n/p1.raw", "p1.raw", "p2.raw"].iter().fold(world, |world, path| world.path(path))
     }
 
     pub fn set(mut self, name: &str, value: impl AsRef<[u8]>) -> World {
@@ -130,16 +125,7 @@ pub fn refuses(world: &World, line: impl AsRef<[u8]>, number: Number, place: usi
 /// The line is accepted and leaves the variable with this value.
 #[track_caller]
 pub fn stores(world: &World, line: &str, name: &str, value: &str) {
-    let outcome = world
-        .expand(line)
-        .unwrap_or_else(|refusal| panic!("{line}: {refusal:?}"));
-    let stored = outcome
-        .variables
-        .iter()
-        .find(|(known, _)| known == name.as_bytes());
-    assert_eq!(
-        stored.map(|(_, value)| shown(value)),
-        Some(value.to_string()),
-        "{line}"
-    );
+    let outcome = world.expand(line).unwrap_or_else(|refusal| panic!("{line}: {refusal:?}"));
+    let stored = outcome.variables.iter().find(|(known, _)| known == name.as_bytes());
+    assert_eq!(stored.map(|(_, value)| shown(value)), Some(value.to_string()), "{line}");
 }

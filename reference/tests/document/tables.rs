@@ -5,15 +5,8 @@ use reference::limits;
 
 #[test]
 fn images_that_are_none() {
-    let bad: [&[u8]; 7] = [
-        b"",
-        b"\x00",
-        b"\x02",
-        b"\x01\x00",
-        b"\x01\x00\x02a",
-        b"\x01\x00\x01\x00",
-        b"\x01\x00\x01a\x00",
-    ];
+    let bad: [&[u8]; 7] =
+        [b"", b"\x00", b"\x02", b"\x01\x00", b"\x01\x00\x02a", b"\x01\x00\x01\x00", b"\x01\x00\x01a\x00"];
     for image in bad {
         assert_eq!(image::fields(image), None);
         assert_eq!(image::paths(image), None);

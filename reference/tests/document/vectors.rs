@@ -13,17 +13,9 @@ fn vectors() -> PathBuf {
 #[test]
 fn base() {
     let cases = fs::read_to_string(vectors().join("base.txt")).expect("base.txt");
-    let differ: Vec<String> = cases
-        .lines()
-        .filter_map(|case| replay(case).err())
-        .collect();
+    let differ: Vec<String> = cases.lines().filter_map(|case| replay(case).err()).collect();
     assert!(cases.lines().count() > 6_000);
-    assert!(
-        differ.is_empty(),
-        "{} differ, first:\n{}",
-        differ.len(),
-        differ[0]
-    );
+    assert!(differ.is_empty(), "{} differ, first:\n{}", differ.len(), differ[0]);
 }
 
 #[test]

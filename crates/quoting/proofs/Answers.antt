@@ -1,0 +1,68 @@
+-- The quoter's answers are the stage's: 22 for what is no image of fields, then 21 for a line without room, then the line. For callers: where the image
+-- is that of a list, the answer is by the list's line. Assumes nothing.
+use Prim.Native.Nat.{ℕ, _≤_, _<_}
+use native.Mathlib.Omega.{arith}
+use mathlib.Core.Path.{_≡_, refl, sym, ap, _∙_}
+use mathlib.Core.Bool.{Bool, true, false, _&&_}
+use mathlib.Core.List.{List}
+use mathlib.Core.Option.{Option, none, some}
+use lib.Dec.{leb}
+use lib.ListN.{length}
+use borrow.Author.Tests.{le-leb, lt-leb}
+use Rattle.stages.specs.Numbers.{lineLimit, imageLimit, outputRoom}
+use Rattle.stages.specs.Bytes.{Text}
+use Rattle.stages.specs.Outcome.{Placed, refusedAt, doneAt}
+use Rattle.stages.specs.Images.{fieldsOf, heldTexts, image, imageLength, isSome}
+use Rattle.stages.specs.Quote.{quotedLine}
+use Rattle.stages.specs.Call.{over, orRefused, quotedIn, quoting, quoter}
+use Rattle.stages.proofs.Bools.{no, and-both}
+use Rattle.stages.proofs.Images.{Fine, heldTexts-image}
+use Rattle.stages.proofs.Tables.{fields-of, fields-are, fields-image}
+use Rattle.quoting.specs.Answers.{quotingOf, Puts}
+use Rattle.quoting.specs.declared.Quoted.{Quoted}
+use Rattle.quoting.specs.declared.Quoted.the-variants.{Len, Malformed, NoRoom}
+
+none-of : {A : Type 0} (o : Option A) → isSome o ≡ false → o ≡ none
+none-of none e = refl
+none-of (some a) e = absurd (no (sym e))
+
+pub fields-here : (t : Text) → isSome (fieldsOf t) ≡ true → fieldsOf t ≡ some (heldTexts t)
+fields-here t e = fields-are t (fields-of t e)
+
+-- the line where it has room, and where it has none
+pub line-fits : (out : ℕ) (l : List Text) → length (quotedLine l) ≤ lineLimit → length (quotedLine l) ≤ out → quotedIn out l ≡ doneAt (quotedLine l)
+unfolding quotedIn
+line-fits out l h k = rw (and-both (le-leb (length (quotedLine l)) lineLimit h) (le-leb (length (quotedLine l)) out k))
+
+pub line-long : (out : ℕ) (l : List Text) → lineLimit < length (quotedLine l) → quotedIn out l ≡ refusedAt outputRoom 0
+unfolding quotedIn
+line-long out l h = rw (lt-leb (length (quotedLine l)) lineLimit h)
+
+pub line-full : (out : ℕ) (l : List Text) → length (quotedLine l) ≤ lineLimit → out < length (quotedLine l) → quotedIn out l ≡ refusedAt outputRoom 0
+unfolding quotedIn
+line-full out l h k = rw (le-leb (length (quotedLine l)) lineLimit h, lt-leb (length (quotedLine l)) out k)
+
+module _ (t out : Text) where
+  pub malformed : isSome (fieldsOf t) ≡ false → quotingOf Malformed out ≡ quoter t out
+  unfolding quoter orRefused quoting
+  malformed e = rw (none-of (fieldsOf t) e)
+
+  module _ (h : fieldsOf t ≡ some (heldTexts t)) where
+    by-line : quoter t out ≡ quoting out (quotedIn (length out) (heldTexts t))
+    unfolding quoter orRefused
+    by-line = rw h
+
+    pub no-room : quotedIn (length out) (heldTexts t) ≡ refusedAt outputRoom 0 → quotingOf NoRoom out ≡ quoter t out
+    unfolding quoting
+    no-room e = sym (by-line ∙ ap (quoting out) e)
+
+    pub wrote : (left : Text) (n : ℕ) → length (quotedLine (heldTexts t)) ≤ lineLimit → length (quotedLine (heldTexts t)) ≤ length out
+        → Puts (quotedLine (heldTexts t)) out left n → quotingOf (Len n) left ≡ quoter t out
+    unfolding quoting
+    wrote left n k m p = sym (by-line ∙ ap (quoting out) (line-fits (length out) (heldTexts t) k m) ∙ rw (p .counts, p .leaves))
+
+-- for callers whose fields are a list
+pub quoted-list : (l : List Text) (out left : Text) (r : Quoted) → Fine l → imageLength l ≤ imageLimit → quotingOf r left ≡ quoter (image l) out
+    → quotingOf r left ≡ quoting out (quotedIn (length out) l)
+quoted-list l out left r f n e =
+    e ∙ by-line (image l) out (fields-are (image l) (fields-image l f n)) ∙ ap (λ (m : List Text). quoting out (quotedIn (length out) m)) (heldTexts-image l f)

@@ -1,0 +1,6 @@
+pub mod Filling
+pub mod Lengths
+pub mod Writing
+pub mod Walks
+pub mod Answers
+pub mod Determined

@@ -1,0 +1,299 @@
+-- The walk over a row's units, on plain lists: what a place shows of the units ahead of it, how a run of other units grows, and that its end and
+-- the place behind the delimiters are one step of the stage's walk. Assumes nothing.
+use Prim.Native.Nat.{ℕ, zero, suc, _+_, _-_, _*_, _≤_, _<_}
+use native.Mathlib.Omega.{arith}
+use mathlib.Core.Path.{_≡_, refl, sym, ap, _∙_}
+use mathlib.Core.Bool.{Bool, true, false}
+use mathlib.Core.List.{List, [], _∷_, _++_, append-assoc, append-nil}
+use lib.Dec.{eqb, ltb}
+use lib.ListN.{length, take, drop, getD, length-append, length-drop}
+use lib.Seq.{drop-cons}
+use borrow.Author.Tests.{ltb-true, ltb-false, ne-eqb}
+use Rattle.stages.specs.Bytes.{Text, part, isIn, isBlank}
+use Rattle.stages.specs.Outcome.{pick}
+use Rattle.stages.specs.Units.{L, E, Q, Cell, cell, N, Row}
+use Rattle.stages.specs.Split.{Delimiter, white, hard, other, delimiter, dropWhite, dropHard, otherRun, fieldsStep, fieldsFrom}
+use Rattle.stages.proofs.Split.{behindField, run-append, behind-length, fields-from}
+use Rattle.texts.specs.Rows.{unitOf, rowOf}
+use Rattle.splitting.specs.Places.{ahead, first, isOther, goesOn, Reaches}
+
+-- a place
+
+short : (t : Text) → length t ≤ 1 → rowOf t ≡ []
+unfolding rowOf
+short [] l = refl
+short (a ∷ []) l = refl
+short (a ∷ b ∷ t) l = absurd (omega arith)
+
+module _ (row : Text) (at : ℕ) where
+  pub none-ahead : length row - at ≤ 1 → ahead row at ≡ []
+  none-ahead l = short (drop at row) (simp length-drop l)
+
+  pub unit-ahead : 1 < length row - at → ahead row at ≡ unitOf (getD row at 0) (getD row (at + 1) 0) ∷ ahead row (at + 2)
+  unfolding rowOf
+  unit-ahead l =
+      let e : suc at ≡ at + 1 = omega arith in
+      let f : suc (at + 1) ≡ at + 2 = omega arith in
+      rw (drop-cons row at 0 (omega arith), e, drop-cons row (at + 1) 0 (omega arith), f)
+
+  -- either no unit is ahead, or one and those behind it
+  by-place : (P : Row → Type 0) → (length row - at ≤ 1 → P []) → (1 < length row - at → (c : Cell) → P (c ∷ ahead row (at + 2))) → P (ahead row at)
+  by-place P f g = go (ltb 1 (length row - at)) refl
+    where
+      go : (x : Bool) → ltb 1 (length row - at) ≡ x → P (ahead row at)
+      go true e = let l : 1 < length row - at = ltb-true 1 (length row - at) e in rw (unit-ahead l) (g l (unitOf (getD row at 0) (getD row (at + 1) 0)))
+      go false e = let l : length row - at ≤ 1 = ltb-false 1 (length row - at) e in rw (none-ahead l) (f l)
+
+-- `delimiter_at`
+
+marked-other : (ifs : Text) (b : ℕ) (x z : Bool) → other ≡ delimiter ifs (pick x (cell L b) (pick false (cell E b) (pick z (cell Q b) N)))
+unfolding delimiter
+marked-other ifs b true z = refl
+marked-other ifs b false true = refl
+marked-other ifs b false false = refl
+
+module _ (ifs row : Text) (at : ℕ) where
+  pub place-none : length row - at ≤ 1 → other ≡ first ifs (ahead row at)
+  unfolding first
+  place-none l = rw (none-ahead row at l)
+
+  module _ (l : 1 < length row - at) where
+    pub place-other : (getD row (at + 1) 0 ≡ 2 → ⊥) → other ≡ first ifs (ahead row at)
+    unfolding first unitOf
+    place-other n = rw (unit-ahead row at l, ne-eqb (getD row (at + 1) 0) 2 n) (marked-other ifs (getD row at 0) (eqb (getD row (at + 1) 0) 1) (eqb (getD row (at + 1) 0) 3))
+
+    module _ (m : getD row (at + 1) 0 ≡ 2) where
+      first-is : first ifs (ahead row at) ≡ delimiter ifs (cell E (getD row at 0))
+      unfolding first unitOf
+      first-is = rw (unit-ahead row at l, m)
+
+      pub place-outside : isIn (getD row at 0) ifs ≡ false → other ≡ first ifs (ahead row at)
+      unfolding delimiter
+      place-outside e = sym (first-is ∙ rw (e, delimiter))
+
+      pub place-white : isIn (getD row at 0) ifs ≡ true → isBlank (getD row at 0) ≡ true → white ≡ first ifs (ahead row at)
+      unfolding delimiter
+      place-white e f = sym (first-is ∙ rw (e, f, delimiter))
+
+      pub place-hard : isIn (getD row at 0) ifs ≡ true → isBlank (getD row at 0) ≡ false → hard ≡ first ifs (ahead row at)
+      unfolding delimiter
+      place-hard e f = sym (first-is ∙ rw (e, f, delimiter))
+
+  -- `goes_on`
+
+  pub goes-none : length row - at ≤ 1 → false ≡ goesOn ifs (ahead row at)
+  unfolding goesOn
+  goes-none l = rw (none-ahead row at l)
+
+  pub goes-unit : (d : Delimiter) → 1 < length row - at → d ≡ first ifs (ahead row at) → isOther d ≡ goesOn ifs (ahead row at)
+  unfolding goesOn first
+  goes-unit d l e =
+      let f : d ≡ delimiter ifs (unitOf (getD row at 0) (getD row (at + 1) 0)) = e ∙ rw (unit-ahead row at l) in
+      rw (unit-ahead row at l) (ap isOther f)
+
+-- `skip_white` and `behind_field`
+
+clash-white : other ≡ white → ⊥
+clash-white e = let z : _≡_ {A = ℕ} 0 1 = cc in omega arith
+
+clash-hard : other ≡ hard → ⊥
+clash-hard e = let z : _≡_ {A = ℕ} 0 1 = cc in omega arith
+
+module _ (ifs : Text) where
+  white-stops-hard : (r : Row) → first ifs r ≡ hard → dropWhite ifs r ≡ r
+  unfolding first dropWhite
+  white-stops-hard [] e = refl
+  white-stops-hard (c ∷ r) e = rw (e, dropWhite)
+
+  white-stops-other : (r : Row) → first ifs r ≡ other → dropWhite ifs r ≡ r
+  unfolding first dropWhite
+  white-stops-other [] e = refl
+  white-stops-other (c ∷ r) e = rw (e, dropWhite)
+
+  hard-stops-white : (r : Row) → first ifs r ≡ white → dropHard ifs r ≡ r
+  unfolding first dropHard
+  hard-stops-white [] e = refl
+  hard-stops-white (c ∷ r) e = rw (e, dropHard)
+
+  hard-stops-other : (r : Row) → first ifs r ≡ other → dropHard ifs r ≡ r
+  unfolding first dropHard
+  hard-stops-other [] e = refl
+  hard-stops-other (c ∷ r) e = rw (e, dropHard)
+
+  module _ (row : Text) (at : ℕ) where
+    white-more : first ifs (ahead row at) ≡ white → (at + 2 ≤ length row) × (dropWhite ifs (ahead row at) ≡ dropWhite ifs (ahead row (at + 2)))
+    unfolding first dropWhite
+    white-more e =
+        by-place row at (λ (r : Row). first ifs r ≡ white → (at + 2 ≤ length row) × (dropWhite ifs r ≡ dropWhite ifs (ahead row (at + 2))))
+        (λ l e. absurd (clash-white e))
+        (λ l c e. (omega arith, rw (e, dropWhite)))
+        e
+
+    hard-more : first ifs (ahead row at) ≡ hard → (at + 2 ≤ length row) × (dropHard ifs (ahead row at) ≡ dropWhite ifs (ahead row (at + 2)))
+    unfolding first dropHard
+    hard-more e =
+        by-place row at (λ (r : Row). first ifs r ≡ hard → (at + 2 ≤ length row) × (dropHard ifs r ≡ dropWhite ifs (ahead row (at + 2))))
+        (λ l e. absurd (clash-hard e))
+        (λ l c e. (omega arith, rw (e, dropHard)))
+        e
+
+  -- white units are passed from `at` to `to`
+  pub record Skipping (row : Text) (at to : ℕ) : Type 0 where
+    pub further : at ≤ to
+    pub within : to ≤ length row
+    pub same : dropWhite ifs (ahead row at) ≡ dropWhite ifs (ahead row to)
+
+  pub skip-start : (row : Text) (at : ℕ) → at ≤ length row → Skipping row at at
+  skip-start row at l = record { further = omega arith; within = l; same = refl }
+
+  module _ {row : Text} {at to : ℕ} (s : Skipping row at to) where
+    pub skip-fits : first ifs (ahead row to) ≡ white → to + 2 ≤ length row
+    skip-fits e = white-more row to e .0
+
+    pub skip-on : first ifs (ahead row to) ≡ white → Skipping row at (to + 2)
+    skip-on e = record { further = omega (arith, s .further); within = white-more row to e .0; same = s .same ∙ white-more row to e .1 }
+
+    reached : dropWhite ifs (ahead row to) ≡ ahead row to → Reaches row at to (dropWhite ifs (ahead row at))
+    reached e = record { further = s .further; within = s .within; units = sym (s .same ∙ e) }
+
+    pub skip-hard : first ifs (ahead row to) ≡ hard → Reaches row at to (dropWhite ifs (ahead row at))
+    skip-hard e = reached (white-stops-hard (ahead row to) e)
+
+    pub skip-other : first ifs (ahead row to) ≡ other → Reaches row at to (dropWhite ifs (ahead row at))
+    skip-other e = reached (white-stops-other (ahead row to) e)
+
+  module _ {row : Text} {at to : ℕ} {r : Row} (h : Reaches row at to r) where
+    pub behind-white : first ifs (ahead row to) ≡ white → Reaches row at to (dropHard ifs r)
+    behind-white e = record { further = h .further; within = h .within; units = sym (ap (dropHard ifs) (sym (h .units)) ∙ hard-stops-white (ahead row to) e) }
+
+    pub behind-other : first ifs (ahead row to) ≡ other → Reaches row at to (dropHard ifs r)
+    behind-other e = record { further = h .further; within = h .within; units = sym (ap (dropHard ifs) (sym (h .units)) ∙ hard-stops-other (ahead row to) e) }
+
+    pub behind-fits : first ifs (ahead row to) ≡ hard → to + 2 ≤ length row
+    behind-fits e = hard-more row to e .0
+
+    pub behind-hard : first ifs (ahead row to) ≡ hard → {next : ℕ} → Reaches row (to + 2) next (dropWhite ifs (ahead row (to + 2))) → Reaches row at next (dropHard ifs r)
+    behind-hard e k = record {
+      further = omega (arith, h .further, k .further);
+      within = k .within;
+      units = k .units ∙ sym (ap (dropHard ifs) (sym (h .units)) ∙ hard-more row to e .1);
+    }
+
+-- the inner walk: other units are passed from `at` to `end`
+
+row-front : (p q : Row) (t : Text) → rowOf t ≡ p ++ q → rowOf (take (2 * length p) t) ≡ p
+unfolding rowOf
+row-front [] q t e = refl
+row-front (c ∷ p) q [] e = absurd (let z : _≡_ {A = ℕ} 0 1 = cc in omega arith)
+row-front (c ∷ p) q (a ∷ []) e = absurd (let z : _≡_ {A = ℕ} 0 1 = cc in omega arith)
+row-front (c ∷ p) q (a ∷ b ∷ t) e =
+    let k : 2 * suc (length p) ≡ suc (suc (2 * length p)) = omega arith in
+    let f : rowOf t ≡ p ++ q = cc in
+    let g : unitOf a b ≡ c = cc in
+    rw (k, row-front p q t f, g)
+
+module _ (ifs : Text) where
+  run-stop : (r : Row) → goesOn ifs r ≡ false → otherRun ifs r ≡ ([], r)
+  unfolding goesOn otherRun
+  run-stop [] e = refl
+  run-stop (c ∷ r) e = go (delimiter ifs c) refl
+    where
+      no : isOther other ≡ false → ⊥
+      no e = let z : _≡_ {A = ℕ} 0 1 = cc in omega arith
+
+      go : (d : Delimiter) → delimiter ifs c ≡ d → otherRun ifs (c ∷ r) ≡ ([], c ∷ r)
+      go white f = rw (f, otherRun)
+      go hard f = rw (f, otherRun)
+      go other f = absurd (no (ap isOther (sym f) ∙ e))
+
+  run-goes : (c : Cell) (r : Row) → goesOn ifs (c ∷ r) ≡ true → otherRun ifs (c ∷ r) ≡ (c ∷ otherRun ifs r .0, otherRun ifs r .1)
+  unfolding goesOn otherRun
+  run-goes c r e = go (delimiter ifs c) refl
+    where
+      no : (d : Delimiter) → isOther d ≡ false → delimiter ifs c ≡ d → ⊥
+      no d n f = let z : _≡_ {A = Bool} false true = sym n ∙ ap isOther (sym f) ∙ e in let y : _≡_ {A = ℕ} 0 1 = cc in omega arith
+
+      go : (d : Delimiter) → delimiter ifs c ≡ d → otherRun ifs (c ∷ r) ≡ (c ∷ otherRun ifs r .0, otherRun ifs r .1)
+      go white f = absurd (no white refl f)
+      go hard f = absurd (no hard refl f)
+      go other f = rw (f, otherRun)
+
+  pub record Run (row : Text) (at end : ℕ) : Type 0 where
+    pub passed : Row
+    pub long : end ≡ at + 2 * length passed
+    pub within : end ≤ length row
+    pub whole : otherRun ifs (ahead row at) ≡ (passed ++ otherRun ifs (ahead row end) .0, otherRun ifs (ahead row end) .1)
+
+  pub run-start : (row : Text) (at : ℕ) → at ≤ length row → Run row at at
+  run-start row at l = record { passed = []; long = omega arith; within = l; whole = refl }
+
+  -- one unit more
+  record More (row : Text) (at : ℕ) : Type 0 where
+    unit : Cell
+    fits : at + 2 ≤ length row
+    goes : otherRun ifs (ahead row at) ≡ (unit ∷ otherRun ifs (ahead row (at + 2)) .0, otherRun ifs (ahead row (at + 2)) .1)
+
+  more : (row : Text) (at : ℕ) → goesOn ifs (ahead row at) ≡ true → More row at
+  unfolding goesOn
+  more row at e = by-place row at (λ (r : Row). ahead row at ≡ r → goesOn ifs r ≡ true → More row at) none-left unit-left refl e
+    where
+      none-left : length row - at ≤ 1 → ahead row at ≡ [] → goesOn ifs [] ≡ true → More row at
+      none-left l q e = absurd (let z : _≡_ {A = ℕ} 0 1 = cc in omega arith)
+
+      unit-left : 1 < length row - at → (c : Cell) → ahead row at ≡ c ∷ ahead row (at + 2) → goesOn ifs (c ∷ ahead row (at + 2)) ≡ true → More row at
+      unit-left l c q e = record { unit = c; fits = omega arith; goes = ap (otherRun ifs) q ∙ run-goes c (ahead row (at + 2)) e }
+
+  module _ {row : Text} {at end : ℕ} (s : Run row at end) where
+    pub run-fits : goesOn ifs (ahead row end) ≡ true → end + 2 ≤ length row
+    run-fits e = more row end e .fits
+
+    pub run-on : goesOn ifs (ahead row end) ≡ true → Run row at (end + 2)
+    run-on e =
+        let m : More row end = more row end e in
+        let rest : Row × Row = otherRun ifs (ahead row (end + 2)) in
+        record {
+          passed = s .passed ++ (m .unit ∷ []);
+          long = omega (arith, s .long, length-append (s .passed) (m .unit ∷ []));
+          within = m .fits;
+          whole =
+              s .whole
+              ∙ ap (λ (p : Row × Row). (s .passed ++ p .0, p .1)) (m .goes)
+              ∙ ap (λ (r : Row). (r, rest .1)) (sym (append-assoc (s .passed) (m .unit ∷ []) (rest .0)));
+        }
+
+    -- the field and what is behind it
+    pub run-end : goesOn ifs (ahead row end) ≡ false → otherRun ifs (ahead row at) ≡ (rowOf (part row at end), ahead row end)
+    run-end e =
+        let w : otherRun ifs (ahead row at) ≡ (s .passed, ahead row end) =
+        s .whole
+        ∙ ap (λ (p : Row × Row). (s .passed ++ p .0, p .1)) (run-stop (ahead row end) e)
+        ∙ ap (λ (r : Row). (r, ahead row end)) (append-nil (s .passed)) in
+        let j : ahead row at ≡ s .passed ++ ahead row end = sym (run-append ifs (ahead row at)) ∙ ap (λ (p : Row × Row). p .0 ++ p .1) w in
+        let k : end - at ≡ 2 * length (s .passed) = omega (arith, s .long) in
+        w ∙ ap (λ (r : Row). (r, ahead row end)) (sym (ap (λ (n : ℕ). rowOf (take n (drop at row))) k ∙ row-front (s .passed) (ahead row end) (drop at row) j))
+
+  -- one step of the stage's walk
+
+  pub walk-end : (row : Text) (at : ℕ) → length row - at ≤ 1 → fieldsFrom ifs (ahead row at) ≡ []
+  unfolding fieldsStep
+  walk-end row at l = ap (fieldsFrom ifs) (none-ahead row at l) ∙ fields-from ifs []
+
+  module _ (row : Text) (at end next : ℕ) (l : 1 < length row - at) (run : otherRun ifs (ahead row at) ≡ (rowOf (part row at end), ahead row end))
+      (h : Reaches row end next (dropHard ifs (dropWhite ifs (ahead row end)))) where
+    behind-is : ahead row next ≡ behindField ifs (ahead row at)
+    behind-is = h .units ∙ ap (λ (p : Row × Row). dropHard ifs (dropWhite ifs (p .1))) (sym run)
+
+    pub walk-step : fieldsFrom ifs (ahead row at) ≡ rowOf (part row at end) ∷ fieldsFrom ifs (ahead row next)
+    unfolding fieldsStep
+    walk-step =
+        let u : ahead row at ≡ unitOf (getD row at 0) (getD row (at + 1) 0) ∷ ahead row (at + 2) = unit-ahead row at l in
+        let s : fieldsFrom ifs (ahead row at) ≡ otherRun ifs (ahead row at) .0 ∷ fieldsFrom ifs (behindField ifs (ahead row at)) = rw u (fields-from ifs (unitOf (getD row at 0) (getD row (at + 1) 0) ∷ ahead row (at + 2))) in
+        s
+        ∙ ap (λ (p : Row × Row). p .0 ∷ fieldsFrom ifs (behindField ifs (ahead row at))) run
+        ∙ ap (λ (r : Row). rowOf (part row at end) ∷ fieldsFrom ifs r) (sym behind-is)
+
+    pub walk-falls : length (ahead row next) < length (ahead row at)
+    walk-falls =
+        let u : ahead row at ≡ unitOf (getD row at 0) (getD row (at + 1) 0) ∷ ahead row (at + 2) = unit-ahead row at l in
+        let b : length (behindField ifs (ahead row at)) < length (ahead row at) = rw u (behind-length ifs (unitOf (getD row at 0) (getD row (at + 1) 0)) (ahead row (at + 2))) in
+        rw behind-is b

@@ -1,0 +1,187 @@
+-- The walk over the fields: behind each one the stage's answer is that of the fields ahead, the texts so far in front of it. Assumes nothing.
+use Prim.Native.Nat.{ℕ, _+_, _-_, _≤_, _<_}
+use native.Mathlib.Omega.{arith}
+use mathlib.Core.Path.{_≡_, refl, sym, ap, _∙_}
+use mathlib.Core.Bool.{Bool, true, false}
+use mathlib.Core.List.{List, [], _∷_, _++_, append-assoc, append-nil}
+use lib.ListN.{length, take, drop}
+use lib.Seq.{drop-drop}
+use borrow.Rule.Slice.PartMut.{midOf, putMid, same-len-mid, mid-len, drop-put}
+use Rattle.stages.specs.Numbers.{bracketClass}
+use Rattle.stages.specs.Bytes.{Text, part}
+use Rattle.stages.specs.Outcome.{Outcome, refused, done, _>>=_}
+use Rattle.stages.specs.Images.{written, recordBytes}
+use Rattle.stages.specs.Units.{Row}
+use Rattle.stages.specs.Pattern.{Element, pattern}
+use Rattle.stages.specs.Split.{dropWhite, dropHard, otherRun, fieldsFrom, split}
+use Rattle.stages.specs.Paths.{pathsFor, named}
+use Rattle.stages.proofs.Images.{recordBytes-append}
+use Rattle.texts.specs.Rows.{rowOf}
+use Rattle.splitting.specs.Places.{ahead, Reaches}
+use Rattle.splitting.specs.Answers.{Says, class, noRoom}
+use Rattle.splitting.specs.Fields.{fieldTexts}
+use Rattle.splitting.specs.declared.Written.{Written}
+use Rattle.splitting.specs.declared.Written.the-variants.{Len, Class, NoRoom}
+use Rattle.splitting.proofs.Places.{walk-end, walk-step, walk-falls}
+use Rattle.splitting.proofs.Filling.{Filled, filled-start, filled-length, filled-then, Given, Lacks, says-len, says-class, says-full, says-filled, done-same, apart}
+
+-- the first field decides, then the others
+
+module _ (paths : List Text) (r : Row) (rs : List Row) where
+  named-refused : (k : ℕ) → fieldTexts paths r ≡ refused k → named paths (r ∷ rs) ≡ refused k
+  unfolding named fieldTexts
+  named-refused k e = go (pattern true r) refl
+    where
+      no : (p : List Element) → pattern true r ≡ done p → fieldTexts paths r ≡ done (pathsFor paths r p)
+      no p q = rw q
+
+      go : (o : Outcome (List Element)) → pattern true r ≡ o → named paths (r ∷ rs) ≡ refused k
+      go (refused n) q = rw q (rw q at e)
+      go (done p) q = absurd (apart (sym (no p q) ∙ e))
+
+  named-done : (a : List Text) → fieldTexts paths r ≡ done a → named paths (r ∷ rs) ≡ (named paths rs >>= λ l. done (a ++ l))
+  unfolding named fieldTexts
+  named-done a e = go (pattern true r) refl
+    where
+      same : (p : List Element) → pattern true r ≡ done p → pathsFor paths r p ≡ a
+      same p q = done-same (rw q at e)
+
+      no : (n : ℕ) → pattern true r ≡ refused n → ⊥
+      no n q = let f : refused n ≡ done a = rw q at e in apart (sym f)
+
+      go : (o : Outcome (List Element)) → pattern true r ≡ o → named paths (r ∷ rs) ≡ (named paths rs >>= λ l. done (a ++ l))
+      go (refused n) q = absurd (no n q)
+      go (done p) q = rw (q, same p q)
+
+in-front : (o : Outcome (List Text)) → o ≡ (o >>= λ l. done l)
+in-front (refused n) = refl
+in-front (done l) = refl
+
+joined : (a b : List Text) (o : Outcome (List Text)) → ((o >>= λ l. done (b ++ l)) >>= λ l. done (a ++ l)) ≡ (o >>= λ l. done ((a ++ b) ++ l))
+joined a b (refused n) = refl
+joined a b (done l) = ap done (sym (append-assoc a b l))
+
+-- the texts so far are written, or they are too long
+pub data State (used : ℕ) (old : Text) (l : List Text) (n : ℕ) (out : Text) : Bool → Type 0 where
+  fitting : Filled used old l n out → State used old l n out false
+  exceeding : length old < used + recordBytes l → State used old l n out true
+
+pub record Walk (paths : List Text) (ifs : Text) (o : Outcome (List Text)) (used : ℕ) (old row : Text) (at n : ℕ) (full : Bool) (out : Text) : Type 0 where
+  pub texts : List Text
+  pub whole : o ≡ (named paths (fieldsFrom ifs (ahead row at)) >>= λ l. done (texts ++ l))
+  pub within : at ≤ length row
+  pub room : n ≤ length old
+  pub same : length out ≡ length old
+  pub state : State used old texts n out full
+
+pub walk-start : (paths : List Text) (ifs : Text) (used : ℕ) (old row : Text) (at : ℕ) → used ≤ length old → Reaches row 0 at (dropWhite ifs (ahead row 0))
+    → Walk paths ifs (named paths (split ifs (rowOf row))) used old row at used false old
+unfolding split
+walk-start paths ifs used old row at h k = record {
+  texts = [];
+  whole = ap (λ (r : Row). named paths (fieldsFrom ifs r)) (sym (k .units)) ∙ in-front (named paths (fieldsFrom ifs (ahead row at)));
+  within = k .within;
+  room = h;
+  same = refl;
+  state = fitting (filled-start used old h);
+}
+
+filled-of : {used : ℕ} {old : Text} {l : List Text} {n : ℕ} {out : Text} → State used old l n out false → Filled used old l n out
+filled-of (fitting f) = f
+
+exceeds-of : {used : ℕ} {old : Text} {l : List Text} {n : ℕ} {out : Text} → State used old l n out true → length old < used + recordBytes l
+exceeds-of (exceeding h) = h
+
+module _ {paths : List Text} {ifs : Text} {o : Outcome (List Text)} {used : ℕ} {old row : Text} {at n : ℕ} {full : Bool} {out : Text}
+    (w : Walk paths ifs o used old row at n full out) where
+  is-filled : full ≡ false → Filled used old (w .texts) n out
+  is-filled e = filled-of (rw e at (w .state))
+
+  is-over : full ≡ true → length old < used + recordBytes (w .texts)
+  is-over e = exceeds-of (rw e at (w .state))
+
+  -- no field is left
+  module _ (l : length row - at ≤ 1) where
+    over : o ≡ done (w .texts)
+    unfolding named
+    over =
+        w .whole
+        ∙ ap (λ (rs : List Row). named paths rs >>= λ l. done (w .texts ++ l)) (walk-end ifs row at l)
+        ∙ ap done (append-nil (w .texts))
+
+    pub walk-full : full ≡ true → {left : Text} → Says o used old left NoRoom
+    walk-full e = noRoom (w .texts) over (is-over e)
+
+    pub walk-fits : full ≡ false → Says o used old out (Len n)
+    walk-fits e = says-filled over (is-filled e)
+
+  -- a field and the place behind it
+  module _ {end next : ℕ} (l : 1 < length row - at) (further : at ≤ end) (run : otherRun ifs (ahead row at) ≡ (rowOf (part row at end), ahead row end))
+      (h : Reaches row end next (dropHard ifs (dropWhite ifs (ahead row end)))) {after : Text} {r : Written}
+      (s : Says (fieldTexts paths (rowOf (part row at end))) n out after r) where
+    step : (named paths (fieldsFrom ifs (ahead row at)) >>= λ l. done (w .texts ++ l)) ≡ (named paths (rowOf (part row at end) ∷ fieldsFrom ifs (ahead row next)) >>= λ l. done (w .texts ++ l))
+    step = ap (λ (rs : List Row). named paths rs >>= λ l. done (w .texts ++ l)) (walk-step ifs row at end next l run h)
+
+    pub walk-class : r ≡ Class → {left : Text} → Says o used old left Class
+    walk-class e =
+        class (w .whole ∙ step
+        ∙ ap (λ (x : Outcome (List Text)). x >>= λ l. done (w .texts ++ l)) (named-refused paths (rowOf (part row at end)) (fieldsFrom ifs (ahead row next)) bracketClass (says-class s e)))
+
+    -- the field's bytes may have changed, those ahead of the next place have not
+    module _ (ys : Text) (k : length ys ≡ length (midOf at (end - at) row)) (kept : length after ≡ length out) where
+      abbrev left : Text
+      left = putMid at (end - at) row ys
+
+      ahead-same : ahead left next ≡ ahead row next
+      ahead-same =
+          let i : end ≤ length row = omega (arith, h .further, h .within) in
+          let e : length ys ≡ end - at = k ∙ mid-len at end row i in
+          let j : end + (next - end) ≡ next = omega (arith, h .further) in
+          let d : drop end left ≡ drop end row = drop-put at end row ys further i e in
+          let q : drop next left ≡ drop next row = ap (λ (m : ℕ). drop m left) (sym j) ∙ sym (drop-drop (next - end) end left) ∙ ap (drop (next - end)) d ∙ drop-drop (next - end) end row ∙ ap (λ (m : ℕ). drop m row) j in
+          ap rowOf q
+
+      pub left-length : length left ≡ length row
+      left-length = same-len-mid at (end - at) row ys k
+
+      pub left-falls : length (ahead left next) < length (ahead row at)
+      left-falls = rw ahead-same (walk-falls ifs row at end next l run h)
+
+      behind : (a : List Text) → fieldTexts paths (rowOf (part row at end)) ≡ done a → o ≡ (named paths (fieldsFrom ifs (ahead left next)) >>= λ l. done ((w .texts ++ a) ++ l))
+      behind a e =
+          w .whole ∙ step
+          ∙ ap (λ (x : Outcome (List Text)). x >>= λ l. done (w .texts ++ l)) (named-done paths (rowOf (part row at end)) (fieldsFrom ifs (ahead row next)) a e)
+          ∙ joined (w .texts) a (named paths (fieldsFrom ifs (ahead row next)))
+          ∙ ap (λ (x : Row). named paths (fieldsFrom ifs x) >>= λ l. done ((w .texts ++ a) ++ l)) (sym ahead-same)
+
+      next-within : next ≤ length left
+      next-within = omega (arith, h .within, left-length)
+
+      -- the field is written
+      pub walk-on : full ≡ false → {m : ℕ} → r ≡ Len m → Walk paths ifs o used old left next m full after
+      walk-on f {m} e =
+          let d : Given (fieldTexts paths (rowOf (part row at end))) n out after m = says-len s e in
+          let g : Filled used old (w .texts ++ d .texts) m after = filled-then (is-filled f) (d .filled) in
+          record { texts = w .texts ++ d .texts; whole = behind (d .texts) (d .gives); within = next-within; room = g .room; same = kept ∙ w .same; state = rw f (fitting g) }
+
+      longer : (a : List Text) → length old < used + recordBytes (w .texts) → length old < used + recordBytes (w .texts ++ a)
+      longer a x = omega (arith, x, recordBytes-append (w .texts) a)
+
+      over-on : (a : List Text) → fieldTexts paths (rowOf (part row at end)) ≡ done a → length old < used + recordBytes (w .texts ++ a) → Walk paths ifs o used old left next n true after
+      over-on a e x = record { texts = w .texts ++ a; whole = behind a e; within = next-within; room = w .room; same = kept ∙ w .same; state = exceeding x }
+
+      -- an earlier one did not fit
+      pub walk-past : full ≡ true → {m : ℕ} → r ≡ Len m → Walk paths ifs o used old left next n full after
+      walk-past f {m} e =
+          let d : Given (fieldTexts paths (rowOf (part row at end))) n out after m = says-len s e in
+          rw f (over-on (d .texts) (d .gives) (longer (d .texts) (is-over f)))
+
+      -- it does not fit
+      pub walk-over : r ≡ NoRoom → Walk paths ifs o used old left next n true after
+      walk-over e =
+          let d : Lacks (fieldTexts paths (rowOf (part row at end))) n out = says-full s e in
+          over-on (d .texts) (d .gives) (by-state d (w .state))
+        where
+          by-state : (d : Lacks (fieldTexts paths (rowOf (part row at end))) n out) → {x : Bool} → State used old (w .texts) n out x → length old < used + recordBytes (w .texts ++ d .texts)
+          by-state d (fitting f) = omega (arith, f .long, d .short, w .same, recordBytes-append (w .texts) (d .texts))
+          by-state d (exceeding x) = longer (d .texts) x
