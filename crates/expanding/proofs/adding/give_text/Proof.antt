@@ -1,10 +1,9 @@
 -- A text fits where its bytes are no more than the units that may still come.
 use native.Mathlib.Omega.{arith}
 use borrow.Author.Needs.{needs}
-use lib.ListN.{length}
 use Rattle.stages.specs.Units.{marked}
 use Rattle.rows.specs.Marks.{markOf}
-use Rattle.expanding.proofs.Fitting.{fit-full, marked-count, fronted-fits}
+use Rattle.expanding.proofs.Fitting.{measured-full, marked-count, fronted-fits}
 use Rattle.expanding.proofs.adding.give_text.Statement.{statement}
 use Rattle.expanding.proofs.adding.give_text.Tie as tie
 
@@ -14,7 +13,7 @@ sub-room c = search needs
 returns : tie.Need-returns
 returns c =
     let a = c .before .before .before .args in
-    fit-full (a .used) (length (marked (markOf (a .mark)) (a .text .now))) (omega (arith, marked-count (markOf (a .mark)) (a .text .now)))
+    measured-full (a .used) (marked (markOf (a .mark)) (a .text .now)) (omega (arith, marked-count (markOf (a .mark)) (a .text .now)))
 
 put-marked-requires : tie.Need-put-marked-requires
 put-marked-requires c κs = search needs

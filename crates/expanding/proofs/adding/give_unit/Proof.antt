@@ -1,13 +1,13 @@
 -- One unit fits behind fewer than 2,048.
 use native.Mathlib.Omega.{arith}
 use borrow.Author.Needs.{needs}
-use Rattle.expanding.proofs.Fitting.{fit-full, fronted-fits}
+use Rattle.expanding.proofs.Fitting.{measured-full, fronted-fits}
 use Rattle.expanding.proofs.adding.give_unit.Statement.{statement}
 use Rattle.expanding.proofs.adding.give_unit.Tie as tie
 use mathlib.Core.Path.{refl}
 
 returns : tie.Need-returns
-returns c = fit-full (c .before .before .args .used) 1 (omega arith)
+returns c = measured-full (c .before .before .args .used) _ (omega arith)
 
 put-unit-requires : tie.Need-put-unit-requires
 put-unit-requires c κs = search needs
