@@ -14,7 +14,21 @@ ghost use Rattle.modes.specs.Modes.{modeOf, formOf};
 ghost use Rattle.expanding.specs.Steps.{placed, quoted, summing};
 ghost use Rattle.expanding.specs.Answers.{Holds, Ready, Says, Turns};
 use super::Expanded;
+use super::adding::REFUSED_UNITS;
+use super::adding::ROW_LIMIT;
+use super::adding::give_length;
+use super::adding::give_unit;
+use super::adding::give_value;
 use super::answers::Turn;
+use super::answers::going_on;
+use super::answers::turn_from;
+use super::answers::turn_of;
+use super::operands::finish;
+use super::operands::settle;
+use super::operands::sum_up;
+use super::plans::operand_mark;
+use super::plans::plan_of;
+use super::plans::wants_operand;
 use items::Item;
 use modes::Form;
 use modes::Mode;
@@ -36,8 +50,8 @@ fn expand_quote(
     requires { ⌜ Ready (now text) at mode depth used (length (now work)) × Holds room (now vars) have ⌝ }
     ensures { λ r. ⌜ Says room (now (text .entry)) at used (λ q. quoted room q used (held (take have (now (vars .entry))))) (parts (modeOf mode) depth (drop at (now (text .entry)))) (now (work .exit)) (now (vars .exit)) r ⌝ }
 {
-    if used >= super::adding::ROW_LIMIT {
-        return Expanded::Refused(super::adding::REFUSED_UNITS);
+    if used >= ROW_LIMIT {
+        return Expanded::Refused(REFUSED_UNITS);
     }
     rows::put_empty(work);
     let got = expand_text(
@@ -85,45 +99,24 @@ fn expand_inner(
     ensures { λ r. ⌜ Says room (now (text .entry)) at used (λ q. placed used (parameter room (λ k u. expand room q k 0 u) (now (name .entry)) (formOf form) (markOf mark) (held (take have (now (vars .entry)))))) (parts (modeOf mode) depth (drop at (now (text .entry)))) (now (work .exit)) (now (vars .exit)) r ⌝ }
 {
     let found = tables::look_up(&vars[..have], name);
-    let plan = super::plans::plan_of(form, found);
-    if super::plans::wants_operand(plan) {
-        let got = expand_text(
-            text,
-            at,
-            mode,
-            depth,
-            super::plans::operand_mark(plan, mark),
-            0,
-            vars,
-            have,
-            room,
-            work,
-        );
+    let plan = plan_of(form, found);
+    if wants_operand(plan) {
+        let literal = operand_mark(plan, mark);
+        let got = expand_text(text, at, mode, depth, literal, 0, vars, have, room, work);
         match got {
             Expanded::Refused(e) => Expanded::Refused(e),
             Expanded::Row {
                 units,
                 next,
                 have: left,
-            } => super::operands::finish(
-                plan,
-                name,
-                units,
-                next,
-                mark,
-                used,
-                vars,
-                left,
-                room,
-                work,
-            ),
+            } => finish(plan, name, units, next, mark, used, vars, left, room, work),
         }
     } else {
         let got = reading::read_text(text, at, mode, depth);
         match got {
             Reading::Fault(e) => Expanded::Refused(e),
-            Reading::End(next) => super::answers::going_on(
-                super::operands::settle(plan, name, mark, used, &vars[..have], work),
+            Reading::End(next) => going_on(
+                settle(plan, name, mark, used, &vars[..have], work),
                 next,
                 have,
             ),
@@ -164,11 +157,7 @@ fn expand_sum(
             units,
             next,
             have: left,
-        } => super::answers::going_on(
-            super::operands::sum_up(units, mark, used, &vars[..left], work),
-            next,
-            left,
-        ),
+        } => going_on(sum_up(units, mark, used, &vars[..left], work), next, left),
     }
 }
 
@@ -192,30 +181,30 @@ fn expand_item(
     match item {
         Item::Fault(e) => Turn::Refused(e),
         Item::Stop(next) => Turn::End(next),
-        Item::Byte { quoted, byte, next } => super::answers::turn_of(
-            super::adding::give_unit(byte, rows::literal_mark(quoted, mark), used, work),
+        Item::Byte { quoted, byte, next } => turn_of(
+            give_unit(byte, rows::literal_mark(quoted, mark), used, work),
             next,
             mode,
             have,
         ),
-        Item::Paren { byte, parens } => super::answers::turn_of(
-            super::adding::give_unit(byte, mark, used, work),
+        Item::Paren { byte, parens } => turn_of(
+            give_unit(byte, mark, used, work),
             at + 1,
             Mode::Arith(parens),
             have,
         ),
-        Item::Quote(inner) => super::answers::turn_from(
+        Item::Quote(inner) => turn_from(
             expand_quote(text, at + 1, inner, depth, used, vars, have, room, work),
             mode,
         ),
-        Item::Value { from, to, next } => super::answers::turn_of(
-            super::adding::give_value(&text[from..to], mark, used, &vars[..have], work),
+        Item::Value { from, to, next } => turn_of(
+            give_value(&text[from..to], mark, used, &vars[..have], work),
             next,
             mode,
             have,
         ),
-        Item::Count { from, to, next } => super::answers::turn_of(
-            super::adding::give_length(&text[from..to], mark, used, &vars[..have], work),
+        Item::Count { from, to, next } => turn_of(
+            give_length(&text[from..to], mark, used, &vars[..have], work),
             next,
             mode,
             have,
@@ -226,7 +215,7 @@ fn expand_item(
             form,
             mode: inner,
             next,
-        } => super::answers::turn_from(
+        } => turn_from(
             expand_inner(
                 &text[from..to],
                 form,
@@ -243,7 +232,7 @@ fn expand_item(
             ),
             mode,
         ),
-        Item::Sum { next } => super::answers::turn_from(
+        Item::Sum { next } => turn_from(
             expand_sum(text, next, depth - 1, mark, used, vars, have, room, work),
             mode,
         ),
