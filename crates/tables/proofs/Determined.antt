@@ -6,7 +6,7 @@ use Rattle.stages.specs.Bytes.{Text, text}
 use Rattle.stages.specs.Images.{held}
 use Rattle.stages.specs.Expand.{value}
 use Rattle.texts.proofs.Determined.{one-answer}
-use Rattle.tables.specs.Kinds.{wellFormed}
+use Rattle.tables.specs.Kinds.{wellFormed, keyFits}
 use Rattle.tables.specs.Pieces.{pieceAt}
 use Rattle.tables.specs.Places.{Placed, Looked}
 use Rattle.tables.specs.declared.Kind.{Kind}
@@ -16,6 +16,9 @@ use Rattle.tables.specs.declared.Found.{Found}
 
 pub well-formed-determined : (kind : Kind) (image : Text) (r s : Bool) → r ≡ wellFormed kind image → s ≡ wellFormed kind image → r ≡ s
 well-formed-determined kind image r s = one-answer
+
+pub key-fits-determined : (kind : Kind) (last key : Text) (r s : Bool) → r ≡ keyFits kind last key → s ≡ keyFits kind last key → r ≡ s
+key-fits-determined kind last key r s p q = one-answer p q
 
 pub text-at-determined : (image : Text) (at : ℕ) (r s : Piece) → r ≡ pieceAt image at → s ≡ pieceAt image at → r ≡ s
 text-at-determined image at r s = one-answer

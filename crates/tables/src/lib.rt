@@ -115,7 +115,7 @@ fn rises(last: &[u8], key: &[u8]) -> bool
 }
 
 // May this key of the kind stand behind the last one?
-fn key_fits(kind: Kind, last: &[u8], key: &[u8]) -> bool
+pub fn key_fits(kind: Kind, last: &[u8], key: &[u8]) -> bool
     ensures { λ r. ⌜ r ≡ keyFits kind (now (last .entry)) (now (key .entry)) ⌝ }
 {
     match kind {

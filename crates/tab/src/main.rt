@@ -1,0 +1,110 @@
+// The table tool: `tab show KIND` reads an image from standard input and writes its lines. What it cannot do it tells on standard error, and writes
+// nothing else then. The work is `tabling`'s.
+ghost use mathlib.Core.Path.{_≡_};
+ghost use Prim.Native.Nat.{_*_, _≤_};
+ghost use lib.ListN.{length};
+use libc::STDERR_FILENO;
+use libc::STDIN_FILENO;
+use libc::STDOUT_FILENO;
+use tables::Kind;
+use tabling::Shown;
+
+// The longest image, and a byte more to see that one is longer.
+fn image_room() -> [u8; 32769]
+    ensures { λ r. ⌜ 32769 ≡ length r ⌝ }
+{
+    [0; 32769]
+}
+
+// Its lines.
+fn lines_room() -> [u8; 131076]
+    ensures { λ r. ⌜ 131076 ≡ length r ⌝ }
+{
+    [0; 131076]
+}
+
+fn say(text: &[u8]) {
+    io::write_all(STDERR_FILENO, text);
+}
+
+// Reading stopped: could the input be read to its end, or to the end of the buffer?
+fn was_read(n: usize, room: usize) -> bool {
+    if room <= n {
+        return true;
+    }
+    let mut one = [0u8; 16];
+    let got = libc::read(STDIN_FILENO, &mut one);
+    if got < 0 {
+        os::fail(b"standard input");
+        return false;
+    }
+    true
+}
+
+// Writes the first n bytes.
+fn write_out(out: &[u8], n: usize) {
+    if out.len() < n {
+        return;
+    }
+    let is_written = io::write_all(STDOUT_FILENO, &out[..n]);
+    if !is_written {
+        os::fail(b"standard output");
+    }
+}
+
+// Shows the image that is read.
+fn show_input(kind: Kind, image: &mut [u8], out: &mut [u8])
+    requires { ⌜ 4 * length (now image) ≤ length (now out) ⌝ }
+{
+    let n = io::read_full(STDIN_FILENO, image);
+    if !was_read(n, image.len()) {
+        return;
+    }
+    let shown = tabling::show(kind, &image[..n], out);
+    match shown {
+        Shown::Len(m) => write_out(out, m),
+        Shown::Malformed => say(b"tab: no image of this kind, or one that is too long\n"),
+    }
+}
+
+fn show(kind: Kind) {
+    let mut image = image_room();
+    let mut out = lines_room();
+    show_input(kind, &mut image, &mut out);
+}
+
+fn usage() {
+    say(b"usage: tab show vars|homes|paths < image > text\n");
+}
+
+fn show_named(word: &[u8]) {
+    if texts::same(word, b"vars") {
+        show(Kind::Variables);
+        return;
+    }
+    if texts::same(word, b"homes") {
+        show(Kind::Homes);
+        return;
+    }
+    if texts::same(word, b"paths") {
+        show(Kind::Paths);
+        return;
+    }
+    usage();
+}
+
+fn main() {
+    let mut job = io::buffer();
+    let n = os::arg(1, &mut job);
+    let mut word = io::buffer();
+    let m = os::arg(2, &mut word);
+    if os::arg_count() != 3 {
+        usage();
+        return;
+    }
+    if texts::same(&job[..n], b"show") {
+        show_named(&word[..m]);
+        return;
+    }
+    usage();
+}
