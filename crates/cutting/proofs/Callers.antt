@@ -1,16 +1,17 @@
 -- What a loop over blocks learns. `cur` is all that was read of the line that is not yet ended, however long; the buffer holds its first bytes. Each
--- answer is then a line of the stage's, or a longer `cur`, and at the end of the input an unended line is told from none. Assumes nothing.
+-- answer is then a line of the stage's, or a longer `cur`; at the end of the input an unended line is told from none. However what is read comes in
+-- blocks, the lines are those of the whole. Assumes nothing.
 use Prim.Native.Nat.{ℕ, zero, suc, _+_, _-_, _≤_, _<_}
 use native.Mathlib.Omega.{arith}
 use mathlib.Core.Path.{_≡_, refl, sym, ap, subst, _∙_}
 use mathlib.Core.Bool.{true, false}
 use mathlib.Core.List.{List, [], _∷_, _++_, append-assoc, append-nil}
-use mathlib.Core.Option.{some}
+use mathlib.Core.Option.{none, some}
 use lib.Dec.{eqb}
 use lib.ListN.{length, take, drop, length-append, length-drop, take-append-drop}
 use lib.Seq.{take-at, drop-at}
 use borrow.Author.Tests.{eqb-true, eqb-false, ne-eqb}
-use Rattle.stages.specs.Bytes.{Text, isIn, all, span}
+use Rattle.stages.specs.Bytes.{Text, all, span}
 use Rattle.stages.specs.Call.{over}
 use Rattle.stages.specs.Program.{linesOf}
 use Rattle.stages.proofs.Bools.{no, clash, some-same, either}
@@ -70,14 +71,69 @@ behind-stops block from = span-stops notNewline (drop from block)
 stop-newline : (b : ℕ) (u : Text) → Stops notNewline (b ∷ u) → b ≡ 10
 stop-newline b u e = either (eqb b 10) (λ q. eqb-true b 10 q) (λ q. absurd (no (sym e ∙ rw q)))
 
--- the place behind the first byte that is behind what came
-next-rest : (block t : Text) (b : ℕ) (u : Text) (from next : ℕ) → next ≡ length block - length u → t ++ (b ∷ u) ≡ drop from block → drop next block ≡ u
-next-rest block t b u from next n e =
-    let f : block ≡ (take from block ++ (t ++ (b ∷ []))) ++ u =
-    sym (take-append-drop from block) ∙ ap (λ (x : Text). take from block ++ x) (sym e ∙ sym (append-assoc t (b ∷ []) u)) ∙ sym (append-assoc (take from block) (t ++ (b ∷ [])) u) in
-    let k : length (take from block ++ (t ++ (b ∷ []))) ≡ next = omega (arith, n, ap length f, length-append (take from block ++ (t ++ (b ∷ []))) u) in
-    ap (drop next) f ∙ drop-at (take from block ++ (t ++ (b ∷ []))) u next k
+-- a newline stands behind what came, and the next line begins at `next`
+record Newline (block : Text) (from next : ℕ) : Type 0 where
+  rest : Text
+  behind-is : behind block from ≡ 10 ∷ rest
+  rest-is : drop next block ≡ rest
+  place : next ≡ length block - length rest
 
+newline-at : (block : Text) (from next : ℕ) → nextPlace block (behind block from) ≡ some next → Newline block from next
+newline-at block from next e = go (behind block from) refl
+  where
+    split : (b : ℕ) (u : Text) → behind block from ≡ b ∷ u → block ≡ (take from block ++ (came block from ++ (b ∷ []))) ++ u
+    split b u q =
+        sym (take-append-drop from block)
+        ∙ ap (λ (x : Text). take from block ++ x) (sym (came-behind block from) ∙ ap (λ (x : Text). came block from ++ x) q ∙ sym (append-assoc (came block from) (b ∷ []) u))
+        ∙ sym (append-assoc (take from block) (came block from ++ (b ∷ [])) u)
+
+    go : (u : Text) → behind block from ≡ u → Newline block from next
+    go [] q = absurd (clash (sym (ap (nextPlace block) q) ∙ e))
+    go (b ∷ u) q =
+        let n : next ≡ length block - length u = sym (some-same (sym (ap (nextPlace block) q) ∙ e)) in
+        let l : b ≡ 10 = stop-newline b u (subst (λ (x : Text). Stops notNewline x) q (behind-stops block from)) in
+        let f : block ≡ (take from block ++ (came block from ++ (b ∷ []))) ++ u = split b u q in
+        let k : length (take from block ++ (came block from ++ (b ∷ []))) ≡ next =
+        omega (arith, ap length f, length-append (take from block ++ (came block from ++ (b ∷ []))) u) in
+        record {
+          rest = u;
+          behind-is = q ∙ ap (λ (c : ℕ). c ∷ u) l;
+          rest-is = ap (drop next) f ∙ drop-at (take from block ++ (came block from ++ (b ∷ []))) u next k;
+          place = n;
+        }
+
+-- ONE TURN, by the place that the stage's bytes say
+
+module _ (block : Text) (from : ℕ) where
+  -- a line ended: it is the stage's next line, and the others begin behind its newline
+  pub line-turn : (cur later : Text) (next : ℕ) → NoNewline cur → nextPlace block (behind block from) ≡ some next
+      → linesOf (cur ++ (drop from block ++ later)) ≡ (cur ++ came block from) ∷ linesOf (drop next block ++ later)
+  line-turn cur later next h e =
+      let n : Newline block from next = newline-at block from next e in
+      ap (λ (x : Text). linesOf (cur ++ (x ++ later))) (sym (came-behind block from) ∙ ap (λ (x : Text). came block from ++ x) (n .behind-is))
+      ∙ ap (λ (x : Text). linesOf (cur ++ x)) (append-assoc (came block from) (10 ∷ n .rest) later)
+      ∙ ap linesOf (sym (append-assoc cur (came block from) (10 ∷ n .rest ++ later)))
+      ∙ lines-first (cur ++ came block from) (n .rest ++ later) (none-append cur (came block from) h (came-plain block from))
+      ∙ ap (λ (x : Text). (cur ++ came block from) ∷ linesOf (x ++ later)) (sym (n .rest-is))
+
+  -- the block ran out: all that was left of it is of the line
+  pub rest-turn : nextPlace block (behind block from) ≡ none → came block from ≡ drop from block
+  rest-turn e = go (behind block from) refl
+    where
+      go : (u : Text) → behind block from ≡ u → came block from ≡ drop from block
+      go [] q = sym (append-nil (came block from)) ∙ ap (λ (x : Text). came block from ++ x) (sym q) ∙ came-behind block from
+      go (b ∷ u) q = absurd (clash (sym e ∙ ap (nextPlace block) q))
+
+  -- a caller goes on inside the block, and forward
+  pub next-turn : (next : ℕ) → nextPlace block (behind block from) ≡ some next → from ≤ length block → (from < next) × (next ≤ length block)
+  next-turn next e f =
+      let n : Newline block from next = newline-at block from next e in
+      let m : length (came block from) + length (behind block from) ≡ length block - from =
+      sym (length-append (came block from) (behind block from)) ∙ ap length (came-behind block from) ∙ length-drop from block in
+      let p : length (behind block from) ≡ suc (length (n .rest)) = ap length (n .behind-is) in
+      (omega (arith, n .place), omega (arith, n .place))
+
+-- `take_in`: the buffer then holds what was read of the line, and the answer says which turn it was
 module _ (cur line block left : Text) (kept from : ℕ) (r : Taken) (h : Holding cur line kept) (w : Takes line kept block from left r) where
   new-is : keptOf (take kept line ++ came block from) ≡ cutLine (cur ++ came block from)
   new-is = ap (λ (x : Text). keptOf (x ++ came block from)) (h .is) ∙ cut-twice lineKept cur (came block from)
@@ -92,52 +148,48 @@ module _ (cur line block left : Text) (kept from : ℕ) (r : Taken) (h : Holding
         long = k ∙ ap length new-is;
       }
 
-  -- what is still to be read, with the rest of the line in front
-  ahead : (later : Text) → cur ++ (drop from block ++ later) ≡ (cur ++ came block from) ++ (behind block from ++ later)
-  ahead later =
-      ap (λ (x : Text). cur ++ (x ++ later)) (sym (came-behind block from))
-      ∙ ap (λ (x : Text). cur ++ x) (append-assoc (came block from) (behind block from) later)
-      ∙ sym (append-assoc cur (came block from) (behind block from ++ later))
+  pub taken-line : {k next : ℕ} → r ≡ Ended k next → nextPlace block (behind block from) ≡ some next
+  taken-line e = sym (w .goes) ∙ ap nextIn e
 
-  whole : came block from ++ behind block from ≡ drop from block
-  whole = came-behind block from
+  pub taken-rest : {k : ℕ} → r ≡ Open k → nextPlace block (behind block from) ≡ none
+  taken-rest e = sym (w .goes) ∙ ap nextIn e
 
-  -- the line ended: it is the stage's next line, and the others begin behind its newline
-  pub taken-line : (k next : ℕ) (later : Text) → r ≡ Ended k next → linesOf (cur ++ (drop from block ++ later)) ≡ (cur ++ came block from) ∷ linesOf (drop next block ++ later)
-  taken-line k next later e = go (behind block from) refl
-    where
-      goes : (u : Text) → behind block from ≡ u → some next ≡ nextPlace block u
-      goes u q = ap nextIn (sym e) ∙ w .goes ∙ ap (nextPlace block) q
+-- ALL TURNS
 
-      go : (u : Text) → behind block from ≡ u → linesOf (cur ++ (drop from block ++ later)) ≡ (cur ++ came block from) ∷ linesOf (drop next block ++ later)
-      go [] q = absurd (clash (sym (goes [] q)))
-      go (b ∷ u) q =
-          let n : next ≡ length block - length u = some-same (goes (b ∷ u) q) in
-          let l : b ≡ 10 = stop-newline b u (subst (λ (x : Text). Stops notNewline x) q (behind-stops block from)) in
-          let d : drop next block ≡ u = next-rest block (came block from) b u from next n (ap (λ (x : Text). came block from ++ x) (sym q) ∙ whole) in
-          ap linesOf (ahead later ∙ ap (λ (x : Text). (cur ++ came block from) ++ (x ++ later)) (q ∙ ap (λ (c : ℕ). c ∷ u) l))
-          ∙ lines-first (cur ++ came block from) (u ++ later) (none-append cur (came block from) (h .plain) (came-plain block from))
-          ∙ ap (λ (x : Text). (cur ++ came block from) ∷ linesOf (x ++ later)) (sym d)
+-- the turns in one block: the lines that ended in it, each begun behind the last one, and what is left of the line after them
+pub data InBlock (block : Text) : Text → ℕ → List Text → Text → Type 0 where
+  runs-out : {cur : Text} {from : ℕ} → nextPlace block (behind block from) ≡ none → InBlock block cur from [] (cur ++ came block from)
+  ends : {cur : Text} {from next : ℕ} {ls : List Text} {left : Text} → nextPlace block (behind block from) ≡ some next → InBlock block [] next ls left
+      → InBlock block cur from ((cur ++ came block from) ∷ ls) left
 
-  -- the block ran out: all that was left of it is of the line
-  pub taken-rest : (k : ℕ) → r ≡ Open k → came block from ≡ drop from block
-  taken-rest k e = go (behind block from) refl
-    where
-      go : (u : Text) → behind block from ≡ u → came block from ≡ drop from block
-      go [] q = sym (append-nil (came block from)) ∙ ap (λ (x : Text). came block from ++ x) (sym q) ∙ whole
-      go (b ∷ u) q = absurd (clash (ap nextIn (sym e) ∙ w .goes ∙ ap (nextPlace block) q))
+-- the turns in all blocks
+pub data InBlocks : Text → List Text → List Text → Text → Type 0 where
+  no-block : {cur : Text} → InBlocks cur [] [] cur
+  a-block : {cur block mid left : Text} {blocks ls ms : List Text} → InBlock block cur 0 ls mid → InBlocks mid blocks ms left
+      → InBlocks cur (block ∷ blocks) (ls ++ ms) left
 
-  -- a caller goes on inside the block, and forward
-  pub taken-next : (k next : ℕ) → r ≡ Ended k next → from ≤ length block → (from < next) × (next ≤ length block)
-  taken-next k next e f = go (behind block from) refl
-    where
-      go : (u : Text) → behind block from ≡ u → (from < next) × (next ≤ length block)
-      go [] q = absurd (clash (sym (ap nextIn (sym e) ∙ w .goes ∙ ap (nextPlace block) q)))
-      go (b ∷ u) q =
-          let n : next ≡ length block - length u = some-same (ap nextIn (sym e) ∙ w .goes ∙ ap (nextPlace block) q) in
-          let m : length (came block from) + length (behind block from) ≡ length block - from = sym (length-append (came block from) (behind block from)) ∙ ap length whole ∙ length-drop from block in
-          let p : length (behind block from) ≡ suc (length u) = ap length q in
-          (omega arith, omega arith)
+abbrev pub joined : List Text → Text
+joined [] = []
+joined (b ∷ bs) = b ++ joined bs
+
+block-lines : {block cur : Text} {from : ℕ} {ls : List Text} {left : Text} (later : Text) → InBlock block cur from ls left → NoNewline cur
+    → (linesOf (cur ++ (drop from block ++ later)) ≡ ls ++ linesOf (left ++ later)) × NoNewline left
+block-lines {block} {cur} {from} later (runs-out e) h = (
+  ap linesOf (ap (λ (x : Text). cur ++ (x ++ later)) (sym (rest-turn block from e)) ∙ sym (append-assoc cur (came block from) later)),
+  none-append cur (came block from) h (came-plain block from),
+)
+block-lines {block} {cur} {from} later (ends {next = next} {ls = ls} e t) h =
+    let k = block-lines later t refl in
+    (line-turn block from cur later next h e ∙ ap (λ (x : List Text). (cur ++ came block from) ∷ x) (k .0), k .1)
+
+-- the lines of all that is read, however it comes in blocks, are the lines that ended in them, and then what is left, if there is any
+pub blocks-lines : {cur : Text} {blocks ls : List Text} {left : Text} → InBlocks cur blocks ls left → NoNewline cur
+    → (linesOf (cur ++ joined blocks) ≡ ls ++ linesOf left) × NoNewline left
+blocks-lines {cur} no-block h = (ap linesOf (append-nil cur), h)
+blocks-lines {cur} (a-block {block = block} {mid = mid} {left = left} {blocks = blocks} {ls = ls} {ms = ms} t ts) h =
+    let k = block-lines (joined blocks) t h in
+    let m = blocks-lines ts (k .1) in
+    (k .0 ∙ ap (λ (x : List Text). ls ++ x) (m .0) ∙ sym (append-assoc ls ms (linesOf left)), m .1)
 
 -- the end of the input: there is one line more, or none
 module _ (cur line : Text) (kept : ℕ) (h : Holding cur line kept) where

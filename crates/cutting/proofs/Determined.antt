@@ -1,8 +1,7 @@
 -- The contracts determine every answer and every byte: two outcomes that a contract allows for one input are equal. Assumes nothing.
 use Prim.Native.Nat.{ℕ}
-use mathlib.Core.Path.{_≡_, refl, sym, ap, _∙_}
+use mathlib.Core.Path.{_≡_, sym, ap}
 use mathlib.Core.Bool.{Bool}
-use mathlib.Core.Option.{some}
 use Rattle.stages.specs.Bytes.{Text}
 use Rattle.stages.proofs.Bools.{clash, some-same}
 use Rattle.texts.proofs.Determined.{one-answer}

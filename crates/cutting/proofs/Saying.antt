@@ -1,9 +1,8 @@
 -- What the program says of an answer, written piece by piece. The byte 10 is a newline, 32 a blank. Assumes nothing.
-use Prim.Native.Nat.{ℕ, zero, suc, _+_, _-_, _/_, _%_, _≤_, _<_}
+use Prim.Native.Nat.{ℕ, zero, suc, _+_, _-_, _/_, _≤_}
 use native.Mathlib.Omega.{arith}
-use mathlib.Core.Path.{_≡_, refl, sym, ap, _∙_}
-use mathlib.Core.Bool.{Bool, true, false}
-use mathlib.Core.List.{List, [], _∷_, _++_}
+use mathlib.Core.Path.{_≡_, refl, sym, ap}
+use mathlib.Core.List.{[], _++_}
 use lib.Dec.{eqb, ltb}
 use lib.ListN.{length, take, drop, set, length-append}
 use lib.Seq.{take-length}
@@ -16,7 +15,7 @@ use Rattle.stages.specs.Program.{said}
 use Rattle.stages.proofs.Bools.{either}
 use Rattle.stages.proofs.Digits.{digits-one, digits-more}
 use Rattle.quoting.specs.Answers.{Puts}
-use Rattle.quoting.proofs.Filling.{Filling, fill-byte, fill-piece, fill-ends}
+use Rattle.quoting.proofs.Filling.{Filling, fill-byte, fill-piece}
 use Rattle.numbers.specs.Answers as numbers
 use Rattle.cutting.specs.Said.{saidBy, okText, noText, answerRoom}
 

@@ -21,7 +21,6 @@ use Rattle.texts.proofs.Scans.{part-more}
 use Rattle.quoting.specs.Answers.{Puts}
 use Rattle.quoting.proofs.Filling.{Filling, fill-piece, fill-fits, fill-ends}
 use Rattle.cutting.specs.Lines.{notNewline, lineKept, keptOf, came, behind, nextPlace, LineEnd, Takes, hasLine, anyLine}
-use Rattle.cutting.specs.declared.Taken.{Taken}
 use Rattle.cutting.specs.declared.Taken.the-variants.{Ended, Open}
 
 -- `line_end`: no byte from `from` to i is a newline

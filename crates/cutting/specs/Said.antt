@@ -1,6 +1,6 @@
 -- What the program writes for an answer, by its number, its place and the quoted line. Assumes nothing.
 use Prim.Native.Nat.{ℕ}
-use mathlib.Core.List.{List, [], _++_}
+use mathlib.Core.List.{[], _++_}
 use lib.ListN.{length}
 use Rattle.stages.specs.Bytes.{Text, text}
 use Rattle.stages.specs.Units.{decimal}

@@ -1,5 +1,4 @@
 -- The contract determines the answer and every byte: two outcomes that it allows for one input are equal. Assumes nothing.
-use Prim.Native.Nat.{ℕ}
 use native.Mathlib.Omega.{arith}
 use mathlib.Core.Path.{_≡_, refl, sym, ap, _∙_}
 use Rattle.stages.specs.Bytes.{Text}

@@ -1,16 +1,16 @@
 -- The walk over an image's fields, counting or writing the line: the fields ahead are what is left of it. Assumes nothing.
-use Prim.Native.Nat.{ℕ, _+_, _-_, _*_, _≤_, _<_}
+use Prim.Native.Nat.{ℕ, _+_, _-_, _*_, _≤_}
 use native.Mathlib.Omega.{arith}
 use mathlib.Core.Path.{_≡_, refl, sym, ap, _∙_}
-use mathlib.Core.List.{List, [], _∷_, _++_, append-nil}
+use mathlib.Core.List.{List, [], _++_, append-nil}
 use mathlib.Core.Option.{some}
-use lib.ListN.{length, take, drop, set, length-append, length-drop}
+use lib.ListN.{length, drop, set, length-append, length-drop}
 use lib.Seq.{length-take-le}
 use borrow.Rule.Slice.PartMut.{putMid, midOf}
 use Rattle.stages.specs.Numbers.{imageLimit}
 use Rattle.stages.specs.Bytes.{Text, part}
-use Rattle.stages.specs.Images.{textsIn, fieldsOf, heldTexts, orEmpty}
-use Rattle.stages.specs.Quote.{quotedBytes, quotedField, blanked, quotedLine}
+use Rattle.stages.specs.Images.{fieldsOf, heldTexts, orEmpty}
+use Rattle.stages.specs.Quote.{quotedField, blanked, quotedLine}
 use Rattle.stages.specs.Call.{over}
 use Rattle.stages.proofs.Tables.{fields-held}
 use Rattle.tables.specs.Pieces.{pieceAt}

@@ -1,8 +1,8 @@
 -- One field in the buffer: a byte of it, and its quotes around its bytes. The byte 39 is `'`, 92 a backslash. Assumes nothing.
-use Prim.Native.Nat.{ℕ, _+_, _-_, _≤_, _<_}
+use Prim.Native.Nat.{ℕ, _+_, _-_, _≤_}
 use native.Mathlib.Omega.{arith}
 use mathlib.Core.Path.{_≡_, refl}
-use mathlib.Core.List.{List, [], _∷_, _++_}
+use mathlib.Core.List.{[], _∷_, _++_}
 use lib.ListN.{length, set}
 use borrow.Rule.Slice.PartMut.{putMid, midOf}
 use Rattle.stages.specs.Bytes.{Text, text}

@@ -7,15 +7,14 @@ use mathlib.Core.Bool.{Bool, true, false}
 use mathlib.Core.List.{List, [], _∷_, _++_, append-assoc, append-nil}
 use lib.ListN.{length, take, drop}
 use lib.Seq.{take-at}
-use Rattle.stages.specs.Numbers.{bracketClass}
 use Rattle.stages.specs.Bytes.{Text, part}
-use Rattle.stages.specs.Outcome.{Outcome, refused, done}
+use Rattle.stages.specs.Outcome.{done}
 use Rattle.stages.specs.Images.{written, recordBytes, heldTexts}
-use Rattle.stages.specs.Units.{Cell, cell, N, Row, bytes}
+use Rattle.stages.specs.Units.{cell, N, Row, bytes}
 use Rattle.stages.specs.Pattern.{Element, signs, elements, hasClass, pattern}
-use Rattle.stages.specs.Paths.{chosen, active, orElse, pathsFor}
+use Rattle.stages.specs.Paths.{chosen, active, pathsFor}
 use Rattle.stages.proofs.Images.{recordBytes-append}
-use Rattle.texts.specs.Rows.{rowBytes, rowOf, signsOf}
+use Rattle.texts.specs.Rows.{rowOf, signsOf}
 use Rattle.patterns.specs.Kept.{withoutEmpty, kept, Dropped}
 use Rattle.patterns.proofs.Keeping.{kept-fits, kept-signs, row-of-bytes}
 use Rattle.paths.specs.Chosen.{textsFrom, Walks, pathElements, Shows, nothing, path, NextSays}

@@ -6,9 +6,9 @@ use mathlib.Core.Path.{_≡_, refl, sym, ap, _∙_}
 use mathlib.Core.List.{List}
 use Rattle.stages.specs.Numbers.{bracketClass, outputRoom}
 use Rattle.stages.specs.Bytes.{Text}
-use Rattle.stages.specs.Outcome.{Outcome, refused, done}
+use Rattle.stages.specs.Outcome.{Outcome, refused}
 use Rattle.stages.specs.Images.{written}
-use Rattle.splitting.specs.Answers.{writtenOutcome, placed, Says, Puts}
+use Rattle.splitting.specs.Answers.{writtenOutcome, placed, Puts}
 use Rattle.splitting.specs.declared.Written.{Written}
 use Rattle.splitting.specs.declared.Written.the-variants.{Len, Class, NoRoom}
 use Rattle.splitting.proofs.Filling.{Given, says-len, done-same, apart}

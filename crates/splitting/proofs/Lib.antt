@@ -6,3 +6,4 @@ pub mod Choosing
 pub mod Walking
 pub mod Words
 pub mod Determined
+pub mod Callers

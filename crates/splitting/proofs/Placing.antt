@@ -10,13 +10,12 @@ use lib.ListN.{length, take, drop, length-append, length-drop, take-append-drop}
 use lib.Seq.{length-take-le, take-all, take-at, drop-at, drop-drop, drop-length}
 use borrow.Rule.Slice.PartMut.{putMid, midOf}
 use borrow.Author.Tests.{le-leb, lt-leb, leb-true, leb-false}
-use Rattle.stages.specs.Numbers.{bracketClass, outputRoom, imageLimit}
+use Rattle.stages.specs.Numbers.{imageLimit}
 use Rattle.stages.specs.Bytes.{Text}
-use Rattle.stages.specs.Outcome.{Outcome, refused, done, pick}
+use Rattle.stages.specs.Outcome.{Outcome, done, pick}
 use Rattle.stages.specs.Units.{L, E, Q, cell, N, Row, bytes}
 use Rattle.stages.specs.Images.{framed, written, recordBytes}
 use Rattle.stages.specs.Call.{over}
-use Rattle.stages.proofs.Images.{length-written, written-append, recordBytes-append}
 use Rattle.texts.specs.Rows.{unitOf, rowOf}
 use Rattle.rows.specs.Stands.{Stripped}
 use Rattle.stores.specs.Answers.{putOutcome, textLimit, recordIn, Writes}
@@ -25,7 +24,7 @@ use Rattle.stores.specs.declared.Put.the-variants.{Len as PutLen, NoRoom as Put
 use Rattle.stores.proofs.Callers.{put-len, put-none}
 use Rattle.splitting.specs.Answers.{writtenOutcome, lengthWith, placed, Says, len, class, noRoom}
 use Rattle.splitting.specs.declared.Written.{Written}
-use Rattle.splitting.specs.declared.Written.the-variants.{Len, Class, NoRoom}
+use Rattle.splitting.specs.declared.Written.the-variants.{Len, NoRoom}
 
 -- a text in its place
 

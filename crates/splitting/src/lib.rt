@@ -2,7 +2,7 @@
 // nested loops: the outer one takes field by field, the inner one finds a field's end.
 ghost use mathlib.Core.Path.{_≡_};
 ghost use mathlib.Core.List.{_∷_, []};
-ghost use Prim.Native.Nat.{ℕ, _≤_};
+ghost use Prim.Native.Nat.{_≤_};
 ghost use lib.ListN.{length, take, drop};
 ghost use Rattle.stages.specs.Numbers.{imageLimit};
 ghost use Rattle.stages.specs.Outcome.{done};

@@ -12,7 +12,10 @@ least-requires : tie.Need-least-requires
 least-requires c κs = search needs
 
 slice-aggregate-copy-in : tie.Need-slice-aggregate-copy-in
-slice-aggregate-copy-in c = sym (copied-length (c .before .before .before .before .args .line .now) (c .before .before .before .before .args .bytes .now) (c .before .before .before .before .args .kept) (c .before .least .result) (c .before .before .before .before .pre .0) (c .before .before .before .before .pre .1) (c .before .least .ensures))
+slice-aggregate-copy-in c =
+    let a = c .before .before .before .before in
+    let n = c .before .least in
+    sym (copied-length (a .args .line .now) (a .args .bytes .now) (a .args .kept) (n .result) (a .pre .0) (a .pre .1) (n .ensures))
 
 sub-copy-in : tie.Need-sub-copy-in
 sub-copy-in c = search needs
@@ -24,7 +27,10 @@ part-copy-in-end : tie.Need-part-copy-in-end
 part-copy-in-end c = search needs
 
 copy-in-requires : tie.Need-copy-in-requires
-copy-in-requires c κs = keep-fits (c .before .before .before .before .before .args .line .now) (c .before .before .before .before .before .args .bytes .now) (c .before .before .before .before .before .args .kept) (c .before .before .least .result) (c .before .before .before .before .before .pre .0) (c .before .before .before .before .before .pre .1) (c .before .before .least .ensures)
+copy-in-requires c κs =
+    let a = c .before .before .before .before .before in
+    let n = c .before .before .least in
+    keep-fits (a .args .line .now) (a .args .bytes .now) (a .args .kept) (n .result) (a .pre .0) (a .pre .1) (n .ensures)
 
 add-result : tie.Need-add-result
 add-result c = search needs
@@ -33,7 +39,11 @@ same-length : tie.Need-same-length
 same-length c = search needs
 
 returns : tie.Need-returns
-returns c = keep-puts (c .before .before .before .before .before .before .before .before .args .line .now) (c .before .before .before .before .before .before .before .before .args .bytes .now) (c .before .before .before .before .before .before .before .before .args .kept) (c .before .before .before .before .before .least .result) (c .before .before .before .before .before .before .before .before .pre .0) (c .before .before .before .before .before .before .before .before .pre .1) (c .before .before .before .before .before .least .ensures) (c .before .before .copy-in .last .1 .0) (c .before .before .copy-in .ensures)
+returns c =
+    let a = c .before .before .before .before .before .before .before .before in
+    let n = c .before .before .before .before .before .least in
+    let p = c .before .before .copy-in in
+    keep-puts (a .args .line .now) (a .args .bytes .now) (a .args .kept) (n .result) (a .pre .0) (a .pre .1) (n .ensures) (p .last .1 .0) (p .ensures)
 
 pub keep-spec : {M : Type 1} → statement M
 keep-spec =

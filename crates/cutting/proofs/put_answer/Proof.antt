@@ -14,13 +14,17 @@ same-length : tie.Need-same-length
 same-length c = search needs
 
 returns : tie.Need-returns
-returns c = rw (said-ok (c .before .before .before .before .before .before .before .args .number) (c .before .before .before .before .before .before .before .args .place) (c .before .before .before .before .before .before .before .args .line .now) (c .before .before .before .before .if1 .taken)) (c .before .before .put-ok .ensures)
+returns c =
+    let a = c .before .before .before .before .before .before .before .args in
+    rw (said-ok (a .number) (a .place) (a .line .now) (c .before .before .before .before .if1 .taken)) (c .before .before .put-ok .ensures)
 
 same-length-2 : tie.Need-same-length-2
 same-length-2 c = search needs
 
 returns-2 : tie.Need-returns-2
-returns-2 c = rw (said-no (c .before .before .before .before .before .before .before .args .number) (c .before .before .before .before .before .before .before .args .place) (c .before .before .before .before .before .before .before .args .line .now) (c .before .before .before .before .if1 .left)) (c .before .before .put-no .ensures)
+returns-2 c =
+    let a = c .before .before .before .before .before .before .before .args in
+    rw (said-no (a .number) (a .place) (a .line .now) (c .before .before .before .before .if1 .left)) (c .before .before .put-no .ensures)
 
 pub put-answer-spec : {M : Type 1} → statement M
 put-answer-spec =

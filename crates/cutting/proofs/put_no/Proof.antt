@@ -26,40 +26,100 @@ put-decimal-requires : tie.Need-put-decimal-requires
 put-decimal-requires c κs = search needs
 
 add-blank : tie.Need-add-blank
-add-blank c = omega (arith, fill-room (no-number (c .before .before .before .before .before .before .before .before .before .before .args .number) (c .before .before .before .before .before .before .before .before .before .before .args .place) (c .before .before .before .before .before .before .before .before .before .before .args .out .now) (c .before .before .before .before .before .before .copy-in .last .1 .0) (c .before .before .before .before .before .before .before .before .before .before .pre) (c .before .before .before .before .before .before .copy-in .ensures) (c .before .before .put-decimal .last .0) (c .before .before .put-decimal .result) (put-number (c .before .before .put-decimal .ensures))))
+add-blank c =
+    let a = c .before .before .before .before .before .before .before .before .before .before in
+    let p = c .before .before .before .before .before .before .copy-in in
+    let q = c .before .before .put-decimal in
+    let f = no-number (a .args .number) (a .args .place) (a .args .out .now) (p .last .1 .0) (a .pre) (p .ensures) (q .last .0) (q .result) (put-number (q .ensures)) in
+    omega (arith, fill-room f)
 
 slice-write-out : tie.Need-slice-write-out
-slice-write-out c = let f = no-number (c .before .before .before .before .before .before .before .before .before .before .args .number) (c .before .before .before .before .before .before .before .before .before .before .args .place) (c .before .before .before .before .before .before .before .before .before .before .args .out .now) (c .before .before .before .before .before .before .copy-in .last .1 .0) (c .before .before .before .before .before .before .before .before .before .before .pre) (c .before .before .before .before .before .before .copy-in .ensures) (c .before .before .put-decimal .last .0) (c .before .before .put-decimal .result) (put-number (c .before .before .put-decimal .ensures)) in omega (arith, fill-room f, fill-length f)
+slice-write-out c =
+    let a = c .before .before .before .before .before .before .before .before .before .before in
+    let p = c .before .before .before .before .before .before .copy-in in
+    let q = c .before .before .put-decimal in
+    let f = no-number (a .args .number) (a .args .place) (a .args .out .now) (p .last .1 .0) (a .pre) (p .ensures) (q .last .0) (q .result) (put-number (q .ensures)) in
+    omega (arith, fill-room f, fill-length f)
 
 add-start : tie.Need-add-start
-add-start c = omega (arith, fill-room (no-blank (c .before .before .before .before .before .before .before .before .before .before .args .number) (c .before .before .before .before .before .before .before .before .before .before .args .place) (c .before .before .before .before .before .before .before .before .before .before .args .out .now) (c .before .before .before .before .before .before .copy-in .last .1 .0) (c .before .before .before .before .before .before .before .before .before .before .pre) (c .before .before .before .before .before .before .copy-in .ensures) (c .before .before .put-decimal .last .0) (c .before .before .put-decimal .result) (put-number (c .before .before .put-decimal .ensures))))
+add-start c =
+    let a = c .before .before .before .before .before .before .before .before .before .before in
+    let p = c .before .before .before .before .before .before .copy-in in
+    let q = c .before .before .put-decimal in
+    let f = no-blank (a .args .number) (a .args .place) (a .args .out .now) (p .last .1 .0) (a .pre) (p .ensures) (q .last .0) (q .result) (put-number (q .ensures)) in
+    omega (arith, fill-room f)
 
 sub-put-decimal-2 : tie.Need-sub-put-decimal-2
-sub-put-decimal-2 c = let f = no-blank (c .before .before .before .before .before .before .before .before .before .before .args .number) (c .before .before .before .before .before .before .before .before .before .before .args .place) (c .before .before .before .before .before .before .before .before .before .before .args .out .now) (c .before .before .before .before .before .before .copy-in .last .1 .0) (c .before .before .before .before .before .before .before .before .before .before .pre) (c .before .before .before .before .before .before .copy-in .ensures) (c .before .before .put-decimal .last .0) (c .before .before .put-decimal .result) (put-number (c .before .before .put-decimal .ensures)) in omega (arith, fill-room f, fill-length f)
+sub-put-decimal-2 c =
+    let a = c .before .before .before .before .before .before .before .before .before .before in
+    let p = c .before .before .before .before .before .before .copy-in in
+    let q = c .before .before .put-decimal in
+    let f = no-blank (a .args .number) (a .args .place) (a .args .out .now) (p .last .1 .0) (a .pre) (p .ensures) (q .last .0) (q .result) (put-number (q .ensures)) in
+    omega (arith, fill-room f, fill-length f)
 
 part-put-decimal-start-2 : tie.Need-part-put-decimal-start-2
-part-put-decimal-start-2 c = let f = no-blank (c .before .before .before .before .before .before .before .before .before .before .args .number) (c .before .before .before .before .before .before .before .before .before .before .args .place) (c .before .before .before .before .before .before .before .before .before .before .args .out .now) (c .before .before .before .before .before .before .copy-in .last .1 .0) (c .before .before .before .before .before .before .before .before .before .before .pre) (c .before .before .before .before .before .before .copy-in .ensures) (c .before .before .put-decimal .last .0) (c .before .before .put-decimal .result) (put-number (c .before .before .put-decimal .ensures)) in omega (arith, fill-room f, fill-length f)
+part-put-decimal-start-2 c =
+    let a = c .before .before .before .before .before .before .before .before .before .before in
+    let p = c .before .before .before .before .before .before .copy-in in
+    let q = c .before .before .put-decimal in
+    let f = no-blank (a .args .number) (a .args .place) (a .args .out .now) (p .last .1 .0) (a .pre) (p .ensures) (q .last .0) (q .result) (put-number (q .ensures)) in
+    omega (arith, fill-room f, fill-length f)
 
 part-put-decimal-end-2 : tie.Need-part-put-decimal-end-2
 part-put-decimal-end-2 c = search needs
 
 put-decimal-requires-2 : tie.Need-put-decimal-requires-2
-put-decimal-requires-2 c κs = omega (arith, fill-free-length (no-blank (c .before .before .before .before .before .before .before .before .before .before .before .args .number) (c .before .before .before .before .before .before .before .before .before .before .before .args .place) (c .before .before .before .before .before .before .before .before .before .before .before .args .out .now) (c .before .before .before .before .before .before .before .copy-in .last .1 .0) (c .before .before .before .before .before .before .before .before .before .before .before .pre) (c .before .before .before .before .before .before .before .copy-in .ensures) (c .before .before .before .put-decimal .last .0) (c .before .before .before .put-decimal .result) (put-number (c .before .before .before .put-decimal .ensures))), c .before .before .before .put-decimal .ensures .counts, decimal-most (c .before .before .before .before .before .before .before .before .before .before .before .args .number), c .before .before .before .before .before .before .before .before .before .before .before .pre)
+put-decimal-requires-2 c κs =
+    let a = c .before .before .before .before .before .before .before .before .before .before .before in
+    let p = c .before .before .before .before .before .before .before .copy-in in
+    let q = c .before .before .before .put-decimal in
+    let f = no-blank (a .args .number) (a .args .place) (a .args .out .now) (p .last .1 .0) (a .pre) (p .ensures) (q .last .0) (q .result) (put-number (q .ensures)) in
+    omega (arith, fill-free-length f, q .ensures .counts, decimal-most (a .args .number), a .pre)
 
 add-end : tie.Need-add-end
-add-end c = omega (arith, fill-room (no-place (c .before .before .before .before .before .before .before .before .before .before .before .before .before .before .args .number) (c .before .before .before .before .before .before .before .before .before .before .before .before .before .before .args .place) (c .before .before .before .before .before .before .before .before .before .before .before .before .before .before .args .out .now) (c .before .before .before .before .before .before .before .before .before .before .copy-in .last .1 .0) (c .before .before .before .before .before .before .before .before .before .before .before .before .before .before .pre) (c .before .before .before .before .before .before .before .before .before .before .copy-in .ensures) (c .before .before .before .before .before .before .put-decimal .last .0) (c .before .before .before .before .before .before .put-decimal .result) (put-number (c .before .before .before .before .before .before .put-decimal .ensures)) (c .before .before .put-decimal2 .last .0) (c .before .before .put-decimal2 .result) (put-number (c .before .before .put-decimal2 .ensures))))
+add-end c =
+    let a = c .before .before .before .before .before .before .before .before .before .before .before .before .before .before in
+    let p = c .before .before .before .before .before .before .before .before .before .before .copy-in in
+    let q = c .before .before .before .before .before .before .put-decimal in
+    let u = c .before .before .put-decimal2 in
+    let f = no-place (a .args .number) (a .args .place) (a .args .out .now) (p .last .1 .0) (a .pre) (p .ensures) (q .last .0) (q .result) (put-number (q .ensures)) (u .last .0) (u .result) (put-number (u .ensures)) in
+    omega (arith, fill-room f)
 
 slice-write-out-2 : tie.Need-slice-write-out-2
-slice-write-out-2 c = let f = no-place (c .before .before .before .before .before .before .before .before .before .before .before .before .before .before .args .number) (c .before .before .before .before .before .before .before .before .before .before .before .before .before .before .args .place) (c .before .before .before .before .before .before .before .before .before .before .before .before .before .before .args .out .now) (c .before .before .before .before .before .before .before .before .before .before .copy-in .last .1 .0) (c .before .before .before .before .before .before .before .before .before .before .before .before .before .before .pre) (c .before .before .before .before .before .before .before .before .before .before .copy-in .ensures) (c .before .before .before .before .before .before .put-decimal .last .0) (c .before .before .before .before .before .before .put-decimal .result) (put-number (c .before .before .before .before .before .before .put-decimal .ensures)) (c .before .before .put-decimal2 .last .0) (c .before .before .put-decimal2 .result) (put-number (c .before .before .put-decimal2 .ensures)) in omega (arith, fill-room f, fill-length f)
+slice-write-out-2 c =
+    let a = c .before .before .before .before .before .before .before .before .before .before .before .before .before .before in
+    let p = c .before .before .before .before .before .before .before .before .before .before .copy-in in
+    let q = c .before .before .before .before .before .before .put-decimal in
+    let u = c .before .before .put-decimal2 in
+    let f = no-place (a .args .number) (a .args .place) (a .args .out .now) (p .last .1 .0) (a .pre) (p .ensures) (q .last .0) (q .result) (put-number (q .ensures)) (u .last .0) (u .result) (put-number (u .ensures)) in
+    omega (arith, fill-room f, fill-length f)
 
 add-result : tie.Need-add-result
-add-result c = omega (arith, fill-room (no-ended (c .before .before .before .before .before .before .before .before .before .before .before .before .before .before .args .number) (c .before .before .before .before .before .before .before .before .before .before .before .before .before .before .args .place) (c .before .before .before .before .before .before .before .before .before .before .before .before .before .before .args .out .now) (c .before .before .before .before .before .before .before .before .before .before .copy-in .last .1 .0) (c .before .before .before .before .before .before .before .before .before .before .before .before .before .before .pre) (c .before .before .before .before .before .before .before .before .before .before .copy-in .ensures) (c .before .before .before .before .before .before .put-decimal .last .0) (c .before .before .before .before .before .before .put-decimal .result) (put-number (c .before .before .before .before .before .before .put-decimal .ensures)) (c .before .before .put-decimal2 .last .0) (c .before .before .put-decimal2 .result) (put-number (c .before .before .put-decimal2 .ensures))))
+add-result c =
+    let a = c .before .before .before .before .before .before .before .before .before .before .before .before .before .before in
+    let p = c .before .before .before .before .before .before .before .before .before .before .copy-in in
+    let q = c .before .before .before .before .before .before .put-decimal in
+    let u = c .before .before .put-decimal2 in
+    let f = no-ended (a .args .number) (a .args .place) (a .args .out .now) (p .last .1 .0) (a .pre) (p .ensures) (q .last .0) (q .result) (put-number (q .ensures)) (u .last .0) (u .result) (put-number (u .ensures)) in
+    omega (arith, fill-room f)
 
 same-length : tie.Need-same-length
-same-length c = fill-length (no-ended (c .before .before .before .before .before .before .before .before .before .before .before .before .before .before .args .number) (c .before .before .before .before .before .before .before .before .before .before .before .before .before .before .args .place) (c .before .before .before .before .before .before .before .before .before .before .before .before .before .before .args .out .now) (c .before .before .before .before .before .before .before .before .before .before .copy-in .last .1 .0) (c .before .before .before .before .before .before .before .before .before .before .before .before .before .before .pre) (c .before .before .before .before .before .before .before .before .before .before .copy-in .ensures) (c .before .before .before .before .before .before .put-decimal .last .0) (c .before .before .before .before .before .before .put-decimal .result) (put-number (c .before .before .before .before .before .before .put-decimal .ensures)) (c .before .before .put-decimal2 .last .0) (c .before .before .put-decimal2 .result) (put-number (c .before .before .put-decimal2 .ensures)))
+same-length c =
+    let a = c .before .before .before .before .before .before .before .before .before .before .before .before .before .before in
+    let p = c .before .before .before .before .before .before .before .before .before .before .copy-in in
+    let q = c .before .before .before .before .before .before .put-decimal in
+    let u = c .before .before .put-decimal2 in
+    let f = no-ended (a .args .number) (a .args .place) (a .args .out .now) (p .last .1 .0) (a .pre) (p .ensures) (q .last .0) (q .result) (put-number (q .ensures)) (u .last .0) (u .result) (put-number (u .ensures)) in
+    fill-length f
 
 returns : tie.Need-returns
-returns c = fill-ends (no-ended (c .before .before .before .before .before .before .before .before .before .before .before .before .before .before .args .number) (c .before .before .before .before .before .before .before .before .before .before .before .before .before .before .args .place) (c .before .before .before .before .before .before .before .before .before .before .before .before .before .before .args .out .now) (c .before .before .before .before .before .before .before .before .before .before .copy-in .last .1 .0) (c .before .before .before .before .before .before .before .before .before .before .before .before .before .before .pre) (c .before .before .before .before .before .before .before .before .before .before .copy-in .ensures) (c .before .before .before .before .before .before .put-decimal .last .0) (c .before .before .before .before .before .before .put-decimal .result) (put-number (c .before .before .before .before .before .before .put-decimal .ensures)) (c .before .before .put-decimal2 .last .0) (c .before .before .put-decimal2 .result) (put-number (c .before .before .put-decimal2 .ensures))) refl
+returns c =
+    let a = c .before .before .before .before .before .before .before .before .before .before .before .before .before .before in
+    let p = c .before .before .before .before .before .before .before .before .before .before .copy-in in
+    let q = c .before .before .before .before .before .before .put-decimal in
+    let u = c .before .before .put-decimal2 in
+    let f = no-ended (a .args .number) (a .args .place) (a .args .out .now) (p .last .1 .0) (a .pre) (p .ensures) (q .last .0) (q .result) (put-number (q .ensures)) (u .last .0) (u .result) (put-number (u .ensures)) in
+    fill-ends f refl
 
 pub put-no-spec : {M : Type 1} → statement M
 put-no-spec =

@@ -34,10 +34,20 @@ add-result : tie.Need-add-result
 add-result c = search needs
 
 same-length : tie.Need-same-length
-same-length c = fill-length (ok-ended (c .before .before .before .before .before .before .before .before .before .before .before .args .line .now) (c .before .before .before .before .before .before .before .before .before .before .before .args .out .now) (c .before .before .before .before .before .before .copy-in .last .1 .0) (c .before .before .before .before .before .before .before .before .before .before .before .pre) (c .before .before .before .before .before .before .copy-in .ensures) (c .before .before .copy-in2 .last .1 .0) (c .before .before .copy-in2 .ensures))
+same-length c =
+    let a = c .before .before .before .before .before .before .before .before .before .before .before in
+    let p = c .before .before .before .before .before .before .copy-in in
+    let q = c .before .before .copy-in2 in
+    let f = ok-ended (a .args .line .now) (a .args .out .now) (p .last .1 .0) (a .pre) (p .ensures) (q .last .1 .0) (q .ensures) in
+    fill-length f
 
 returns : tie.Need-returns
-returns c = fill-ends (ok-ended (c .before .before .before .before .before .before .before .before .before .before .before .args .line .now) (c .before .before .before .before .before .before .before .before .before .before .before .args .out .now) (c .before .before .before .before .before .before .copy-in .last .1 .0) (c .before .before .before .before .before .before .before .before .before .before .before .pre) (c .before .before .before .before .before .before .copy-in .ensures) (c .before .before .copy-in2 .last .1 .0) (c .before .before .copy-in2 .ensures)) refl
+returns c =
+    let a = c .before .before .before .before .before .before .before .before .before .before .before in
+    let p = c .before .before .before .before .before .before .copy-in in
+    let q = c .before .before .copy-in2 in
+    let f = ok-ended (a .args .line .now) (a .args .out .now) (p .last .1 .0) (a .pre) (p .ensures) (q .last .1 .0) (q .ensures) in
+    fill-ends f refl
 
 pub put-ok-spec : {M : Type 1} → statement M
 put-ok-spec =

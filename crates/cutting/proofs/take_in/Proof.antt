@@ -26,13 +26,21 @@ same-length : tie.Need-same-length
 same-length c = search needs
 
 returns : tie.Need-returns
-returns c = taken-ended (c .before .before .before .before .before .before .before .before .before .args .line .now) (c .before .before .before .before .before .before .before .before .before .args .kept) (c .before .before .before .before .before .before .before .before .before .args .block .now) (c .before .before .before .before .before .before .before .before .before .args .from) (c .before .before .before .before .before .before .line-end .result) (c .before .before .before .keep .last .0) (c .before .before .before .keep .result) (c .before .before .before .before .before .before .line-end .ensures) (c .before .before .before .keep .ensures) (c .if1 .taken)
+returns c =
+    let a = c .before .before .before .before .before .before .before .before .before .args in
+    let e = c .before .before .before .before .before .before .line-end in
+    let p = c .before .before .before .keep in
+    taken-ended (a .line .now) (a .kept) (a .block .now) (a .from) (e .result) (p .last .0) (p .result) (e .ensures) (p .ensures) (c .if1 .taken)
 
 same-length-2 : tie.Need-same-length-2
 same-length-2 c = search needs
 
 returns-2 : tie.Need-returns-2
-returns-2 c = taken-open (c .before .before .before .before .before .before .before .before .before .args .line .now) (c .before .before .before .before .before .before .before .before .before .args .kept) (c .before .before .before .before .before .before .before .before .before .args .block .now) (c .before .before .before .before .before .before .before .before .before .args .from) (c .before .before .before .before .before .before .line-end .result) (c .before .before .before .keep .last .0) (c .before .before .before .keep .result) (c .before .before .before .before .before .before .line-end .ensures) (c .before .before .before .keep .ensures) (c .if1 .left)
+returns-2 c =
+    let a = c .before .before .before .before .before .before .before .before .before .args in
+    let e = c .before .before .before .before .before .before .line-end in
+    let p = c .before .before .before .keep in
+    taken-open (a .line .now) (a .kept) (a .block .now) (a .from) (e .result) (p .last .0) (p .result) (e .ensures) (p .ensures) (c .if1 .left)
 
 pub take-in-spec : {M : Type 1} → statement M
 take-in-spec =

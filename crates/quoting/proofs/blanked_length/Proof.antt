@@ -35,31 +35,67 @@ enum-known-piece : tie.Need-enum-known-piece Inv-loop μ-loop
 enum-known-piece c = search needs
 
 add-start : tie.Need-add-start Inv-loop μ-loop
-add-start c = let t = counts-text (c .before .before .before .before .loop .inv) (c .before .before .before .text-at .ensures) (c .before .piece .given .1) in omega (arith, t .low, t .high)
+add-start c =
+    let s = c .before .before .before .text-at .ensures in
+    let e = c .before .piece .given .1 in
+    let t = counts-text (c .before .before .before .before .loop .inv) s e in
+    omega (arith, t .low, t .high)
 
 sub-field-length : tie.Need-sub-field-length Inv-loop μ-loop
-sub-field-length c = counts-text (c .before .before .before .before .loop .inv) (c .before .before .before .text-at .ensures) (c .before .piece .given .1) .low
+sub-field-length c =
+    let s = c .before .before .before .text-at .ensures in
+    let e = c .before .piece .given .1 in
+    let t = counts-text (c .before .before .before .before .loop .inv) s e in
+    t .low
 
 part-field-length-start : tie.Need-part-field-length-start Inv-loop μ-loop
-part-field-length-start c = counts-text (c .before .before .before .before .loop .inv) (c .before .before .before .text-at .ensures) (c .before .piece .given .1) .low
+part-field-length-start c =
+    let s = c .before .before .before .text-at .ensures in
+    let e = c .before .piece .given .1 in
+    let t = counts-text (c .before .before .before .before .loop .inv) s e in
+    t .low
 
 part-field-length-end : tie.Need-part-field-length-end Inv-loop μ-loop
-part-field-length-end c = counts-text (c .before .before .before .before .loop .inv) (c .before .before .before .text-at .ensures) (c .before .piece .given .1) .high
+part-field-length-end c =
+    let s = c .before .before .before .text-at .ensures in
+    let e = c .before .piece .given .1 in
+    let t = counts-text (c .before .before .before .before .loop .inv) s e in
+    t .high
 
 field-length-requires : tie.Need-field-length-requires Inv-loop μ-loop
-field-length-requires c κs = counts-text (c .before .before .before .before .before .loop .inv) (c .before .before .before .before .text-at .ensures) (c .before .before .piece .given .1) .short
+field-length-requires c κs =
+    let s = c .before .before .before .before .text-at .ensures in
+    let e = c .before .before .piece .given .1 in
+    let t = counts-text (c .before .before .before .before .before .loop .inv) s e in
+    t .short
 
 add-n : tie.Need-add-n Inv-loop μ-loop
-add-n c = omega (arith, c .field-length .ensures, counts-text (c .before .before .before .before .before .before .loop .inv) (c .before .before .before .before .before .text-at .ensures) (c .before .before .before .piece .given .1) .small)
+add-n c =
+    let s = c .before .before .before .before .before .text-at .ensures in
+    let e = c .before .before .before .piece .given .1 in
+    let t = counts-text (c .before .before .before .before .before .before .loop .inv) s e in
+    omega (arith, c .field-length .ensures, t .small)
 
 add-n-2 : tie.Need-add-n-2 Inv-loop μ-loop
-add-n-2 c = omega (arith, counts-more (c .before .before .before .before .before .before .loop .inv) (c .before .before .before .before .before .text-at .ensures) (c .field-length .result) (c .before .before .before .piece .given .1) (c .field-length .ensures) (c .before .before .before .before .before .before .before .before .pre) .bound)
+add-n-2 c =
+    let s = c .before .before .before .before .before .text-at .ensures in
+    let e = c .before .before .before .piece .given .1 in
+    let f = c .field-length in
+    omega (arith, counts-more (c .before .before .before .before .before .before .loop .inv) s (f .result) e (f .ensures) (c .before .before .before .before .before .before .before .before .pre) .bound)
 
 loop-less : tie.Need-loop-less Inv-loop μ-loop
-loop-less c = let t = counts-text (c .before .before .before .before .before .before .loop .inv) (c .before .before .before .before .before .text-at .ensures) (c .before .before .before .piece .given .1) in omega (arith, t .low, t .high)
+loop-less c =
+    let s = c .before .before .before .before .before .text-at .ensures in
+    let e = c .before .before .before .piece .given .1 in
+    let t = counts-text (c .before .before .before .before .before .before .loop .inv) s e in
+    omega (arith, t .low, t .high)
 
 loop-again : tie.Need-loop-again Inv-loop μ-loop
-loop-again c = counts-more (c .before .before .before .before .before .before .loop .inv) (c .before .before .before .before .before .text-at .ensures) (c .field-length .result) (c .before .before .before .piece .given .1) (c .field-length .ensures) (c .before .before .before .before .before .before .before .before .pre)
+loop-again c =
+    let s = c .before .before .before .before .before .text-at .ensures in
+    let e = c .before .before .before .piece .given .1 in
+    let f = c .field-length in
+    counts-more (c .before .before .before .before .before .before .loop .inv) s (f .result) e (f .ensures) (c .before .before .before .before .before .before .before .before .pre)
 
 pub blanked-length-spec : {M : Type 1} → statement M
 blanked-length-spec =

@@ -2,7 +2,7 @@
 use Prim.Native.Nat.{_+_, _-_}
 use native.Mathlib.Omega.{arith}
 use borrow.Author.Needs.{needs}
-use lib.ListN.{length, getD}
+use lib.ListN.{length}
 use Rattle.quoting.proofs.Lengths.{Counted, counted-starts, counted-small, counted-more, counted-ends}
 use Rattle.quoting.proofs.bytes_length.Statement.{statement}
 use Rattle.quoting.proofs.bytes_length.Tie as tie

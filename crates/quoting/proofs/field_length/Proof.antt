@@ -1,6 +1,5 @@
 -- `quoting::field_length` meets its contract: two quotes around the bytes. Assumes nothing.
 use native.Mathlib.Omega.{arith}
-use mathlib.Core.Path.{sym}
 use borrow.Author.Needs.{needs}
 use Rattle.quoting.proofs.Lengths.{bytes-small, field-length}
 use Rattle.quoting.proofs.field_length.Statement.{statement}

@@ -20,31 +20,56 @@ enum-known-first : tie.Need-enum-known-first
 enum-known-first c = search needs
 
 sub-field-length : tie.Need-sub-field-length
-sub-field-length c = line-text (c .before .before .before .before .before .args .fields .now) (c .before .before .before .before .before .pre) (c .before .before .before .text-at .ensures) (c .before .first .given .1) .low
+sub-field-length c =
+    let a = c .before .before .before .before .before in
+    let t = line-text (a .args .fields .now) (a .pre) (c .before .before .before .text-at .ensures) (c .before .first .given .1) in
+    t .low
 
 part-field-length-start : tie.Need-part-field-length-start
-part-field-length-start c = line-text (c .before .before .before .before .before .args .fields .now) (c .before .before .before .before .before .pre) (c .before .before .before .text-at .ensures) (c .before .first .given .1) .low
+part-field-length-start c =
+    let a = c .before .before .before .before .before in
+    let t = line-text (a .args .fields .now) (a .pre) (c .before .before .before .text-at .ensures) (c .before .first .given .1) in
+    t .low
 
 part-field-length-end : tie.Need-part-field-length-end
-part-field-length-end c = line-text (c .before .before .before .before .before .args .fields .now) (c .before .before .before .before .before .pre) (c .before .before .before .text-at .ensures) (c .before .first .given .1) .high
+part-field-length-end c =
+    let a = c .before .before .before .before .before in
+    let t = line-text (a .args .fields .now) (a .pre) (c .before .before .before .text-at .ensures) (c .before .first .given .1) in
+    t .high
 
 field-length-requires : tie.Need-field-length-requires
-field-length-requires c κs = line-text (c .before .before .before .before .before .before .args .fields .now) (c .before .before .before .before .before .before .pre) (c .before .before .before .before .text-at .ensures) (c .before .before .first .given .1) .short
+field-length-requires c κs =
+    let a = c .before .before .before .before .before .before in
+    let t = line-text (a .args .fields .now) (a .pre) (c .before .before .before .before .text-at .ensures) (c .before .before .first .given .1) in
+    t .short
 
 blanked-length-requires : tie.Need-blanked-length-requires
-blanked-length-requires c κs = line-rest (c .before .before .before .before .before .before .before .args .fields .now) (c .before .before .before .before .before .before .before .pre) (c .before .before .before .before .before .text-at .ensures) (c .before .before .before .first .given .1)
+blanked-length-requires c κs =
+    let a = c .before .before .before .before .before .before .before in
+    let t = line-rest (a .args .fields .now) (a .pre) (c .before .before .before .before .before .text-at .ensures) (c .before .before .before .first .given .1) in
+    t
 
 add-result : tie.Need-add-result
-add-result c = omega (arith, c .before .field-length .ensures, c .blanked-length .ensures, line-bound (c .before .before .before .before .before .before .before .before .args .fields .now) (c .before .before .before .before .before .before .before .before .pre) (c .before .before .before .before .before .before .text-at .ensures) (c .before .before .before .before .first .given .1))
+add-result c =
+    let a = c .before .before .before .before .before .before .before .before in
+    let t = line-bound (a .args .fields .now) (a .pre) (c .before .before .before .before .before .before .text-at .ensures) (c .before .before .before .before .first .given .1) in
+    omega (arith, c .before .field-length .ensures, c .blanked-length .ensures, t)
 
 returns : tie.Need-returns
-returns c = ap length (sym (line-end (c .before .before .before .before .args .fields .now) (c .before .before .before .before .pre) (c .before .before .text-at .ensures) (c .enum-told .given .1)))
+returns c =
+    let a = c .before .before .before .before in
+    ap length (sym (line-end (a .args .fields .now) (a .pre) (c .before .before .text-at .ensures) (c .enum-told .given .1)))
 
 returns-2 : tie.Need-returns-2
-returns-2 c = ap length (sym (line-bad (c .before .before .before .before .args .fields .now) (c .before .before .before .before .pre) (c .before .before .text-at .ensures) (c .enum-told2 .given .1)))
+returns-2 c =
+    let a = c .before .before .before .before in
+    ap length (sym (line-bad (a .args .fields .now) (a .pre) (c .before .before .text-at .ensures) (c .enum-told2 .given .1)))
 
 returns-3 : tie.Need-returns-3
-returns-3 c = omega (arith, c .before .field-length .ensures, c .blanked-length .ensures, line-length (c .before .before .before .before .before .before .before .before .args .fields .now) (c .before .before .before .before .before .before .before .before .pre) (c .before .before .before .before .before .before .text-at .ensures) (c .before .before .before .before .first .given .1))
+returns-3 c =
+    let a = c .before .before .before .before .before .before .before .before in
+    let t = line-length (a .args .fields .now) (a .pre) (c .before .before .before .before .before .before .text-at .ensures) (c .before .before .before .before .first .given .1) in
+    omega (arith, c .before .field-length .ensures, c .blanked-length .ensures, t)
 
 pub line-length-spec : {M : Type 1} → statement M
 line-length-spec =

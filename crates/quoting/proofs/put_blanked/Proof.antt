@@ -42,43 +42,89 @@ enum-known-piece : tie.Need-enum-known-piece Inv-loop μ-loop
 enum-known-piece c = search needs
 
 slice-write-out : tie.Need-slice-write-out Inv-loop μ-loop
-slice-write-out c = omega (arith, fill-room (fills-blank (c .before .before .before .before .loop .inv) (c .before .before .before .text-at .ensures) (c .before .piece .given .1)), fill-length (c .before .before .before .before .loop .inv .filling))
+slice-write-out c =
+    let s = c .before .before .before .text-at .ensures in
+    let e = c .before .piece .given .1 in
+    let f = fills-blank (c .before .before .before .before .loop .inv) s e in
+    omega (arith, fill-room f, fill-length (c .before .before .before .before .loop .inv .filling))
 
 add-next : tie.Need-add-next Inv-loop μ-loop
-add-next c = omega (arith, fill-room (fills-blank (c .before .before .before .before .loop .inv) (c .before .before .before .text-at .ensures) (c .before .piece .given .1)))
+add-next c =
+    let s = c .before .before .before .text-at .ensures in
+    let e = c .before .piece .given .1 in
+    let f = fills-blank (c .before .before .before .before .loop .inv) s e in
+    omega (arith, fill-room f)
 
 add-start : tie.Need-add-start Inv-loop μ-loop
-add-start c = let t = fills-text (c .before .before .before .before .loop .inv) (c .before .before .before .text-at .ensures) (c .before .piece .given .1) in omega (arith, t .low, t .ahead .within)
+add-start c =
+    let s = c .before .before .before .text-at .ensures in
+    let e = c .before .piece .given .1 in
+    let t = fills-text (c .before .before .before .before .loop .inv) s e in
+    omega (arith, t .low, t .ahead .within)
 
 sub-put-field : tie.Need-sub-put-field Inv-loop μ-loop
-sub-put-field c = fills-text (c .before .before .before .before .loop .inv) (c .before .before .before .text-at .ensures) (c .before .piece .given .1) .low
+sub-put-field c =
+    let s = c .before .before .before .text-at .ensures in
+    let e = c .before .piece .given .1 in
+    let t = fills-text (c .before .before .before .before .loop .inv) s e in
+    t .low
 
 part-put-field-start : tie.Need-part-put-field-start Inv-loop μ-loop
-part-put-field-start c = fills-text (c .before .before .before .before .loop .inv) (c .before .before .before .text-at .ensures) (c .before .piece .given .1) .low
+part-put-field-start c =
+    let s = c .before .before .before .text-at .ensures in
+    let e = c .before .piece .given .1 in
+    let t = fills-text (c .before .before .before .before .loop .inv) s e in
+    t .low
 
 part-put-field-end : tie.Need-part-put-field-end Inv-loop μ-loop
-part-put-field-end c = fills-text (c .before .before .before .before .loop .inv) (c .before .before .before .text-at .ensures) (c .before .piece .given .1) .ahead .within
+part-put-field-end c =
+    let s = c .before .before .before .text-at .ensures in
+    let e = c .before .piece .given .1 in
+    let t = fills-text (c .before .before .before .before .loop .inv) s e in
+    t .ahead .within
 
 sub-put-field-2 : tie.Need-sub-put-field-2 Inv-loop μ-loop
-sub-put-field-2 c = let f = fills-blank (c .before .before .before .before .before .loop .inv) (c .before .before .before .before .text-at .ensures) (c .before .before .piece .given .1) in omega (arith, fill-room f, fill-length f)
+sub-put-field-2 c =
+    let s = c .before .before .before .before .text-at .ensures in
+    let e = c .before .before .piece .given .1 in
+    let f = fills-blank (c .before .before .before .before .before .loop .inv) s e in
+    omega (arith, fill-room f, fill-length f)
 
 part-put-field-start-2 : tie.Need-part-put-field-start-2 Inv-loop μ-loop
-part-put-field-start-2 c = let f = fills-blank (c .before .before .before .before .before .loop .inv) (c .before .before .before .before .text-at .ensures) (c .before .before .piece .given .1) in omega (arith, fill-room f, fill-length f)
+part-put-field-start-2 c =
+    let s = c .before .before .before .before .text-at .ensures in
+    let e = c .before .before .piece .given .1 in
+    let f = fills-blank (c .before .before .before .before .before .loop .inv) s e in
+    omega (arith, fill-room f, fill-length f)
 
 part-put-field-end-2 : tie.Need-part-put-field-end-2 Inv-loop μ-loop
 part-put-field-end-2 c = search needs
 
 put-field-requires : tie.Need-put-field-requires Inv-loop μ-loop
-put-field-requires c κs = fills-fits (c .before .before .before .before .before .before .loop .inv) (c .before .before .before .before .before .text-at .ensures) (c .before .before .before .piece .given .1)
+put-field-requires c κs =
+    let s = c .before .before .before .before .before .text-at .ensures in
+    let e = c .before .before .before .piece .given .1 in
+    fills-fits (c .before .before .before .before .before .before .loop .inv) s e
 
 add-used : tie.Need-add-used Inv-loop μ-loop
-add-used c = omega (arith, c .before .before .put-field .ensures .counts, fills-next (c .before .before .before .before .before .before .before .before .before .loop .inv) (c .before .before .before .before .before .before .before .before .text-at .ensures) (c .before .before .before .before .before .before .piece .given .1))
+add-used c =
+    let s = c .before .before .before .before .before .before .before .before .text-at .ensures in
+    let e = c .before .before .before .before .before .before .piece .given .1 in
+    omega (arith, c .before .before .put-field .ensures .counts, fills-next (c .before .before .before .before .before .before .before .before .before .loop .inv) s e)
 
 loop-less : tie.Need-loop-less Inv-loop μ-loop
-loop-less c = let t = fills-text (c .before .before .before .before .before .before .before .before .before .loop .inv) (c .before .before .before .before .before .before .before .before .text-at .ensures) (c .before .before .before .before .before .before .piece .given .1) in omega (arith, t .low, t .ahead .within)
+loop-less c =
+    let s = c .before .before .before .before .before .before .before .before .text-at .ensures in
+    let e = c .before .before .before .before .before .before .piece .given .1 in
+    let t = fills-text (c .before .before .before .before .before .before .before .before .before .loop .inv) s e in
+    omega (arith, t .low, t .ahead .within)
 
 loop-again : tie.Need-loop-again Inv-loop μ-loop
-loop-again c = fills-more (c .before .before .before .before .before .before .before .before .before .loop .inv) (c .before .before .before .before .before .before .before .before .text-at .ensures) (c .before .before .put-field .last .1 .0) (c .before .before .put-field .result) (c .before .before .before .before .before .before .piece .given .1) (c .before .before .put-field .ensures)
+loop-again c =
+    let s = c .before .before .before .before .before .before .before .before .text-at .ensures in
+    let e = c .before .before .before .before .before .before .piece .given .1 in
+    let p = c .before .before .put-field in
+    fills-more (c .before .before .before .before .before .before .before .before .before .loop .inv) s (p .last .1 .0) (p .result) e (p .ensures)
 
 pub put-blanked-spec : {M : Type 1} → statement M
 put-blanked-spec =

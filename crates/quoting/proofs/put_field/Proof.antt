@@ -10,34 +10,66 @@ use Rattle.quoting.proofs.put_field.Statement.{statement}
 use Rattle.quoting.proofs.put_field.Tie as tie
 
 slice-write-out : tie.Need-slice-write-out
-slice-write-out c = omega (arith, fill-room (field-opened (c .before .before .args .field .now) (c .before .before .args .out .now) (c .before .before .pre)))
+slice-write-out c =
+    let a = c .before .before in
+    let f = field-opened (a .args .field .now) (a .args .out .now) (a .pre) in
+    omega (arith, fill-room f)
 
 sub-put-bytes : tie.Need-sub-put-bytes
-sub-put-bytes c = let f = field-opened (c .before .before .args .field .now) (c .before .before .args .out .now) (c .before .before .pre) in omega (arith, fill-room f, fill-length f)
+sub-put-bytes c =
+    let a = c .before .before in
+    let f = field-opened (a .args .field .now) (a .args .out .now) (a .pre) in
+    omega (arith, fill-room f, fill-length f)
 
 part-put-bytes-start : tie.Need-part-put-bytes-start
-part-put-bytes-start c = let f = field-opened (c .before .before .args .field .now) (c .before .before .args .out .now) (c .before .before .pre) in omega (arith, fill-room f, fill-length f)
+part-put-bytes-start c =
+    let a = c .before .before in
+    let f = field-opened (a .args .field .now) (a .args .out .now) (a .pre) in
+    omega (arith, fill-room f, fill-length f)
 
 part-put-bytes-end : tie.Need-part-put-bytes-end
 part-put-bytes-end c = search needs
 
 put-bytes-requires : tie.Need-put-bytes-requires
-put-bytes-requires c κs = fill-fits (field-opened (c .before .before .before .args .field .now) (c .before .before .before .args .out .now) (c .before .before .before .pre)) (quotedBytes (c .before .before .before .args .field .now)) (39 ∷ []) refl
+put-bytes-requires c κs =
+    let a = c .before .before .before in
+    let f = field-opened (a .args .field .now) (a .args .out .now) (a .pre) in
+    fill-fits f (quotedBytes (a .args .field .now)) (39 ∷ []) refl
 
 add-out : tie.Need-add-out
-add-out c = omega (arith, fill-room (field-inside (c .before .before .before .before .before .before .args .field .now) (c .before .before .before .before .before .before .args .out .now) (c .before .before .before .before .before .before .pre) (c .before .before .put-bytes .last .1 .0) (c .before .before .put-bytes .result) (c .before .before .put-bytes .ensures)))
+add-out c =
+    let a = c .before .before .before .before .before .before in
+    let p = c .before .before .put-bytes in
+    let f = field-inside (a .args .field .now) (a .args .out .now) (a .pre) (p .last .1 .0) (p .result) (p .ensures) in
+    omega (arith, fill-room f)
 
 slice-write-out-2 : tie.Need-slice-write-out-2
-slice-write-out-2 c = let f = field-inside (c .before .before .before .before .before .before .args .field .now) (c .before .before .before .before .before .before .args .out .now) (c .before .before .before .before .before .before .pre) (c .before .before .put-bytes .last .1 .0) (c .before .before .put-bytes .result) (c .before .before .put-bytes .ensures) in omega (arith, fill-room f, fill-length f)
+slice-write-out-2 c =
+    let a = c .before .before .before .before .before .before in
+    let p = c .before .before .put-bytes in
+    let f = field-inside (a .args .field .now) (a .args .out .now) (a .pre) (p .last .1 .0) (p .result) (p .ensures) in
+    omega (arith, fill-room f, fill-length f)
 
 add-result : tie.Need-add-result
-add-result c = omega (arith, fill-room (field-closed (c .before .before .before .before .before .before .args .field .now) (c .before .before .before .before .before .before .args .out .now) (c .before .before .before .before .before .before .pre) (c .before .before .put-bytes .last .1 .0) (c .before .before .put-bytes .result) (c .before .before .put-bytes .ensures)))
+add-result c =
+    let a = c .before .before .before .before .before .before in
+    let p = c .before .before .put-bytes in
+    let f = field-closed (a .args .field .now) (a .args .out .now) (a .pre) (p .last .1 .0) (p .result) (p .ensures) in
+    omega (arith, fill-room f)
 
 same-length : tie.Need-same-length
-same-length c = fill-length (field-closed (c .before .before .before .before .before .before .args .field .now) (c .before .before .before .before .before .before .args .out .now) (c .before .before .before .before .before .before .pre) (c .before .before .put-bytes .last .1 .0) (c .before .before .put-bytes .result) (c .before .before .put-bytes .ensures))
+same-length c =
+    let a = c .before .before .before .before .before .before in
+    let p = c .before .before .put-bytes in
+    let f = field-closed (a .args .field .now) (a .args .out .now) (a .pre) (p .last .1 .0) (p .result) (p .ensures) in
+    fill-length f
 
 returns : tie.Need-returns
-returns c = fill-ends (field-closed (c .before .before .before .before .before .before .args .field .now) (c .before .before .before .before .before .before .args .out .now) (c .before .before .before .before .before .before .pre) (c .before .before .put-bytes .last .1 .0) (c .before .before .put-bytes .result) (c .before .before .put-bytes .ensures)) refl
+returns c =
+    let a = c .before .before .before .before .before .before in
+    let p = c .before .before .put-bytes in
+    let f = field-closed (a .args .field .now) (a .args .out .now) (a .pre) (p .last .1 .0) (p .result) (p .ensures) in
+    fill-ends f refl
 
 pub put-field-spec : {M : Type 1} → statement M
 put-field-spec =

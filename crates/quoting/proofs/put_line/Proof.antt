@@ -19,43 +19,80 @@ enum-known-first : tie.Need-enum-known-first
 enum-known-first c = search needs
 
 sub-put-field : tie.Need-sub-put-field
-sub-put-field c = line-text (c .before .before .before .before .before .before .args .fields .now) (c .before .before .before .before .before .before .pre .0) (c .before .before .before .text-at .ensures) (c .before .first .given .1) .low
+sub-put-field c =
+    let a = c .before .before .before .before .before .before in
+    let t = line-text (a .args .fields .now) (a .pre .0) (c .before .before .before .text-at .ensures) (c .before .first .given .1) in
+    t .low
 
 part-put-field-start : tie.Need-part-put-field-start
-part-put-field-start c = line-text (c .before .before .before .before .before .before .args .fields .now) (c .before .before .before .before .before .before .pre .0) (c .before .before .before .text-at .ensures) (c .before .first .given .1) .low
+part-put-field-start c =
+    let a = c .before .before .before .before .before .before in
+    let t = line-text (a .args .fields .now) (a .pre .0) (c .before .before .before .text-at .ensures) (c .before .first .given .1) in
+    t .low
 
 part-put-field-end : tie.Need-part-put-field-end
-part-put-field-end c = line-text (c .before .before .before .before .before .before .args .fields .now) (c .before .before .before .before .before .before .pre .0) (c .before .before .before .text-at .ensures) (c .before .first .given .1) .high
+part-put-field-end c =
+    let a = c .before .before .before .before .before .before in
+    let t = line-text (a .args .fields .now) (a .pre .0) (c .before .before .before .text-at .ensures) (c .before .first .given .1) in
+    t .high
 
 put-field-requires : tie.Need-put-field-requires
-put-field-requires c κs = omega (arith, line-length (c .before .before .before .before .before .before .before .before .args .fields .now) (c .before .before .before .before .before .before .before .before .pre .0) (c .before .before .before .before .before .text-at .ensures) (c .before .before .before .first .given .1), c .before .before .before .before .before .before .before .before .pre .1)
+put-field-requires c κs =
+    let a = c .before .before .before .before .before .before .before .before in
+    let t = line-length (a .args .fields .now) (a .pre .0) (c .before .before .before .before .before .text-at .ensures) (c .before .before .before .first .given .1) in
+    omega (arith, t, a .pre .1)
 
 sub-put-blanked : tie.Need-sub-put-blanked
-sub-put-blanked c = let f = line-first (c .before .before .before .before .before .before .before .before .before .before .before .args .fields .now) (c .before .before .before .before .before .before .before .before .before .before .before .pre .0) (c .before .before .before .before .before .before .before .before .text-at .ensures) (c .before .before .before .before .before .before .first .given .1) (c .before .before .before .before .before .before .before .before .before .before .before .args .out .now) (c .before .before .put-field .last .1 .0) (c .before .before .put-field .result) (c .before .before .before .before .before .before .before .before .before .before .before .pre .1) (c .before .before .put-field .ensures) in omega (arith, fill-room f, fill-length f)
+sub-put-blanked c =
+    let a = c .before .before .before .before .before .before .before .before .before .before .before in
+    let p = c .before .before .put-field in
+    let f = line-first (a .args .fields .now) (a .pre .0) (c .before .before .before .before .before .before .before .before .text-at .ensures) (c .before .before .before .before .before .before .first .given .1) (a .args .out .now) (p .last .1 .0) (p .result) (a .pre .1) (p .ensures) in
+    omega (arith, fill-room f, fill-length f)
 
 part-put-blanked-start : tie.Need-part-put-blanked-start
-part-put-blanked-start c = let f = line-first (c .before .before .before .before .before .before .before .before .before .before .before .args .fields .now) (c .before .before .before .before .before .before .before .before .before .before .before .pre .0) (c .before .before .before .before .before .before .before .before .text-at .ensures) (c .before .before .before .before .before .before .first .given .1) (c .before .before .before .before .before .before .before .before .before .before .before .args .out .now) (c .before .before .put-field .last .1 .0) (c .before .before .put-field .result) (c .before .before .before .before .before .before .before .before .before .before .before .pre .1) (c .before .before .put-field .ensures) in omega (arith, fill-room f, fill-length f)
+part-put-blanked-start c =
+    let a = c .before .before .before .before .before .before .before .before .before .before .before in
+    let p = c .before .before .put-field in
+    let f = line-first (a .args .fields .now) (a .pre .0) (c .before .before .before .before .before .before .before .before .text-at .ensures) (c .before .before .before .before .before .before .first .given .1) (a .args .out .now) (p .last .1 .0) (p .result) (a .pre .1) (p .ensures) in
+    omega (arith, fill-room f, fill-length f)
 
 part-put-blanked-end : tie.Need-part-put-blanked-end
 part-put-blanked-end c = search needs
 
 put-blanked-requires : tie.Need-put-blanked-requires
-put-blanked-requires c κs = let f = line-first (c .before .before .before .before .before .before .before .before .before .before .before .before .args .fields .now) (c .before .before .before .before .before .before .before .before .before .before .before .before .pre .0) (c .before .before .before .before .before .before .before .before .before .text-at .ensures) (c .before .before .before .before .before .before .before .first .given .1) (c .before .before .before .before .before .before .before .before .before .before .before .before .args .out .now) (c .before .before .before .put-field .last .1 .0) (c .before .before .before .put-field .result) (c .before .before .before .before .before .before .before .before .before .before .before .before .pre .1) (c .before .before .before .put-field .ensures) in (line-rest (c .before .before .before .before .before .before .before .before .before .before .before .before .args .fields .now) (c .before .before .before .before .before .before .before .before .before .before .before .before .pre .0) (c .before .before .before .before .before .before .before .before .before .text-at .ensures) (c .before .before .before .before .before .before .before .first .given .1), omega (arith, fill-room f, fill-free-length f))
+put-blanked-requires c κs =
+    let a = c .before .before .before .before .before .before .before .before .before .before .before .before in
+    let p = c .before .before .before .put-field in
+    let f = line-first (a .args .fields .now) (a .pre .0) (c .before .before .before .before .before .before .before .before .before .text-at .ensures) (c .before .before .before .before .before .before .before .first .given .1) (a .args .out .now) (p .last .1 .0) (p .result) (a .pre .1) (p .ensures) in
+    let t = line-rest (a .args .fields .now) (a .pre .0) (c .before .before .before .before .before .before .before .before .before .text-at .ensures) (c .before .before .before .before .before .before .before .first .given .1) in
+    (t, omega (arith, fill-room f, fill-free-length f))
 
 add-result : tie.Need-add-result
-add-result c = omega (arith, c .before .before .before .before .before .before .put-field .ensures .counts, c .before .before .put-blanked .ensures .counts, line-length (c .before .before .before .before .before .before .before .before .before .before .before .before .before .before .before .args .fields .now) (c .before .before .before .before .before .before .before .before .before .before .before .before .before .before .before .pre .0) (c .before .before .before .before .before .before .before .before .before .before .before .before .text-at .ensures) (c .before .before .before .before .before .before .before .before .before .before .first .given .1), c .before .before .before .before .before .before .before .before .before .before .before .before .before .before .before .pre .1)
+add-result c =
+    let a = c .before .before .before .before .before .before .before .before .before .before .before .before .before .before .before in
+    let t = line-length (a .args .fields .now) (a .pre .0) (c .before .before .before .before .before .before .before .before .before .before .before .before .text-at .ensures) (c .before .before .before .before .before .before .before .before .before .before .first .given .1) in
+    omega (arith, c .before .before .before .before .before .before .put-field .ensures .counts, c .before .before .put-blanked .ensures .counts, t, a .pre .1)
 
 returns : tie.Need-returns
-returns c = puts-none _ _ (line-end (c .before .before .before .before .before .args .fields .now) (c .before .before .before .before .before .pre .0) (c .before .before .text-at .ensures) (c .enum-told .given .1))
+returns c =
+    let a = c .before .before .before .before .before in
+    puts-none _ _ (line-end (a .args .fields .now) (a .pre .0) (c .before .before .text-at .ensures) (c .enum-told .given .1))
 
 returns-2 : tie.Need-returns-2
-returns-2 c = puts-none _ _ (line-bad (c .before .before .before .before .before .args .fields .now) (c .before .before .before .before .before .pre .0) (c .before .before .text-at .ensures) (c .enum-told2 .given .1))
+returns-2 c =
+    let a = c .before .before .before .before .before in
+    puts-none _ _ (line-bad (a .args .fields .now) (a .pre .0) (c .before .before .text-at .ensures) (c .enum-told2 .given .1))
 
 same-length : tie.Need-same-length
 same-length c = search needs
 
 returns-3 : tie.Need-returns-3
-returns-3 c = line-whole (c .before .before .before .before .before .before .before .before .before .before .before .before .before .before .before .args .fields .now) (c .before .before .before .before .before .before .before .before .before .before .before .before .before .before .before .pre .0) (c .before .before .before .before .before .before .before .before .before .before .before .before .text-at .ensures) (c .before .before .before .before .before .before .before .before .before .before .first .given .1) (c .before .before .before .before .before .before .before .before .before .before .before .before .before .before .before .args .out .now) (c .before .before .before .before .before .before .put-field .last .1 .0) (c .before .before .put-blanked .last .1 .1 .0) (c .before .before .before .before .before .before .put-field .result) (c .before .before .put-blanked .result) (c .before .before .before .before .before .before .before .before .before .before .before .before .before .before .before .pre .1) (c .before .before .before .before .before .before .put-field .ensures) (c .before .before .put-blanked .ensures)
+returns-3 c =
+    let a = c .before .before .before .before .before .before .before .before .before .before .before .before .before .before .before in
+    let p = c .before .before .before .before .before .before .put-field in
+    let q = c .before .before .put-blanked in
+    line-whole (a .args .fields .now) (a .pre .0) (c .before .before .before .before .before .before .before .before .before .before .before .before .text-at .ensures) (c .before .before .before .before .before .before .before .before .before .before .first .given .1)
+    (a .args .out .now) (p .last .1 .0) (q .last .1 .1 .0) (p .result) (q .result) (a .pre .1) (p .ensures) (q .ensures)
 
 pub put-line-spec : {M : Type 1} → statement M
 put-line-spec =

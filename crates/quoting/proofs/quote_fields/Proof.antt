@@ -11,25 +11,45 @@ well-formed-requires : tie.Need-well-formed-requires
 well-formed-requires c κs = search needs
 
 returns : tie.Need-returns
-returns c = malformed (c .before .before .before .before .args .fields .now) (c .before .before .before .before .args .out .now) (sym (c .before .well-formed .ensures) ∙ not-true _ (c .if1 .taken))
+returns c =
+    let a = c .before .before .before .before .args in
+    malformed (a .fields .now) (a .out .now) (sym (c .before .well-formed .ensures) ∙ not-true _ (c .if1 .taken))
 
 line-length-requires : tie.Need-line-length-requires
-line-length-requires c κs = fields-here (c .before .before .before .before .args .fields .now) (sym (c .before .well-formed .ensures) ∙ not-false _ (c .if1 .left))
+line-length-requires c κs =
+    let a = c .before .before .before .before .args in
+    let h = fields-here (a .fields .now) (sym (c .before .well-formed .ensures) ∙ not-false _ (c .if1 .left)) in
+    h
 
 returns-2 : tie.Need-returns-2
-returns-2 c = no-room (c .before .before .before .before .before .before .args .fields .now) (c .before .before .before .before .before .before .args .out .now) (fields-here (c .before .before .before .before .before .before .args .fields .now) (sym (c .before .before .before .well-formed .ensures) ∙ not-false _ (c .before .before .if1 .left))) (line-long _ _ (omega (arith, c .before .line-length .ensures, c .if2 .taken)))
+returns-2 c =
+    let a = c .before .before .before .before .before .before .args in
+    let h = fields-here (a .fields .now) (sym (c .before .before .before .well-formed .ensures) ∙ not-false _ (c .before .before .if1 .left)) in
+    no-room (a .fields .now) (a .out .now) h (line-long _ _ (omega (arith, c .before .line-length .ensures, c .if2 .taken)))
 
 returns-3 : tie.Need-returns-3
-returns-3 c = no-room (c .before .before .before .before .before .before .before .args .fields .now) (c .before .before .before .before .before .before .before .args .out .now) (fields-here (c .before .before .before .before .before .before .before .args .fields .now) (sym (c .before .before .before .before .well-formed .ensures) ∙ not-false _ (c .before .before .before .if1 .left))) (line-full _ _ (omega (arith, c .before .before .line-length .ensures, c .before .if2 .left)) (omega (arith, c .before .before .line-length .ensures, c .if3 .taken)))
+returns-3 c =
+    let a = c .before .before .before .before .before .before .before .args in
+    let h = fields-here (a .fields .now) (sym (c .before .before .before .before .well-formed .ensures) ∙ not-false _ (c .before .before .before .if1 .left)) in
+    let n = c .before .before .line-length .ensures in
+    no-room (a .fields .now) (a .out .now) h (line-full _ _ (omega (arith, n, c .before .if2 .left)) (omega (arith, n, c .if3 .taken)))
 
 put-line-requires : tie.Need-put-line-requires
-put-line-requires c κs = (fields-here (c .before .before .before .before .before .before .before .before .args .fields .now) (sym (c .before .before .before .before .before .well-formed .ensures) ∙ not-false _ (c .before .before .before .before .if1 .left)), omega (arith, c .before .before .before .line-length .ensures, c .before .if3 .left))
+put-line-requires c κs =
+    let a = c .before .before .before .before .before .before .before .before .args in
+    let h = fields-here (a .fields .now) (sym (c .before .before .before .before .before .well-formed .ensures) ∙ not-false _ (c .before .before .before .before .if1 .left)) in
+    (h, omega (arith, c .before .before .before .line-length .ensures, c .before .if3 .left))
 
 same-length : tie.Need-same-length
 same-length c = search needs
 
 returns-4 : tie.Need-returns-4
-returns-4 c = wrote (c .before .before .before .before .before .before .before .before .before .before .before .args .fields .now) (c .before .before .before .before .before .before .before .before .before .before .before .args .out .now) (fields-here (c .before .before .before .before .before .before .before .before .before .before .before .args .fields .now) (sym (c .before .before .before .before .before .before .before .before .well-formed .ensures) ∙ not-false _ (c .before .before .before .before .before .before .before .if1 .left))) (c .before .before .put-line .last .1 .0) (c .before .before .put-line .result) (omega (arith, c .before .before .before .before .before .before .line-length .ensures, c .before .before .before .before .before .if2 .left)) (omega (arith, c .before .before .before .before .before .before .line-length .ensures, c .before .before .before .before .if3 .left)) (c .before .before .put-line .ensures)
+returns-4 c =
+    let a = c .before .before .before .before .before .before .before .before .before .before .before .args in
+    let h = fields-here (a .fields .now) (sym (c .before .before .before .before .before .before .before .before .well-formed .ensures) ∙ not-false _ (c .before .before .before .before .before .before .before .if1 .left)) in
+    let n = c .before .before .before .before .before .before .line-length .ensures in
+    let p = c .before .before .put-line in
+    wrote (a .fields .now) (a .out .now) h (p .last .1 .0) (p .result) (omega (arith, n, c .before .before .before .before .before .if2 .left)) (omega (arith, n, c .before .before .before .before .if3 .left)) (p .ensures)
 
 pub quote-fields-spec : {M : Type 1} → statement M
 quote-fields-spec =

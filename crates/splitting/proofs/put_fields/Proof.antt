@@ -2,7 +2,7 @@
 -- are passed. `turn` is what a turn of the outer loop knows behind the call for its field.
 use Prim.Native.Nat.{_-_}
 use native.Mathlib.Omega.{arith}
-use mathlib.Core.Path.{_≡_, refl, sym, _∙_}
+use mathlib.Core.Path.{sym, _∙_}
 use borrow.Author.Tests.{not-true, not-false}
 use lib.ListN.{length}
 use Rattle.stages.specs.Images.{heldTexts}

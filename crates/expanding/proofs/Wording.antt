@@ -1,0 +1,309 @@
+-- A word of the line: its tilde, found or not, and the text behind it. Assumes nothing.
+use Prim.Native.Nat.{ℕ, suc, _+_, _-_, _*_, _≤_, _<_}
+use Prim.Native.Char.{code}
+use native.Mathlib.Omega.{arith}
+use mathlib.Core.Path.{_≡_, refl, sym, ap, _∙_, subst}
+use mathlib.Core.Bool.{Bool, true, false, _||_, not}
+use mathlib.Core.List.{List, [], _∷_, _++_, append-assoc}
+use mathlib.Core.Option.{Option, none, some}
+use borrow.Author.Tests.{eq-eqb, ne-eqb, eqb-true}
+use lib.Dec.{eqb}
+use lib.ListN.{length, take, drop, getD, length-append, drop-of-length-le}
+use native.Mathlib.Numerals.{add-one}
+use lib.Seq.{drop-cons}
+use Rattle.stages.specs.Numbers.{rowLimit, depthLimit, tooManyUnits}
+use Rattle.stages.specs.Bytes.{Text, text, part, span, isLoginByte, isBlank}
+use Rattle.stages.specs.Outcome.{Outcome, refused, done, _>>=_}
+use Rattle.stages.specs.Images.{Pairs, held, lookup}
+use Rattle.stages.specs.Syntax.{Parts, word}
+use Rattle.stages.specs.Read.{Taken, parts}
+use Rattle.stages.specs.Units.{Mark, L, Q, N, Row, marked, fit}
+use Rattle.stages.specs.Expand.{Made, expand, onto, login, directory, housed, homed, tilde, rowOf, wordRow}
+use Rattle.stages.proofs.Bools.{either, no}
+use Rattle.texts.specs.Rows.{rowBytes}
+use Rattle.texts.proofs.Rows.{rowBytes-append}
+use Rattle.texts.specs.Classes.{Runs}
+use Rattle.texts.specs.declared.Class.the-variants.{LoginByte}
+use Rattle.rows.specs.Stands.{Stands, fronted}
+use Rattle.modes.specs.declared.Mode.{Mode}
+use Rattle.modes.specs.declared.Mode.the-variants.{Word}
+use Rattle.tables.specs.Places as places
+use Rattle.tables.specs.declared.Found.{Found}
+use Rattle.tables.specs.declared.Found.the-variants.{At, Missing}
+use Rattle.expanding.specs.Added.{Adds, Fitting, measured}
+use Rattle.expanding.specs.Tildes.{endsLogin, noLogin, Opens, LoginSays, Given, Wide, HomeSays, homeOf}
+use Rattle.expanding.specs.Answers.{Holds, Ready, IsRow, Ends, Answers, Says}
+use Rattle.expanding.specs.declared.adding.Added.{Added}
+use Rattle.expanding.specs.declared.adding.Added.the-variants as added
+use Rattle.expanding.specs.declared.homes.Login.{Login as CodeLogin}
+use Rattle.expanding.specs.declared.homes.Home.{Home}
+use Rattle.expanding.specs.declared.homes.Home.the-variants as home
+use Rattle.expanding.specs.declared.Expanded.{Expanded}
+use Rattle.expanding.specs.declared.Expanded.the-variants as answer
+use Rattle.expanding.proofs.Fitting.{by-fit, fit-ok, measured-full, marked-count}
+use Rattle.expanding.proofs.Turning.{says-known, answers-known}
+use Rattle.expanding.proofs.Looping.{stands-nest, stands-inside}
+use Rattle.expanding.proofs.Logins.{Login, read-login, no-login-read, tilde-behind, tilde-homed, no-tilde-end, no-tilde}
+
+-- Where a login ends.
+
+module _ (line : Text) (at : ℕ) where
+  pub at-end : length line ≤ at → noLogin (drop at line) ≡ true
+  unfolding noLogin
+  at-end l = rw (drop-of-length-le line l)
+
+  module _ (l : at < length line) where
+    cut : drop at line ≡ getD line at 0 ∷ drop (at + 1) line
+    cut = drop-cons line at 0 l ∙ ap (λ (n : ℕ). getD line at 0 ∷ drop n line) (sym (add-one at))
+
+    pub other-byte : (getD line at 0 ≡ code "~" → ⊥) → noLogin (drop at line) ≡ true
+    unfolding noLogin
+    other-byte n = rw cut (rw (ne-eqb (getD line at 0) (code "~") n))
+
+    module _ (e : getD line at 0 ≡ code "~") {to : ℕ} (r : Runs line (at + 1) LoginByte to) where
+      pub opens : endsLogin (drop to line) ≡ true → Opens line at to
+      opens h =
+          record {
+            tilde = cut ∙ ap (λ (b : ℕ). b ∷ drop (at + 1) line) e;
+            run = r .is;
+            ends = h;
+            onward = r .onward;
+            within = r .within;
+          }
+
+      pub opens-none : endsLogin (drop to line) ≡ false → noLogin (drop at line) ≡ true
+      unfolding noLogin
+      opens-none h = rw cut (rw (eq-eqb (getD line at 0) (code "~") e, r .is, h))
+
+pub ends-line : (line : Text) (to : ℕ) → length line ≤ to → endsLogin (drop to line) ≡ true
+unfolding endsLogin
+ends-line line to l = rw (drop-of-length-le line l)
+
+module _ (line : Text) (to : ℕ) (l : to < length line) where
+  pub ends-slash : getD line to 0 ≡ code "/" → endsLogin (drop to line) ≡ true
+  unfolding endsLogin
+  ends-slash e = rw (drop-cons line to 0 l) (rw (eq-eqb (getD line to 0) (code "/") e))
+
+  pub ends-blank : (getD line to 0 ≡ code "/" → ⊥) → {x : Bool} → isBlank (getD line to 0) ≡ x → endsLogin (drop to line) ≡ x
+  unfolding endsLogin
+  ends-blank n e = rw (drop-cons line to 0 l) (rw (ne-eqb (getD line to 0) (code "/") n) e)
+
+-- What the directory gives.
+
+pub directory-wide : (d area : Text) → rowLimit ≤ length d → Adds 0 (done (N ∷ marked Q d)) area (added.Refused tooManyUnits)
+directory-wide d area l = measured-full 0 (N ∷ marked Q d) (omega (arith, marked-count Q d))
+
+pub directory-given : (d work first : Text) (z : Text) → length d < rowLimit → first ≡ 0 ∷ 0 ∷ drop 2 work → (ys : Text) → ys ≡ fronted (rowBytes (marked Q d)) z → (rest : Text)
+    → Adds 0 (done (N ∷ marked Q d)) (take 2 first ++ (ys ++ rest)) (added.Units (length d + 1))
+unfolding rowBytes
+directory-given d work first z l e ys f rest =
+    record {
+      row = N ∷ marked Q d;
+      is = refl;
+      counts = omega (arith, marked-count Q d);
+      stands = record {
+        rest = drop (length (rowBytes (marked Q d))) z ++ rest;
+        is = ap (λ (t : Text). take 2 t ++ (ys ++ rest)) e ∙ ap (λ (t : Text). 0 ∷ 0 ∷ (t ++ rest)) f ∙ simp append-assoc;
+      };
+      fits = omega arith;
+    }
+
+pub home-added : (o : Option Text) (d area : Text) → o ≡ some d → (a : Added) → Adds 0 (done (N ∷ marked Q d)) area a → {h : Home} → h ≡ homeOf a → HomeSays o area h
+home-added o d area e a g {h} q = rw q (go a g)
+  where
+    go : (a : Added) → Adds 0 (done (N ∷ marked Q d)) area a → HomeSays o area (homeOf a)
+    go (added.Units n) g = record { directory = d; is = e; fits = g }
+    go (added.Refused k) g = record { directory = d; is = e; full = g }
+
+pub found-at : (t x : Text) {found : Found} {from to : ℕ} → places.Shown t x found → found ≡ At from to → places.Holds t x from to
+found-at t x s e = go (subst (λ (f : Found). places.Shown t x f) e s)
+  where
+    go : {from to : ℕ} → places.Shown t x (At from to) → places.Holds t x from to
+    go (places.shown h) = h
+
+pub found-none : (t x : Text) {found : Found} → places.Shown t x found → found ≡ Missing → lookup x (held t) ≡ none
+found-none t x s e = go (subst (λ (f : Found). places.Shown t x f) e s)
+  where
+    go : places.Shown t x Missing → lookup x (held t) ≡ none
+    go (places.absent h) = h
+
+pub empty-login : (v homes : Pairs) (t : Text) → length t ≡ 0 → directory v homes t ≡ lookup (text "HOME") v
+unfolding directory
+empty-login v homes [] e = refl
+empty-login v homes (b ∷ t) e = absurd (omega arith)
+
+pub some-login : (v homes : Pairs) (t : Text) → (length t ≡ 0 → ⊥) → directory v homes t ≡ lookup t homes
+unfolding directory
+some-login v homes [] e = absurd (e refl)
+some-login v homes (b ∷ t) e = refl
+
+pub home-same : {o p : Option Text} (area : Text) (h : Home) → o ≡ p → HomeSays p area h → HomeSays o area h
+home-same area h e g = subst (λ (x : Option Text). HomeSays x area h) (sym e) g
+
+-- no login: the tilde is literal, if there is one
+no-login-tilde : (d : ℕ) (v homes : Pairs) (p : Parts) (rest t : Text) → parts word d t ≡ done (p, rest) → noLogin t ≡ true → tilde v homes p ≡ none
+unfolding noLogin homed
+no-login-tilde d v homes p rest [] h n = no-tilde-end d v homes p rest h
+no-login-tilde d v homes p rest (b ∷ t) h n = go (eqb b (code "~")) refl
+  where
+    ends : eqb b (code "~") ≡ true → (x : Bool) → endsLogin (span isLoginByte t .1) ≡ x → x ≡ false
+    ends e true q = absurd (no (rw (e, q) at n))
+    ends e false q = refl
+
+    literal : b ≡ code "~" → endsLogin (span isLoginByte t .1) ≡ false → tilde v homes p ≡ none
+    literal e k =
+        let r : parts word d (code "~" ∷ t) ≡ done (p, rest) = ap (λ (c : ℕ). parts word d (c ∷ t)) (sym e) ∙ h in
+        tilde-homed d v homes p rest t r ∙ ap (homed v homes) (no-login-read d t (tilde-behind d v homes p rest t r .next) rest (tilde-behind d v homes p rest t r .read) k)
+
+    go : (x : Bool) → eqb b (code "~") ≡ x → tilde v homes p ≡ none
+    go true e = literal (eqb-true b (code "~") e) (ends e (endsLogin (span isLoginByte t .1)) refl)
+    go false e = no-tilde d v homes p rest b t h e
+
+-- The row of a word.
+
+module _ (room : ℕ) (line : Text) (at size : ℕ) (vars₀ : Text) (have : ℕ) (homes : Pairs) (y : Ready line at Word depthLimit 0 size) (w : Holds room vars₀ have) where
+  abbrev v : Pairs
+  v = held (take have vars₀)
+
+  abbrev Worded : Text → Text → Expanded → Type 0
+  Worded area vars r = Says room line at 0 (λ t. wordRow room homes t v) (parts word depthLimit (drop at line)) area vars r
+
+  -- no tilde: the word is its text
+  plain-row : tilde v homes (y .tree) ≡ none → wordRow room homes (y .tree) v ≡ expand room (y .tree) L 0 v
+  unfolding wordRow rowOf
+  plain-row e = rw e
+
+  pub plain-word : tilde v homes (y .tree) ≡ none → (area vars : Text) (r : Expanded)
+      → Says room line at 0 (λ t. expand room t L 0 v) (parts word depthLimit (drop at line)) area vars r → Worded area vars r
+  plain-word e area vars r s = rw (y .is) (go r (says-known room line at 0 (λ t. expand room t L 0 v) area vars r s (y .is)))
+    where
+      go : (r : Expanded) → Answers room line at 0 (expand room (y .tree) L 0 v) (y .rest) area vars r → Answers room line at 0 (wordRow room homes (y .tree) v) (y .rest) area vars r
+      go (answer.Refused k) h = plain-row e ∙ h
+      go (answer.Row n next left) h =
+          let i = h .0 in
+          (record { row = i .row; is = plain-row e ∙ i .is; counts = i .counts; stands = i .stands; fits = i .fits; holds = i .holds }, h .1)
+
+  pub no-login-none : noLogin (drop at line) ≡ true → tilde v homes (y .tree) ≡ none
+  no-login-none n = no-login-tilde depthLimit v homes (y .tree) (y .rest) (drop at line) (y .is) n
+
+  module _ (to : ℕ) (o : Opens line at to) where
+    read : parts word depthLimit (code "~" ∷ drop (at + 1) line) ≡ done (y .tree, y .rest)
+    read = ap (parts word depthLimit) (sym (o .tilde)) ∙ y .is
+
+    found : Login depthLimit (tilde-behind depthLimit v homes (y .tree) (y .rest) (drop (at + 1) line) read .next) (y .rest) (part line (at + 1) to) (drop to line)
+    found =
+        subst (λ (p : Text × Text). Login depthLimit (tilde-behind depthLimit v homes (y .tree) (y .rest) (drop (at + 1) line) read .next) (y .rest) (p .0) (p .1)) (o .run)
+        (read-login depthLimit (drop (at + 1) line) _ (y .rest) (tilde-behind depthLimit v homes (y .tree) (y .rest) (drop (at + 1) line) read .read)
+        (ap (λ (p : Text × Text). endsLogin (p .1)) (o .run) ∙ o .ends))
+
+    tilde-is : tilde v homes (y .tree) ≡ housed (found .more) (directory v homes (part line (at + 1) to))
+    unfolding homed
+    tilde-is = tilde-homed depthLimit v homes (y .tree) (y .rest) (drop (at + 1) line) read ∙ ap (homed v homes) (found .is)
+
+    pub home-none : directory v homes (part line (at + 1) to) ≡ none → tilde v homes (y .tree) ≡ none
+    unfolding housed
+    home-none e = tilde-is ∙ ap (housed (found .more)) e
+
+    -- the directory's row, and behind it the text
+    home-made : (d : Text) → directory v homes (part line (at + 1) to) ≡ some d
+        → wordRow room homes (y .tree) v ≡ (fit 0 (length (N ∷ marked Q d)) >>= λ i. onto (N ∷ marked Q d) (expand room (found .more) L i v))
+    unfolding wordRow rowOf housed
+    home-made d e = rw (tilde-is ∙ ap (housed (found .more)) e)
+
+    pub home-refused : (area vars : Text) {e : ℕ} → Wide (directory v homes (part line (at + 1) to)) e → Worded area vars (answer.Refused e)
+    unfolding measured
+    home-refused area vars {e} g =
+        rw (y .is)
+        (home-made (g .directory) (g .is)
+        ∙ by-fit
+        (λ (x : Outcome ℕ). _≡_ {A = Outcome Row} (x >>= λ i. done (N ∷ marked Q (g .directory))) (refused e)
+        → (x >>= λ i. onto (N ∷ marked Q (g .directory)) (expand room (found .more) L i v)) ≡ refused e)
+        0 (length (N ∷ marked Q (g .directory)))
+        (λ h. absurd (let z : _≡_ {A = ℕ} 0 1 = cc in omega arith))
+        (λ h. let z : tooManyUnits ≡ e = cc in ap refused z)
+        (g .full))
+
+    module _ (area : Text) {units : ℕ} (g : Given (directory v homes (part line (at + 1) to)) area units) where
+      home-front : Stands (N ∷ marked Q (g .directory)) area
+      home-front = stands-of (g .fits)
+        where
+          stands-of : {row : Row} → Fitting 0 (done row) area units → Stands row area
+          stands-of {row} f = let q : f .row ≡ row = cc in subst (λ (r : Row). Stands r area) q (f .stands)
+
+      home-count : length (N ∷ marked Q (g .directory)) ≡ units
+      home-count = count-of (g .fits)
+        where
+          count-of : {row : Row} → Fitting 0 (done row) area units → length row ≡ units
+          count-of {row} f = let q : f .row ≡ row = cc in ap length (sym q) ∙ f .counts
+
+      pub home-inside : 2 * units ≤ length area
+      home-inside = stands-inside (N ∷ marked Q (g .directory)) area units home-front home-count
+
+      pub home-units : units ≤ rowLimit
+      home-units = let f = g .fits .fits in omega arith
+
+      pub home-ready : (rest : ℕ) → rest + 2 * units ≡ size → Ready line to Word depthLimit units rest
+      home-ready rest e =
+          let a = y .area in
+          record {
+            start = o .within;
+            opens = omega arith;
+            few = home-units;
+            area = omega arith;
+            clean = y .clean;
+            tree = found .more;
+            rest = y .rest;
+            is = found .read;
+          }
+
+      module _ (ys us : Text) (r : Expanded) (s : Says room line to units (λ t. expand room t L units v) (parts word depthLimit (drop to line)) ys us r) where
+        behind-answer : Answers room line to units (expand room (found .more) L units v) (y .rest) ys us r
+        behind-answer = says-known room line to units (λ t. expand room t L units v) ys us r s (found .read)
+
+        home-word : wordRow room homes (y .tree) v ≡ onto (N ∷ marked Q (g .directory)) (expand room (found .more) L units v)
+        home-word =
+            let l = home-units in
+            let k : 0 + length (N ∷ marked Q (g .directory)) ≡ units = omega (arith, home-count) in
+            home-made (g .directory) (g .is)
+            ∙ ap (λ (x : Outcome ℕ). x >>= λ i. onto (N ∷ marked Q (g .directory)) (expand room (found .more) L i v)) (fit-ok 0 (length (N ∷ marked Q (g .directory))) (omega (arith, home-count)))
+            ∙ ap (λ (i : ℕ). onto (N ∷ marked Q (g .directory)) (expand room (found .more) L i v)) k
+
+        pub behind-refused : (z : Text) {e : ℕ} → r ≡ answer.Refused e → Worded z us (answer.Refused e)
+        behind-refused z {e} q =
+            let h : expand room (found .more) L units v ≡ refused e = answers-known room line to units _ (y .rest) ys us behind-answer q in
+            rw (y .is) (home-word ∙ ap (onto (N ∷ marked Q (g .directory))) h)
+
+        module _ {count next left : ℕ} (q : r ≡ answer.Row count next left) where
+          behind-row : IsRow room units (expand room (found .more) L units v) ys us count left × Ends line to next (y .rest)
+          behind-row = answers-known room line to units _ (y .rest) ys us behind-answer q
+
+          pub behind-fits : units + count ≤ rowLimit
+          behind-fits = behind-row .0 .fits
+
+          pub behind-given : (z : Text) → Worded (take (2 * units) area ++ (ys ++ z)) us (answer.Row (units + count) next left)
+          behind-given z =
+              let i = behind-row .0 in
+              let k = behind-row .1 in
+              let a = k .onward in
+              let b = o .onward in
+              rw (y .is) (
+                record {
+                  row = (N ∷ marked Q (g .directory)) ++ i .row;
+                  is = home-word ∙ ap (onto (N ∷ marked Q (g .directory))) (i .is);
+                  counts = length-append (N ∷ marked Q (g .directory)) (i .row) ∙ rw (home-count, i .counts);
+                  stands = stands-nest (N ∷ marked Q (g .directory)) (i .row) area ys z units home-front home-count (i .stands);
+                  fits = omega (arith, i .fits);
+                  holds = i .holds;
+                },
+                record { ends = k .ends; onward = omega arith; within = k .within },
+              )
+
+-- answers, once their case is known
+pub home-known : (o : Option Text) (area : Text) {h k : Home} → HomeSays o area h → h ≡ k → HomeSays o area k
+home-known o area g e = subst (λ (x : Home). HomeSays o area x) e g
+
+pub login-known : (line : Text) (at : ℕ) {r k : CodeLogin} → LoginSays line at r → r ≡ k → LoginSays line at k
+login-known line at g e = subst (λ (x : CodeLogin). LoginSays line at x) e g
+
+pub ready-size : {text : Text} {at : ℕ} {mode : Mode} {d used size size′ : ℕ} → Ready text at mode d used size → size′ ≡ size → Ready text at mode d used size′
+ready-size {text} {at} {mode} {d} {used} y e = subst (λ (n : ℕ). Ready text at mode d used n) (sym e) y

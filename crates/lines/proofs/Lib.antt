@@ -1,0 +1,4 @@
+pub mod Going
+pub mod Wording
+pub mod Standing
+pub mod Determined
