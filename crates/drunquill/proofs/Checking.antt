@@ -2,21 +2,21 @@
 use Prim.Native.Nat.{ℕ, _+_, _≤_, _<_}
 use native.Mathlib.Omega.{arith}
 use mathlib.Core.Path.{_≡_, refl, sym, ap, _∙_, subst}
-use mathlib.Core.Bool.{Bool, true, false, _&&_, not}
+use mathlib.Core.Bool.{Bool, true, false, _&&_}
 use mathlib.Core.List.{List, [], _∷_, _++_}
 use mathlib.Core.Option.{Option, none, some}
 use lib.Dec.{leb}
 use lib.ListN.{length, take}
 use borrow.Author.Tests.{le-leb, lt-leb, leb-true, leb-false}
 use Rattle.stages.specs.Numbers.{workTooSmall, badVariables, badHomes, badPaths, lineTooLong, zeroByte, outputRoom, workLeast, lineLimit, imageLimit}
-use Rattle.stages.specs.Bytes.{Text, isIn}
+use Rattle.stages.specs.Bytes.{isIn}
 use Rattle.stages.specs.Outcome.{Outcome, refused, done, Placed, refusedAt, doneAt, at, _then_, require, pick}
-use Rattle.stages.specs.Images.{Pairs, isSome, held, heldTexts, variables, homes, pathsOf, recordBytes}
+use Rattle.stages.specs.Images.{Pairs, isSome, held, variables, homes, pathsOf, recordBytes}
 use Rattle.stages.specs.Syntax.{Word}
 use Rattle.stages.specs.Read.{readLine}
 use Rattle.stages.specs.Line.{Around, Fields, outFits, wordFields, expandWords, expandLine}
 use Rattle.stages.specs.Call.{Given, orRefused, expanded}
-use Rattle.stages.proofs.Bools.{no, either}
+use Rattle.stages.proofs.Bools.{no}
 use Rattle.stages.proofs.Tables.{vars-of, variables-are, homes-of, homes-are, paths-of, paths-are}
 use Rattle.stages.proofs.SafeLines.{no-zero}
 use Rattle.reading.specs.Says.{verdictOf}
@@ -26,7 +26,7 @@ use Rattle.drunquill.specs.Calls.{roomOf, worked}
 use Rattle.drunquill.specs.Checks.{roomIn, among, Tabled, Passed, Checks}
 use Rattle.drunquill.specs.declared.Job.{Job}
 use Rattle.drunquill.specs.declared.checks.Checked.{Checked}
-use Rattle.drunquill.specs.declared.checks.Checked.the-variants.{Refused}
+use Rattle.drunquill.specs.declared.checks.Checked.the-variants.{Fine, Refused}
 
 none-of : {A : Type 0} (o : Option A) → isSome o ≡ false → o ≡ none
 none-of none e = refl
@@ -165,3 +165,9 @@ refuses job g e h = subst (λ (x : Checked). Checks job g x) (sym e) h
 
 pub read-as : {w : Placed (Unit {0})} {r s : LineRead} → w ≡ verdictOf r → r ≡ s → w ≡ verdictOf s
 read-as h e = h ∙ ap verdictOf e
+
+pub check-passed : (job : Job) (g : Given) {r : Checked} → Checks job g r → r ≡ Fine → Passed job g
+check-passed job g h e = subst (λ (x : Checked). Checks job g x) e h
+
+pub check-refused : (job : Job) (g : Given) {r : Checked} {n place : ℕ} → Checks job g r → r ≡ Refused n place → worked job g ≡ refusedAt n place
+check-refused job g h e = subst (λ (x : Checked). Checks job g x) e h

@@ -1,1 +1,4 @@
 pub mod Checking
+pub mod Handing
+pub mod Working
+pub mod Determined

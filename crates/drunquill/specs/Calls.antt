@@ -1,10 +1,9 @@
 -- What a call is given, and the two jobs that take a line as one: they differ in the expander's room and in what is written. Assumes nothing.
 use Prim.Native.Nat.{ℕ}
-use mathlib.Core.Path.{_≡_}
 use lib.ListN.{length}
 use Rattle.stages.specs.Numbers.{imageLimit}
 use Rattle.stages.specs.Bytes.{Text}
-use Rattle.stages.specs.Outcome.{Placed, doneAt, _then_}
+use Rattle.stages.specs.Outcome.{Placed, doneAt}
 use Rattle.stages.specs.Images.{Pairs, image}
 use Rattle.stages.specs.Line.{Fields}
 use Rattle.stages.specs.Call as stage

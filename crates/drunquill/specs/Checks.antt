@@ -6,7 +6,7 @@ use mathlib.Core.List.{List}
 use lib.Dec.{leb}
 use lib.ListN.{length, take}
 use Rattle.stages.specs.Numbers.{workLeast, imageLimit}
-use Rattle.stages.specs.Bytes.{Text, all, notZero}
+use Rattle.stages.specs.Bytes.{all, notZero}
 use Rattle.stages.specs.Outcome.{refusedAt, doneAt, pick}
 use Rattle.stages.specs.Images.{isSome, held, heldTexts, variables, homes, pathsOf}
 use Rattle.stages.specs.Syntax.{Word}

@@ -1,6 +1,6 @@
 // What is looked at before the first word is expanded: "Order: 1 to 6 as numbered; then the whole line is read", then room for the empty fields image.
 use super::Job;
-use super::numbers;
+use super::refusals;
 use reading::LineRead;
 use tables::Kind;
 ghost use mathlib.Core.Path.{_≡_};
@@ -19,12 +19,12 @@ pub fn room(job: Job, out: usize) -> usize
     ensures { λ r. ⌜ r ≡ roomIn job out ⌝ }
 {
     match job {
-        Job::Normaliser => numbers::IMAGE_LIMIT,
+        Job::Normaliser => refusals::IMAGE_LIMIT,
         Job::Expander => {
-            if out <= numbers::IMAGE_LIMIT {
+            if out <= refusals::IMAGE_LIMIT {
                 out
             } else {
-                numbers::IMAGE_LIMIT
+                refusals::IMAGE_LIMIT
             }
         }
     }
@@ -54,11 +54,11 @@ fn check_line(
     requires { ⌜ Tabled (given (now line) (now vars) used (now homes) (now paths) (now work) (now out)) ⌝ }
     ensures { λ r. ⌜ Checks job (given (now (line .entry)) (now (vars .entry)) used (now (homes .entry)) (now (paths .entry)) (now (work .entry)) (now (out .entry))) r ⌝ }
 {
-    if numbers::LINE_LIMIT < line.len() {
-        return refuse(numbers::REFUSED_LENGTH);
+    if refusals::LINE_LIMIT < line.len() {
+        return refuse(refusals::REFUSED_LENGTH);
     }
     if texts::is_in(0, line) {
-        return refuse(numbers::REFUSED_ZERO);
+        return refuse(refusals::REFUSED_ZERO);
     }
     let read = reading::read_line(line);
     match read {
@@ -68,7 +68,7 @@ fn check_line(
         },
         LineRead::Read => {
             if room(job, out.len()) == 0 {
-                return refuse(numbers::REFUSED_OUTPUT);
+                return refuse(refusals::REFUSED_OUTPUT);
             }
             Checked::Fine
         }
@@ -88,20 +88,20 @@ pub fn check(
 ) -> Checked
     ensures { λ r. ⌜ Checks job (given (now (line .entry)) (now (vars .entry)) used (now (homes .entry)) (now (paths .entry)) (now (work .entry)) (now (out .entry))) r ⌝ }
 {
-    if work.len() < numbers::WORK_LEAST {
-        return refuse(numbers::REFUSED_WORK);
+    if work.len() < refusals::WORK_LEAST {
+        return refuse(refusals::REFUSED_WORK);
     }
     if vars.len() < used {
-        return refuse(numbers::REFUSED_VARIABLES);
+        return refuse(refusals::REFUSED_VARIABLES);
     }
     if !tables::well_formed(Kind::Variables, &vars[..used]) {
-        return refuse(numbers::REFUSED_VARIABLES);
+        return refuse(refusals::REFUSED_VARIABLES);
     }
     if !tables::well_formed(Kind::Homes, homes) {
-        return refuse(numbers::REFUSED_HOMES);
+        return refuse(refusals::REFUSED_HOMES);
     }
     if !tables::well_formed(Kind::Paths, paths) {
-        return refuse(numbers::REFUSED_PATHS);
+        return refuse(refusals::REFUSED_PATHS);
     }
     check_line(job, line, vars, used, homes, paths, work, out)
 }

@@ -1,10 +1,86 @@
-// Drunquill's three jobs. Each takes any bytes in any buffers and answers by document 01's numbers; inside, a job works on copies of the variables and
-// the output, and hands both over at its end, so that a refusal has touched neither.
+// Drunquill's three jobs. Each takes any bytes in any buffers and answers by document 01's numbers. Inside, a line is worked on in copies of the
+// variables and the output, which are handed over at the end, so that a refusal has touched neither.
 mod checks;
-mod numbers;
+mod copies;
+mod refusals;
+
+use quoting::Quoted;
+ghost use Rattle.stages.specs.Call.{expander, normaliser, quoter};
+ghost use Rattle.drunquill.specs.Calls.{given};
+ghost use Rattle.drunquill.specs.Hands.{Gives, Quotes};
+
+// "The answer is a number, a place, the output length and the variables' used length."
+pub struct Answer {
+    pub number: u8,
+    pub place: usize,
+    pub out_len: usize,
+    pub used_len: usize,
+}
+
+// The quoter's answer: "The quoter has neither variables nor work area."
+pub struct QuoteAnswer {
+    pub number: u8,
+    pub place: usize,
+    pub len: usize,
+}
 
 // The two jobs that take a line: one gives the fields' image, the other the fields as a quoted line.
 enum Job {
     Expander,
     Normaliser,
+}
+
+// The expander: the line's fields, an image, to `out`. The variables are an image in the first `used` bytes of their buffer, and may change. On refusal
+// the variables and the output hold their old bytes; the work area is zero throughout after every call.
+pub fn expand(
+    line: &[u8],
+    vars: &mut [u8],
+    used: usize,
+    homes: &[u8],
+    paths: &[u8],
+    work: &mut [u8],
+    out: &mut [u8],
+) -> Answer
+    ensures { λ r. ⌜ Gives (expander (given (now (line .entry)) (now (vars .entry)) used (now (homes .entry)) (now (paths .entry)) (now (work .entry)) (now (out .entry)))) r (now (vars .exit)) (now (work .exit)) (now (out .exit)) ⌝ }
+{
+    copies::answer(Job::Expander, line, vars, used, homes, paths, work, out)
+}
+
+// The normaliser: the line's fields as a quoted line to `out`, all else as in the expander.
+pub fn normalise(
+    line: &[u8],
+    vars: &mut [u8],
+    used: usize,
+    homes: &[u8],
+    paths: &[u8],
+    work: &mut [u8],
+    out: &mut [u8],
+) -> Answer
+    ensures { λ r. ⌜ Gives (normaliser (given (now (line .entry)) (now (vars .entry)) used (now (homes .entry)) (now (paths .entry)) (now (work .entry)) (now (out .entry)))) r (now (vars .exit)) (now (work .exit)) (now (out .exit)) ⌝ }
+{
+    copies::answer(Job::Normaliser, line, vars, used, homes, paths, work, out)
+}
+
+// The quoter: an image of fields as a quoted line to `out`, whose bytes behind the line stay; on refusal all of them do.
+pub fn quote(fields: &[u8], out: &mut [u8]) -> QuoteAnswer
+    ensures { λ r. ⌜ Quotes (quoter (now (fields .entry)) (now (out .entry))) r (now (out .exit)) ⌝ }
+{
+    let quoted = quoting::quote_fields(fields, out);
+    match quoted {
+        Quoted::Len(n) => QuoteAnswer {
+            number: refusals::ACCEPTED,
+            place: 0,
+            len: n,
+        },
+        Quoted::Malformed => QuoteAnswer {
+            number: refusals::REFUSED_FIELDS,
+            place: 0,
+            len: 0,
+        },
+        Quoted::NoRoom => QuoteAnswer {
+            number: refusals::REFUSED_OUTPUT,
+            place: 0,
+            len: 0,
+        },
+    }
 }

@@ -1,5 +1,4 @@
 -- The lesser of the job's room and 8,192, job by job. Assumes nothing.
-use mathlib.Core.Path.{sym}
 use borrow.Author.Tests.{le-leb, lt-leb}
 use borrow.Author.Needs.{needs}
 use Rattle.drunquill.proofs.checks.room.Statement.{statement}
