@@ -1,0 +1,188 @@
+// Lines to answers. What is read comes in blocks, which crate `cutting` cuts into lines; each line's answer is written before the next one is worked out.
+use cutting::Taken;
+use libc::STDIN_FILENO;
+use libc::STDOUT_FILENO;
+ghost use mathlib.Core.Path.{_≡_};
+ghost use Prim.Native.Nat.{_≤_, _+_};
+ghost use lib.ListN.{length};
+ghost use Rattle.stages.specs.Numbers.{workLeast, imageLimit};
+ghost use Rattle.cutting.specs.Said.{answerRoom};
+ghost use Rattle.recipe.specs.Keeps.{Keeps};
+ghost use Rattle.recipe.specs.Says.{answerTo, Says};
+
+// What is carried from line to line: the bytes kept of a line that has not ended, the variables' used length, and whether there is more to answer.
+pub struct Carried {
+    pub kept: usize,
+    pub used: usize,
+    pub goes_on: bool,
+}
+
+// An answer in words: its length, and the variables' used length behind it.
+struct Said {
+    len: usize,
+    used: usize,
+}
+
+// Room for what is said of a line.
+fn said_room() -> [u8; 8237]
+    ensures { λ r. ⌜ 8237 ≡ length r ⌝ }
+{
+    [0; 8237]
+}
+
+// "they and the output get 8,192 bytes"
+fn out_room() -> [u8; 8192]
+    ensures { λ r. ⌜ 8192 ≡ length r ⌝ }
+{
+    [0; 8192]
+}
+
+// Works out what is said of a line.
+fn say(
+    line: &[u8],
+    vars: &mut [u8],
+    used: usize,
+    homes: &[u8],
+    paths: &[u8],
+    work: &mut [u8],
+    out: &mut [u8],
+    said: &mut [u8],
+) -> Said
+    requires { ⌜ (workLeast ≡ length (now work)) × (imageLimit ≡ length (now out)) × (length (now out) + answerRoom ≤ length (now said)) ⌝ }
+    ensures { λ r. ⌜ Says (answerTo (now (homes .entry)) (now (paths .entry)) (now (line .entry)) (now (vars .entry)) used) (now (said .entry)) (now (said .exit)) (now (vars .exit)) r ⌝ }
+{
+    let answer = drunquill::normalise(line, vars, used, homes, paths, work, out);
+    let n = answer.out_len;
+    let len = cutting::put_answer(answer.number, answer.place, &out[..n], said);
+    Said {
+        len: len,
+        used: answer.used_len,
+    }
+}
+
+// Answers a line. Output that cannot be written ends the run.
+fn answer_line(line: &[u8], vars: &mut [u8], used: usize, homes: &[u8], paths: &[u8]) -> Carried
+    ensures { λ r. ⌜ r .kept ≡ 0 ⌝ }
+{
+    let mut work = io::large_buffer();
+    let mut out = out_room();
+    let mut said = said_room();
+    let told = say(
+        line,
+        vars,
+        used,
+        homes,
+        paths,
+        &mut work,
+        &mut out,
+        &mut said,
+    );
+    let len = told.len;
+    let written = io::write_all(STDOUT_FILENO, &said[..len]);
+    if !written {
+        os::fail(b"standard output");
+    }
+    Carried {
+        kept: 0,
+        used: told.used,
+        goes_on: written,
+    }
+}
+
+// Answers the lines that end in a block.
+fn answer_block(
+    carried: Carried,
+    block: &[u8],
+    line: &mut [u8],
+    vars: &mut [u8],
+    homes: &[u8],
+    paths: &[u8],
+) -> Carried
+    requires { ⌜ Keeps (now line) (carried .kept) ⌝ }
+    ensures { λ r. ⌜ Keeps (now (line .exit)) (r .kept) ⌝ }
+{
+    let mut so_far = carried;
+    let mut at = 0;
+    while so_far.goes_on && at < block.len() {
+        let taken = cutting::take_in(line, so_far.kept, block, at);
+        match taken {
+            Taken::Open(kept) => {
+                return Carried {
+                    kept: kept,
+                    used: so_far.used,
+                    goes_on: true,
+                };
+            }
+            Taken::Ended { kept, next } => {
+                so_far = answer_line(&line[..kept], vars, so_far.used, homes, paths);
+                at = next;
+            }
+        }
+    }
+    so_far
+}
+
+// The input gave no more: it is at its end, where "an unended last one too if not empty" is answered, or it cannot be read.
+fn answer_last(
+    got: isize,
+    carried: Carried,
+    line: &[u8],
+    vars: &mut [u8],
+    homes: &[u8],
+    paths: &[u8],
+)
+    requires { ⌜ Keeps (now line) (carried .kept) ⌝ }
+{
+    let kept = carried.kept;
+    if got < 0 {
+        os::fail(b"standard input");
+        return;
+    }
+    if cutting::is_last_line(&line[..kept]) {
+        answer_line(&line[..kept], vars, carried.used, homes, paths);
+    }
+}
+
+// Reads a block and answers its lines.
+fn answer_some(
+    carried: Carried,
+    block: &mut [u8],
+    line: &mut [u8],
+    vars: &mut [u8],
+    homes: &[u8],
+    paths: &[u8],
+) -> Carried
+    requires { ⌜ Keeps (now line) (carried .kept) ⌝ }
+    ensures { λ r. ⌜ Keeps (now (line .exit)) (r .kept) ⌝ }
+{
+    let got = libc::read(STDIN_FILENO, block);
+    let n = io::count(got, block);
+    if n == 0 {
+        answer_last(got, carried, line, vars, homes, paths);
+        return Carried {
+            kept: 0,
+            used: carried.used,
+            goes_on: false,
+        };
+    }
+    answer_block(carried, &block[..n], line, vars, homes, paths)
+}
+
+// Answers all lines. A proved loop has to end, and nothing says that the input does: so it counts its turns down, from a number that no run uses up.
+pub fn answer_all(
+    first: Carried,
+    block: &mut [u8],
+    line: &mut [u8],
+    vars: &mut [u8],
+    homes: &[u8],
+    paths: &[u8],
+)
+    requires { ⌜ Keeps (now line) (first .kept) ⌝ }
+{
+    let mut so_far = first;
+    let mut turns = u64::MAX;
+    while turns > 0 && so_far.goes_on {
+        so_far = answer_some(so_far, block, line, vars, homes, paths);
+        turns -= 1;
+    }
+}
