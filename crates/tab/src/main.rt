@@ -1,11 +1,16 @@
-// The table tool: `tab show KIND` reads an image from standard input and writes its lines. What it cannot do it tells on standard error, and writes
-// nothing else then. The work is `tabling`'s.
+// The table tool: `tab show KIND` reads an image from standard input and writes its lines, `tab pack KIND` reads lines and writes their image. What it
+// cannot do it tells on standard error, and writes nothing else then. The work is that of `tabling` and `packing`.
 ghost use mathlib.Core.Path.{_≡_};
 ghost use Prim.Native.Nat.{_*_, _≤_};
+ghost use mathlib.Core.Bool.{true};
 ghost use lib.ListN.{length};
+ghost use Rattle.stages.specs.Numbers.{imageLimit};
+ghost use Rattle.tables.specs.Kinds.{inTwos};
 use libc::STDERR_FILENO;
 use libc::STDIN_FILENO;
 use libc::STDOUT_FILENO;
+use packing::Fault;
+use packing::Packed;
 use tables::Kind;
 use tabling::Shown;
 
@@ -73,8 +78,67 @@ fn show(kind: Kind) {
     show_input(kind, &mut image, &mut out);
 }
 
+// Why a line is no record.
+fn say_fault(fault: Fault) {
+    match fault {
+        Fault::NoEquals => say(b": no `=` in it\n"),
+        Fault::NoKey => say(b": no name or login before its `=`\n"),
+        Fault::BadEscape => say(b": an unknown escape\n"),
+        Fault::ZeroByte => say(b": a zero byte\n"),
+        Fault::Twice => say(b": the key of an earlier line\n"),
+        Fault::TooLong => say(b": with it the table is too long\n"),
+    }
+}
+
+// Packs the lines that are read.
+fn pack_input(kind: Kind, text: &mut [u8], image: &mut [u8], work: &mut [u8])
+    requires { ⌜ inTwos kind ≡ true ⌝ }
+    requires { ⌜ (imageLimit ≤ length (now image)) × (length (now text) ≤ length (now work)) ⌝ }
+{
+    let n = io::read_full(STDIN_FILENO, text);
+    if !was_read(n, text.len()) {
+        return;
+    }
+    if n == text.len() {
+        say(b"tab: a text of more than 131,075 bytes\n");
+        return;
+    }
+    let packed = packing::pack(kind, &text[..n], image, work);
+    match packed {
+        Packed::Len(m) => write_out(image, m),
+        Packed::Bad { line, fault } => {
+            say(b"tab: line ");
+            io::print_decimal(STDERR_FILENO, line as u64);
+            say_fault(fault);
+        }
+    }
+}
+
+fn pack(kind: Kind)
+    requires { ⌜ inTwos kind ≡ true ⌝ }
+{
+    let mut text = lines_room();
+    let mut image = image_room();
+    let mut work = lines_room();
+    pack_input(kind, &mut text, &mut image, &mut work);
+}
+
 fn usage() {
-    say(b"usage: tab show vars|homes|paths < image > text\n");
+    say(
+        b"usage: tab show vars|homes|paths < image > text\n       tab pack vars|homes < text > image\n",
+    );
+}
+
+fn pack_named(word: &[u8]) {
+    if texts::same(word, b"vars") {
+        pack(Kind::Variables);
+        return;
+    }
+    if texts::same(word, b"homes") {
+        pack(Kind::Homes);
+        return;
+    }
+    usage();
 }
 
 fn show_named(word: &[u8]) {
@@ -104,6 +168,10 @@ fn main() {
     }
     if texts::same(&job[..n], b"show") {
         show_named(&word[..m]);
+        return;
+    }
+    if texts::same(&job[..n], b"pack") {
+        pack_named(&word[..m]);
         return;
     }
     usage();

@@ -105,9 +105,6 @@ four-put : (b c : ℕ) (out : Text) → 4 ≤ length out
     → Puts (92 ∷ 120 ∷ b ∷ c ∷ []) out (set (set (set (set out 0 92) 1 120) 2 b) 3 c) 4
 four-put b c out h = fill-ends fourth refl
   where
-    all : Text
-    all = 92 ∷ 120 ∷ b ∷ c ∷ []
-
     first : Filling (92 ∷ 120 ∷ b ∷ c ∷ []) (120 ∷ b ∷ c ∷ []) out (set out 0 92) 1
     first = fill-byte (fill-starts (92 ∷ 120 ∷ b ∷ c ∷ []) out h) 92 (120 ∷ b ∷ c ∷ []) 1 refl refl
 

@@ -1,0 +1,4 @@
+pub mod Escaping
+pub mod Entering
+pub mod Going
+pub mod Determined
