@@ -1,3 +1,4 @@
 pub mod Reading
 pub mod Taking
 pub mod Saying
+pub mod Turns
