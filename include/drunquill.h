@@ -1,0 +1,123 @@
+/* Drunquill: POSIX words expanded, fields quoted. Three functions over buffers that the caller lends.
+ *
+ * The functions are proved to answer as docs/01-scope.md says, for any bytes in any buffers: they call nothing but memcpy and memset, keep nothing
+ * between calls, use no heap, always return, and may run in several threads at once on buffers of their own. How soon they return is not proved: a pattern
+ * of many stars that does not match is tried in every way, and the time grows with each star (9 stars on 60 bytes: seconds). Who takes patterns or lines from
+ * strangers should bound the call's time from outside.
+ * Link target/staticlib/libexported.a, which `rt staticlib exported` builds (x86-64 Linux).
+ *
+ * BUFFERS. Each is a pointer and a length in bytes.
+ *  - No pointer may be NULL, also where the length is 0. Each must have that many bytes, readable; `vars`, `work` and `out` writable too.
+ *  - `vars`, `work` and `out` may overlap neither each other nor any other buffer of the call. `line`, `homes` and `paths` are only read.
+ *  - Nothing else may read or write the buffers during the call.
+ * The functions reach no byte outside the buffers and the stack. Bytes of a text are never changed by a locale: letters and digits are the ASCII ones.
+ *
+ * IMAGES. A table is an image: one version byte, 1, then its records to the end. A text is a length in two bytes, the higher first, then so many bytes,
+ * none of them zero.
+ *  - variables  a name (a letter or '_', then letters, digits, '_') and a value; at most DRUNQUILL_IMAGE_MAX bytes
+ *  - homes      a login (letters, digits, '.', '_', '-', at least one) and a directory; at most DRUNQUILL_IMAGE_MAX bytes
+ *  - paths      one text, not empty; at most DRUNQUILL_PATHS_MAX bytes
+ *  - fields     one text, which may be empty; at most DRUNQUILL_IMAGE_MAX bytes
+ * Variables, homes and paths stand in strictly rising order of name, login or path, as memcmp orders them, a prefix first. A table without records is
+ * the one byte 1, and not an empty buffer.
+ */
+#ifndef DRUNQUILL_H
+#define DRUNQUILL_H
+
+#include <stddef.h>
+#include <stdint.h>
+
+#ifdef __cplusplus
+extern "C" {
+#endif
+
+/* Limits, in bytes where nothing else is said. */
+#define DRUNQUILL_WORK_LEAST 65536 /* the least length of the work area */
+#define DRUNQUILL_LINE_MAX 2048    /* the longest line, and the longest quoted line */
+#define DRUNQUILL_IMAGE_MAX 8192   /* the longest image of variables, homes or fields */
+#define DRUNQUILL_PATHS_MAX 32768  /* the longest image of paths */
+#define DRUNQUILL_UNITS_MAX 2048   /* units of a word, an operand or an arithmetic text: its bytes, and a mark for each opening quote */
+#define DRUNQUILL_DEPTH_MAX 8      /* expansions open at once, "${" and "$((" together */
+#define DRUNQUILL_OPEN_MAX 32      /* parentheses and unary signs open at once in arithmetic, together */
+
+/* What a call needs of the stack, in bytes, rounded up from what tests/c measures on the deepest lines known: 384,928. It is measured and not proved. Most
+ * lines take below 32,768; each star of a pattern takes 176 more while it is matched, and each open parenthesis of arithmetic up to 1,250. */
+#define DRUNQUILL_STACK 524288
+
+/* The numbers. 0 is the acceptance, each other one a refusal. */
+enum {
+    DRUNQUILL_ACCEPTED = 0,
+    DRUNQUILL_WORK_TOO_SMALL = 1,     /* the work area has fewer than DRUNQUILL_WORK_LEAST bytes */
+    DRUNQUILL_BAD_VARIABLES = 2,      /* variables malformed, above their limit, or the used length beyond the buffer */
+    DRUNQUILL_BAD_HOMES = 3,          /* homes malformed or above their limit */
+    DRUNQUILL_BAD_PATHS = 4,          /* paths malformed or above their limit */
+    DRUNQUILL_LINE_TOO_LONG = 5,      /* the line has more than DRUNQUILL_LINE_MAX bytes */
+    DRUNQUILL_ZERO_BYTE = 6,          /* a zero byte in the line */
+    DRUNQUILL_UNENDED = 7,            /* the line ends inside a quote, a brace or arithmetic, or after a backslash */
+    DRUNQUILL_BARE_OPERATOR = 8,      /* one of |&;<>() not quoted, or a # that begins a word */
+    DRUNQUILL_SUBSTITUTION = 9,       /* a command substitution: $( or a backquote */
+    DRUNQUILL_UNSERVED = 10,          /* a parameter that is not served: $1, $@, $?, ${1}, $'..' */
+    DRUNQUILL_BAD_SYNTAX = 11,        /* other bad syntax */
+    DRUNQUILL_TOO_DEEP = 12,          /* more than DRUNQUILL_DEPTH_MAX expansions, or DRUNQUILL_OPEN_MAX parentheses and signs */
+    DRUNQUILL_DEMANDED = 13,          /* ${name?} or ${name:?} on a missing value */
+    DRUNQUILL_TOO_MANY_UNITS = 14,    /* a word, an operand or an arithmetic text above DRUNQUILL_UNITS_MAX units */
+    DRUNQUILL_NOT_NUMBER = 15,        /* arithmetic: a constant or a variable's value that is not a number */
+    DRUNQUILL_ARITHMETIC_SYNTAX = 16, /* arithmetic: bad syntax, or an empty text */
+    DRUNQUILL_OVERFLOW = 17,          /* arithmetic: out of the range of 64 signed bits */
+    DRUNQUILL_ZERO_DIVISOR = 18,      /* arithmetic: division or remainder by zero */
+    DRUNQUILL_BRACKET_CLASS = 19,     /* a pattern with [: or [. or [= in a bracket */
+    DRUNQUILL_VARIABLE_ROOM = 20,     /* a store makes the variables longer than their buffer or DRUNQUILL_IMAGE_MAX */
+    DRUNQUILL_OUTPUT_ROOM = 21,       /* the output is longer than its buffer or its limit */
+    DRUNQUILL_BAD_FIELDS = 22         /* the quoter's fields malformed or above their limit */
+};
+
+/* What the expander and the normaliser answer. */
+struct drunquill_answer {
+    uint8_t number;  /* one of the numbers above */
+    size_t place;    /* where in the line: the offset of the first byte of the word at fault, or of the operator itself if no word is open.
+                        0 on acceptance, for numbers 1 to 6, and for 21 from the normaliser's quoting */
+    size_t out_len;  /* bytes written to the front of `out`; 0 on a refusal */
+    size_t used_len; /* the variables' used length now: that of the new image, or on a refusal `used` as it was given */
+};
+
+/* What the quoter answers. Its place is always 0. */
+struct drunquill_quote_answer {
+    uint8_t number; /* 0, 21 or 22 */
+    size_t place;
+    size_t out_len; /* bytes written to the front of `out`; 0 on a refusal */
+};
+
+/* The expander: the fields of the line's words, an image, to `out`.
+ *
+ *  vars, used   the variables: an image in the first `used` of `vars_len` bytes. ${name=word} stores into it. The buffer may be longer than
+ *               DRUNQUILL_IMAGE_MAX, the image may not.
+ *  homes        whose directory ~login gives; ~ alone gives the variable HOME
+ *  paths        what patterns are matched against: the function looks at no file
+ *  work         at least DRUNQUILL_WORK_LEAST bytes, whatever they hold. After every call, whatever the number, all `work_len` bytes are zero.
+ *  out          the fields' image. One of DRUNQUILL_IMAGE_MAX bytes is always long enough for what can be accepted. One byte is needed for no fields.
+ *
+ * On acceptance the bytes of `vars` and `out` behind the new images are unchanged. On a refusal every byte of both is. Faults are met in this order:
+ * numbers 1 to 6 as they are numbered; then the whole line is read; then its words are expanded from left to right; the first fault is answered.
+ */
+struct drunquill_answer drunquill_expand(const uint8_t *line, size_t line_len, uint8_t *vars, size_t vars_len, size_t used, const uint8_t *homes,
+                                         size_t homes_len, const uint8_t *paths, size_t paths_len, uint8_t *work, size_t work_len, uint8_t *out,
+                                         size_t out_len);
+
+/* The normaliser: as the expander, but the fields go to `out` as a quoted line (see the quoter), of at most DRUNQUILL_LINE_MAX bytes. If the quoted line
+ * has no room the number is 21 at place 0 and the variables are as before, too. A line without fields needs no byte of `out`.
+ */
+struct drunquill_answer drunquill_normalise(const uint8_t *line, size_t line_len, uint8_t *vars, size_t vars_len, size_t used, const uint8_t *homes,
+                                            size_t homes_len, const uint8_t *paths, size_t paths_len, uint8_t *work, size_t work_len, uint8_t *out,
+                                            size_t out_len);
+
+/* The quoter: an image of fields as a line to `out`. Each field stands in single quotes, each ' in it written '\''; one blank between fields; no fields, no
+ * bytes. No zero byte is put behind the line. Above DRUNQUILL_LINE_MAX bytes or `out_len` the number is 21. Bytes of `out` behind the line are unchanged,
+ * on a refusal all of them.
+ */
+struct drunquill_quote_answer drunquill_quote(const uint8_t *fields, size_t fields_len, uint8_t *out, size_t out_len);
+
+#ifdef __cplusplus
+}
+#endif
+
+#endif

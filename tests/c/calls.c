@@ -1,0 +1,249 @@
+/* Calls each function of the archive on good and bad input, and compares number, place, lengths and every byte of every buffer, with what stands around it.
+ * What is expected is written out here from docs/01-scope.md. */
+#include "buffers.h"
+
+static struct bytes line, vars_image, homes_image, paths_image, want_out, want_vars, fields;
+static struct buffer vars, work, out, vars_before, work_before, out_before;
+static int count;
+
+/* the sizes of the next call's buffers, and the used length; reset by `set` */
+static size_t vars_len, used, work_len, out_len;
+
+typedef struct drunquill_answer job(const uint8_t *, size_t, uint8_t *, size_t, size_t, const uint8_t *, size_t, const uint8_t *, size_t, uint8_t *, size_t,
+                                    uint8_t *, size_t);
+
+static void fail(const char *name, const char *what) {
+    printf("test-c: %s: %s\n", name, what);
+    exit(1);
+}
+
+/* The variables and paths of the spoiled recipes, and a line. */
+static void set(const char *text) {
+    image(&vars_image, (const char *const[]){"HOME", "/home/crew", "job", "north field", "note", "", NULL});
+    image(&homes_image, (const char *const[]){NULL});
+    image(&paths_image, (const char *const[]){".hid.raw", "a b.raw", "n/p1.raw", "p1.raw", "p2.raw", NULL});
+    line.len = 0;
+    add_string(&line, text);
+    vars_len = 300;
+    used = vars_image.len;
+    work_len = DRUNQUILL_WORK_LEAST;
+    out_len = 200;
+    want_out.len = 0;
+    want_vars.len = 0;
+}
+
+/* The buffers after the call: new images in front, junk as before behind them, and the work area zero. */
+static void compare_buffers(const char *name) {
+    memcpy(lent(&vars_before), want_vars.at, want_vars.len);
+    memcpy(lent(&out_before), want_out.at, want_out.len);
+    memset(lent(&work_before), 0, work_before.len);
+    if (!same(&vars, &vars_before)) fail(name, "variables");
+    if (!same(&work, &work_before)) fail(name, "work area");
+    if (!same(&out, &out_before)) fail(name, "output");
+}
+
+static void call(const char *name, job *f, unsigned number, size_t place) {
+    lend(&vars, vars_len, &vars_image, 5);
+    lend(&work, work_len, NULL, 77);
+    lend(&out, out_len, NULL, 141);
+    vars_before = vars;
+    work_before = work;
+    out_before = out;
+    struct drunquill_answer a = f(line.at, line.len, lent(&vars), vars_len, used, homes_image.at, homes_image.len, paths_image.at, paths_image.len, lent(&work),
+                                  work_len, lent(&out), out_len);
+    if (a.number != number) {
+        printf("test-c: %s: number %u, not %u\n", name, a.number, number);
+        exit(1);
+    }
+    if (a.place != place) fail(name, "place");
+    if (a.out_len != want_out.len) fail(name, "output length");
+    if (a.used_len != (number == 0 && want_vars.len ? want_vars.len : used)) fail(name, "used length");
+    compare_buffers(name);
+    count++;
+}
+
+/* A line is refused by both jobs that take one, with the sizes and tables that are set. */
+static void refused(const char *name, unsigned number, size_t place) {
+    call(name, drunquill_expand, number, place);
+    call(name, drunquill_normalise, number, place);
+}
+
+static void refuses(const char *text, unsigned number, size_t place) {
+    set(text);
+    refused(text, number, place);
+}
+
+static void quote(const char *name, unsigned number) {
+    lend(&out, out_len, NULL, 200);
+    out_before = out;
+    struct drunquill_quote_answer a = drunquill_quote(fields.at, fields.len, lent(&out), out_len);
+    memcpy(lent(&out_before), want_out.at, want_out.len);
+    if (a.number != number) fail(name, "number");
+    if (a.place != 0) fail(name, "place");
+    if (a.out_len != want_out.len) fail(name, "output length");
+    if (!same(&out, &out_before)) fail(name, "output");
+    count++;
+}
+
+static void accepted_lines(void) {
+    static const uint8_t c1[32] = {0x01, 0x00, 0x02, 0x63, 0x70, 0x00, 0x0B, 0x6E, 0x6F, 0x72, 0x74, 0x68, 0x20, 0x66, 0x69, 0x65,
+                                   0x6C, 0x64, 0x00, 0x05, 0x6E, 0x6F, 0x72, 0x74, 0x68, 0x00, 0x05, 0x66, 0x69, 0x65, 0x6C, 0x64};
+    set("cp \"$job\" $job");
+    add(&want_out, c1, sizeof c1);
+    call("C1", drunquill_expand, 0, 0);
+    out_len = 32;
+    call("C1, output just long enough", drunquill_expand, 0, 0);
+    want_out.len = 0;
+    out_len = 200;
+    add_string(&want_out, "'cp' 'north field' 'north' 'field'");
+    call("C1 normalised", drunquill_normalise, 0, 0);
+
+    set("${tilt:=\"a b\"}");
+    image(&want_out, (const char *const[]){"a", "b", NULL});
+    image(&want_vars, (const char *const[]){"HOME", "/home/crew", "job", "north field", "note", "", "tilt", "a b", NULL});
+    call("C6", drunquill_expand, 0, 0);
+    want_out.len = 0;
+    add_string(&want_out, "'a' 'b'");
+    call("C6 normalised", drunquill_normalise, 0, 0);
+
+    set("*.raw ~/out $((7/-2))");
+    image(&want_out, (const char *const[]){"a b.raw", "p1.raw", "p2.raw", "/home/crew/out", "-3", NULL});
+    call("C2, C10, C9", drunquill_expand, 0, 0);
+    work_len = DRUNQUILL_WORK_LEAST + 1000;
+    call("a longer work area", drunquill_expand, 0, 0);
+
+    set("~kit");
+    image(&homes_image, (const char *const[]){"kit", "/k", NULL});
+    image(&want_out, (const char *const[]){"/k", NULL});
+    call("a home", drunquill_expand, 0, 0);
+}
+
+static void empty_things(void) {
+    set("");
+    empty_image(&want_out);
+    call("no line", drunquill_expand, 0, 0);
+    want_out.len = 0;
+    out_len = 0;
+    call("no line, no output", drunquill_expand, DRUNQUILL_OUTPUT_ROOM, 0);
+    call("no line, no output, normalised", drunquill_normalise, 0, 0);
+    set("a");
+    work_len = 0;
+    refused("no work area", DRUNQUILL_WORK_TOO_SMALL, 0);
+    set("a");
+    used = 0;
+    refused("no variables' image", DRUNQUILL_BAD_VARIABLES, 0);
+    vars_len = 0;
+    refused("no variables' buffer", DRUNQUILL_BAD_VARIABLES, 0);
+    set("a");
+    homes_image.len = 0;
+    refused("no homes' image", DRUNQUILL_BAD_HOMES, 0);
+    set("a");
+    paths_image.len = 0;
+    refused("no paths' image", DRUNQUILL_BAD_PATHS, 0);
+}
+
+static void refused_tables(void) {
+    set("a");
+    work_len = DRUNQUILL_WORK_LEAST - 1;
+    refused("a work area one byte short", DRUNQUILL_WORK_TOO_SMALL, 0);
+    set("a");
+    used = vars_len + 1;
+    refused("used length beyond the buffer", DRUNQUILL_BAD_VARIABLES, 0);
+    used = (size_t)-1;
+    refused("the greatest used length", DRUNQUILL_BAD_VARIABLES, 0);
+    set("a");
+    used = vars_image.len - 1;
+    refused("used length inside a record", DRUNQUILL_BAD_VARIABLES, 0);
+    set("a");
+    image(&homes_image, (const char *const[]){"b", "/b", "a", "/a", NULL});
+    refused("homes that fall", DRUNQUILL_BAD_HOMES, 0);
+    set("a");
+    image(&paths_image, (const char *const[]){"", NULL});
+    refused("an empty path", DRUNQUILL_BAD_PATHS, 0);
+}
+
+static void refused_lines(void) {
+    set("");
+    repeat(&line, "a", DRUNQUILL_LINE_MAX + 1);
+    refused("a line of 2,049 bytes", DRUNQUILL_LINE_TOO_LONG, 0);
+    set("a");
+    add(&line, "\0b", 2);
+    refused("a zero byte", DRUNQUILL_ZERO_BYTE, 0);
+    refuses("a \"b", DRUNQUILL_UNENDED, 2);
+    refuses("a | b", DRUNQUILL_BARE_OPERATOR, 2);
+    refuses("a `b`", DRUNQUILL_SUBSTITUTION, 2);
+    refuses("a b$1", DRUNQUILL_UNSERVED, 2);
+    refuses("a ${job!}", DRUNQUILL_BAD_SYNTAX, 2);
+    refuses("a ${u-${u-${u-${u-${u-${u-${u-${u-${u-x}}}}}}}}}", DRUNQUILL_TOO_DEEP, 2);
+    refuses("${note:?}", DRUNQUILL_DEMANDED, 0);
+    refuses("${tilt=x} ${note:?}", DRUNQUILL_DEMANDED, 10);
+    refuses("a $((08))", DRUNQUILL_NOT_NUMBER, 2);
+    refuses("a $(())", DRUNQUILL_ARITHMETIC_SYNTAX, 2);
+    refuses("a $((9223372036854775807+1))", DRUNQUILL_OVERFLOW, 2);
+    refuses("a $((1/0))", DRUNQUILL_ZERO_DIVISOR, 2);
+    refuses("a [[:alpha:]]", DRUNQUILL_BRACKET_CLASS, 2);
+}
+
+static void edges(void) {
+    static struct bytes value;
+    for (int n = 2047; n <= 2048; n++) {
+        set("\"$v\"");
+        empty_image(&vars_image);
+        add_text(&vars_image, "v");
+        value.len = 0;
+        repeat(&value, "x", n);
+        add_text_of(&vars_image, value.at, value.len);
+        used = vars_image.len;
+        vars_len = DRUNQUILL_IMAGE_MAX + 100;
+        out_len = DRUNQUILL_IMAGE_MAX;
+        if (n == 2047) {
+            empty_image(&want_out);
+            add_text_of(&want_out, value.at, value.len);
+            call("2,047 bytes in quotes", drunquill_expand, 0, 0);
+            want_out.len = 0;
+            call("2,047 bytes as a quoted line", drunquill_normalise, DRUNQUILL_OUTPUT_ROOM, 0);
+        } else {
+            refused("2,048 bytes in quotes", DRUNQUILL_TOO_MANY_UNITS, 0);
+        }
+    }
+    set("a ${tilt:=x}");
+    vars_len = used + 8;
+    refused("one byte short for a variable", DRUNQUILL_VARIABLE_ROOM, 2);
+    set("a ${tilt:=x} bc");
+    out_len = 10;
+    call("one byte short for the output", drunquill_expand, DRUNQUILL_OUTPUT_ROOM, 13);
+    call("one byte short for the quoted line", drunquill_normalise, DRUNQUILL_OUTPUT_ROOM, 0);
+}
+
+static void quoted_fields(void) {
+    out_len = 60;
+    want_out.len = 0;
+    image(&fields, (const char *const[]){"it's", "", "a b", NULL});
+    add_string(&want_out, "'it'\\''s' '' 'a b'");
+    quote("the recipe", 0);
+    out_len = want_out.len;
+    quote("the recipe, output just long enough", 0);
+    out_len--;
+    want_out.len = 0;
+    quote("the recipe, one byte short", DRUNQUILL_OUTPUT_ROOM);
+    fields.len--;
+    quote("fields cut short", DRUNQUILL_BAD_FIELDS);
+    fields.len = 0;
+    quote("no bytes", DRUNQUILL_BAD_FIELDS);
+    empty_image(&fields);
+    out_len = 0;
+    quote("no fields, no output", 0);
+    fields.at[0] = 2;
+    quote("another version", DRUNQUILL_BAD_FIELDS);
+}
+
+int main(void) {
+    accepted_lines();
+    empty_things();
+    refused_tables();
+    refused_lines();
+    edges();
+    quoted_fields();
+    printf("c: %d calls as they should be, every byte of every buffer\n", count);
+    return 0;
+}
