@@ -32,7 +32,8 @@ static size_t used_by_call(void) {
     lend(&out, DRUNQUILL_IMAGE_MAX, NULL, 3);
     pthread_attr_t attr;
     pthread_t thread;
-    if (pthread_attr_init(&attr) || pthread_attr_setstack(&attr, stack, STACK) || pthread_create(&thread, &attr, run, NULL) || pthread_join(thread, NULL)) abort();
+    if (pthread_attr_init(&attr) || pthread_attr_setstack(&attr, stack, STACK)) abort();
+    if (pthread_create(&thread, &attr, run, NULL) || pthread_join(thread, NULL)) abort();
     pthread_attr_destroy(&attr);
     uint8_t *low = stack;
     while (*low == PATTERN) low++;
