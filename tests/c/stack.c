@@ -120,8 +120,8 @@ int main(void) {
     measure("seven $(( around 32 signs", 0);
     within(7, "${u-", "${v%%$p}", "}");
     measure("seven ${u- around a pattern of 2,048 stars", 0);
-    within(7, "${u-", "${v%$p}", "}");
-    measure("the same for the shortest suffix", 0);
+    within(7, "\"${v%", "\"${v%%$p}\"", "}\"");
+    measure("seven ${v% around it, each in quotes", 0);
     within(8, "${u-", "$p", "}");
     measure("eight ${u- around a path pattern of 2,048 stars", 0);
     within(8, "${u-", "$((", "}");
