@@ -40,7 +40,7 @@ extern "C" {
 #define DRUNQUILL_DEPTH_MAX 8      /* expansions open at once, "${" and "$((" together */
 #define DRUNQUILL_OPEN_MAX 32      /* parentheses and unary signs open at once in arithmetic, together */
 
-/* What a call needs of the stack, in bytes, rounded up from what tests/c measures on the deepest lines known: 384,928. It is measured and not proved. Most
+/* What a call needs of the stack, in bytes, rounded up from what tests/c measures on the deepest lines known: 391,200. It is measured and not proved. Most
  * lines take below 32,768; each star of a pattern takes 176 more while it is matched, and each open parenthesis of arithmetic up to 1,250. */
 #define DRUNQUILL_STACK 524288
 

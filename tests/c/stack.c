@@ -32,7 +32,8 @@ static size_t used_by_call(void) {
     lend(&out, DRUNQUILL_IMAGE_MAX, NULL, 3);
     pthread_attr_t attr;
     pthread_t thread;
-    if (pthread_attr_init(&attr) || pthread_attr_setstack(&attr, stack, STACK) || pthread_create(&thread, &attr, run, NULL) || pthread_join(thread, NULL)) abort();
+    if (pthread_attr_init(&attr) || pthread_attr_setstack(&attr, stack, STACK)) abort();
+    if (pthread_create(&thread, &attr, run, NULL) || pthread_join(thread, NULL)) abort();
     pthread_attr_destroy(&attr);
     uint8_t *low = stack;
     while (*low == PATTERN) low++;
@@ -119,8 +120,8 @@ int main(void) {
     measure("seven $(( around 32 signs", 0);
     within(7, "${u-", "${v%%$p}", "}");
     measure("seven ${u- around a pattern of 2,048 stars", 0);
-    within(7, "${u-", "${v%$p}", "}");
-    measure("the same for the shortest suffix", 0);
+    within(7, "\"${v%", "\"${v%%$p}\"", "}\"");
+    measure("seven ${v% around it, each in quotes", 0);
     within(8, "${u-", "$p", "}");
     measure("eight ${u- around a path pattern of 2,048 stars", 0);
     within(8, "${u-", "$((", "}");
