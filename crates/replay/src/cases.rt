@@ -3,6 +3,7 @@
 use crate::telling::Told;
 use crate::telling::hold_bytes;
 use crate::telling::hold_number;
+use crate::words;
 use crate::words::byte_at;
 use crate::words::byte_count;
 use crate::words::number;
@@ -64,21 +65,40 @@ fn hold_word(told: Told, what: &[u8], given: usize, case: &[u8], n: usize) -> To
 
 // Holds the numbers that a job gave against the case's.
 fn hold_numbers(told: Told, case: &[u8], answer: Answer) -> Told {
-    let told = hold_word(told, b"number", answer.number as usize, case, 10);
-    let told = hold_word(told, b"place", answer.place, case, 11);
-    let told = hold_word(told, b"output length", answer.out_len, case, 12);
-    hold_word(told, b"used length", answer.used_len, case, 14)
+    let told = hold_word(told, b"number", answer.number as usize, case, words::NUMBER);
+    let told = hold_word(told, b"place", answer.place, case, words::PLACE);
+    let told = hold_word(
+        told,
+        b"output length",
+        answer.out_len,
+        case,
+        words::OUT_LENGTH,
+    );
+    hold_word(
+        told,
+        b"used length",
+        answer.used_len,
+        case,
+        words::USED_LENGTH,
+    )
 }
 
 // Holds what a job left in the buffers against the case.
 fn hold_buffers(told: Told, case: &[u8], vars: &[u8], work: &[u8], out: &[u8]) -> Told {
-    let told = hold_bytes(told, b"output", out, word(case, 13), b"-", OUT_FILL);
+    let told = hold_bytes(
+        told,
+        b"output",
+        out,
+        word(case, words::OUT_BYTES),
+        b"-",
+        OUT_FILL,
+    );
     let told = hold_bytes(
         told,
         b"variables",
         vars,
-        word(case, 15),
-        word(case, 2),
+        word(case, words::VARS_BYTES),
+        word(case, words::VARS),
         VARS_FILL,
     );
     hold_bytes(told, b"work area", work, b"-", b"-", WORK_ZERO)
@@ -86,15 +106,15 @@ fn hold_buffers(told: Told, case: &[u8], vars: &[u8], work: &[u8], out: &[u8]) -
 
 // Writes a case's line, homes and paths.
 fn lay_given(case: &[u8], line: &mut [u8], homes: &mut [u8], paths: &mut [u8]) {
-    lay_word(line, case, 1, 0);
-    lay_word(homes, case, 5, 0);
-    lay_word(paths, case, 6, 0);
+    lay_word(line, case, words::LINE, 0);
+    lay_word(homes, case, words::HOMES, 0);
+    lay_word(paths, case, words::PATHS, 0);
 }
 
 // Fills the buffers that a job writes.
 fn lay_buffers(case: &[u8], vars: &mut [u8], work: &mut [u8], out: &mut [u8]) {
-    lay_word(vars, case, 2, VARS_FILL);
-    lay_word(work, case, 1, WORK_JUNK);
+    lay_word(vars, case, words::VARS, VARS_FILL);
+    lay_word(work, case, words::LINE, WORK_JUNK);
     lay(out, b"-", OUT_FILL);
 }
 
@@ -109,7 +129,7 @@ fn call(
     work: &mut [u8],
     out: &mut [u8],
 ) -> Answer {
-    let used = number(word(case, 3));
+    let used = number(word(case, words::USED));
     if is_normaliser {
         drunquill::normalise(line, vars, used, homes, paths, work, out)
     } else {
@@ -173,12 +193,12 @@ pub fn try_line(
     work: &mut [u8],
     out: &mut [u8],
 ) -> Told {
-    let a = cut_to_bytes(case, 1, line);
-    let b = cut_to_size(case, 4, vars);
-    let c = cut_to_bytes(case, 5, homes);
-    let d = cut_to_bytes(case, 6, paths);
-    let e = cut_to_size(case, 7, work);
-    let f = cut_to_size(case, 8, out);
+    let a = cut_to_bytes(case, words::LINE, line);
+    let b = cut_to_size(case, words::VARS_BUFFER, vars);
+    let c = cut_to_bytes(case, words::HOMES, homes);
+    let d = cut_to_bytes(case, words::PATHS, paths);
+    let e = cut_to_size(case, words::WORK, work);
+    let f = cut_to_size(case, words::OUT, out);
     run_line(
         is_normaliser,
         told,
@@ -194,15 +214,34 @@ pub fn try_line(
 
 // Holds what the quoter gave, and left in the output, against the case.
 fn hold_quote(told: Told, case: &[u8], answer: QuoteAnswer, out: &[u8]) -> Told {
-    let told = hold_word(told, b"number", answer.number as usize, case, 4);
-    let told = hold_word(told, b"place", answer.place, case, 5);
-    let told = hold_word(told, b"output length", answer.len, case, 6);
-    hold_bytes(told, b"output", out, word(case, 7), b"-", OUT_FILL)
+    let told = hold_word(
+        told,
+        b"number",
+        answer.number as usize,
+        case,
+        words::QUOTE_NUMBER,
+    );
+    let told = hold_word(told, b"place", answer.place, case, words::QUOTE_PLACE);
+    let told = hold_word(
+        told,
+        b"output length",
+        answer.len,
+        case,
+        words::QUOTE_LENGTH,
+    );
+    hold_bytes(
+        told,
+        b"output",
+        out,
+        word(case, words::QUOTE_BYTES),
+        b"-",
+        OUT_FILL,
+    )
 }
 
 // Runs a case of the quoter in buffers of its sizes.
 fn run_quote(told: Told, case: &[u8], fields: &mut [u8], out: &mut [u8]) -> Told {
-    lay_word(fields, case, 1, 0);
+    lay_word(fields, case, words::FIELDS, 0);
     lay(out, b"-", OUT_FILL);
     let answer = drunquill::quote(fields, out);
     hold_quote(told, case, answer, out)
@@ -210,7 +249,7 @@ fn run_quote(told: Told, case: &[u8], fields: &mut [u8], out: &mut [u8]) -> Told
 
 // Cuts the areas to the sizes of a case of the quoter, and runs it.
 pub fn try_quote(told: Told, case: &[u8], fields: &mut [u8], out: &mut [u8]) -> Told {
-    let a = cut_to_bytes(case, 1, fields);
-    let b = cut_to_size(case, 2, out);
+    let a = cut_to_bytes(case, words::FIELDS, fields);
+    let b = cut_to_size(case, words::QUOTE_OUT, out);
     run_quote(told, case, &mut fields[..a], &mut out[..b])
 }

@@ -79,26 +79,27 @@ fn drop_line(block: &mut [u8], have: usize, end: usize) -> usize
 // there are none.
 fn is_line_case(case: &[u8]) -> bool {
     if !words::has_shape(case, b"jhhdshhss=dddhdh")
-        || !words::fits(case, 2, 4)
-        || !words::agrees(case, 12, 13)
+        || !words::fits(case, words::VARS, words::VARS_BUFFER)
+        || !words::agrees(case, words::OUT_LENGTH, words::OUT_BYTES)
     {
         return false;
     }
-    if words::number(words::word(case, 10)) == 0 {
-        words::agrees(case, 14, 15)
+    if words::number(words::word(case, words::NUMBER)) == 0 {
+        words::agrees(case, words::USED_LENGTH, words::VARS_BYTES)
     } else {
-        words::byte_count(words::word(case, 15)) == 0
+        words::byte_count(words::word(case, words::VARS_BYTES)) == 0
     }
 }
 
 // Is the case one of the quoter?
 fn is_quote_case(case: &[u8]) -> bool {
-    words::has_shape(case, b"jhs=dddh") && words::agrees(case, 6, 7)
+    words::has_shape(case, b"jhs=dddh")
+        && words::agrees(case, words::QUOTE_LENGTH, words::QUOTE_BYTES)
 }
 
 // The job of a case that is sound and that there is room for.
 fn job_of(case: &[u8]) -> Job {
-    let job = words::word(case, 0);
+    let job = words::word(case, words::JOB);
     if texts::same(job, b"quote") && is_quote_case(case) {
         return Job::Quoter;
     }

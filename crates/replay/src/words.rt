@@ -5,6 +5,51 @@ ghost use lib.ListN.{length};
 // How many bytes a line, a table, the variables' buffer, the work area and the output may each have here.
 pub const ROOM: usize = 131072;
 
+// The places of a case's words. Its job comes first.
+pub const JOB: usize = 0;
+
+// Those of the expander and the normaliser; `=` stands at 9.
+pub const LINE: usize = 1;
+
+pub const VARS: usize = 2;
+
+pub const USED: usize = 3;
+
+pub const VARS_BUFFER: usize = 4;
+
+pub const HOMES: usize = 5;
+
+pub const PATHS: usize = 6;
+
+pub const WORK: usize = 7;
+
+pub const OUT: usize = 8;
+
+pub const NUMBER: usize = 10;
+
+pub const PLACE: usize = 11;
+
+pub const OUT_LENGTH: usize = 12;
+
+pub const OUT_BYTES: usize = 13;
+
+pub const USED_LENGTH: usize = 14;
+
+pub const VARS_BYTES: usize = 15;
+
+// Those of the quoter; `=` stands at 3.
+pub const FIELDS: usize = 1;
+
+pub const QUOTE_OUT: usize = 2;
+
+pub const QUOTE_NUMBER: usize = 4;
+
+pub const QUOTE_PLACE: usize = 5;
+
+pub const QUOTE_LENGTH: usize = 6;
+
+pub const QUOTE_BYTES: usize = 7;
+
 const BLANK: u8 = b' ';
 
 // How many digits the largest number has, 18446744073709551615.
