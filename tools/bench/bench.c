@@ -8,9 +8,9 @@
 #include <string.h>
 #include <time.h>
 
-uint32_t measured_paths_formed(const uint8_t *image, size_t length);
-uint32_t measured_matches(const uint8_t *pattern, size_t pattern_length, const uint8_t *text, size_t length, uint32_t path);
-uint32_t measured_read(const uint8_t *line, size_t length);
+_Bool measured_paths_formed(const uint8_t *image, size_t length);
+_Bool measured_matches(const uint8_t *pattern, size_t pattern_length, const uint8_t *text, size_t length, _Bool path);
+uint8_t measured_read(const uint8_t *line, size_t length);
 
 static double seconds = 12;
 static volatile uint32_t sink;
@@ -51,7 +51,7 @@ static void make_card(void) {
   image_length = 1;
   static const char *const jobs[] = {"north-abc", "base", "aabbaabb", "rover-c", "field"};
   for (int i = 0; i < 1500; i++) {
-    int n = snprintf(names[i], sizeof names[i], "p%04d-%s%s", i, jobs[i % 5], i % 3 ? ".raw" : ".obs");
+    int n = snprintf(names[i], sizeof names[i], "p%04d-25-%s%s", i, jobs[i % 5], i % 3 ? ".raw" : ".obs");
     if (image_length + 2 + (size_t)n > sizeof image) break;
     image[image_length] = (uint8_t)(n / 256), image[image_length + 1] = (uint8_t)(n % 256);
     memcpy(image + image_length + 2, names[i], (size_t)n);

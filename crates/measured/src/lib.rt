@@ -1,35 +1,37 @@
-// The functions whose speed docs/TIMES.md gives, as C calls them. Each asks the proved function and turns its answer into a number.
+// The functions whose speed docs/TIMES.md gives, as C calls them: each hands its question to the proved function.
 ghost use mathlib.Core.Path.{_≡_};
-ghost use mathlib.Core.Bool.{Bool};
+ghost use Rattle.stages.specs.Read.{readLine};
+ghost use Rattle.stages.specs.Pattern.{matches, elements};
+ghost use Rattle.texts.specs.Rows.{signsOf};
+ghost use Rattle.tables.specs.Kinds.{wellFormed};
+ghost use Rattle.measured.specs.Numbers.{numberOf};
 use reading::LineRead;
 use tables::Kind;
 
-// 1 if the bytes are a well-formed image of paths, else 0.
+// Are the bytes a well-formed image of paths?
 #[no_mangle]
-pub extern "C" fn measured_paths_formed(image: &[u8]) -> u32 {
-    if tables::well_formed(Kind::Paths, image) {
-        1
-    } else {
-        0
-    }
+pub extern "C" fn measured_paths_formed(image: &[u8]) -> bool
+    ensures { λ r. ⌜ r ≡ wellFormed Kind.Paths (now (image .entry)) ⌝ }
+{
+    tables::well_formed(Kind::Paths, image)
 }
 
-// 1 if the whole text matches the units of a pattern, by the rules for paths where `path` is not 0, else 0.
+// Does the whole text match the units of a pattern, by the rules for paths where `path` says so?
 #[no_mangle]
-pub extern "C" fn measured_matches(pattern: &[u8], text: &[u8], path: u32) -> u32 {
-    if patterns::matches(pattern, text, path != 0) {
-        1
-    } else {
-        0
-    }
+pub extern "C" fn measured_matches(pattern: &[u8], text: &[u8], path: bool) -> bool
+    ensures { λ r. ⌜ r ≡ matches path (elements path 0 (signsOf (now (pattern .entry)))) (now (text .entry)) ⌝ }
+{
+    patterns::matches(pattern, text, path)
 }
 
 // The number that refuses a line in reading, or 0.
 #[no_mangle]
-pub extern "C" fn measured_read(line: &[u8]) -> u32 {
+pub extern "C" fn measured_read(line: &[u8]) -> u8
+    ensures { λ r. ⌜ r ≡ numberOf (readLine (now (line .entry))) ⌝ }
+{
     let read = reading::read_line(line);
     match read {
         LineRead::Read => 0,
-        LineRead::Refused { number, place: _ } => number as u32,
+        LineRead::Refused { number, place: _ } => number,
     }
 }
