@@ -67,7 +67,7 @@ pub fn give_value(name: &[u8], mark: Mark, used: usize, vars: &[u8], area: &mut 
     requires { ⌜ Table (now vars) × (used ≤ rowLimit) × (2 * rowLimit ≤ length (now area) + 2 * used) ⌝ }
     ensures { λ r. ⌜ Adds used (done (marked (expanded (markOf mark)) (value (held (now (vars .entry))) (now (name .entry))))) (now (area .exit)) r ⌝ }
 {
-    let value = tables::value_of(vars, name);
+    let value = lookups::value_of(vars, name);
     give_text(value, rows::expanded_mark(mark), used, area)
 }
 
@@ -88,7 +88,7 @@ pub fn give_length(name: &[u8], mark: Mark, used: usize, vars: &[u8], area: &mut
     requires { ⌜ Table (now vars) × (used ≤ rowLimit) × (2 * rowLimit ≤ length (now area) + 2 * used) ⌝ }
     ensures { λ r. ⌜ Adds used (done (marked (expanded (markOf mark)) (decimal (length (value (held (now (vars .entry))) (now (name .entry))))))) (now (area .exit)) r ⌝ }
 {
-    let value = tables::value_of(vars, name);
+    let value = lookups::value_of(vars, name);
     let mut digits = [0u8; DIGITS];
     give_count(value.len() as u64, mark, used, &mut digits, area)
 }

@@ -82,7 +82,7 @@ fn home_in(image: &[u8], key: &[u8], work: &mut [u8]) -> Home
     requires { ⌜ Table (now image) × (2 * rowLimit ≤ length (now work)) ⌝ }
     ensures { λ r. ⌜ HomeSays (lookup (now (key .entry)) (held (now (image .entry)))) (now (work .exit)) r ⌝ }
 {
-    let found = tables::look_up(image, key);
+    let found = lookups::look_up(image, key);
     match found {
         Found::Missing => Home::Nothing,
         Found::At { from, to } => home_of(give_directory(&image[from..to], work)),

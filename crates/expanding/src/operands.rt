@@ -107,7 +107,7 @@ fn cut(
     if patterns::has_class(&work[..n], false) {
         return Added::Refused(REFUSED_CLASS);
     }
-    let value = tables::value_of(vars, name);
+    let value = lookups::value_of(vars, name);
     let left = removals::removed(value, &work[..n], suffix, long);
     super::adding::give_text(left, rows::expanded_mark(mark), used, work)
 }

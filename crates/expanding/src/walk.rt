@@ -98,7 +98,7 @@ fn expand_inner(
     requires { ⌜ Ready (now text) at mode depth 0 (length (now work)) × Holds room (now vars) have × (used ≤ rowLimit) × (isName (now name) ≡ true) ⌝ }
     ensures { λ r. ⌜ Says room (now (text .entry)) at used (λ q. placed used (parameter room (λ k u. expand room q k 0 u) (now (name .entry)) (formOf form) (markOf mark) (held (take have (now (vars .entry)))))) (parts (modeOf mode) depth (drop at (now (text .entry)))) (now (work .exit)) (now (vars .exit)) r ⌝ }
 {
-    let found = tables::look_up(&vars[..have], name);
+    let found = lookups::look_up(&vars[..have], name);
     let plan = plan_of(form, found);
     if wants_operand(plan) {
         let literal = operand_mark(plan, mark);

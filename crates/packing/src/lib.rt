@@ -192,7 +192,7 @@ fn enter(image: &mut [u8], used: usize, key: &[u8], value: &[u8]) -> Entered
     requires { ⌜ (all notZero (now key) ≡ true) × (all notZero (now value) ≡ true) ⌝ }
     ensures { λ r. ⌜ Enters (entered (entry (now (key .entry)) (now (value .entry))) (held (take used (now (image .entry))))) (held (take used (now (image .entry)))) (now (image .entry)) (now (image .exit)) r ⌝ }
 {
-    let found = tables::look_up(&image[..used], key);
+    let found = lookups::look_up(&image[..used], key);
     match found {
         Found::At { from: _, to: _ } => return Entered::Bad(Fault::Twice),
         Found::Missing => {}

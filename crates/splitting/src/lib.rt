@@ -234,7 +234,7 @@ pub fn put_word_fields(
     requires { ⌜ Listed (now paths) ⌝ }
     ensures { λ r. ⌜ Puts (named (heldTexts (now (paths .entry))) (fieldsOfRow (held (take have (now (vars .entry)))) (rowOf (now (row .entry))))) used (now (out .entry)) (now (out .exit)) r ⌝ }
 {
-    let found = tables::look_up_ifs(&vars[..have]);
+    let found = lookups::look_up_ifs(&vars[..have]);
     match found {
         Found::At { from, to } => put_fields(row, &vars[from..to], paths, out, used),
         Found::Missing => put_fields(row, b" \t\n", paths, out, used),

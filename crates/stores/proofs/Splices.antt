@@ -117,7 +117,7 @@ module _ (b w : Text) (used at end : ℕ) (h : at ≤ end) (k : end ≤ used) (l
         ∙ regroup (take at b) w (part b end used) (drop (length (spliced b used at end w)) b)
 
 -- what `splice` answers and leaves
-module _ (b name value : Text) (used at end cap : ℕ) (h : at ≤ end) (k : end ≤ used) (l : used ≤ cap) (c : cap ≤ length b) (g : cap ≤ imageLimit) where
+module _ (b name value : Text) (used at end cap : ℕ) (p : (at ≤ end) × (end ≤ used) × (used ≤ cap) × (cap ≤ length b) × (cap ≤ imageLimit)) where
   abbrev new : Text
   new = framed name ++ framed value
 
@@ -128,7 +128,7 @@ module _ (b name value : Text) (used at end cap : ℕ) (h : at ≤ end) (k : end
   new-size = simp length-append (omega arith)
 
   new-length : length (spliced b used at end new) ≡ at + (size + (used - end))
-  new-length = spliced-length b new used at end h k (omega arith) ∙ ap (λ (n : ℕ). at + (n + (used - end))) new-size
+  new-length = spliced-length b new used at end (p .0) (p .1) (omega arith) ∙ ap (λ (n : ℕ). at + (n + (used - end))) new-size
 
   pub splice-full : cap - (used - (end - at)) < size → Writes (within cap (spliced b used at end new)) b b (refused variableRoom)
   splice-full m = writes-refused variableRoom b (within-full cap (spliced b used at end new) (omega (arith, new-length)))
@@ -161,4 +161,4 @@ module _ (b name value : Text) (used at end cap : ℕ) (h : at ≤ end) (k : end
         ∙ ap (λ (i : ℕ). placed i (framed value) (placed at (framed name) b1)) behind
         ∙ placed-both at (framed name) (framed value) b1 (omega arith)
         ∙ ap (placed at new) e
-        ∙ splice-is b new used at end h k (omega arith) size (sym new-size) (omega arith))
+        ∙ splice-is b new used at end (p .0) (p .1) (omega arith) size (sym new-size) (omega arith))

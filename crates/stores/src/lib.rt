@@ -94,7 +94,7 @@ pub fn store(vars: &mut [u8], used: usize, name: &[u8], value: &[u8], cap: usize
     requires { ⌜ Table (take used (now vars)) ⌝ }
     ensures { λ r. ⌜ Writes (imageIn cap (now (name .entry)) (now (value .entry)) (held (take used (now (vars .entry))))) (now (vars .entry)) (now (vars .exit)) (storedOutcome r) ⌝ }
 {
-    let spot = tables::place_of(&vars[..used], name);
+    let spot = lookups::place_of(&vars[..used], name);
     match spot {
         Spot::Known { at, mid: _, end } => splice(vars, used, at, end, name, value, cap),
         Spot::Fresh(at) => splice(vars, used, at, at, name, value, cap),

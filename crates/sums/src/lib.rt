@@ -31,7 +31,7 @@ fn name_number(name: &[u8], vars: &[u8]) -> Number
     requires { ⌜ Table (now vars) ⌝ }
     ensures { λ r. ⌜ numbered r ≡ nameNumber (lookup (now (name .entry)) (held (now (vars .entry)))) ⌝ }
 {
-    let found = tables::look_up(vars, name);
+    let found = lookups::look_up(vars, name);
     match found {
         Found::At { from, to } => numbers::constants::value_of(&vars[from..to]),
         Found::Missing => Number::Value(0),

@@ -1,4 +1,4 @@
--- What the answers of `place_of` and `look_up` say once their case is known, and how one gives the other. Assumes nothing.
+-- What the place of a key and the finding of it say once their case is known, and how one gives the other. Assumes nothing.
 use Prim.Native.Nat.{ℕ, _+_}
 use native.Mathlib.Omega.{arith}
 use mathlib.Core.Path.{_≡_, sym, ap, _∙_}

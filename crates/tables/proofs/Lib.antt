@@ -1,6 +1,4 @@
-pub mod Frames
 pub mod Splits
-pub mod Spots
 pub mod Finds
 pub mod Pieces
 pub mod Walk

@@ -6,43 +6,44 @@ use Rattle.stores.proofs.splice.Statement.{statement}
 use Rattle.stores.proofs.splice.Tie as tie
 
 sub-kept : tie.Need-sub-kept
-sub-kept c = search needs
+sub-kept c = omega (arith, c .before .before .before .pre)
 
 sub-kept-2 : tie.Need-sub-kept-2
-sub-kept-2 c = search needs
+sub-kept-2 c = omega (arith, c .before .before .before .pre)
 
 sub-fits : tie.Need-sub-fits
-sub-fits c = search needs
+sub-fits c = omega (arith, c .before .before .before .pre)
 
 fits-requires : tie.Need-fits-requires
 fits-requires c κs = search needs
 
 returns : tie.Need-returns
 returns c =
-    let a = c .before .before .before .before .before .args in
-    splice-full (a .vars .now) (a .name .now) (a .value .now) (a .used) (a .at) (a .end) (a .cap) (omega arith) (omega arith) (omega arith) (omega arith) (omega arith)
+    let start = c .before .before .before .before .before in
+    let a = start .args in
+    splice-full (a .vars .now) (a .name .now) (a .value .now) (a .used) (a .at) (a .end) (a .cap) (start .pre)
     (lacks-room _ _ _ _ (c .before .fits2 .ensures) (c .if1 .taken))
 
 add-size : tie.Need-add-size
-add-size c = search needs
+add-size c = omega (arith, c .before .before .before .before .before .pre, has-room _ _ _ _ (c .before .fits2 .ensures) (c .if1 .left))
 
 add-size-2 : tie.Need-add-size-2
-add-size-2 c = omega (arith, has-room _ _ _ _ (c .before .fits2 .ensures) (c .if1 .left))
+add-size-2 c = omega (arith, c .before .before .before .before .before .pre, has-room _ _ _ _ (c .before .fits2 .ensures) (c .if1 .left))
 
 add-shift : tie.Need-add-shift
-add-shift c = omega (arith, has-room _ _ _ _ (c .before .before .fits2 .ensures) (c .before .if1 .left))
+add-shift c = omega (arith, c .before .before .before .before .before .before .pre, has-room _ _ _ _ (c .before .before .fits2 .ensures) (c .before .if1 .left))
 
 sub-shift : tie.Need-sub-shift
-sub-shift c = search needs
+sub-shift c = omega (arith, c .before .before .before .before .before .before .pre)
 
 shift-requires : tie.Need-shift-requires
-shift-requires c κs = omega (arith, has-room _ _ _ _ (c .before .before .fits2 .ensures) (c .before .if1 .left))
+shift-requires c κs = omega (arith, c .before .before .before .before .before .before .pre, has-room _ _ _ _ (c .before .before .fits2 .ensures) (c .before .if1 .left))
 
 sub-put-record : tie.Need-sub-put-record
-sub-put-record c = search needs
+sub-put-record c = omega (arith, c .before .before .before .before .before .before .before .before .before .pre, c .before .before .shift .kept .0)
 
 part-put-record-start : tie.Need-part-put-record-start
-part-put-record-start c = search needs
+part-put-record-start c = omega (arith, c .before .before .before .before .before .before .before .before .before .pre, c .before .before .shift .kept .0)
 
 part-put-record-end : tie.Need-part-put-record-end
 part-put-record-end c = search needs
@@ -51,16 +52,16 @@ put-record-requires : tie.Need-put-record-requires
 put-record-requires c κs = search needs
 
 add-next : tie.Need-add-next
-add-next c = search needs
+add-next c = omega (arith, c .before .before .before .before .before .before .before .before .before .before .before .before .before .pre)
 
 add-next-2 : tie.Need-add-next-2
-add-next-2 c = search needs
+add-next-2 c = let tested = c .before .before .before .before .before .before .before .before in omega (arith, tested .before .before .before .before .before .pre, has-room _ _ _ _ (tested .before .fits2 .ensures) (tested .if1 .left))
 
 sub-put-record-2 : tie.Need-sub-put-record-2
-sub-put-record-2 c = let tested = c .before .before .before .before .before .before .before .before in omega (arith, has-room _ _ _ _ (tested .before .fits2 .ensures) (tested .if1 .left))
+sub-put-record-2 c = let tested = c .before .before .before .before .before .before .before .before in omega (arith, tested .before .before .before .before .before .pre, c .before .before .before .before .before .before .shift .kept .0, c .before .vars2 .given, has-room _ _ _ _ (tested .before .fits2 .ensures) (tested .if1 .left))
 
 part-put-record-start-2 : tie.Need-part-put-record-start-2
-part-put-record-start-2 c = let tested = c .before .before .before .before .before .before .before .before in omega (arith, has-room _ _ _ _ (tested .before .fits2 .ensures) (tested .if1 .left))
+part-put-record-start-2 c = let tested = c .before .before .before .before .before .before .before .before in omega (arith, tested .before .before .before .before .before .pre, c .before .before .before .before .before .before .shift .kept .0, c .before .vars2 .given, has-room _ _ _ _ (tested .before .fits2 .ensures) (tested .if1 .left))
 
 part-put-record-end-2 : tie.Need-part-put-record-end-2
 part-put-record-end-2 c = search needs
@@ -69,7 +70,7 @@ put-record-requires-2 : tie.Need-put-record-requires-2
 put-record-requires-2 c κs = search needs
 
 add-t14 : tie.Need-add-t14
-add-t14 c = let tested = c .before .before .before .before .before .before .before .before .before .before .before .before in omega (arith, has-room _ _ _ _ (tested .before .fits2 .ensures) (tested .if1 .left))
+add-t14 c = let tested = c .before .before .before .before .before .before .before .before .before .before .before .before in omega (arith, tested .before .before .before .before .before .pre, has-room _ _ _ _ (tested .before .fits2 .ensures) (tested .if1 .left))
 
 same-length : tie.Need-same-length
 same-length c = search needs
@@ -80,8 +81,9 @@ returns-2 c =
     let first = second .before .before .before .before in
     let moved = first .before .before .before .before in
     let tested = moved .before .before in
-    let a = tested .before .before .before .before .before .args in
-    splice-kept (a .vars .now) (a .name .now) (a .value .now) (a .used) (a .at) (a .end) (a .cap) (omega arith) (omega arith) (omega arith) (omega arith) (omega arith)
+    let start = tested .before .before .before .before .before in
+    let a = start .args in
+    splice-kept (a .vars .now) (a .name .now) (a .value .now) (a .used) (a .at) (a .end) (a .cap) (start .pre)
     (moved .shift .last .0) (first .put-record .last .0) (has-room _ _ _ _ (tested .before .fits2 .ensures) (tested .if1 .left)) (moved .shift .ensures) (moved .shift .kept .0) (first .put-record .ensures)
     (second .put-record2 .last .0) (second .put-record2 .ensures)
 

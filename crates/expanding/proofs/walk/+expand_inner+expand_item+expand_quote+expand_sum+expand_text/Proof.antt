@@ -47,7 +47,7 @@ use Rattle.items.proofs.item_at.Reads as item-at-reads
 use Rattle.reading.proofs.read_text.Reads as read-text-reads
 use Rattle.rows.proofs.literal_mark.Reads as literal-mark-reads
 use Rattle.rows.proofs.put_empty.Reads as put-empty-reads
-use Rattle.tables.proofs.look_up.Reads as look-up-reads
+use Rattle.lookups.proofs.look_up.Reads as look-up-reads
 use Rattle.expanding.proofs.walk.+expand_inner+expand_item+expand_quote+expand_sum+expand_text.{
   statement,
 }

@@ -1,12 +1,12 @@
--- `tables::place_of` meets its contract: the records passed are below the key, and the first that is not decides. Assumes nothing.
+-- `lookups::place_of` meets its contract: the records passed are below the key, and the first that is not decides. Assumes nothing.
 use native.Mathlib.Omega.{arith}
 use Prim.Native.Nat.{_-_}
 use mathlib.Core.Path.{refl, sym, _∙_}
 use lib.ListN.{length}
-use Rattle.tables.proofs.Spots.{Walking, starts, name-fits, record-fits, place-less, place-same, place-more, place-end}
+use Rattle.lookups.proofs.Spots.{Walking, starts, name-fits, record-fits, place-less, place-same, place-more, place-end}
 use borrow.Author.Needs.{needs}
-use Rattle.tables.proofs.place_of.Statement.{statement}
-use Rattle.tables.proofs.place_of.Tie as tie
+use Rattle.lookups.proofs.place_of.Statement.{statement}
+use Rattle.lookups.proofs.place_of.Tie as tie
 
 abbrev Inv-loop : tie.InvT-loop
 Inv-loop image key at₀ at = Walking image key at

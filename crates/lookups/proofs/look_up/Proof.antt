@@ -1,9 +1,9 @@
--- `tables::look_up` meets its contract: the value of a known key is what stands behind its name. Assumes nothing.
+-- `lookups::look_up` meets its contract: the value of a known key is what stands behind its name. Assumes nothing.
 use native.Mathlib.Omega.{arith}
 use Rattle.tables.proofs.Finds.{is-known, look-known, look-fresh}
 use borrow.Author.Needs.{needs}
-use Rattle.tables.proofs.look_up.Statement.{statement}
-use Rattle.tables.proofs.look_up.Tie as tie
+use Rattle.lookups.proofs.look_up.Statement.{statement}
+use Rattle.lookups.proofs.look_up.Tie as tie
 
 place-of-requires : tie.Need-place-of-requires
 place-of-requires c κs = search needs

@@ -1,8 +1,8 @@
--- `tables::value_of` meets its contract: the part is the value that the look-up shows, and the empty part that of no value. Assumes nothing.
+-- `lookups::value_of` meets its contract: the part is the value that the look-up shows, and the empty part that of no value. Assumes nothing.
 use Rattle.tables.proofs.Finds.{is-shown, shown-value, absent-value}
 use borrow.Author.Needs.{needs}
-use Rattle.tables.proofs.value_of.Statement.{statement}
-use Rattle.tables.proofs.value_of.Tie as tie
+use Rattle.lookups.proofs.value_of.Statement.{statement}
+use Rattle.lookups.proofs.value_of.Tie as tie
 
 look-up-requires : tie.Need-look-up-requires
 look-up-requires c κs = search needs

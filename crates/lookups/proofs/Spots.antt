@@ -15,11 +15,11 @@ use Rattle.stages.proofs.Stores.{lookup-here, lookup-later, lookup-under, risin
 use Rattle.texts.specs.Orders.{orderOf}
 use Rattle.texts.specs.declared.Order.the-variants.{Less, Same, More}
 use Rattle.texts.proofs.Orders.{order-below, order-equal, order-above, above-not-equal}
 use Rattle.tables.specs.Pieces.{sizeAt}
 use Rattle.tables.specs.Places.{Table, before, behind, placeOf, spotBy, spotIn, Hole, known, fresh, Placed}
 use Rattle.tables.specs.declared.Spot.the-variants.{Known, Fresh}
-use Rattle.tables.proofs.Frames.{Frame, frame}
+use Rattle.lookups.proofs.Frames.{Frame, frame}
 use Rattle.tables.proofs.Splits.{before-more, before-stop, behind-more, behind-known, behind-fresh, equal-not-above}
 
 pub record Walking (t key : Text) (at : ℕ) : Type 0 where
   pub passed : Pairs
