@@ -33,7 +33,7 @@ fn name_number(name: &[u8], vars: &[u8]) -> Number
 {
     let found = tables::look_up(vars, name);
     match found {
-        Found::At { from, to } => numbers::constants::value_of(&vars[from..to]),
+        Found::At { from, to } => constants::value_of(&vars[from..to]),
         Found::Missing => Number::Value(0),
     }
 }

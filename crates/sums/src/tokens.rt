@@ -44,7 +44,7 @@ fn constant_at(text: &[u8], at: usize) -> Token
     ensures { λ r. ⌜ TokenAt (now (text .entry)) at r ⌝ }
 {
     let to = texts::run_end(text, at, Class::NameByte);
-    let got = numbers::constants::number_of(&text[at..to], false);
+    let got = constants::number_of(&text[at..to], false);
     match got {
         Number::Refused(e) => Token::Refused(e),
         Number::Value(z) => Token::Number { value: z, next: to },
