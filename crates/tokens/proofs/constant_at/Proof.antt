@@ -1,10 +1,10 @@
--- `sums::tokens::constant_at` meets its contract: the run is a constant, whose number or refusal is the token's. Assumes nothing.
+-- `tokens::constant_at` meets its contract: the run is a constant, whose number or refusal is the token's. Assumes nothing.
 use mathlib.Core.Path.{sym, _∙_, ap}
 use Rattle.numbers.specs.Answers.{numbered}
-use Rattle.sums.proofs.Lexing.{kept, bad-constant, good-constant}
+use Rattle.tokens.proofs.Lexing.{kept, bad-constant, good-constant}
 use borrow.Author.Needs.{needs}
-use Rattle.sums.proofs.tokens.constant_at.Statement.{statement}
-use Rattle.sums.proofs.tokens.constant_at.Tie as tie
+use Rattle.tokens.proofs.constant_at.Statement.{statement}
+use Rattle.tokens.proofs.constant_at.Tie as tie
 
 run-end-requires : tie.Need-run-end-requires
 run-end-requires c κs = search needs

@@ -10,8 +10,8 @@ use Rattle.stages.specs.Arith.{Lexed, stop, num, name, op, opens, shuts, token,
 use Rattle.numbers.specs.Answers.{opOf}
 use Rattle.numbers.specs.declared.Op.{Op}
 use Rattle.numbers.specs.declared.Op.the-variants.{Mul, Div, Rem, Add, Sub, Lt, Le, Gt, Ge, Eq, Ne}
-use Rattle.sums.specs.declared.tokens.Token.{Token}
-use Rattle.sums.specs.declared.tokens.Token.the-variants as code
+use Rattle.tokens.specs.declared.Token.{Token}
+use Rattle.tokens.specs.declared.Token.the-variants as code
 
 -- an operator's level, by the code's operators
 abbrev pub levelOf : Op → ℕ

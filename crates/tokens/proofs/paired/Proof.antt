@@ -1,8 +1,8 @@
--- `sums::tokens::paired` meets its contract: the byte behind is a `=`, another, or none. Assumes nothing.
-use Rattle.sums.proofs.Lexing.{with-equals, without-equals, at-the-end}
+-- `tokens::paired` meets its contract: the byte behind is a `=`, another, or none. Assumes nothing.
+use Rattle.tokens.proofs.Lexing.{with-equals, without-equals, at-the-end}
 use borrow.Author.Needs.{needs}
-use Rattle.sums.proofs.tokens.paired.Statement.{statement}
-use Rattle.sums.proofs.tokens.paired.Tie as tie
+use Rattle.tokens.proofs.paired.Statement.{statement}
+use Rattle.tokens.proofs.paired.Tie as tie
 
 add-next : tie.Need-add-next
 add-next c = search needs

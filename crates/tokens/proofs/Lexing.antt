@@ -30,9 +30,9 @@ use Rattle.numbers.specs.Answers.{opOf}
 use Rattle.numbers.specs.declared.Op.{Op}
 use Rattle.numbers.specs.declared.Op.the-variants.{Mul, Div, Rem, Add, Sub, Lt, Le, Gt, Ge, Eq, Ne}
 use Rattle.numbers.specs.declared.Number.{Number}
-use Rattle.sums.specs.Tokens.{levelOf, lexed, Behind, Ends, TokenAt, Pairs, Symbol}
-use Rattle.sums.specs.declared.tokens.Token.{Token}
-use Rattle.sums.specs.declared.tokens.Token.the-variants as code
+use Rattle.tokens.specs.Tokens.{levelOf, lexed, Behind, Ends, TokenAt, Pairs, Symbol}
+use Rattle.tokens.specs.declared.Token.{Token}
+use Rattle.tokens.specs.declared.Token.the-variants as code
 
 -- a number that an answer holds
 pub kept : (z : ℤ) → mag z < 2 ^ 63 → toZ w64 (ofZ w64 z) ≡ z

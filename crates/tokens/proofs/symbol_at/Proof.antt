@@ -1,12 +1,12 @@
--- `sums::tokens::symbol_at` meets its contract: at each byte that begins a token the stage computes; any other is none. Assumes nothing.
+-- `tokens::symbol_at` meets its contract: at each byte that begins a token the stage computes; any other is none. Assumes nothing.
 use mathlib.Core.Path.{refl, sym}
 use Rattle.stages.specs.Bytes.{isBlank, isDigit, isLetter, isNameStart}
 use Rattle.stages.specs.Outcome.{choose}
 use Rattle.stages.specs.Arith.{token}
-use Rattle.sums.proofs.Lexing.{single, no-token, next-place}
+use Rattle.tokens.proofs.Lexing.{single, no-token, next-place}
 use borrow.Author.Needs.{needs}
-use Rattle.sums.proofs.tokens.symbol_at.Statement.{statement}
-use Rattle.sums.proofs.tokens.symbol_at.Tie as tie
+use Rattle.tokens.proofs.symbol_at.Statement.{statement}
+use Rattle.tokens.proofs.symbol_at.Tie as tie
 
 add-next : tie.Need-add-next
 add-next c = search needs

@@ -1,12 +1,12 @@
--- `sums::tokens::token_at` meets its contract: behind the blanks, the first byte's class tells which token stands there. Assumes nothing.
+-- `tokens::token_at` meets its contract: behind the blanks, the first byte's class tells which token stands there. Assumes nothing.
 use Prim.Native.Nat.{_<_}
 use native.Mathlib.Omega.{arith}
 use lib.ListN.{length}
 use mathlib.Core.Path.{sym, _∙_}
-use Rattle.sums.proofs.Lexing.{nothing-left, behind-blanks, not-blank, name-at}
+use Rattle.tokens.proofs.Lexing.{nothing-left, behind-blanks, not-blank, name-at}
 use borrow.Author.Needs.{needs}
-use Rattle.sums.proofs.tokens.token_at.Statement.{statement}
-use Rattle.sums.proofs.tokens.token_at.Tie as tie
+use Rattle.tokens.proofs.token_at.Statement.{statement}
+use Rattle.tokens.proofs.token_at.Tie as tie
 
 -- the run of blanks ends before the text does
 short : (c : tie.Else1) → c .before .run-end .result < length (c .before .before .before .args .text .now)

@@ -2,11 +2,12 @@
 ghost use mathlib.Core.Path.{_≡_};
 ghost use Prim.Native.Nat.{_≤_, _<_};
 ghost use lib.ListN.{length};
-ghost use Rattle.sums.specs.Tokens.{levelOf, TokenAt, Digit, Symbol, Ends, Pairs};
-use super::REFUSED_SYNTAX;
+ghost use Rattle.tokens.specs.Tokens.{levelOf, TokenAt, Digit, Symbol, Ends, Pairs};
 use numbers::Number;
 use numbers::Op;
 use texts::Class;
+
+pub const REFUSED_SYNTAX: u8 = 16;
 
 // A token, and the place behind it; of a name, where it begins and ends.
 pub enum Token {
