@@ -16,7 +16,7 @@ use Rattle.stages.proofs.Bools.{either}
 use Rattle.stages.proofs.Digits.{digits-one, digits-more}
 use Rattle.quoting.specs.Answers.{Puts}
 use Rattle.quoting.proofs.Filling.{Filling, fill-byte, fill-piece}
-use Rattle.numbers.specs.Answers as numbers
+use Rattle.decimals.specs.Answers as decimals
 use Rattle.cutting.specs.Said.{saidBy, okText, noText, answerRoom}
 
 -- the two kinds of answer
@@ -58,7 +58,7 @@ copied : (t old left : Text) → left ≡ t ++ drop (length t) old → Puts t ol
 unfolding over
 copied t old left e = record { counts = refl; leaves = e }
 
-pub put-number : {t old left : Text} {n : ℕ} → numbers.Puts t old left n → Puts t old left n
+pub put-number : {t old left : Text} {n : ℕ} → decimals.Puts t old left n → Puts t old left n
 unfolding over
 put-number p = record { counts = p .counts; leaves = p .is }
 

@@ -101,11 +101,11 @@ fn put_no(number: u8, place: usize, out: &mut [u8]) -> usize
     ensures { λ r. ⌜ Puts (noText number place) (now (out .entry)) (now (out .exit)) r ⌝ }
 {
     texts::copy_in(b"no ", out);
-    let a = numbers::decimal::put_decimal(&mut out[3..], number as u64);
+    let a = decimals::put_decimal(&mut out[3..], number as u64);
     let blank = a + 3;
     out[blank] = BLANK;
     let start = blank + 1;
-    let b = numbers::decimal::put_decimal(&mut out[start..], place as u64);
+    let b = decimals::put_decimal(&mut out[start..], place as u64);
     let end = start + b;
     out[end] = NEWLINE;
     end + 1

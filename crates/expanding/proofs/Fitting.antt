@@ -17,7 +17,7 @@ use Rattle.rows.specs.Stands.{fronted}
 use Rattle.expanding.specs.Added.{Adds, Fitting, measured, admitted}
 use Rattle.expanding.specs.declared.adding.Added.{Added}
 use Rattle.expanding.specs.declared.adding.Added.the-variants as added
-use Rattle.numbers.specs.Answers.{Puts}
+use Rattle.decimals.specs.Answers.{Puts}
 
 pub fit-ok : (n k : ℕ) → n + k ≤ rowLimit → fit n k ≡ done (n + k)
 unfolding fit

@@ -79,7 +79,7 @@ fn give_count(n: u64, mark: Mark, used: usize, digits: &mut [u8], area: &mut [u8
     requires { ⌜ (20 ≤ length (now digits)) × (used ≤ rowLimit) × (2 * rowLimit ≤ length (now area) + 2 * used) ⌝ }
     ensures { λ r. ⌜ Adds used (done (marked (expanded (markOf mark)) (decimal n))) (now (area .exit)) r ⌝ }
 {
-    let n = numbers::decimal::put_decimal(digits, n);
+    let n = decimals::put_decimal(digits, n);
     give_text(&digits[..n], rows::expanded_mark(mark), used, area)
 }
 
@@ -98,7 +98,7 @@ fn give_signed(z: i64, mark: Mark, used: usize, digits: &mut [u8], area: &mut [u
     requires { ⌜ (20 ≤ length (now digits)) × (used ≤ rowLimit) × (2 * rowLimit ≤ length (now area) + 2 * used) ⌝ }
     ensures { λ r. ⌜ Adds used (done (marked (expanded (markOf mark)) (signed z))) (now (area .exit)) r ⌝ }
 {
-    let n = numbers::decimal::put_signed(digits, z);
+    let n = decimals::put_signed(digits, z);
     give_text(&digits[..n], rows::expanded_mark(mark), used, area)
 }
 

@@ -1,5 +1,3 @@
 pub mod Linear
 pub mod Ranges
-pub mod Digits
-pub mod Signs
 pub mod Determined

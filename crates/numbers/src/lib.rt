@@ -1,5 +1,5 @@
-// Numbers of document 01, "Arithmetic": here the operations on 64-bit signed numbers, each exact or refused, whose guards are tests that
-// cannot leave the range themselves; in constants.rt what a text stands for; in decimal.rt the text of a number.
+// Numbers of document 01, "Arithmetic": the operations on 64-bit signed numbers, each exact or refused, whose guards are tests that cannot
+// leave the range themselves.
 ghost use mathlib.Core.Path.{_≡_};
 ghost use lib.IntN.{negℤ, natAbs, _+ℤ_, _-ℤ_, _*ℤ_};
 ghost use lib.Signed.{quotZ, remZ};
@@ -7,11 +7,6 @@ ghost use Rattle.stages.specs.Outcome.{done};
 ghost use Rattle.stages.specs.Constants.{ranged};
 ghost use Rattle.stages.specs.Arith.{divided, apply, truth as truthOf};
 ghost use Rattle.numbers.specs.Answers.{numbered, opOf, ofSign};
-
-pub mod constants;
-pub mod decimal;
-
-pub const REFUSED_NOT_NUMBER: u8 = 15;
 
 pub const REFUSED_OVERFLOW: u8 = 17;
 
@@ -21,7 +16,7 @@ const SMALLEST: i64 = -9223372036854775808;
 
 const LARGEST: i64 = 9223372036854775807;
 // The distance of the smallest number from zero, and of the largest.
-const BELOW: u64 = 9223372036854775808;
+pub const BELOW: u64 = 9223372036854775808;
 
 const ABOVE: u64 = 9223372036854775807;
 
@@ -115,7 +110,7 @@ fn remainder(a: i64, b: i64) -> Number
 }
 
 // The distance of a from zero.
-fn magnitude(a: i64) -> u64
+pub fn magnitude(a: i64) -> u64
     ensures { λ r. ⌜ r ≡ natAbs a ⌝ }
 {
     if a < 0 {
@@ -126,7 +121,7 @@ fn magnitude(a: i64) -> u64
 }
 
 // The number at the distance m from zero, below it or not.
-fn of_magnitude(below: bool, m: u64) -> Number
+pub fn of_magnitude(below: bool, m: u64) -> Number
     ensures { λ r. ⌜ numbered r ≡ ranged (ofSign below m) ⌝ }
 {
     if m == 0 {

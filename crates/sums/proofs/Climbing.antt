@@ -15,15 +15,15 @@ use Rattle.stages.proofs.Bools.{no}
 use Rattle.stages.proofs.Arith.{grow-eq}
 use Rattle.numbers.specs.Answers.{opOf}
 use Rattle.numbers.specs.declared.Op.{Op}
-use Rattle.sums.specs.Tokens.{levelOf, lexed, Behind, TokenAt}
+use Rattle.tokens.specs.Tokens.{levelOf, lexed, Behind, TokenAt}
 use Rattle.sums.specs.Climbs.{turning, Joins, Fails, Comes, Says, Worth, Continues, Turns}
-use Rattle.sums.specs.declared.tokens.Token.{Token}
-use Rattle.sums.specs.declared.tokens.Token.the-variants as code
+use Rattle.tokens.specs.declared.Token.{Token}
+use Rattle.tokens.specs.declared.Token.the-variants as code
 use Rattle.sums.specs.declared.climb.Climbed.{Climbed}
 use Rattle.sums.specs.declared.climb.Climbed.the-variants as climbed
 use Rattle.sums.specs.declared.climb.Turn.{Turn}
 use Rattle.sums.specs.declared.climb.Turn.the-variants as turn
-use Rattle.sums.proofs.Lexing.{level-is}
+use Rattle.tokens.proofs.Lexing.{level-is}
 use Rattle.sums.proofs.Trees.{right-refused, both-done, left-fails}
 use Rattle.sums.proofs.Operands.{fault, work-fault, fails-same, fails-first}
 

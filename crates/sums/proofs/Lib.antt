@@ -1,4 +1,3 @@
-pub mod Lexing
 pub mod Trees
 pub mod Operands
 pub mod Climbing

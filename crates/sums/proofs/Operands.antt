@@ -17,10 +17,10 @@ use Rattle.stages.proofs.Arith.{grow-eq}
 use Rattle.numbers.specs.Answers.{opOf}
 use Rattle.numbers.specs.declared.Op.{Op}
 use Rattle.numbers.specs.declared.Op.the-variants.{Add, Sub}
-use Rattle.sums.specs.Tokens.{lexed, TokenAt}
+use Rattle.tokens.specs.Tokens.{lexed, TokenAt}
 use Rattle.sums.specs.Climbs.{climbing, Names, Turned, Closes, Fails, Comes, Says, Worth}
-use Rattle.sums.specs.declared.tokens.Token.{Token}
-use Rattle.sums.specs.declared.tokens.Token.the-variants as code
+use Rattle.tokens.specs.declared.Token.{Token}
+use Rattle.tokens.specs.declared.Token.the-variants as code
 use Rattle.sums.specs.declared.climb.Climbed.{Climbed}
 use Rattle.sums.specs.declared.climb.Climbed.the-variants as climbed
 use Rattle.sums.proofs.Trees.{never, done-same, bound, negated-refused, negated-done, name-is, constant-is}

@@ -16,7 +16,7 @@ use Rattle.numbers.specs.Answers.{opOf}
 use Rattle.numbers.specs.declared.Op.{Op}
 use Rattle.numbers.specs.declared.Number.{Number}
 use Rattle.numbers.specs.declared.Number.the-variants as number
-use Rattle.sums.specs.Tokens.{Behind}
+use Rattle.tokens.specs.Tokens.{Behind}
 use Rattle.sums.specs.declared.climb.Climbed.{Climbed}
 use Rattle.sums.specs.declared.climb.Climbed.the-variants as climbed
 use Rattle.sums.specs.declared.climb.Turn.{Turn}

@@ -1,6 +1,5 @@
 // One climber reads an expression and works it out, as far as it counts. Where it does not count only reading faults are met, and the value says
 // nothing; where it counts the answer is what the tree that the stage reads comes to. Each call stands further on in the text than its caller.
-ghost use mathlib.Core.Path.{_≡_};
 ghost use Prim.Native.Nat.{_≤_};
 ghost use lib.ListN.{length, drop};
 ghost use Rattle.stages.specs.Images.{held};
@@ -8,13 +7,13 @@ ghost use Rattle.stages.specs.Arith.{grow, operand as operandTask, sign, enclos
 ghost use Rattle.numbers.specs.Answers.{opOf};
 ghost use Rattle.sums.specs.Climbs.{Ready, Names, Turned, Joins, Closes, Says, Continues, Turns};
 use super::REFUSED_DEPTH;
-use super::REFUSED_SYNTAX;
 use super::name_number;
-use super::tokens::Token;
-use super::tokens::level;
-use super::tokens::token_at;
 use numbers::Number;
 use numbers::Op;
+use tokens::REFUSED_SYNTAX;
+use tokens::Token;
+use tokens::level;
+use tokens::token_at;
 
 // A value and the place behind its text.
 pub enum Climbed {

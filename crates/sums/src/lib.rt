@@ -1,5 +1,5 @@
-// The arithmetic text of document 01: tokens.rt says what stands at a place, climb.rt reads and works out an expression without a tree. The text is
-// gone through twice, since "reading faults come first": once where nothing counts, and once where all of it does.
+// The arithmetic text of document 01: climb.rt reads and works out an expression without a tree. The text is gone through twice, since "reading
+// faults come first": once where nothing counts, and once where all of it does.
 ghost use mathlib.Core.Path.{_≡_};
 ghost use Prim.Native.Nat.{_≤_};
 ghost use lib.ListN.{length};
@@ -13,15 +13,13 @@ use climb::Climbed;
 use climb::expression;
 use numbers::Number;
 use tables::Found;
+use tokens::REFUSED_SYNTAX;
 use tokens::Token;
 use tokens::token_at;
 
 mod climb;
-mod tokens;
 
 pub const REFUSED_DEPTH: u8 = 12;
-
-pub const REFUSED_SYNTAX: u8 = 16;
 
 // "More than 32 open parentheses and unary signs, together, is 12."
 const MOST_OPEN: usize = 32;
@@ -33,7 +31,7 @@ fn name_number(name: &[u8], vars: &[u8]) -> Number
 {
     let found = lookups::look_up(vars, name);
     match found {
-        Found::At { from, to } => numbers::constants::value_of(&vars[from..to]),
+        Found::At { from, to } => constants::value_of(&vars[from..to]),
         Found::Missing => Number::Value(0),
     }
 }

@@ -8,7 +8,7 @@ use Rattle.stages.specs.Images.{held}
 use mir.Syntax.{w64}
 use mir.Val.{toZ}
 use Rattle.numbers.proofs.Ranges as ranges
-use Rattle.sums.proofs.Lexing.{kept, level-small}
+use Rattle.tokens.proofs.Lexing.{kept, level-small}
 use Rattle.sums.proofs.Operands.{token-shown, says-shown}
 use Rattle.sums.proofs.Climbing.{turns-shown, expression-fails, expression-says, turn-refused, last-stop, last-number, last-name, last-opens, last-shuts, last-loose}
 use Rattle.sums.proofs.Climbing.{right-fails, turn-says, Going, going-start, going-refused, going-last, going-next}
@@ -20,8 +20,8 @@ use Rattle.sums.proofs.climb.+enclosed+expression+further+operand+opera
 use Rattle.sums.proofs.climb.+enclosed+expression+further+operand+operator+signed.Lts-further as further-lts
 use Rattle.sums.proofs.climb.+enclosed+expression+further+operand+operator+signed.Lts-operator as operator-lts
 use Rattle.sums.proofs.climb.joined.Reads as joined-reads
-use Rattle.sums.proofs.tokens.level.Reads as level-reads
-use Rattle.sums.proofs.tokens.token_at.Reads as token-at-reads
+use Rattle.tokens.proofs.level.Reads as level-reads
+use Rattle.tokens.proofs.token_at.Reads as token-at-reads
 use Rattle.sums.proofs.climb.+enclosed+expression+further+operand+operator+signed.Proof.Measures.{expression-at, expression-below, further-at, further-below, operand-below, operator-at, operator-below}
 
 abbrev pub expression-callees : ℕ → expression-lts.Claims

@@ -6,7 +6,7 @@ use lib.ListN.{drop}
 use borrow.Author.Needs.{needs}
 use Rattle.stages.specs.Images.{held}
 use Rattle.stages.specs.Arith as stage
-use Rattle.sums.proofs.Lexing.{kept}
+use Rattle.tokens.proofs.Lexing.{kept}
 use Rattle.sums.proofs.Operands.{token-shown, says-shown, operand-refused, operand-none, operand-shut, operand-number, operand-sign, operand-opens, operand-name}
 use Rattle.sums.proofs.Operands.{plus-deep, minus-deep, plus-says, minus-fails, minus-says, no-sign, enclosed-deep, enclosed-fails, enclosed-says}
 use Rattle.sums.proofs.climb.enclosed.Reads as enclosed
@@ -18,7 +18,7 @@ use Rattle.sums.proofs.climb.+enclosed+expression+further+operand+opera
 use Rattle.sums.proofs.climb.+enclosed+expression+further+operand+operator+signed.Lts-enclosed as enclosed-lts
 use Rattle.sums.proofs.climb.closed.Reads as closed-reads
 use Rattle.sums.proofs.climb.named.Reads as named-reads
-use Rattle.sums.proofs.tokens.token_at.Reads as token-at-reads
+use Rattle.tokens.proofs.token_at.Reads as token-at-reads
 use Rattle.sums.proofs.climb.turned.Reads as turned-reads
 use Rattle.sums.proofs.climb.+enclosed+expression+further+operand+operator+signed.Proof.Measures.{enclosed-at, enclosed-below, expression-below, operand-at, operand-below, signed-at, signed-below}
 
