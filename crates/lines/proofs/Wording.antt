@@ -21,9 +21,9 @@ use Rattle.texts.proofs.Rows.{rowOf-rowBytes, length-rowBytes}
 use Rattle.expanding.specs.Answers.{IsRow, Answers as RowOf, Says as Expands}
 use Rattle.expanding.specs.declared.Expanded.{Expanded}
 use Rattle.expanding.specs.declared.Expanded.the-variants as expanded
-use Rattle.splitting.specs.Answers.{placed, Says, len, class, noRoom, Puts}
-use Rattle.splitting.specs.declared.Written.{Written}
-use Rattle.splitting.specs.declared.Written.the-variants.{Len, Class, NoRoom}
+use Rattle.fields.specs.Answers.{placed, Says, len, class, noRoom, Puts}
+use Rattle.fields.specs.declared.Written.{Written}
+use Rattle.fields.specs.declared.Written.the-variants.{Len, Class, NoRoom}
 use Rattle.lines.specs.Answers.{among, wordOutcome, WordReady, WordOf, WordSays}
 use Rattle.lines.specs.declared.WordExpanded.{WordExpanded}
 use Rattle.lines.specs.declared.WordExpanded.the-variants as word

@@ -1,8 +1,8 @@
 // A line's words, one after the other: each is expanded, split, and its fields are written behind those before it. Places belong to the loop over the
 // words alone.
 use expanding::Expanded;
+use fields::Written;
 use reading::NextWord;
-use splitting::Written;
 ghost use lib.ListN.{length, take, drop};
 ghost use Rattle.stages.specs.Numbers.{depthLimit};
 ghost use Rattle.stages.specs.Images.{held};

@@ -1,40 +1,19 @@
 -- What the contract of `put_word_fields` allows for one input is one answer, and where it accepts, one output. Its exceptions: after a refusal the
 -- bytes of the output from `used` on, and the spent row in every case. Assumes nothing.
 use Prim.Native.Nat.{ℕ}
-use native.Mathlib.Omega.{arith}
-use mathlib.Core.Path.{_≡_, refl, sym, ap, _∙_}
+use mathlib.Core.Path.{_≡_}
 use mathlib.Core.List.{List}
-use Rattle.stages.specs.Numbers.{bracketClass, outputRoom}
 use Rattle.stages.specs.Bytes.{Text}
-use Rattle.stages.specs.Outcome.{Outcome, refused}
-use Rattle.stages.specs.Images.{written}
-use Rattle.splitting.specs.Answers.{writtenOutcome, placed, Puts}
-use Rattle.splitting.specs.declared.Written.{Written}
-use Rattle.splitting.specs.declared.Written.the-variants.{Len, Class, NoRoom}
-use Rattle.splitting.proofs.Filling.{Given, says-len, done-same, apart}
-
-other-number : _≡_ {A = Outcome ℕ} (refused bracketClass) (refused outputRoom) → ⊥
-other-number e = let n : bracketClass ≡ outputRoom = cc in omega arith
-
--- one outcome is that of one answer
-written-one : (r s : Written) → writtenOutcome r ≡ writtenOutcome s → r ≡ s
-written-one (Len n) (Len m) e = ap Len (done-same e)
-written-one (Len n) Class e = absurd (apart e)
-written-one (Len n) NoRoom e = absurd (apart e)
-written-one Class (Len m) e = absurd (apart (sym e))
-written-one Class Class e = refl
-written-one Class NoRoom e = absurd (other-number e)
-written-one NoRoom (Len m) e = absurd (apart (sym e))
-written-one NoRoom Class e = absurd (other-number (sym e))
-written-one NoRoom NoRoom e = refl
+use Rattle.stages.specs.Outcome.{Outcome}
+use Rattle.fields.specs.Answers.{Puts}
+use Rattle.fields.specs.declared.Written.{Written}
+use Rattle.fields.specs.declared.Written.the-variants.{Len}
+use Rattle.fields.proofs.Determined.{put-field-determined, put-field-output}
 
 module _ (o : Outcome (List Text)) (used : ℕ) (old left left′ : Text) (r s : Written) (p : Puts o used old left r) (q : Puts o used old left′ s) where
   pub put-word-fields-determined : r ≡ s
-  put-word-fields-determined = written-one r s (p .answers ∙ sym (q .answers))
+  put-word-fields-determined = put-field-determined (p .says) (q .says)
 
   -- every byte of the output where it is accepted
   pub put-word-fields-output : {n : ℕ} → r ≡ Len n → left ≡ left′
-  put-word-fields-output {n} e =
-      let a : Given o used old left n = says-len (p .says) e in
-      let b : Given o used old left′ n = says-len (q .says) (sym put-word-fields-determined ∙ e) in
-      a .filled .is ∙ ap (λ (l : List Text). placed used (written l) old) (done-same (sym (a .gives) ∙ b .gives)) ∙ sym (b .filled .is)
+  put-word-fields-output = put-field-output (p .says) (q .says)

@@ -1,9 +1,4 @@
-pub mod Places
 pub mod Runs
-pub mod Placing
-pub mod Filling
-pub mod Choosing
 pub mod Walking
 pub mod Words
 pub mod Determined
-pub mod Callers

@@ -11,8 +11,8 @@ use Rattle.stages.specs.Units.{Cell, Row}
 use Rattle.stages.specs.Split.{Delimiter, white, hard, other, delimiter, dropWhite, dropHard, otherRun, fieldsStep, fieldsFrom}
 use Rattle.stages.proofs.Split.{behindField, run-append, behind-length, fields-from}
 use Rattle.texts.specs.Rows.{unitOf, rowOf}
-use Rattle.splitting.specs.Places.{ahead, isOther, goesOn, Reaches}
-use Rattle.splitting.proofs.Places.{none-ahead, unit-ahead, by-place}
+use Rattle.delimiters.specs.Places.{ahead, isOther, goesOn, Reaches}
+use Rattle.delimiters.proofs.Places.{none-ahead, unit-ahead, by-place}
 
 row-front : (p q : Row) (t : Text) → rowOf t ≡ p ++ q → rowOf (take (2 * length p) t) ≡ p
 unfolding rowOf

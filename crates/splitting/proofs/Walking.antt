@@ -17,13 +17,13 @@ use Rattle.stages.specs.Split.{dropWhite, dropHard, otherRun, fieldsFrom, split
 use Rattle.stages.specs.Paths.{pathsFor, named}
 use Rattle.stages.proofs.Images.{recordBytes-append}
 use Rattle.texts.specs.Rows.{rowOf}
-use Rattle.splitting.specs.Places.{ahead, goesOn, Reaches}
-use Rattle.splitting.specs.Answers.{Says, class, noRoom}
-use Rattle.splitting.specs.Fields.{fieldTexts}
-use Rattle.splitting.specs.declared.Written.{Written}
-use Rattle.splitting.specs.declared.Written.the-variants.{Len, Class, NoRoom}
+use Rattle.delimiters.specs.Places.{ahead, goesOn, Reaches}
+use Rattle.fields.specs.Answers.{Says, class, noRoom}
+use Rattle.fields.specs.Fields.{fieldTexts}
+use Rattle.fields.specs.declared.Written.{Written}
+use Rattle.fields.specs.declared.Written.the-variants.{Len, Class, NoRoom}
 use Rattle.splitting.proofs.Runs.{Run, run-further, run-end, walk-end, walk-step, step-falls}
-use Rattle.splitting.proofs.Filling.{Filled, filled-start, filled-then, Given, Lacks, says-len, says-class, says-full, says-filled, done-same, apart}
+use Rattle.fields.proofs.Filling.{Filled, filled-start, filled-then, Given, Lacks, says-len, says-class, says-full, says-filled, done-same, apart}
 
 -- the first field decides, then the others
 
@@ -157,7 +157,7 @@ module _ {paths : List Text} {ifs : Text} {o : Outcome (List Text)} {used : ℕ}
   ahead-same : ahead left next ≡ ahead row next
   ahead-same =
       let i : end ≤ length row = t .run .within in
-      let j : end + (next - end) ≡ next = omega (arith, t .behind .further) in
+      let j : end + (next - end) ≡ next = omega (arith, t .behind .far) in
       let d : drop end left ≡ drop end row = drop-put at end row ys (run-further ifs (t .run)) i (t .units ∙ mid-len at end row i) in
       let q : drop next left ≡ drop next row =
       ap (λ (m : ℕ). drop m left) (sym j) ∙ sym (drop-drop (next - end) end left) ∙ ap (drop (next - end)) d ∙ drop-drop (next - end) end row ∙ ap (λ (m : ℕ). drop m row) j in

@@ -15,9 +15,9 @@ use Rattle.tables.specs.Places.{Looked}
 use Rattle.tables.specs.declared.Found.{Found}
 use Rattle.tables.specs.declared.Found.the-variants.{At, Missing}
 use Rattle.tables.proofs.Finds.{is-shown, is-absent}
-use Rattle.splitting.specs.Answers.{Says, Puts}
-use Rattle.splitting.specs.declared.Written.{Written}
-use Rattle.splitting.proofs.Placing.{says-answers}
+use Rattle.fields.specs.Answers.{Says, Puts}
+use Rattle.fields.specs.declared.Written.{Written}
+use Rattle.fields.proofs.Placing.{says-answers}
 
 drop-front : (n m k : ℕ) (t : Text) → k ≡ n + m → drop n (take k t) ≡ take m (drop n t)
 drop-front zero m k t e = let f : k ≡ m = omega arith in rw f

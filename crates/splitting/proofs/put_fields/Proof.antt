@@ -9,7 +9,7 @@ use Rattle.stages.specs.Images.{heldTexts}
 use Rattle.stages.specs.Split.{split}
 use Rattle.stages.specs.Paths.{named}
 use Rattle.texts.specs.Rows.{rowOf}
-use Rattle.splitting.specs.Places.{ahead}
+use Rattle.delimiters.specs.Places.{ahead}
 use Rattle.splitting.proofs.Runs.{Run, run-start, run-fits, run-on, run-further}
 use Rattle.splitting.proofs.Walking.{Walk, walk-start, walk-full, walk-fits, Taken, walk-class, left-sized, walk-falls, walk-on, walk-past, walk-over}
 use borrow.Author.Needs.{needs}
