@@ -1,6 +1,6 @@
 //! The three calls of document 01 over lent buffers. Each works on copies; buffers are written once it is accepted.
 
-use crate::expand::Expander;
+use crate::expand::{Expander, Seen};
 use crate::image;
 use crate::limits;
 use crate::matching::matches_path;
@@ -110,7 +110,7 @@ impl Given<'_> {
         let mut expander = Expander {
             variables: Variables::new(variables, self.variables.len().min(limits::IMAGE)),
             homes: &homes,
-            most_stars: 0,
+            seen: Seen::default(),
         };
         let out = expand_words(&words, &mut expander, &paths, out_length)?;
         let variables = expander.variables.image();

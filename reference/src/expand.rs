@@ -13,16 +13,31 @@ use crate::variables::Variables;
 pub struct Expander<'a> {
     pub variables: Variables,
     pub homes: &'a [Pair],
-    /// The most stars a removal's pattern has had; it decides nothing here, but lets a generator keep cases cheap.
+    pub seen: Seen,
+}
+
+/// What expanding has come across. It decides nothing here, but lets the generator keep its cases cheap and count them.
+#[derive(Debug, Default)]
+pub struct Seen {
+    /// The most stars a removal's pattern has had.
     pub most_stars: usize,
+    /// The units of each row; of a refused one, with what would have passed the limit.
+    pub rows: Vec<usize>,
+    /// The arithmetic texts that were worked out or refused.
+    pub sums: Vec<Vec<u8>>,
 }
 
 impl Expander<'_> {
     pub fn row(&mut self, parts: &[Part]) -> Result<Row, Number> {
         let mut row = Row::default();
         for part in parts {
-            row.add(&self.part(part)?)?;
+            let units = self.part(part)?;
+            if let Err(refused) = row.add(&units) {
+                self.seen.rows.push(row.units().len() + units.len());
+                return Err(refused);
+            }
         }
+        self.seen.rows.push(row.units().len());
         Ok(row)
     }
 
@@ -35,8 +50,9 @@ impl Expander<'_> {
             Part::Parameter { name, form, quoted } => self.parameter(name, form, mark(*quoted)),
             Part::Arithmetic { text, quoted } => {
                 let text = bytes(self.row(text)?.units());
-                let result = arithmetic::result(&text, &self.variables)?;
-                Ok(marked(result.to_string().as_bytes(), mark(*quoted)))
+                let result = arithmetic::result(&text, &self.variables);
+                self.seen.sums.push(text);
+                Ok(marked(result?.to_string().as_bytes(), mark(*quoted)))
             }
         }
     }
@@ -79,7 +95,7 @@ impl Expander<'_> {
             Form::Removal { end, extent, operand } => {
                 let operand = self.row(operand)?;
                 let pattern = pattern::read(operand.units(), Purpose::Removal)?;
-                self.most_stars = self.most_stars.max(pattern::stars(&pattern));
+                self.seen.most_stars = self.seen.most_stars.max(pattern::stars(&pattern));
                 let value = self.value(name);
                 Ok(marked(remaining(&pattern, value, *end, *extent), mark))
             }

@@ -1,6 +1,7 @@
-//! Prints cases made from a seed with the reference's answers, or how often each number comes up in them.
+//! Prints cases made from a seed with the reference's answers, or how often each number and each edge comes up in those of one seed or more.
 
 use std::io::{stdout, BufWriter, Write};
+use std::ops::RangeInclusive;
 use std::process::ExitCode;
 
 use reference::case::case;
@@ -9,19 +10,19 @@ use reference::generate::{call, tally::Tally};
 fn main() -> ExitCode {
     let words: Vec<String> = std::env::args().skip(1).collect();
     let words: Vec<&str> = words.iter().map(String::as_str).collect();
-    let (tally, numbers) = match words[..] {
-        ["--tally", seed, count] => (true, (seed.parse(), count.parse())),
-        [seed, count] => (false, (seed.parse(), count.parse())),
+    let (tally, seeds, count) = match words[..] {
+        ["--tally", seeds, count] => (true, range(seeds), count.parse()),
+        [seed, count] => (false, seed.parse().ok().map(|seed| seed..=seed), count.parse()),
         _ => return usage(),
     };
-    let (Ok(seed), Ok(count)) = numbers else {
+    let (Some(seeds), Ok(count)) = (seeds, count) else {
         return usage();
     };
     if tally {
-        print!("{}", Tally::of(seed, count));
+        print!("{}", Tally::of(seeds, count));
         return ExitCode::SUCCESS;
     }
-    match print_cases(seed, count) {
+    match print_cases(*seeds.start(), count) {
         Ok(()) => ExitCode::SUCCESS,
         Err(error) => {
             eprintln!("cases: {error}");
@@ -31,8 +32,14 @@ fn main() -> ExitCode {
 }
 
 fn usage() -> ExitCode {
-    eprintln!("usage: cases [--tally] SEED COUNT");
+    eprintln!("usage: cases SEED COUNT, or cases --tally SEED[-SEED] COUNT");
     ExitCode::FAILURE
+}
+
+/// One seed, or all from the first to the last.
+fn range(seeds: &str) -> Option<RangeInclusive<u64>> {
+    let (first, last) = seeds.split_once('-').unwrap_or((seeds, seeds));
+    Some(first.parse().ok()?..=last.parse().ok()?)
 }
 
 fn print_cases(seed: u64, count: u64) -> std::io::Result<()> {

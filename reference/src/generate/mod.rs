@@ -5,10 +5,12 @@ mod expression;
 mod focus;
 pub mod grammar;
 pub mod random;
+pub mod season;
 mod sizes;
 pub mod stars;
 pub mod tables;
 pub mod tally;
+mod walk;
 
 use self::random::Random;
 use self::tables::Kind;

@@ -1,10 +1,14 @@
-//! How often each number and each of the three calls comes up among the cases of a seed.
+//! How often each number, each of the three calls, and each edge comes up among the cases of seeds.
 
+use std::collections::BTreeSet;
 use std::fmt;
+use std::ops::RangeInclusive;
 
 use super::call;
-use crate::case::{Call, Job};
-use crate::number::LAST_NUMBER;
+use super::walk::walk;
+use crate::case::{Call, Job, Lent};
+use crate::limits;
+use crate::number::{Number, ACCEPTED, LAST_NUMBER};
 
 #[derive(Debug, Default)]
 pub struct Tally {
@@ -14,24 +18,59 @@ pub struct Tally {
     pub quote: usize,
     /// The bytes the cases take in a file.
     pub bytes: usize,
+    /// The arithmetic texts that were worked out or refused, and how many different ones.
+    pub sums: usize,
+    pub different_sums: BTreeSet<Vec<u8>>,
+    /// The lines of as many bytes as a line may have.
+    pub full_lines: usize,
+    /// The rows of one unit less than a row may have, of as many, and of one more, which are refused.
+    pub rows: [usize; 3],
 }
 
 impl Tally {
-    pub fn of(seed: u64, count: u64) -> Tally {
+    /// So many cases of each of the seeds.
+    pub fn of(seeds: RangeInclusive<u64>, count: u64) -> Tally {
         let mut tally = Tally::default();
-        for case in 0..count {
-            let call = call(seed, case);
-            let (answer, words) = call.answer().expect("buffers kept as promised");
-            tally.numbers[usize::from(answer.number)] += 1;
-            tally.bytes += call.words().len() + " = ".len() + words.len() + 1;
-            *match call {
-                Call::Lines(Job::Expand, _) => &mut tally.expand,
-                Call::Lines(Job::Normalise, _) => &mut tally.normalise,
-                Call::Quote { .. } => &mut tally.quote,
-            } += 1;
+        for seed in seeds {
+            for case in 0..count {
+                tally.add(&call(seed, case));
+            }
         }
         tally
     }
+
+    fn add(&mut self, call: &Call) {
+        let (answer, words) = call.answer().expect("buffers kept as promised");
+        self.numbers[usize::from(answer.number)] += 1;
+        self.bytes += call.words().len() + " = ".len() + words.len() + 1;
+        *match call {
+            Call::Lines(Job::Expand, _) => &mut self.expand,
+            Call::Lines(Job::Normalise, _) => &mut self.normalise,
+            Call::Quote { .. } => &mut self.quote,
+        } += 1;
+        match call {
+            Call::Lines(_, lent) if is_walked(answer.number) => self.add_seen(lent),
+            _ => (),
+        }
+    }
+
+    fn add_seen(&mut self, lent: &Lent) {
+        let seen = walk(lent);
+        self.full_lines += usize::from(lent.line.len() == limits::LINE);
+        self.sums += seen.sums.len();
+        self.different_sums.extend(seen.sums);
+        for units in seen.rows {
+            if (limits::ROW - 1..=limits::ROW + 1).contains(&units) {
+                self.rows[units + 1 - limits::ROW] += 1;
+            }
+        }
+    }
+}
+
+/// Whether the call came to all that the walk over its line comes to: not where it stopped before reading, and not where a word's fields stopped it.
+fn is_walked(number: u8) -> bool {
+    let stops = [Number::BracketClass, Number::NoRoomForOutput].map(|number| number as u8);
+    number == ACCEPTED || number > Number::ZeroByte as u8 && !stops.contains(&number)
 }
 
 impl fmt::Display for Tally {
@@ -39,8 +78,11 @@ impl fmt::Display for Tally {
         for (number, count) in self.numbers.iter().enumerate() {
             writeln!(out, "{number:2} {count}")?;
         }
-        let Tally { expand, normalise, quote, bytes, .. } = self;
+        let Tally { expand, normalise, quote, bytes, sums, different_sums, full_lines, rows, .. } = self;
         writeln!(out, "expand {expand}, normalise {normalise}, quote {quote}")?;
-        writeln!(out, "{bytes} bytes")
+        writeln!(out, "{bytes} bytes")?;
+        writeln!(out, "arithmetic texts {sums}, different ones {}", different_sums.len())?;
+        writeln!(out, "lines of 2048 bytes {full_lines}")?;
+        writeln!(out, "rows of 2047 units {}, of 2048 {}, refused at 2049 {}", rows[0], rows[1], rows[2])
     }
 }

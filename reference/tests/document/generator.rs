@@ -3,20 +3,22 @@
 use std::collections::BTreeSet;
 
 use reference::case::{case, replay, Call};
-use reference::generate::{call, stars, tally::Tally, MOST_STARS};
-use reference::limits;
+use reference::generate::{call, season::Season, stars, tally::Tally, MOST_STARS};
+use reference::{image, limits};
 
 const SEED: u64 = 2_001;
 const CASES: u64 = 20_000;
 
 #[test]
 fn every_number_comes_up() {
-    let tally = Tally::of(SEED, CASES);
+    let tally = Tally::of(SEED..=SEED, CASES);
     for (number, count) in tally.numbers.iter().enumerate() {
         assert!(*count >= 20, "{number} comes up {count} times");
     }
     assert!(tally.expand.min(tally.normalise).min(tally.quote) > 500);
     assert!(tally.bytes < 2_000 * CASES as usize);
+    assert!(tally.sums >= 1_000 && tally.different_sums.len() >= 500);
+    assert!(tally.full_lines >= 20 && tally.rows.iter().all(|count| *count >= 20));
 }
 
 #[test]
@@ -53,4 +55,15 @@ fn cases_replay() {
     }
     assert!(replay("quote 01 0 = 0 0 1 01").is_err());
     assert!(replay("quote 01 0").is_err());
+}
+
+#[test]
+fn a_season_is_the_same_again() {
+    let season = Season::of(SEED, 300);
+    assert_eq!(season.lines, Season::of(SEED, 300).lines);
+    assert_ne!(season.lines, Season::of(SEED + 1, 300).lines);
+    assert_eq!(season.lines.len(), 300);
+    assert!(season.lines.iter().all(|line| !line.contains(&b'\n')));
+    assert!(image::variables(&season.variables).is_some());
+    assert!(image::homes(&season.homes).is_some() && image::paths(&season.paths).is_some());
 }

@@ -1,0 +1,5 @@
+/* What tests/c uses of <stdint.h>. */
+#ifndef STDINT_H
+#define STDINT_H
+typedef __UINT8_TYPE__ uint8_t;
+#endif

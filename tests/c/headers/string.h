@@ -1,0 +1,9 @@
+/* What tests/c uses of <string.h>. */
+#ifndef STRING_H
+#define STRING_H
+#include <stddef.h>
+int memcmp(const void *one, const void *other, size_t count);
+void *memcpy(void *restrict to, const void *restrict from, size_t count);
+void *memset(void *to, int byte, size_t count);
+size_t strlen(const char *text);
+#endif
