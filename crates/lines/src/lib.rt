@@ -1,6 +1,6 @@
 // A line's words, one after the other: each is expanded, split, and its fields are written behind those before it. Places belong to the loop over the
 // words alone.
-use expanding::Expanded;
+use giving::answers::Expanded;
 use reading::NextWord;
 use splitting::Written;
 ghost use lib.ListN.{length, take, drop};
