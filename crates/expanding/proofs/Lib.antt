@@ -1,10 +1,2 @@
-pub mod Fitting
-pub mod Steps
-pub mod Forms
-pub mod Turning
-pub mod Looping
-pub mod Inside
-pub mod Finishing
 pub mod Logins
 pub mod Wording
-pub mod Determined

@@ -30,19 +30,19 @@ use Rattle.modes.specs.declared.Mode.the-variants.{Word}
 use Rattle.tables.specs.Places as places
 use Rattle.tables.specs.declared.Found.{Found}
 use Rattle.tables.specs.declared.Found.the-variants.{At, Missing}
-use Rattle.expanding.specs.Added.{Adds, Fitting, measured}
+use Rattle.giving.specs.Added.{Adds, Fitting, measured}
 use Rattle.expanding.specs.Tildes.{endsLogin, noLogin, Opens, LoginSays, Given, Wide, HomeSays, homeOf}
-use Rattle.expanding.specs.Answers.{Holds, Ready, IsRow, Ends, Answers, Says}
-use Rattle.expanding.specs.declared.adding.Added.{Added}
-use Rattle.expanding.specs.declared.adding.Added.the-variants as added
+use Rattle.giving.specs.Answers.{Holds, Ready, IsRow, Ends, Answers, Says}
+use Rattle.giving.specs.declared.Added.{Added}
+use Rattle.giving.specs.declared.Added.the-variants as added
 use Rattle.expanding.specs.declared.homes.Login.{Login as CodeLogin}
 use Rattle.expanding.specs.declared.homes.Home.{Home}
 use Rattle.expanding.specs.declared.homes.Home.the-variants as home
-use Rattle.expanding.specs.declared.Expanded.{Expanded}
-use Rattle.expanding.specs.declared.Expanded.the-variants as answer
-use Rattle.expanding.proofs.Fitting.{by-fit, fit-ok, measured-full, marked-count}
-use Rattle.expanding.proofs.Turning.{says-known, answers-known}
-use Rattle.expanding.proofs.Looping.{stands-nest, stands-inside}
+use Rattle.giving.specs.declared.answers.Expanded.{Expanded}
+use Rattle.giving.specs.declared.answers.Expanded.the-variants as answer
+use Rattle.giving.proofs.Fitting.{by-fit, fit-ok, measured-full, marked-count}
+use Rattle.giving.proofs.Holding.{says-known, answers-known}
+use Rattle.giving.proofs.Standing.{stands-nest, stands-inside}
 use Rattle.expanding.proofs.Logins.{Login, read-login, no-login-read, tilde-behind, tilde-homed, no-tilde-end, no-tilde}
 
 -- Where a login ends.

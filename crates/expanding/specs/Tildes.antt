@@ -10,9 +10,9 @@ use lib.ListN.{length, drop}
 use Rattle.stages.specs.Bytes.{Text, part, span, isBlank, isLoginByte}
 use Rattle.stages.specs.Outcome.{refused, done}
 use Rattle.stages.specs.Units.{Q, N, marked}
-use Rattle.expanding.specs.Added.{Fitting, measured}
-use Rattle.expanding.specs.declared.adding.Added.{Added}
-use Rattle.expanding.specs.declared.adding.Added.the-variants as added
+use Rattle.giving.specs.Added.{Fitting, measured}
+use Rattle.giving.specs.declared.Added.{Added}
+use Rattle.giving.specs.declared.Added.the-variants as added
 use Rattle.expanding.specs.declared.homes.Login.{Login}
 use Rattle.expanding.specs.declared.homes.Login.the-variants as login
 use Rattle.expanding.specs.declared.homes.Home.{Home}

@@ -10,9 +10,9 @@ ghost use Rattle.stages.specs.Images.{held, lookup};
 ghost use Rattle.stages.specs.Units.{Q, N, marked};
 ghost use Rattle.stages.specs.Expand.{directory};
 ghost use Rattle.tables.specs.Places.{Table};
-ghost use Rattle.expanding.specs.Added.{Adds};
+ghost use Rattle.giving.specs.Added.{Adds};
 ghost use Rattle.expanding.specs.Tildes.{LoginSays, HomeSays, homeOf};
-use super::adding::Added;
+use giving::Added;
 use rows::Mark;
 use tables::Found;
 use texts::Class;
@@ -59,8 +59,8 @@ fn give_directory(directory: &[u8], work: &mut [u8]) -> Added
     requires { ⌜ 2 * rowLimit ≤ length (now work) ⌝ }
     ensures { λ r. ⌜ Adds 0 (done (N ∷ marked Q (now (directory .entry)))) (now (work .exit)) r ⌝ }
 {
-    if directory.len() >= super::adding::ROW_LIMIT {
-        return Added::Refused(super::adding::REFUSED_UNITS);
+    if directory.len() >= giving::ROW_LIMIT {
+        return Added::Refused(giving::REFUSED_UNITS);
     }
     rows::put_empty(work);
     rows::put_marked(directory, Mark::Q, &mut work[2..]);

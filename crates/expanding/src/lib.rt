@@ -8,30 +8,15 @@ ghost use Rattle.stages.specs.Syntax.{word};
 ghost use Rattle.stages.specs.Read.{parts};
 ghost use Rattle.stages.specs.Expand.{wordRow};
 ghost use Rattle.tables.specs.Places.{Table};
-ghost use Rattle.expanding.specs.Answers.{Holds, Ready, Says};
+ghost use Rattle.giving.specs.Answers.{Holds, Ready, Says};
 ghost use Rattle.expanding.specs.Tildes.{Opens};
+use giving::answers::Expanded;
 use homes::Home;
 use homes::Login;
 use modes::Mode;
 use rows::Mark;
 
-mod adding;
-mod answers;
 mod homes;
-mod operands;
-mod plans;
-mod walk;
-
-// What expanding a text answers: a row of so many units stands at the front of the area, the text goes on at `next`, and the variables' image has
-// `have` bytes; or the number that refuses it.
-pub enum Expanded {
-    Row {
-        units: usize,
-        next: usize,
-        have: usize,
-    },
-    Refused(u8),
-}
 
 // A word with a `~` at `at`, whose login ends at `to`.
 fn expand_home(
@@ -51,7 +36,7 @@ fn expand_home(
     let home = homes::give_home(&line[start..to], &vars[..have], homes, work);
     match home {
         Home::Refused(e) => Expanded::Refused(e),
-        Home::Nothing => walk::expand_text(
+        Home::Nothing => walking::expand_text(
             line,
             at,
             Mode::Word,
@@ -65,7 +50,7 @@ fn expand_home(
         ),
         Home::Units(units) => {
             let front = 2 * units;
-            let got = walk::expand_text(
+            let got = walking::expand_text(
                 line,
                 to,
                 Mode::Word,
@@ -109,7 +94,7 @@ pub fn expand_word(
 {
     let login = homes::login_at(line, at);
     match login {
-        Login::Nothing => walk::expand_text(
+        Login::Nothing => walking::expand_text(
             line,
             at,
             Mode::Word,

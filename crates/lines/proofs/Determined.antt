@@ -14,7 +14,7 @@ use Rattle.stages.specs.Line.{Fields}
 use Rattle.stages.specs.Call.{over}
 use Rattle.stages.proofs.Images.{Bytes}
 use Rattle.stages.proofs.Tables.{vars-of, table-length, table-canonical}
-use Rattle.expanding.specs.Answers.{Holds}
+use Rattle.giving.specs.Answers.{Holds}
 use Rattle.lines.specs.Answers.{IsLine, LineSays}
 use Rattle.lines.specs.declared.LineExpanded.{LineExpanded}
 use Rattle.lines.specs.declared.LineExpanded.the-variants.{Done, Refused}

@@ -18,9 +18,9 @@ use Rattle.stages.specs.Paths.{named}
 use Rattle.stages.specs.Line.{Around, Fields, wordFields, outFits}
 use Rattle.texts.specs.Rows.{rowBytes, rowOf}
 use Rattle.texts.proofs.Rows.{rowOf-rowBytes, length-rowBytes}
-use Rattle.expanding.specs.Answers.{IsRow, Answers as RowOf, Says as Expands}
-use Rattle.expanding.specs.declared.Expanded.{Expanded}
-use Rattle.expanding.specs.declared.Expanded.the-variants as expanded
+use Rattle.giving.specs.Answers.{IsRow, Answers as RowOf, Says as Expands}
+use Rattle.giving.specs.declared.answers.Expanded.{Expanded}
+use Rattle.giving.specs.declared.answers.Expanded.the-variants as expanded
 use Rattle.fields.specs.Answers.{placed, Says, len, class, noRoom, Puts}
 use Rattle.fields.specs.declared.Written.{Written}
 use Rattle.fields.specs.declared.Written.the-variants.{Len, Class, NoRoom}

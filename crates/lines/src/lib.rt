@@ -1,7 +1,7 @@
 // A line's words, one after the other: each is expanded, split, and its fields are written behind those before it. Places belong to the loop over the
 // words alone.
-use expanding::Expanded;
 use fields::Written;
+use giving::answers::Expanded;
 use reading::NextWord;
 ghost use lib.ListN.{length, take, drop};
 ghost use Rattle.stages.specs.Numbers.{depthLimit};

@@ -1,6 +1,6 @@
 -- The directory's row stands at the front, and the text behind the login behind it.
 use Prim.Native.Nat.{_+_, _-_, _*_}
-use Rattle.expanding.proofs.Inside.{table-held}
+use Rattle.giving.proofs.Holding.{table-held}
 use Rattle.expanding.proofs.Wording.{ready-size, home-known, home-none, home-refused, home-inside, home-units, home-ready, plain-word, behind-refused, behind-fits, behind-given}
 use Rattle.stages.specs.Bytes.{part}
 use Rattle.stages.specs.Expand.{directory}

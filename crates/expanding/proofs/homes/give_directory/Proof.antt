@@ -1,6 +1,6 @@
 -- An N before the bytes, and one unit more than they are.
 use Prim.Native.Nat.{_-_}
-use Rattle.expanding.proofs.Inside.{empty-front}
+use Rattle.giving.proofs.Standing.{empty-front}
 use Rattle.expanding.proofs.Wording.{directory-wide, directory-given}
 use borrow.Author.Needs.{needs}
 use borrow.Rule.Slice.PartMut.{same-len-mid, mid-len}

@@ -1,0 +1,4 @@
+pub mod Fitting
+pub mod Steps
+pub mod Standing
+pub mod Holding

@@ -1,0 +1,4 @@
+pub mod Turning
+pub mod Looping
+pub mod Inside
+pub mod Determined

@@ -1,0 +1,257 @@
+-- What an item says of expanding: the item's own row, and behind it what is still to be expanded. One law for the items that are added at once, one for
+-- those that hold a text. Assumes nothing.
+use Prim.Native.Nat.{ℕ, zero, suc, _+_, _-_, _*_, _≤_, _<_}
+use native.Mathlib.Omega.{arith}
+use mathlib.Core.Path.{_≡_, refl, sym, ap, _∙_, subst}
+use mathlib.Core.Bool.{Bool, true, false}
+use mathlib.Core.List.{List, [], _∷_}
+use lib.ListN.{length, take, drop}
+use Rattle.stages.specs.Numbers.{rowLimit}
+use Rattle.stages.specs.Bytes.{Text, part, all, notZero}
+use Rattle.stages.specs.Outcome.{Outcome, refused, done, _>>=_}
+use Rattle.stages.specs.Images.{Pairs, isName, held}
+use Rattle.stages.specs.Syntax.{Form, Parts, plain, end, lit, quo, par, len, ari, arith as sums}
+use Rattle.stages.specs.Items.{item}
+use Rattle.stages.specs.Read.{Taken, parts, nest}
+use Rattle.stages.specs.Units.{Mark, Q, Cell, cell, N, Row, marked, expanded, litMark, decimal}
+use Rattle.stages.specs.Expand.{Made, value, parameter, expand, onto}
+use Rattle.stages.proofs.Texts.{all-drop}
+use Rattle.stages.proofs.Outcomes.{safe-done}
+use Rattle.stages.proofs.Safe.{SafeParts, parts-safe}
+use Rattle.stages.proofs.Read.{at-fault, at-stop, at-byte, at-paren, at-value, at-count, at-quote, at-inner, at-sum, Behind, behind, Within, within}
+use Rattle.modes.specs.Modes.{modeOf, openIn, formOf}
+use Rattle.modes.specs.declared.Mode.{Mode}
+use Rattle.modes.specs.declared.Mode.the-variants.{Arith}
+use Rattle.modes.specs.declared.Form as code-form
+use Rattle.items.specs.Shows.{Shows}
+use Rattle.items.specs.declared.Item.{Item}
+use Rattle.items.specs.declared.Item.the-variants.{Fault, Stop, Byte, Paren, Quote, Value, Count, Inner, Sum}
+use Rattle.giving.specs.Added.{Adds, Fitting}
+use Rattle.giving.specs.Steps.{beside, placed, quoted, summed, summing, followed}
+use Rattle.walking.specs.Turns.{turnOf, turnFrom, Moves, Closes, TurnOf, Turns}
+use Rattle.giving.specs.Answers.{goingOn, Holds, Ready, IsRow, Ends, Answers, Says}
+use Rattle.giving.specs.declared.Added.{Added}
+use Rattle.giving.specs.declared.Added.the-variants as added
+use Rattle.giving.specs.declared.answers.Expanded.{Expanded}
+use Rattle.giving.specs.declared.answers.Expanded.the-variants as answer
+use Rattle.walking.specs.declared.turns.Turn.{Turn}
+use Rattle.walking.specs.declared.turns.Turn.the-variants as turn
+use Rattle.giving.proofs.Steps.{expand-lit, expand-par, expand-len, expand-quo, expand-ari, followed-refused, followed-row, placed-fits, beside-refused, beside-done}
+use Rattle.giving.proofs.Holding.{says-known, answers-known, fitting-row}
+
+-- an enum's answer, once its case is known
+pub shown : (text : Text) (at d : ℕ) {r s : Item} (i : _) → Shows text at d r i → r ≡ s → Shows text at d s i
+shown text at d i h e = subst (λ (x : Item). Shows text at d x i) e h
+
+-- The text from `at` on is read (`y`), the variables stand in their bytes (`w`).
+
+module _ (room : ℕ) (text : Text) (at : ℕ) (mode : Mode) (d : ℕ) (m : Mark) (used size : ℕ) (vars₀ : Text) (have : ℕ)
+    (y : Ready text at mode d used size) (w : Holds room vars₀ have) where
+  abbrev v : Pairs
+  v = held (take have vars₀)
+
+  abbrev Turned : Text → Text → Turn → Type 0
+  Turned area vars g = Turns room text at d m used have (λ t. expand room t m used v) (parts (modeOf mode) d (drop at text)) area vars g
+
+  so : (area vars : Text) (g : Turn) → TurnOf room text at d m used have (expand room (y .tree) m used v) (y .rest) area vars g → Turned area vars g
+  so area vars g h = rw (y .is) h
+
+  -- an item whose own row is `own`, and behind it the parts p
+  module _ (p : Parts) (own : Made) (is : expand room (y .tree) m used v ≡ followed room p m used own) where
+    own-refused : (area vars : Text) {e : ℕ} → own ≡ refused e → Turned area vars (turn.Refused e)
+    own-refused area vars {e} h = so area vars (turn.Refused e) (is ∙ followed-refused room p m used own e h)
+
+    own-row : (area vars : Text) (count left next : ℕ) (mode′ : Mode) → IsRow room used own area vars count left → parts (modeOf mode′) d (drop next text) ≡ done (p, y .rest)
+        → openIn mode′ ≤ next → at < next → next ≤ length text → Turned area vars (turn.Row count next mode′ left)
+    own-row area vars count left next mode′ i read o l k =
+        so area vars (turn.Row count next mode′ left)
+        (record {
+          more = p;
+          read = read;
+          opens = o;
+          row = i .row;
+          is = is ∙ followed-row room p m used own (i .row) (held (take left vars)) count (i .is) (i .counts);
+          counts = i .counts;
+          stands = i .stands;
+          fits = i .fits;
+          holds = i .holds;
+          onward = l;
+          within = k;
+        })
+
+    -- what holds a text from `from` on, with `mid` behind it
+    own-text : (from : ℕ) (mid : Text) → parts (modeOf mode) d mid ≡ done (p, y .rest) → at < from → (area vars : Text) (a : Expanded)
+        → Answers room text from used own mid area vars a → {g : Turn} → g ≡ turnFrom a mode → Turned area vars g
+    own-text from mid read l area vars (answer.Refused e) h q = rw q (own-refused area vars h)
+    own-text from mid read l area vars (answer.Row count next left) h q =
+        let o = y .opens in
+        let k = h .1 .onward in
+        rw q (own-row area vars count left next mode (h .0) (ap (parts (modeOf mode) d) (h .1 .ends) ∙ read) (omega arith) (omega arith) (h .1 .within))
+
+  -- a row that is added at once
+  own-added : (p : Parts) (o : Outcome Row) → expand room (y .tree) m used v ≡ followed room p m used (placed used (beside v o))
+      → (next : ℕ) (mode′ : Mode) → parts (modeOf mode′) d (drop next text) ≡ done (p, y .rest) → openIn mode′ ≤ next → at < next → next ≤ length text
+      → (area : Text) (a : Added) → Adds used o area a → {g : Turn} → g ≡ turnOf a next mode′ have → Turned area vars₀ g
+  own-added p o is next mode′ read i l k area (added.Refused e) h q = rw q (own-refused p (placed used (beside v o)) is area vars₀ (beside-refused used v o e h))
+  own-added p o is next mode′ read i l k area (added.Units count) h q =
+      rw q (own-row p (placed used (beside v o)) is area vars₀ count have next mode′ (fitting-row room used o area vars₀ count have h w) read i l k)
+
+  module _ {r : Item} (h : Shows text at d r (item (modeOf mode) d (drop at text))) where
+    pub item-fault : (area vars : Text) {e : ℕ} → r ≡ Fault e → Turned area vars (turn.Refused e)
+    item-fault area vars {e} c =
+        let n : parts (modeOf mode) d (drop at text) ≡ refused e = at-fault text at (modeOf mode) d e (shown text at d _ h c) in
+        let u : _≡_ {A = Taken} (refused e) (done (y .tree, y .rest)) = sym n ∙ y .is in
+        let z : _≡_ {A = ℕ} 0 1 = cc in
+        absurd (omega arith)
+
+    pub item-stop : (area : Text) {next : ℕ} → r ≡ Stop next → Turned area vars₀ (turn.End next)
+    unfolding expand
+    item-stop area {next} c =
+        let s = shown text at d _ h c in
+        let n : parts (modeOf mode) d (drop at text) ≡ done (end, drop next text) = at-stop text at (modeOf mode) d next (s .0) (s .1) in
+        rw n (record { is = refl; holds = w; ends = record { ends = refl; onward = s .1; within = s .2 } })
+
+    pub item-byte : {q : Bool} {b next : ℕ} → r ≡ Byte q b next → (k : Mark) → k ≡ litMark q m → (area : Text) (a : Added)
+        → Adds used (done (cell k b ∷ [])) area a → {g : Turn} → g ≡ turnOf a next mode have → Turned area vars₀ g
+    item-byte {q} {b} {next} c k e area a f g =
+        let s = shown text at d _ h c in
+        let o = y .opens in
+        let i = s .1 .onward in
+        let t = behind (lit q b) (parts (modeOf mode) d (drop next text)) (y .tree) (y .rest) (sym (at-byte text at (modeOf mode) d q b next (s .0) (s .1 .onward)) ∙ y .is) in
+        own-added (t .next) (done (cell k b ∷ []))
+        (ap (λ (x : Parts). expand room x m used v) (t .whole) ∙ expand-lit room (t .next) m used q b v ∙ ap (λ (j : Mark). followed room (t .next) m used (placed used (done (cell j b ∷ [], v)))) (sym e))
+        next mode (t .read) (omega arith) i (s .1 .within) area a f g
+
+    pub item-paren : {b n : ℕ} → r ≡ Paren b n → (area : Text) (a : Added)
+        → Adds used (done (cell m b ∷ [])) area a → {g : Turn} → g ≡ turnOf a (at + 1) (Arith n) have → Turned area vars₀ g
+    item-paren {b} {n} c area a f g =
+        let s = shown text at d _ h c in
+        let i = s .1 in
+        let t = behind (lit false b) (parts (sums n) d (drop (at + 1) text)) (y .tree) (y .rest) (sym (at-paren text at (modeOf mode) d b n (s .0)) ∙ y .is) in
+        own-added (t .next) (done (cell m b ∷ []))
+        (ap (λ (x : Parts). expand room x m used v) (t .whole) ∙ expand-lit room (t .next) m used false b v)
+        (at + 1) (Arith n) (t .read) (s .2) (omega arith) (omega arith) area a f g
+
+    pub item-value : {from to next : ℕ} → r ≡ Value from to next → (area : Text) (a : Added)
+        → Adds used (done (marked (expanded m) (value v (part text from to)))) area a → {g : Turn} → g ≡ turnOf a next mode have → Turned area vars₀ g
+    unfolding parameter
+    item-value {from} {to} {next} c area a f g =
+        let s = shown text at d _ h c in
+        let o = y .opens in
+        let i = s .1 .onward in
+        let t = behind (par (part text from to) plain end) (parts (modeOf mode) d (drop next text)) (y .tree) (y .rest) (sym (at-value text at (modeOf mode) d (part text from to) next (s .0) (s .1 .onward)) ∙ y .is) in
+        own-added (t .next) (done (marked (expanded m) (value v (part text from to))))
+        (ap (λ (x : Parts). expand room x m used v) (t .whole) ∙ expand-par room (t .next) m used (part text from to) plain end v)
+        next mode (t .read) (omega arith) i (s .1 .within) area a f g
+
+    pub item-count : {from to next : ℕ} → r ≡ Count from to next → (area : Text) (a : Added)
+        → Adds used (done (marked (expanded m) (decimal (length (value v (part text from to)))))) area a → {g : Turn} → g ≡ turnOf a next mode have → Turned area vars₀ g
+    item-count {from} {to} {next} c area a f g =
+        let s = shown text at d _ h c in
+        let o = y .opens in
+        let i = s .1 .onward in
+        let t = behind (len (part text from to)) (parts (modeOf mode) d (drop next text)) (y .tree) (y .rest) (sym (at-count text at (modeOf mode) d (part text from to) next (s .0) (s .1 .onward)) ∙ y .is) in
+        own-added (t .next) (done (marked (expanded m) (decimal (length (value v (part text from to))))))
+        (ap (λ (x : Parts). expand room x m used v) (t .whole) ∙ expand-len room (t .next) m used (part text from to) v)
+        next mode (t .read) (omega arith) i (s .1 .within) area a f g
+
+    module _ {n : Mode} (c : r ≡ Quote n) where
+      quote-parts : Within quo (parts (modeOf n) d (drop (at + 1) text)) (parts (modeOf mode) d) (y .tree) (y .rest)
+      quote-parts = within quo _ (parts (modeOf mode) d) (y .tree) (y .rest) (sym (at-quote text at (modeOf mode) d (modeOf n) (shown text at d _ h c .0)) ∙ y .is)
+
+      pub quote-ready : Ready text (at + 1) n d used size
+      quote-ready =
+          let s = shown text at d _ h c in
+          let l = s .1 in
+          let o = s .2 in
+          record {
+            start = omega arith;
+            opens = omega arith;
+            few = y .few;
+            area = y .area;
+            clean = y .clean;
+            tree = quote-parts .inside;
+            rest = quote-parts .mid;
+            is = quote-parts .first;
+          }
+
+      pub item-quote : (area vars : Text) (a : Expanded) → Says room text (at + 1) used (λ q. quoted room q used v) (parts (modeOf n) d (drop (at + 1) text)) area vars a
+          → {g : Turn} → g ≡ turnFrom a mode → Turned area vars g
+      item-quote area vars a s q =
+          let t = quote-parts in
+          own-text (t .next) (quoted room (t .inside) used v) (ap (λ (x : Parts). expand room x m used v) (t .whole) ∙ expand-quo room (t .next) m used (t .inside) v)
+          (at + 1) (t .mid) (t .read) (omega arith) area vars a (says-known room text (at + 1) used (λ q. quoted room q used v) area vars a s (t .first)) q
+
+    module _ {from to : ℕ} {f : code-form.Form} {n : Mode} {next : ℕ} (c : r ≡ Inner from to f n next) where
+      inner-parts : Within (par (part text from to) (formOf f)) (parts (modeOf n) (d - 1) (drop next text)) (parts (modeOf mode) d) (y .tree) (y .rest)
+      inner-parts =
+          let s = shown text at d _ h c in
+          within (par (part text from to) (formOf f)) _ (parts (modeOf mode) d) (y .tree) (y .rest)
+          (sym (at-inner text at (modeOf mode) d (part text from to) (formOf f) (modeOf n) next (s .0) (s .1 .onward)) ∙ y .is)
+
+      pub inner-name : isName (part text from to) ≡ true
+      inner-name = subst SafeParts (inner-parts .whole) (safe-done (parts-safe (modeOf mode) d (drop at text) (all-drop notZero at text (y .clean))) (y .is) .clean) .0
+
+      pub inner-ready : Ready text next n (d - 1) 0 size
+      inner-ready =
+          let s = shown text at d _ h c in
+          let b = y .area in
+          let l = y .few in
+          let t = s .3 in
+          let o = s .4 in
+          record {
+            start = s .1 .within;
+            opens = omega arith;
+            few = omega arith;
+            area = omega arith;
+            clean = y .clean;
+            tree = inner-parts .inside;
+            rest = inner-parts .mid;
+            is = inner-parts .first;
+          }
+
+      pub item-inner : (area vars : Text) (a : Expanded)
+          → Says room text next used (λ q. placed used (parameter room (λ k u. expand room q k 0 u) (part text from to) (formOf f) m v)) (parts (modeOf n) (d - 1) (drop next text)) area vars a
+          → {g : Turn} → g ≡ turnFrom a mode → Turned area vars g
+      item-inner area vars a s q =
+          let t = inner-parts in
+          own-text (t .next) (placed used (parameter room (λ k u. expand room (t .inside) k 0 u) (part text from to) (formOf f) m v))
+          (ap (λ (x : Parts). expand room x m used v) (t .whole) ∙ expand-par room (t .next) m used (part text from to) (formOf f) (t .inside) v)
+          next (t .mid) (t .read) (shown text at d _ h c .1 .onward) area vars a
+          (says-known room text next used (λ q. placed used (parameter room (λ k u. expand room q k 0 u) (part text from to) (formOf f) m v)) area vars a s (t .first)) q
+
+    module _ {next : ℕ} (c : r ≡ Sum next) where
+      sum-parts : Within ari (parts (sums 0) (d - 1) (drop next text)) (parts (modeOf mode) d) (y .tree) (y .rest)
+      sum-parts =
+          let s = shown text at d _ h c in
+          within ari _ (parts (modeOf mode) d) (y .tree) (y .rest)
+          (sym (at-sum text at (modeOf mode) d (s .0) ∙ ap (λ (k : ℕ). nest ari (parts (sums 0) (d - 1) (drop k text)) (parts (modeOf mode) d)) (sym (s .1))) ∙ y .is)
+
+      pub sum-ready : Ready text next (Arith 0) (d - 1) 0 size
+      sum-ready =
+          let s = shown text at d _ h c in
+          let b = y .area in
+          let l = y .few in
+          let t = s .3 in
+          record {
+            start = s .2;
+            opens = omega arith;
+            few = omega arith;
+            area = omega arith;
+            clean = y .clean;
+            tree = sum-parts .inside;
+            rest = sum-parts .mid;
+            is = sum-parts .first;
+          }
+
+      pub item-sum : (area vars : Text) (a : Expanded)
+          → Says room text next used (λ q. placed used (summing room q m v)) (parts (sums 0) (d - 1) (drop next text)) area vars a
+          → {g : Turn} → g ≡ turnFrom a mode → Turned area vars g
+      unfolding summing
+      item-sum area vars a s q =
+          let t = sum-parts in
+          let e = shown text at d _ h c .1 in
+          own-text (t .next) (placed used (summing room (t .inside) m v))
+          (ap (λ (x : Parts). expand room x m used v) (t .whole) ∙ expand-ari room (t .next) m used (t .inside) v)
+          next (t .mid) (t .read) (omega arith) area vars a
+          (says-known room text next used (λ q. placed used (summing room q m v)) area vars a s (t .first)) q
