@@ -1,3 +1,4 @@
+pub mod Stars
 pub mod Matching
 pub mod Keeping
 pub mod Determined

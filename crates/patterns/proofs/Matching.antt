@@ -8,7 +8,8 @@ use native.Mathlib.Numerals.{add-one}
 use lib.Dec.{eqb}
 use lib.ListN.{length, take, drop, getD, length-drop, drop-of-length-le}
 use lib.Seq.{drop-cons}
-use Rattle.stages.proofs.Bools.{no}
+use borrow.Author.Tests.{eqb-true}
+use Rattle.stages.proofs.Bools.{no, either, same-tests, and-left, and-right}
 use Rattle.stages.specs.Bytes.{Text}
 use Rattle.stages.specs.Pattern.{Element, one, byte, set, elements, hasClass, passes, takes, inSet, someEnd, matchesFrom}
 use Rattle.stages.specs.Paths.{active}
@@ -18,6 +19,7 @@ use Rattle.elements.specs.declared.Piece.{Piece}
 use Rattle.elements.specs.declared.Piece.the-variants.{Star, One, Byte, Class, Set}
 use Rattle.elements.proofs.Units.{to-end}
 use Rattle.elements.proofs.Reading.{next-inside, next-further, elements-on, class-on, piece-lies, elements-over}
+use Rattle.patterns.proofs.Stars.{some-last, some-next, some-here, passes-inside, passes-other, passes-slash, passes-unless, bars, star-star, absorbs, inside-part, some-inside}
 use Rattle.patterns.specs.Steps.{isStar, isSlash, isSpecial, takesOne, from, behindStar, MeetsStar, RunSays}
 use Rattle.patterns.specs.declared.Run.{Run}
 use Rattle.patterns.specs.declared.Run.the-variants.{Whole, Fails, Star as StarMet}
@@ -66,15 +68,72 @@ none-left path head first es p (Byte c) n = refl
 none-left path head first es p Class n = refl
 none-left path head first es p (Set negative a e) n = refl
 
+-- what it takes a star may take too, but for a slash of the pattern
+takes-passes : (path head first : Bool) (b : ℕ) (p : Text) (q : Piece) → isStar q ≡ false → isSlash q ≡ false
+    → takesOne path head first (elementOf p q) b ≡ true → passes path false b ≡ true
+unfolding elementOf takesOne takes
+takes-passes path head first b p Star n s y = absurd (no (sym n))
+takes-passes path head first b p One n s y = passes-inside path first b y
+takes-passes path head first b p (Byte c) n s y = passes-other path b (rw (eqb-true c b (and-left (eqb c b) _ y)) at s)
+takes-passes path head first b p Class n s y = passes-other path b (ap (λ (x : ℕ). eqb x 47) (sym (eqb-true 91 b (and-left (eqb 91 b) _ y))))
+takes-passes path head first b p (Set negative a e) n s y = passes-inside path first b (and-left (passes path first b) _ y)
+
+-- a slash of the pattern takes a byte that in paths no star takes
+slash-bars : (head first : Bool) (b : ℕ) (p : Text) (q : Piece) → isSlash q ≡ true → takesOne true head first (elementOf p q) b ≡ true → passes true first b ≡ false
+unfolding elementOf takesOne takes
+slash-bars head first b p Star s y = absurd (no s)
+slash-bars head first b p One s y = absurd (no s)
+slash-bars head first b p (Byte c) s y = passes-slash first b (rw (eqb-true c b (and-left (eqb c b) _ y)) at s)
+slash-bars head first b p Class s y = absurd (no s)
+slash-bars head first b p (Set negative a e) s y = absurd (no s)
+
+-- A star before an element that takes the byte here: whatever it reaches with other places, it reaches if it stands behind this byte.
+module _ (path head first : Bool) (es : List Element) (b : ℕ) (u p : Text) (q : Piece) (n : isStar q ≡ false)
+    (y : takesOne path head first (elementOf p q) b ≡ true) where
+  abbrev Before : Bool → Text → Bool
+  Before = λ f v. matchesFrom path (elementOf p q ∷ es) head f v
+
+  abbrev Behind : Bool → Text → Bool
+  Behind = λ f v. matchesFrom path es (isSlash q) f v
+
+  at-slash : path ≡ true → isSlash q ≡ true → someEnd path Before first (b ∷ u) ≡ true → someEnd path Behind (isSlash q) u ≡ true
+  at-slash e s z =
+      some-here path Behind (isSlash q) u
+      (and-right (takesOne path head first (elementOf p q) b) _ (sym (step path head first es b u p q n) ∙
+      (bars (Before first (b ∷ u)) (passes path first b) _ (rw e (slash-bars head first b p q s (rw e at y))) (sym (some-next path Before first b u) ∙ z))))
+
+  elsewhere : (path && isSlash q) ≡ false → someEnd path Before first (b ∷ u) ≡ true → someEnd path Behind (isSlash q) u ≡ true
+  elsewhere s z = sym (some-inside es u path (isSlash q) s) ∙ absorbs path Before Behind (λ f. none-left path head f es p q n) took first b u z
+    where
+      took : (f : Bool) (c : ℕ) (v : Text) → Before f (c ∷ v) ≡ true → (passes path false c ≡ true) × (Behind false v ≡ true)
+      took f c v w =
+          let x = sym (step path head f es c v p q n) ∙ w in (
+            passes-unless path (isSlash q) c s λ m. takes-passes path head f c p q n m (and-left (takesOne path head f (elementOf p q) c) _ x),
+            sym (inside-part es v path (isSlash q) s) ∙ and-right (takesOne path head f (elementOf p q) c) _ x,
+          )
+
+  pub star-on : someEnd path Before first (b ∷ u) ≡ true → someEnd path Behind (isSlash q) u ≡ true
+  star-on z = either (path && isSlash q) (λ s. at-slash (and-left path (isSlash q) s) (and-right path (isSlash q) s) z) λ s. elsewhere s z
+
 -- a star
 met : (path head first : Bool) (p : Text) (n : ℕ) (t : Text) (q : Piece) → isStar q ≡ true
-    → matchesFrom path (elementOf p q ∷ from path p n) head first t ≡ behindStar path p n first t
+    → matchesFrom path (elementOf p q ∷ from path p n) head first t ≡ behindStar path p n false first t
 unfolding matchesFrom elementOf behindStar
 met path head first p n t Star y = refl
 met path head first p n t One y = absurd (no y)
 met path head first p n t (Byte c) y = absurd (no y)
 met path head first p n t Class y = absurd (no y)
 met path head first p n t (Set negative a e) y = absurd (no y)
+
+again : (path head first : Bool) (p : Text) (n : ℕ) (t : Text) (q : Piece) → isStar q ≡ true
+    → someEnd path (λ f u. matchesFrom path (elementOf p q ∷ from path p n) head f u) first t ≡ true
+    → someEnd path (λ f u. someEnd path (λ g v. matchesFrom path (from path p n) false g v) f u) first t ≡ true
+unfolding matchesFrom elementOf
+again path head first p n t Star y z = z
+again path head first p n t One y z = absurd (no y)
+again path head first p n t (Byte c) y z = absurd (no y)
+again path head first p n t Class y z = absurd (no y)
+again path head first p n t (Set negative a e) y z = absurd (no y)
 
 active-step : (p : Text) (q : Piece) (es : List Element) → active (elementOf p q ∷ es) ≡ (isSpecial q || active es)
 unfolding active elementOf
@@ -117,8 +176,18 @@ module _ {path : Bool} {p : Text} {at : ℕ} {q : Piece} {n : ℕ} (s : Standing
     seen : running ≡ matchesFrom path (elementOf p q ∷ from path p n) head first (drop k t)
     seen = ap (λ (es : List Element). matchesFrom path es head first (drop k t)) parted
 
-    pub run-star : isStar q ≡ true → running ≡ behindStar path p n first (drop k t)
+    pub run-star : isStar q ≡ true → running ≡ behindStar path p n false first (drop k t)
     run-star y = seen ∙ met path head first p n (drop k t) q y
+
+    -- and had a star stood there
+    star-seen : behindStar path p at head first (drop k t) ≡ someEnd path (λ f u. matchesFrom path (elementOf p q ∷ from path p n) head f u) first (drop k t)
+    unfolding behindStar
+    star-seen = ap (λ (es : List Element). someEnd path (λ f u. matchesFrom path es head f u) first (drop k t)) parted
+
+    pub star-met : isStar q ≡ true → behindStar path p at head first (drop k t) ≡ true → behindStar path p n false first (drop k t) ≡ true
+    unfolding behindStar
+    star-met y z =
+        star-star path (λ f u. matchesFrom path (from path p n) false f u) first (drop k t) (again path head first p n (drop k t) q y (sym star-seen ∙ z))
 
     module _ (y : isStar q ≡ false) where
       pub run-short : length t ≤ k → running ≡ false
@@ -138,6 +207,13 @@ module _ {path : Bool} {p : Text} {at : ℕ} {q : Piece} {n : ℕ} (s : Standing
           → running ≡ matchesFrom path (from path p n) x x (drop (k + 1) t)
       run-takes l x e = stepped l ∙ rw (x, e)
 
+      pub star-takes : k < length t → takesOne path head first (elementOf p q) (getD t k 0) ≡ true → {x : Bool} → x ≡ isSlash q
+          → behindStar path p at head first (drop k t) ≡ true → behindStar path p n x x (drop (k + 1) t) ≡ true
+      unfolding behindStar
+      star-takes l x e z =
+          rw (e, add-one k) (star-on path head first (from path p n) (getD t k 0) (drop (suc k) t) p q y x
+          (rw (drop-cons t k 0 l) at (sym star-seen ∙ z)))
+
 -- behind the last element
 module _ (path head first : Bool) (p t : Text) (at k : ℕ) (h : length p ≤ at + 1) where
   pub run-left : k < length t → matchesFrom path (from path p at) head first (drop k t) ≡ false
@@ -153,62 +229,48 @@ unfolding active
 special-over path p at h = rw (elements-over path p at h)
 
 -- behind a star the ends of the text, one after the other
-module _ (path : Bool) (p : Text) (at : ℕ) (first : Bool) where
-  last-end : behindStar path p at first [] ≡ matchesFrom path (from path p at) false first []
-  unfolding behindStar someEnd
-  last-end = refl
+module _ (path : Bool) (p : Text) (at : ℕ) (first : Bool) (t : Text) (k : ℕ) where
+  abbrev ending : Bool → Text → Bool
+  ending = λ f u. matchesFrom path (from path p at) false f u
 
-  next-end : (b : ℕ) (t : Text) → behindStar path p at first (b ∷ t)
-      ≡ (matchesFrom path (from path p at) false first (b ∷ t) || (passes path first b && behindStar path p at false t))
-  unfolding behindStar someEnd
-  next-end b t = go (matchesFrom path (from path p at) false first (b ∷ t)) (passes path first b)
-    where
-      go : (x y : Bool) → elim x [ true ↦ true | false ↦ elim y [ true ↦ behindStar path p at false t | false ↦ false ] ] ≡ (x || (y && behindStar path p at false t))
-      go true y = refl
-      go false true = refl
-      go false false = refl
+  abbrev here : Bool
+  here = matchesFrom path (from path p at) false first (drop k t)
 
-  module _ (t : Text) (k : ℕ) where
-    abbrev here : Bool
-    here = matchesFrom path (from path p at) false first (drop k t)
+  pub end-matches : here ≡ true → behindStar path p at false first (drop k t) ≡ true
+  unfolding behindStar
+  end-matches y = some-here path ending first (drop k t) y
 
-    pub end-matches : here ≡ true → behindStar path p at first (drop k t) ≡ true
-    end-matches y = go (drop k t) y
-      where
-        go : (u : Text) → matchesFrom path (from path p at) false first u ≡ true → behindStar path p at first u ≡ true
-        go [] y = last-end ∙ y
-        go (b ∷ u) y = next-end b u ∙ rw y
+  pub end-last : here ≡ false → length t ≤ k → behindStar path p at false first (drop k t) ≡ false
+  unfolding behindStar
+  end-last n l = rw (drop-of-length-le t l) (some-last path ending first ∙ rw (drop-of-length-le t l) at n)
 
-    pub end-last : here ≡ false → length t ≤ k → behindStar path p at first (drop k t) ≡ false
-    end-last n l = rw (drop-of-length-le t l) (last-end ∙ rw (drop-of-length-le t l) at n)
+  pub end-bars : here ≡ false → k < length t → passes path first (getD t k 0) ≡ false → behindStar path p at false first (drop k t) ≡ false
+  unfolding behindStar
+  end-bars n l y = rw (drop-cons t k 0 l) (some-next path ending first (getD t k 0) (drop (suc k) t) ∙ rw (rw (drop-cons t k 0 l) at n, y))
 
-    pub end-bars : here ≡ false → k < length t → passes path first (getD t k 0) ≡ false → behindStar path p at first (drop k t) ≡ false
-    end-bars n l y = rw (drop-cons t k 0 l) (next-end (getD t k 0) (drop (suc k) t) ∙ rw (rw (drop-cons t k 0 l) at n, y))
-
-    pub end-on : here ≡ false → k < length t → passes path first (getD t k 0) ≡ true
-        → behindStar path p at first (drop k t) ≡ behindStar path p at false (drop (k + 1) t)
-    end-on n l y = rw (add-one k) (rw (drop-cons t k 0 l) (next-end (getD t k 0) (drop (suc k) t) ∙ rw (rw (drop-cons t k 0 l) at n, y)))
+  pub end-on : here ≡ false → k < length t → passes path first (getD t k 0) ≡ true
+      → behindStar path p at false first (drop k t) ≡ behindStar path p at false false (drop (k + 1) t)
+  unfolding behindStar
+  end-on n l y = rw (add-one k) (rw (drop-cons t k 0 l) (some-next path ending first (getD t k 0) (drop (suc k) t) ∙ rw (rw (drop-cons t k 0 l) at n, y)))
 
 -- a set's members, where a piece is one
 pub set-lies : (n : ℕ) {q : Piece} {negative : Bool} {a e : ℕ} → q ≡ Set negative a e → Lies n q → (a ≤ e) × (e ≤ n)
 set-lies n h l = rw h at l
 
 -- what a run that ended so says
-module _ (path : Bool) (p : Text) (head first : Bool) (t : Text) {r : Run} (s : RunSays path p head first t r) where
-  pub says-whole : r ≡ Whole → true ≡ matchesFrom path (elements path 0 (signsOf p)) head first t
-  says-whole e = sym (rw e at s)
+module _ (path : Bool) (p t : Text) (at k : ℕ) (head first : Bool) {r : Run} (s : RunSays path p t at k head first r) where
+  pub says-whole : r ≡ Whole → matchesFrom path (from path p at) head first (drop k t) ≡ true
+  says-whole e = rw e at s
 
-  pub says-fails : r ≡ Fails → false ≡ matchesFrom path (elements path 0 (signsOf p)) head first t
-  says-fails e = sym (rw e at s)
+  pub says-fails : r ≡ Fails → matchesFrom path (from path p at) head first (drop k t) ≡ false
+  says-fails e = rw e at s
 
-  pub says-star : {at k : ℕ} {starts : Bool} → r ≡ StarMet at k starts → MeetsStar path p head first t at k starts
+  pub says-star : {next j : ℕ} {starts : Bool} → r ≡ StarMet next j starts → MeetsStar path p t at k head first next j starts
   says-star e = rw e at s
 
--- a call with the rest of the pattern and of the text
-pub rest-says : (path first : Bool) (p t : Text) (at i : ℕ) {r : Bool}
-    → r ≡ matchesFrom path (elements path 0 (signsOf (take (length p - at) (drop at p)))) false first (take (length t - i) (drop i t))
-    → r ≡ matchesFrom path (from path p at) false first (drop i t)
-rest-says path first p t at i e = e ∙ rw (to-end p at, to-end t i)
-
-pub rest-shorter : (p : Text) (at : ℕ) → 0 < at → at ≤ length p → length (take (length p - at) (drop at p)) < length p
-rest-shorter p at h l = rw (to-end p at) (simp length-drop (omega arith))
+-- a star behind a star becomes the last one
+pub last-star : (path : Bool) (p t : Text) (at k : ℕ) (first : Bool) {next j : ℕ} {starts : Bool} → MeetsStar path p t at k false first next j starts
+    → behindStar path p at false first (drop k t) ≡ behindStar path p next false starts (drop j t)
+last-star path p t at k first {next} {j} {starts} m =
+    same-tests (behindStar path p at false first (drop k t)) (behindStar path p next false starts (drop j t)) (m .keeps)
+    λ z. end-matches path p at first t k (m .says ∙ z)

@@ -49,20 +49,23 @@ takesOne path head first (set negative members) b = passes path first b && inSet
 abbrev pub from : Bool → Text → ℕ → List Element
 from path p at = elements path 0 (signsOf (drop at p))
 
--- behind a star: some end of the text matches the rest of the pattern
-unfoldable pub behindStar : Bool → Text → ℕ → Bool → Text → Bool
+-- behind a star that stands before the place `at`: some end of the text matches the rest of the pattern
+unfoldable pub behindStar : Bool → Text → ℕ → Bool → Bool → Text → Bool
 unfolding someEnd matchesFrom
-behindStar path p at first t = someEnd path (λ f u. matchesFrom path (from path p at) false f u) first t
+behindStar path p at head first t = someEnd path (λ f u. matchesFrom path (from path p at) head f u) first t
 
--- a star was met before the place `at`, the text being matched up to k
-pub record MeetsStar (path : Bool) (p : Text) (head first : Bool) (t : Text) (at k : ℕ) (starts : Bool) : Type 0 where
-  pub says : matchesFrom path (elements path 0 (signsOf p)) head first t ≡ behindStar path p at starts (drop k t)
-  pub further : 0 < at
-  pub inside : at ≤ length p
-  pub within : k ≤ length t
+-- a run from the places `at` and k met a star before the place `next`, the text being matched up to j. "keeps": had a star stood before
+-- the run, all that it could reach is reached from here
+pub record MeetsStar (path : Bool) (p t : Text) (at k : ℕ) (head first : Bool) (next j : ℕ) (starts : Bool) : Type 0 where
+  pub says : matchesFrom path (from path p at) head first (drop k t) ≡ behindStar path p next false starts (drop j t)
+  pub keeps : behindStar path p at head first (drop k t) ≡ true → behindStar path p next false starts (drop j t) ≡ true
+  pub further : at < next
+  pub inside : next ≤ length p
+  pub beyond : k ≤ j
+  pub within : j ≤ length t
 
 -- what each end of a run says
-abbrev pub RunSays : Bool → Text → Bool → Bool → Text → Run → Type 0
-RunSays path p head first t Whole = matchesFrom path (elements path 0 (signsOf p)) head first t ≡ true
-RunSays path p head first t Fails = matchesFrom path (elements path 0 (signsOf p)) head first t ≡ false
-RunSays path p head first t (StarMet at k starts) = MeetsStar path p head first t at k starts
+abbrev pub RunSays : Bool → Text → Text → ℕ → ℕ → Bool → Bool → Run → Type 0
+RunSays path p t at k head first Whole = matchesFrom path (from path p at) head first (drop k t) ≡ true
+RunSays path p t at k head first Fails = matchesFrom path (from path p at) head first (drop k t) ≡ false
+RunSays path p t at k head first (StarMet next j starts) = MeetsStar path p t at k head first next j starts

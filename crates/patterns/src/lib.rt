@@ -1,17 +1,18 @@
 // Patterns: which texts they match, whether a class refuses them, and whether a field is one. A pattern is the slice of a row's units
-// without its N. The matcher goes over the elements up to the next star; there it tries the rest of the pattern at each place of the
-// text in turn.
+// without its N. The matcher goes over the elements up to the next star and remembers only the last star and where it stood in the text:
+// where the elements behind it fail, it goes back there and the star takes one byte more.
 use elements::ByteSet;
 use elements::Piece;
 ghost use mathlib.Core.Path.{_≡_};
-ghost use mathlib.Core.Bool.{true, _&&_};
-ghost use lib.ListN.{length};
-ghost use Rattle.stages.specs.Pattern.{elements, hasClass, passes, takes, matchesFrom, matches};
+ghost use mathlib.Core.Bool.{true, false, _&&_};
+ghost use Prim.Native.Nat.{_≤_};
+ghost use lib.ListN.{length, drop};
+ghost use Rattle.stages.specs.Pattern.{elements, hasClass, passes, takes, matches};
 ghost use Rattle.stages.specs.Paths.{active};
 ghost use Rattle.texts.specs.Rows.{signsOf};
 ghost use Rattle.elements.specs.Sets.{has};
 ghost use Rattle.elements.specs.Pieces.{elementOf, Lies, isClassPiece};
-ghost use Rattle.patterns.specs.Steps.{isStar, isSlash, isSpecial, takesOne, RunSays};
+ghost use Rattle.patterns.specs.Steps.{isStar, isSlash, isSpecial, takesOne, behindStar, RunSays};
 ghost use Rattle.patterns.specs.Kept.{isMark, Dropped};
 
 // The marks of units that are bytes. What has no such mark is N.
@@ -222,14 +223,25 @@ enum Run {
     Star { at: usize, k: usize, first: bool },
 }
 
-// The run over the elements up to the next star.
-fn run_to_star(pattern: &[u8], text: &[u8], path: bool, starts: bool, begins: bool) -> Run
-    ensures { λ r. ⌜ RunSays path (now (pattern .entry)) starts begins (now (text .entry)) r ⌝ }
+// The run over the elements from `start` on, with the text from `since` on, up to the next star. `starts`: the pattern's place is its
+// first or right behind its slash; `begins`: a path or a part of it starts at the text's place.
+fn run_to_star(
+    pattern: &[u8],
+    text: &[u8],
+    path: bool,
+    start: usize,
+    since: usize,
+    starts: bool,
+    begins: bool,
+) -> Run
+    requires { ⌜ start ≤ length (now pattern) ⌝ }
+    requires { ⌜ since ≤ length (now text) ⌝ }
+    ensures { λ r. ⌜ RunSays path (now (pattern .entry)) (now (text .entry)) start since starts begins r ⌝ }
 {
     let mut head = starts;
     let mut first = begins;
-    let mut at: usize = 0;
-    let mut k: usize = 0;
+    let mut at = start;
+    let mut k = since;
     while at + 1 < pattern.len() {
         let piece = elements::piece_at(pattern, at, path);
         let next = elements::behind(piece, at);
@@ -253,33 +265,44 @@ fn run_to_star(pattern: &[u8], text: &[u8], path: bool, starts: bool, begins: bo
     Run::Whole
 }
 
-// The whole text matches the pattern. `head`: the pattern's place is its first or right behind its slash; `first`: a path or a part of it
-// starts here. One call deep for each star, none for each byte.
-fn matches_from(pattern: &[u8], text: &[u8], path: bool, head: bool, first: bool) -> bool
-    ensures { λ r. ⌜ r ≡ matchesFrom path (elements path 0 (signsOf (now (pattern .entry)))) head first (now (text .entry)) ⌝ }
+// Behind a star that was met where the text is at `since`. Where a run fails, the last star takes one byte more; a star that is met
+// becomes the last one, since no other place of the star before it could help.
+fn behind_star(
+    pattern: &[u8],
+    text: &[u8],
+    path: bool,
+    start: usize,
+    since: usize,
+    begins: bool,
+) -> bool
+    requires { ⌜ start ≤ length (now pattern) ⌝ }
+    requires { ⌜ since ≤ length (now text) ⌝ }
+    ensures { λ r. ⌜ r ≡ behindStar path (now (pattern .entry)) start false begins (drop since (now (text .entry))) ⌝ }
 {
-    match run_to_star(pattern, text, path, head, first) {
-        Run::Whole => true,
-        Run::Fails => false,
-        Run::Star {
-            at,
-            k,
-            first: begins,
-        } => {
-            let mut i = k;
-            let mut starts = begins;
-            loop {
-                if matches_from(&pattern[at..], &text[i..], path, false, starts) {
-                    return true;
-                }
-                if text.len() <= i {
+    let mut at = start;
+    let mut k = since;
+    let mut first = begins;
+    loop {
+        match run_to_star(pattern, text, path, at, k, false, first) {
+            Run::Whole => return true,
+            Run::Fails => {
+                if text.len() <= k {
                     return false;
                 }
-                if !passes_byte(text[i], path, starts) {
+                if !passes_byte(text[k], path, first) {
                     return false;
                 }
-                starts = false;
-                i += 1;
+                k += 1;
+                first = false;
+            }
+            Run::Star {
+                at: next,
+                k: place,
+                first: starts,
+            } => {
+                at = next;
+                k = place;
+                first = starts;
             }
         }
     }
@@ -289,5 +312,9 @@ fn matches_from(pattern: &[u8], text: &[u8], path: bool, head: bool, first: bool
 pub fn matches(pattern: &[u8], text: &[u8], path: bool) -> bool
     ensures { λ r. ⌜ r ≡ matches path (elements path 0 (signsOf (now (pattern .entry)))) (now (text .entry)) ⌝ }
 {
-    matches_from(pattern, text, path, true, true)
+    match run_to_star(pattern, text, path, 0, 0, true, true) {
+        Run::Whole => true,
+        Run::Fails => false,
+        Run::Star { at, k, first } => behind_star(pattern, text, path, at, k, first),
+    }
 }
