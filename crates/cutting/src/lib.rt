@@ -55,7 +55,7 @@ fn keep(line: &mut [u8], kept: usize, bytes: &[u8]) -> usize
     ensures { λ r. ⌜ Puts (keptOf (take kept (now (line .entry)) ++ now (bytes .entry))) (now (line .entry)) (now (line .exit)) r ⌝ }
 {
     let n = least(bytes.len(), LINE_KEPT - kept);
-    texts::copy_in(&bytes[..n], &mut line[kept..]);
+    moves::copy_in(&bytes[..n], &mut line[kept..]);
     kept + n
 }
 
@@ -88,8 +88,8 @@ fn put_ok(line: &[u8], out: &mut [u8]) -> usize
     requires { ⌜ length (now line) + 4 ≤ length (now out) ⌝ }
     ensures { λ r. ⌜ Puts (okText (now (line .entry))) (now (out .entry)) (now (out .exit)) r ⌝ }
 {
-    texts::copy_in(b"ok ", out);
-    texts::copy_in(line, &mut out[3..]);
+    moves::copy_in(b"ok ", out);
+    moves::copy_in(line, &mut out[3..]);
     let end = line.len() + 3;
     out[end] = NEWLINE;
     end + 1
@@ -100,7 +100,7 @@ fn put_no(number: u8, place: usize, out: &mut [u8]) -> usize
     requires { ⌜ answerRoom ≤ length (now out) ⌝ }
     ensures { λ r. ⌜ Puts (noText number place) (now (out .entry)) (now (out .exit)) r ⌝ }
 {
-    texts::copy_in(b"no ", out);
+    moves::copy_in(b"no ", out);
     let a = decimals::put_decimal(&mut out[3..], number as u64);
     let blank = a + 3;
     out[blank] = BLANK;

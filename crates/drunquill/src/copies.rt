@@ -34,7 +34,7 @@ fn deliver(job: Job, image: &[u8], out: &mut [u8]) -> Quoted
 {
     match job {
         Job::Expander => {
-            texts::copy_in(image, out);
+            moves::copy_in(image, out);
             Quoted::Len(image.len())
         }
         Job::Normaliser => quoting::quote_fields(image, out),
@@ -56,7 +56,7 @@ fn hand_over(
     let written = deliver(job, image, out);
     match written {
         Quoted::Len(n) => {
-            texts::copy_in(kept, vars);
+            moves::copy_in(kept, vars);
             Answer {
                 number: refusals::ACCEPTED,
                 place: 0,
@@ -86,7 +86,7 @@ fn work_out(
     requires { ⌜ (length (now copy) ≡ imageLimit) × (length (now image) ≡ imageLimit) ⌝ }
     ensures { λ r. ⌜ Hands (answerOf job (given (now (line .entry)) (now (vars .entry)) used (now (homes .entry)) (now (paths .entry)) (now (work .entry)) (now (out .entry)))) r (now (vars .exit)) (now (out .exit)) ⌝ }
 {
-    texts::copy_in(&vars[..used], copy);
+    moves::copy_in(&vars[..used], copy);
     let size = super::checks::room(job, out.len());
     let got = lines::expand_line(
         line,
@@ -194,6 +194,6 @@ pub fn answer(
     ensures { λ r. ⌜ Gives (answerOf job (given (now (line .entry)) (now (vars .entry)) used (now (homes .entry)) (now (paths .entry)) (now (work .entry)) (now (out .entry)))) r (now (vars .exit)) (now (work .exit)) (now (out .exit)) ⌝ }
 {
     let answer = from_checks(job, line, vars, used, homes, paths, work, out);
-    texts::fill_zero(work);
+    moves::fill_zero(work);
     answer
 }

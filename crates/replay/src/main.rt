@@ -71,7 +71,7 @@ fn drop_line(block: &mut [u8], have: usize, end: usize) -> usize
         return 0;
     }
     let left = have - end - 1;
-    texts::shift(block, end + 1, 0, left);
+    moves::shift(block, end + 1, 0, left);
     left
 }
 

@@ -43,7 +43,7 @@ pub fn put_record(out: &mut [u8], text: &[u8]) -> Put
     }
     out[0] = (n / 256) as u8;
     out[1] = (n % 256) as u8;
-    texts::copy_in(text, &mut out[2..]);
+    moves::copy_in(text, &mut out[2..]);
     Put::Len(n + 2)
 }
 
@@ -79,7 +79,7 @@ fn splice(
         return Stored::Full;
     }
     let size = name.len() + value.len() + 4;
-    texts::shift(vars, end, at + size, used - end);
+    moves::shift(vars, end, at + size, used - end);
     put_record(&mut vars[at..], name);
     let next = at + 2 + name.len();
     put_record(&mut vars[next..], value);

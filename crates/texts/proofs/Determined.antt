@@ -1,11 +1,9 @@
--- The contracts determine every answer and every byte: two outcomes that a contract allows for one input are equal. Assumes nothing.
+-- The contracts determine every answer: two outcomes that a contract allows for one input are equal. No function writes. Assumes nothing.
 use Prim.Native.Nat.{ℕ}
 use native.Mathlib.Omega.{arith}
 use mathlib.Core.Path.{_≡_, sym, ap, _∙_}
 use mathlib.Core.Bool.{Bool}
-use mathlib.Core.List.{_++_}
-use lib.ListN.{length, drop, replicate, length-drop}
-use lib.Seq.{paste}
+use lib.ListN.{length, drop, length-drop}
 use Rattle.stages.specs.Bytes.{Text, isIn, eqText}
 use Rattle.texts.specs.Classes.{inClass, Runs}
 use Rattle.texts.specs.Orders.{orderOf}
@@ -27,15 +25,6 @@ same-determined a b r s = one-answer
 
 pub compare-determined : (a b : Text) (r s : Order) → r ≡ orderOf a b → s ≡ orderOf a b → r ≡ s
 compare-determined a b r s = one-answer
-
-pub copy-in-determined : (from to r s : Text) → r ≡ from ++ drop (length from) to → s ≡ from ++ drop (length from) to → r ≡ s
-copy-in-determined from to r s = one-answer
-
-pub shift-determined : (area : Text) (from to count : ℕ) (r s : Text) → r ≡ paste area to (drop from area) count → s ≡ paste area to (drop from area) count → r ≡ s
-shift-determined area from to count r s = one-answer
-
-pub fill-zero-determined : (area r s : Text) → r ≡ replicate (length area) 0 → s ≡ replicate (length area) 0 → r ≡ s
-fill-zero-determined area r s = one-answer
 
 -- the rests behind the two ends are the same, so their lengths are
 pub run-end-determined : (text : Text) (at : ℕ) (class : Class) (r s : ℕ) → Runs text at class r → Runs text at class s → r ≡ s

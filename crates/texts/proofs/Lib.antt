@@ -1,7 +1,6 @@
 pub mod Every
 pub mod ClassTable
 pub mod Scans
-pub mod Moves
 pub mod Rows
 pub mod Determined
 pub mod Orders

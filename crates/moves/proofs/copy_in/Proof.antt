@@ -1,12 +1,12 @@
--- `texts::copy_in` meets its contract: the area is the first `i` bytes of the text, then the area as it was. Assumes nothing.
+-- `moves::copy_in` meets its contract: the area is the first `i` bytes of the text, then the area as it was. Assumes nothing.
 use Prim.Native.Nat.{ℕ, _-_, _≤_}
 use mathlib.Core.Path.{_≡_, refl, ap, _∙_}
 use mathlib.Core.List.{List, _++_}
 use native.Mathlib.Omega.{arith}
 use lib.ListN.{length, getD, drop, take, set, length-set}
-use Rattle.texts.proofs.Moves.{copy-step, copy-all}
-use Rattle.texts.proofs.copy_in.Statement.{statement}
-use Rattle.texts.proofs.copy_in.Tie as tie
+use Rattle.moves.proofs.Moves.{copy-step, copy-all}
+use Rattle.moves.proofs.copy_in.Statement.{statement}
+use Rattle.moves.proofs.copy_in.Tie as tie
 
 abbrev Inv-loop : tie.InvT-loop
 Inv-loop from to₀ i₀ to i = (i ≤ length from) × (to ≡ take i from ++ drop i to₀) × (length to ≡ length to₀)

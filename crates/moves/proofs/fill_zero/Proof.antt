@@ -1,4 +1,4 @@
--- `texts::fill_zero` meets its contract: `i` zeros stand before the area as it was. Assumes nothing.
+-- `moves::fill_zero` meets its contract: `i` zeros stand before the area as it was. Assumes nothing.
 use Prim.Native.Nat.{ℕ, _-_, _≤_}
 use mathlib.Core.Path.{_≡_, refl, ap, _∙_}
 use mathlib.Core.List.{List, _++_}
@@ -7,8 +7,8 @@ use lib.Seq.{drop-length}
 use mathlib.Core.List.{append-nil}
 use lib.ListN.{length, drop, set, replicate, length-set}
 use borrow.Author.Fill.{fill-more}
-use Rattle.texts.proofs.fill_zero.Statement.{statement}
-use Rattle.texts.proofs.fill_zero.Tie as tie
+use Rattle.moves.proofs.fill_zero.Statement.{statement}
+use Rattle.moves.proofs.fill_zero.Tie as tie
 
 abbrev Inv-loop : tie.InvT-loop
 Inv-loop area₀ i₀ area i = (i ≤ length area₀) × (area ≡ replicate i 0 ++ drop i area₀) × (length area ≡ length area₀)
