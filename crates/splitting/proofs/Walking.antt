@@ -195,18 +195,15 @@ module _ {paths : List Text} {ifs : Text} {o : Outcome (List Text)} {used : ℕ}
   longer : (a : List Text) → length old < used + recordBytes (w .texts) → length old < used + recordBytes (w .texts ++ a)
   longer a x = omega (arith, x, recordBytes-append (w .texts) a)
 
-  -- the field is written
-  pub walk-on : full ≡ false → {m : ℕ} → r ≡ Len m → Walk paths ifs o used old size left next m full after
-  walk-on f {m} e =
+  -- the field fits; an earlier one may not have
+  pub walk-on : {m : ℕ} → r ≡ Len m → Walk paths ifs o used old size left next m full after
+  walk-on {m} e =
       let d : Given (fieldTexts paths field) n out after m = says-len (t .says) e in
-      let g : Filled used old (w .texts ++ d .texts) m after = filled-then (is-filled w f) (d .filled) in
-      rw f (moved (d .texts) (d .gives) (g .room) (fitting g))
-
-  -- an earlier one did not fit
-  pub walk-past : full ≡ true → {m : ℕ} → r ≡ Len m → Walk paths ifs o used old size left next n full after
-  walk-past f {m} e =
-      let d : Given (fieldTexts paths field) n out after m = says-len (t .says) e in
-      rw f (moved (d .texts) (d .gives) (w .room) (exceeding (longer (d .texts) (is-over w f))))
+      moved (d .texts) (d .gives) (omega (arith, d .filled .room, w .same)) (by-state d (w .state))
+    where
+      by-state : (d : Given (fieldTexts paths field) n out after m) → {x : Bool} → State used old (w .texts) n out x → State used old (w .texts ++ d .texts) m after x
+      by-state d (fitting f) = fitting (filled-then f (d .filled))
+      by-state d (exceeding x) = exceeding (longer (d .texts) x)
 
   -- it does not fit
   pub walk-over : r ≡ NoRoom → Walk paths ifs o used old size left next n true after

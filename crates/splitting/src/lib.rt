@@ -1,10 +1,12 @@
 // A row of units to fields, and what those become behind the output's used part. The walk over the row is one pass of two nested loops: the outer
 // one takes field by field, the inner one finds a field's end.
+ghost use mathlib.Core.Path.{_≡_};
 ghost use Prim.Native.Nat.{_≤_};
 ghost use lib.ListN.{length, take};
 ghost use Rattle.stages.specs.Numbers.{imageLimit};
-ghost use Rattle.stages.specs.Images.{held, heldTexts};
-ghost use Rattle.stages.specs.Split.{split, fieldsOfRow};
+ghost use Rattle.stages.specs.Bytes.{text, blanks};
+ghost use Rattle.stages.specs.Images.{lookup, held, heldTexts};
+ghost use Rattle.stages.specs.Split.{split, ifsOr, fieldsOfRow};
 ghost use Rattle.stages.specs.Paths.{named};
 ghost use Rattle.texts.specs.Rows.{rowOf};
 ghost use Rattle.tables.specs.Places.{Table};
@@ -32,11 +34,7 @@ fn put_fields(row: &mut [u8], ifs: &[u8], paths: &[u8], out: &mut [u8], used: us
             end += 2;
         };
         match fields::put_field(&mut row[at..end], paths, out, len) {
-            Written::Len(n) => {
-                if !full {
-                    len = n;
-                }
-            }
+            Written::Len(n) => len = n,
             Written::Class => return Written::Class,
             Written::NoRoom => full = true,
         }
@@ -46,6 +44,19 @@ fn put_fields(row: &mut [u8], ifs: &[u8], paths: &[u8], out: &mut [u8], used: us
         return Written::NoRoom;
     }
     Written::Len(len)
+}
+
+// IFS as it stands in the variables, or what it means where it is unset.
+fn ifs_of<'a>(vars: &'a [u8], unset: &'a [u8]) -> &'a [u8]
+    requires { ⌜ Table (now vars) ⌝ }
+    requires { ⌜ now unset ≡ blanks ⌝ }
+    ensures { λ r. ⌜ now r ≡ ifsOr (lookup (text "IFS") (held (now (vars .entry)))) ⌝ }
+{
+    let found = lookups::look_up_ifs(vars);
+    match found {
+        Found::At { from, to } => &vars[from..to],
+        Found::Missing => unset,
+    }
 }
 
 // Writes the fields of a word's row behind the first `used` bytes of the output, IFS being what it is in the variables now: "IFS as it stands after the
@@ -63,9 +74,6 @@ pub fn put_word_fields(
     requires { ⌜ Listed (now paths) ⌝ }
     ensures { λ r. ⌜ Puts (named (heldTexts (now (paths .entry))) (fieldsOfRow (held (take have (now (vars .entry)))) (rowOf (now (row .entry))))) used (now (out .entry)) (now (out .exit)) r ⌝ }
 {
-    let found = lookups::look_up_ifs(&vars[..have]);
-    match found {
-        Found::At { from, to } => put_fields(row, &vars[from..to], paths, out, used),
-        Found::Missing => put_fields(row, b" \t\n", paths, out, used),
-    }
+    let ifs = ifs_of(&vars[..have], b" \t\n");
+    put_fields(row, ifs, paths, out, used)
 }

@@ -11,7 +11,7 @@ use Rattle.stages.specs.Paths.{named}
 use Rattle.texts.specs.Rows.{rowOf}
 use Rattle.delimiters.specs.Places.{ahead}
 use Rattle.splitting.proofs.Runs.{Run, run-start, run-fits, run-on, run-further}
-use Rattle.splitting.proofs.Walking.{Walk, walk-start, walk-full, walk-fits, Taken, walk-class, left-sized, walk-falls, walk-on, walk-past, walk-over}
+use Rattle.splitting.proofs.Walking.{Walk, walk-start, walk-full, walk-fits, Taken, walk-class, left-sized, walk-falls, walk-on, walk-over}
 use borrow.Author.Needs.{needs}
 use Rattle.splitting.proofs.put_fields.Statement.{statement}
 use Rattle.splitting.proofs.put_fields.Tie as tie
@@ -107,22 +107,16 @@ enum-told-2 : tie.Need-enum-told-2 Inv-loop2 μ-loop2 Inv-loop μ-loop
 enum-told-2 c = search needs
 
 loop-less : tie.Need-loop-less Inv-loop2 μ-loop2 Inv-loop μ-loop
-loop-less c = walk-falls (turn (c .before .before .before .before))
+loop-less c = walk-falls (turn (c .before .before .before))
 
 loop-again : tie.Need-loop-again Inv-loop2 μ-loop2 Inv-loop μ-loop
-loop-again c = walk-on (turn (c .before .before .before .before)) (not-true _ (c .if2 .taken)) (c .before .before .n .given .1)
+loop-again c = walk-on (turn (c .before .before .before)) (c .before .n .given .1)
 
 loop-less-2 : tie.Need-loop-less-2 Inv-loop2 μ-loop2 Inv-loop μ-loop
-loop-less-2 c = walk-falls (turn (c .before .before .before .before))
+loop-less-2 c = walk-falls (turn (c .before .before))
 
 loop-again-2 : tie.Need-loop-again-2 Inv-loop2 μ-loop2 Inv-loop μ-loop
-loop-again-2 c = walk-past (turn (c .before .before .before .before)) (not-false _ (c .if2 .left)) (c .before .before .n .given .1)
-
-loop-less-3 : tie.Need-loop-less-3 Inv-loop2 μ-loop2 Inv-loop μ-loop
-loop-less-3 c = walk-falls (turn (c .before .before))
-
-loop-again-3 : tie.Need-loop-again-3 Inv-loop2 μ-loop2 Inv-loop μ-loop
-loop-again-3 c = walk-over (turn (c .before .before)) (c .enum-told2 .given .1)
+loop-again-2 c = walk-over (turn (c .before .before)) (c .enum-told2 .given .1)
 
 same-length-3 : tie.Need-same-length-3 Inv-loop2 μ-loop2 Inv-loop μ-loop
 same-length-3 c = c .before .before .loop .inv .sized
@@ -131,7 +125,7 @@ same-length-4 : tie.Need-same-length-4 Inv-loop2 μ-loop2 Inv-loop μ-loop
 same-length-4 c = c .before .before .loop .inv .same
 
 returns-2 : tie.Need-returns-2 Inv-loop2 μ-loop2 Inv-loop μ-loop
-returns-2 c = walk-full (c .before .before .loop .inv) (c .before .loop-test .left) (c .if3 .taken)
+returns-2 c = walk-full (c .before .before .loop .inv) (c .before .loop-test .left) (c .if2 .taken)
 
 same-length-5 : tie.Need-same-length-5 Inv-loop2 μ-loop2 Inv-loop μ-loop
 same-length-5 c = c .before .before .loop .inv .sized
@@ -140,7 +134,7 @@ same-length-6 : tie.Need-same-length-6 Inv-loop2 μ-loop2 Inv-loop μ-loop
 same-length-6 c = c .before .before .loop .inv .same
 
 returns-3 : tie.Need-returns-3 Inv-loop2 μ-loop2 Inv-loop μ-loop
-returns-3 c = walk-fits (c .before .before .loop .inv) (c .before .loop-test .left) (c .if3 .left)
+returns-3 c = walk-fits (c .before .before .loop .inv) (c .before .loop-test .left) (c .if2 .left)
 
 pub put-fields-spec : {M : Type 1} → statement M
 put-fields-spec =
@@ -173,8 +167,6 @@ put-fields-spec =
     loop-again
     loop-less-2
     loop-again-2
-    loop-less-3
-    loop-again-3
     same-length-3
     same-length-4
     returns-2
