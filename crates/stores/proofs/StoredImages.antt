@@ -21,7 +21,7 @@ use Rattle.tables.proofs.Splits.{stored-between}
 use Rattle.stores.specs.Answers.{imageIn, Writes}
 use Rattle.stores.specs.Splice.{spliced, within}
 
-drop-take : (end used : ℕ) (b : Text) → end ≤ used → used ≤ length b → drop end (take used b) ≡ part b end used
+pub drop-take : (end used : ℕ) (b : Text) → end ≤ used → used ≤ length b → drop end (take used b) ≡ part b end used
 drop-take end used b h k =
     let e : used ≡ end + (used - end) = omega arith in
     ap (λ (n : ℕ). drop end (take n b)) e
