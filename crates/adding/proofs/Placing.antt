@@ -20,7 +20,7 @@ use Rattle.tables.specs.Pieces.{pieceAt}
 use Rattle.tables.specs.declared.Piece.{Piece}
 use Rattle.tables.specs.declared.Piece.the-variants as piece
 use Rattle.tables.proofs.Pieces.{Ahead, Next, ahead-first, ahead-end, ahead-bad, ahead-text}
-use Rattle.tables.proofs.Frames.{Frame, frame}
+use Rattle.lookups.proofs.Frames.{Frame, frame}
 use Rattle.adding.specs.Added.{Column, hasText, withText, Free, free, taken}
 use Rattle.adding.specs.declared.Place.the-variants.{At, Taken}
 

@@ -69,7 +69,7 @@ fn insert(image: &mut [u8], used: usize, at: usize, path: &[u8], cap: usize) -> 
         return Stored::Full;
     }
     let size = path.len() + 2;
-    texts::shift(image, at, at + size, used - at);
+    moves::shift(image, at, at + size, used - at);
     stores::put_record(&mut image[at..], path);
     Stored::Used(used + size)
 }
