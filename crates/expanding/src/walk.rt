@@ -29,7 +29,7 @@ use super::operands::sum_up;
 use super::plans::operand_mark;
 use super::plans::plan_of;
 use super::plans::wants_operand;
-use items::Item;
+use braces::Item;
 use modes::Form;
 use modes::Mode;
 use reading::Reading;
