@@ -1,73 +1,15 @@
 // What stands at a place of a text: document 01's "Reading a line", a question for each function, none of them recursive. A place `at` is that of
 // the first byte of what stands there; `depth` says how many expansions may still open.
-mod braces;
-
-use modes::Form;
+use braces::Item;
 use modes::Mode;
 use modes::Sort;
 use texts::Class;
-ghost use mathlib.Core.Path.{_≡_};
-ghost use Prim.Native.Nat.{ℕ, _+_, _≤_, _<_};
+ghost use Prim.Native.Nat.{_+_, _≤_, _<_};
 ghost use lib.ListN.{length, drop, getD};
 ghost use Rattle.stages.specs.Syntax.{arith};
 ghost use Rattle.stages.specs.Items.{item, escaped, expansion, parenthesis, closed};
 ghost use Rattle.modes.specs.Modes.{modeOf, openIn};
-ghost use Rattle.items.specs.Shows.{Shows, isAt};
-
-// What stands at a place; `next` is the place behind it, and a name stands from `from` to `to`.
-pub enum Item {
-    // refused with the number
-    Fault(u8),
-    // the text ends here
-    Stop(usize),
-    // a byte; whether a backslash quotes it
-    Byte {
-        quoted: bool,
-        byte: u8,
-        next: usize,
-    },
-    // a parenthesis of an arithmetic text, and how many are open behind it
-    Paren {
-        byte: u8,
-        parens: usize,
-    },
-    // a quote opens
-    Quote(Mode),
-    // $name, ${name}
-    Value {
-        from: usize,
-        to: usize,
-        next: usize,
-    },
-    // ${#name}
-    Count {
-        from: usize,
-        to: usize,
-        next: usize,
-    },
-    // ${name FORM, and how the operand at `next` is read
-    Inner {
-        from: usize,
-        to: usize,
-        form: Form,
-        mode: Mode,
-        next: usize,
-    },
-    // $((
-    Sum {
-        next: usize,
-    },
-}
-
-// Does the byte stand at this place?
-fn is_at(text: &[u8], at: usize, b: u8) -> bool
-    ensures { λ r. ⌜ r ≡ isAt b (drop at (now (text .entry))) ⌝ }
-{
-    if at >= text.len() {
-        return false;
-    }
-    text[at] == b
-}
+ghost use Rattle.braces.specs.Shows.{Shows};
 
 // What a backslash at `at` is.
 fn escaped_at(text: &[u8], at: usize, mode: Mode, depth: usize) -> Item
@@ -100,7 +42,7 @@ fn parenthesis_at(text: &[u8], at: usize, depth: usize) -> Item
     requires { ⌜ at + 1 < length (now text) ⌝ }
     ensures { λ r. ⌜ Shows (now (text .entry)) at depth r (parenthesis depth (drop (at + 2) (now (text .entry)))) ⌝ }
 {
-    if is_at(text, at + 2, b'(') {
+    if braces::is_at(text, at + 2, b'(') {
         if depth == 0 {
             return Item::Fault(modes::REFUSED_DEPTH);
         }

@@ -14,9 +14,9 @@ use Rattle.modes.specs.Modes.{modeOf, openIn, formOf}
 use Rattle.modes.specs.declared.Mode as code-mode
 use Rattle.modes.specs.declared.Mode.the-variants as mode
 use Rattle.modes.specs.declared.Form as code-form
-use Rattle.items.specs.Shows.{Shows, Behind}
-use Rattle.items.specs.declared.Item as code-item
-use Rattle.items.specs.declared.Item.the-variants as code
+use Rattle.braces.specs.Shows.{Shows, Behind}
+use Rattle.braces.specs.declared.Item as code-item
+use Rattle.braces.specs.declared.Item.the-variants as code
 use Rattle.reading.specs.Says.{ReadTo, ReadSays, ReadMore, ReadTurn, onward}
 use Rattle.reading.specs.declared.Reading.{Reading}
 use Rattle.reading.specs.declared.Reading.the-variants as reading

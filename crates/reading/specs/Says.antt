@@ -10,7 +10,7 @@ use Rattle.stages.specs.Syntax.{Parts, Word}
 use Rattle.stages.specs.Read.{Taken, Words, put, parts, words}
 use Rattle.modes.specs.Modes.{modeOf, openIn}
 use Rattle.modes.specs.declared.Mode.{Mode}
-use Rattle.items.specs.Shows.{Behind}
+use Rattle.braces.specs.Shows.{Behind}
 use Rattle.reading.specs.declared.Reading.{Reading}
 use Rattle.reading.specs.declared.Reading.the-variants as reading
 use Rattle.reading.specs.declared.Step.{Step}

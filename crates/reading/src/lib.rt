@@ -1,6 +1,6 @@
 // Reading: the end of a text, the words of a line. One reader finds a text's faults, skips an operand that is not used, and says where a text ends;
 // it builds nothing, and looks at each byte once for each expansion that it stands in.
-use items::Item;
+use braces::Item;
 use modes::Mode;
 use texts::Class;
 ghost use mathlib.Core.Path.{_≡_};

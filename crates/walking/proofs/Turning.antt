@@ -23,9 +23,9 @@ use Rattle.modes.specs.Modes.{modeOf, openIn, formOf}
 use Rattle.modes.specs.declared.Mode.{Mode}
 use Rattle.modes.specs.declared.Mode.the-variants.{Arith}
 use Rattle.modes.specs.declared.Form as code-form
-use Rattle.items.specs.Shows.{Shows}
-use Rattle.items.specs.declared.Item.{Item}
-use Rattle.items.specs.declared.Item.the-variants.{Fault, Stop, Byte, Paren, Quote, Value, Count, Inner, Sum}
+use Rattle.braces.specs.Shows.{Shows}
+use Rattle.braces.specs.declared.Item.{Item}
+use Rattle.braces.specs.declared.Item.the-variants.{Fault, Stop, Byte, Paren, Quote, Value, Count, Inner, Sum}
 use Rattle.giving.specs.Added.{Adds, Fitting}
 use Rattle.giving.specs.Steps.{beside, placed, quoted, summed, summing, followed}
 use Rattle.walking.specs.Turns.{turnOf, turnFrom, Moves, Closes, TurnOf, Turns}

@@ -2,7 +2,8 @@
 use Prim.Native.Nat.{_+_}
 use native.Mathlib.Omega.{arith}
 use lib.ListN.{getD}
-use Rattle.items.proofs.Class.{shows-stop, closed-paren, closed-end, closed-stop, closed-wrong}
+use Rattle.braces.proofs.Showing.{shows-stop}
+use Rattle.items.proofs.Class.{closed-paren, closed-end, closed-stop, closed-wrong}
 use borrow.Author.Needs.{needs}
 use Rattle.items.proofs.closed_at.Statement.{statement}
 use Rattle.items.proofs.closed_at.Tie as tie

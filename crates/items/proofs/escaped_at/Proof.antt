@@ -2,7 +2,8 @@
 use mathlib.Core.Path.{_≡_, refl, sym, ap, _∙_}
 use native.Mathlib.Omega.{arith}
 use Rattle.modes.specs.Modes.{modeOf}
-use Rattle.items.proofs.Class.{shows-byte, escape-end, escape-line, escape-byte, escape-plain}
+use Rattle.braces.proofs.Showing.{shows-byte}
+use Rattle.items.proofs.Class.{escape-end, escape-line, escape-byte, escape-plain}
 use borrow.Author.Needs.{needs}
 use Rattle.items.proofs.escaped_at.Statement.{statement}
 use Rattle.items.proofs.escaped_at.Tie as tie

@@ -2,7 +2,8 @@
 use mathlib.Core.Path.{_≡_, refl, sym, ap, _∙_}
 use native.Mathlib.Omega.{arith}
 use Rattle.modes.specs.Modes.{modeOf}
-use Rattle.items.proofs.Class.{same-item, shows-byte, shows-value, plain-name, dollar-end, dollar-name, dollar-paren, dollar-brace, dollar-other, dollar-plain}
+use Rattle.braces.proofs.Showing.{same-item, shows-byte, shows-value, plain-name}
+use Rattle.items.proofs.Class.{dollar-end, dollar-name, dollar-paren, dollar-brace, dollar-other, dollar-plain}
 use borrow.Author.Needs.{needs}
 use Rattle.items.proofs.expansion_at.Statement.{statement}
 use Rattle.items.proofs.expansion_at.Tie as tie

@@ -2,7 +2,8 @@
 use mathlib.Core.Path.{_≡_, refl, sym, ap, _∙_}
 use native.Mathlib.Omega.{arith}
 use Rattle.modes.specs.Modes.{modeOf, endsLine}
-use Rattle.items.proofs.Class.{same-item, shows-byte, shows-stop, item-end, item-backquote, item-closes, item-operator, item-quotes, item-quotes2, item-backslash, item-dollar, item-bad, opening-mode, item-opening, closing-mode, item-closing, item-literal, open-is}
+use Rattle.braces.proofs.Showing.{same-item, shows-byte, shows-stop}
+use Rattle.items.proofs.Class.{item-end, item-backquote, item-closes, item-operator, item-quotes, item-quotes2, item-backslash, item-dollar, item-bad, opening-mode, item-opening, closing-mode, item-closing, item-literal, open-is}
 use borrow.Author.Needs.{needs}
 use Rattle.items.proofs.item_at.Statement.{statement}
 use Rattle.items.proofs.item_at.Tie as tie

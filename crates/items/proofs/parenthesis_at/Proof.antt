@@ -3,7 +3,8 @@ use Prim.Native.Nat.{_+_}
 use mathlib.Core.Path.{_≡_, refl, sym, ap, _∙_}
 use native.Mathlib.Omega.{arith}
 use lib.ListN.{drop}
-use Rattle.items.proofs.Class.{paren-other, paren-deep, paren-opens, at-within}
+use Rattle.braces.proofs.Showing.{at-within}
+use Rattle.items.proofs.Class.{paren-other, paren-deep, paren-opens}
 use borrow.Author.Needs.{needs}
 use Rattle.items.proofs.parenthesis_at.Statement.{statement}
 use Rattle.items.proofs.parenthesis_at.Tie as tie

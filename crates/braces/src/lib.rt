@@ -1,16 +1,70 @@
-// What stands behind `${`: a name or `#` and a name, then a form. A place `at` is that of the `$`, and `to` is the end of the name.
-use super::Item;
-use super::is_at;
+// What stands at a place of a text, and of that what stands behind `${`: a name or `#` and a name, then a form. A place `at` is that of the `$`, `to` is
+// the end of the name, and `depth` says how many expansions may still open.
 use modes::Form;
 use modes::Mode;
 use texts::Class;
 ghost use mathlib.Core.Path.{_≡_};
-ghost use Prim.Native.Nat.{ℕ, _+_, _-_, _≤_, _<_};
+ghost use Prim.Native.Nat.{_+_, _-_, _≤_, _<_};
 ghost use lib.ListN.{length, drop, getD};
 ghost use Rattle.stages.specs.Bytes.{part};
 ghost use Rattle.stages.specs.Items.{braced, behindLength, behindName, behindColon, removal};
 ghost use Rattle.modes.specs.Modes.{modeOf, formOf};
-ghost use Rattle.items.specs.Shows.{Shows, removalForm, counted};
+ghost use Rattle.braces.specs.Shows.{Shows, isAt, removalForm, counted};
+
+// What stands at a place; `next` is the place behind it, and a name stands from `from` to `to`.
+pub enum Item {
+    // refused with the number
+    Fault(u8),
+    // the text ends here
+    Stop(usize),
+    // a byte; whether a backslash quotes it
+    Byte {
+        quoted: bool,
+        byte: u8,
+        next: usize,
+    },
+    // a parenthesis of an arithmetic text, and how many are open behind it
+    Paren {
+        byte: u8,
+        parens: usize,
+    },
+    // a quote opens
+    Quote(Mode),
+    // $name, ${name}
+    Value {
+        from: usize,
+        to: usize,
+        next: usize,
+    },
+    // ${#name}
+    Count {
+        from: usize,
+        to: usize,
+        next: usize,
+    },
+    // ${name FORM, and how the operand at `next` is read
+    Inner {
+        from: usize,
+        to: usize,
+        form: Form,
+        mode: Mode,
+        next: usize,
+    },
+    // $((
+    Sum {
+        next: usize,
+    },
+}
+
+// Does the byte stand at this place?
+pub fn is_at(text: &[u8], at: usize, b: u8) -> bool
+    ensures { λ r. ⌜ r ≡ isAt b (drop at (now (text .entry))) ⌝ }
+{
+    if at >= text.len() {
+        return false;
+    }
+    text[at] == b
+}
 
 // What `${name:` at `at` is, whose colon is at `to`.
 fn behind_colon(text: &[u8], at: usize, mode: Mode, depth: usize, to: usize) -> Item

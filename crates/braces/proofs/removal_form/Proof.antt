@@ -1,6 +1,6 @@
 -- `items::braces::removal_form` meets its contract: the sign decides. Assumes nothing.
-use Rattle.items.proofs.braces.removal_form.Statement.{statement}
-use Rattle.items.proofs.braces.removal_form.Tie as tie
+use Rattle.braces.proofs.removal_form.Statement.{statement}
+use Rattle.braces.proofs.removal_form.Tie as tie
 
 returns : tie.Need-returns
 returns c = rw (c .if1 .taken)

@@ -3,11 +3,11 @@ use Prim.Native.Nat.{suc, _+_, _-_}
 use mathlib.Core.Path.{refl}
 use native.Mathlib.Omega.{arith}
 use Rattle.stages.specs.Bytes.{part}
-use Rattle.items.proofs.Class.{shows-count}
-use Rattle.items.proofs.Names.{length-end, length-close, length-wrong}
+use Rattle.braces.proofs.Showing.{shows-count}
+use Rattle.braces.proofs.Names.{length-end, length-close, length-wrong}
 use borrow.Author.Needs.{needs}
-use Rattle.items.proofs.braces.behind_length.Statement.{statement}
-use Rattle.items.proofs.braces.behind_length.Tie as tie
+use Rattle.braces.proofs.behind_length.Statement.{statement}
+use Rattle.braces.proofs.behind_length.Tie as tie
 
 returns : tie.Need-returns
 returns c =

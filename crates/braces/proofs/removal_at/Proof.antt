@@ -5,12 +5,12 @@ use native.Mathlib.Omega.{arith}
 use lib.ListN.{drop, getD}
 use Rattle.stages.specs.Bytes.{part}
 use Rattle.modes.specs.declared.Mode.the-variants as mode
-use Rattle.items.specs.Shows.{removalForm}
-use Rattle.items.proofs.Class.{at-within, shows-inner, inner-same}
-use Rattle.items.proofs.Names.{removal-doubled, removal-once}
+use Rattle.braces.specs.Shows.{removalForm}
+use Rattle.braces.proofs.Showing.{at-within, shows-inner, inner-same}
+use Rattle.braces.proofs.Names.{removal-doubled, removal-once}
 use borrow.Author.Needs.{needs}
-use Rattle.items.proofs.braces.removal_at.Statement.{statement}
-use Rattle.items.proofs.braces.removal_at.Tie as tie
+use Rattle.braces.proofs.removal_at.Statement.{statement}
+use Rattle.braces.proofs.removal_at.Tie as tie
 
 shared-slice-read-sign : tie.Need-shared-slice-read-sign
 shared-slice-read-sign c = search needs

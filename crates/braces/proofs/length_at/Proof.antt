@@ -1,11 +1,11 @@
 -- `items::braces::length_at` meets its contract: the byte behind decides. Assumes nothing.
 use mathlib.Core.Path.{_≡_, refl, sym, ap, _∙_}
 use native.Mathlib.Omega.{arith}
-use Rattle.items.proofs.Class.{same-item}
-use Rattle.items.proofs.Names.{counted-end, counted-name, counted-wrong}
+use Rattle.braces.proofs.Showing.{same-item}
+use Rattle.braces.proofs.Names.{counted-end, counted-name, counted-wrong}
 use borrow.Author.Needs.{needs}
-use Rattle.items.proofs.braces.length_at.Statement.{statement}
-use Rattle.items.proofs.braces.length_at.Tie as tie
+use Rattle.braces.proofs.length_at.Statement.{statement}
+use Rattle.braces.proofs.length_at.Tie as tie
 
 add-if1 : tie.Need-add-if1
 add-if1 c = search needs

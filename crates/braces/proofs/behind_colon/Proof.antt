@@ -4,11 +4,11 @@ use mathlib.Core.Path.{_≡_, refl, sym, ap, _∙_}
 use native.Mathlib.Omega.{arith}
 use Rattle.stages.specs.Bytes.{part}
 use Rattle.modes.specs.Modes.{modeOf}
-use Rattle.items.proofs.Class.{shows-inner, inner-same}
-use Rattle.items.proofs.Names.{colon-end, colon-sign, colon-wrong}
+use Rattle.braces.proofs.Showing.{shows-inner, inner-same}
+use Rattle.braces.proofs.Names.{colon-end, colon-sign, colon-wrong}
 use borrow.Author.Needs.{needs}
-use Rattle.items.proofs.braces.behind_colon.Statement.{statement}
-use Rattle.items.proofs.braces.behind_colon.Tie as tie
+use Rattle.braces.proofs.behind_colon.Statement.{statement}
+use Rattle.braces.proofs.behind_colon.Tie as tie
 
 add-if1 : tie.Need-add-if1
 add-if1 c = search needs

@@ -11,8 +11,8 @@ use Rattle.stages.specs.Syntax.{Form, suffix, prefix}
 use Rattle.stages.specs.Items.{fault, stop, byte, paren, quote, value, count, inner, sum, named, behindLength}
 use Rattle.stages.specs.Items as items
 use Rattle.modes.specs.Modes.{modeOf, openIn, formOf}
-use Rattle.items.specs.declared.Item.{Item}
-use Rattle.items.specs.declared.Item.the-variants.{Fault, Stop, Byte, Paren, Quote, Value, Count, Inner, Sum}
+use Rattle.braces.specs.declared.Item.{Item}
+use Rattle.braces.specs.declared.Item.the-variants.{Fault, Stop, Byte, Paren, Quote, Value, Count, Inner, Sum}
 
 -- the text's first byte is b
 abbrev pub isAt : ℕ → Text → Bool

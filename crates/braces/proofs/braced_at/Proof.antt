@@ -2,11 +2,11 @@
 use mathlib.Core.Path.{_≡_, refl, sym, ap, _∙_}
 use native.Mathlib.Omega.{arith}
 use Rattle.modes.specs.Modes.{modeOf}
-use Rattle.items.proofs.Class.{same-item}
-use Rattle.items.proofs.Names.{brace-deep, brace-end, brace-length, brace-named, brace-wrong}
+use Rattle.braces.proofs.Showing.{same-item}
+use Rattle.braces.proofs.Names.{brace-deep, brace-end, brace-length, brace-named, brace-wrong}
 use borrow.Author.Needs.{needs}
-use Rattle.items.proofs.braces.braced_at.Statement.{statement}
-use Rattle.items.proofs.braces.braced_at.Tie as tie
+use Rattle.braces.proofs.braced_at.Statement.{statement}
+use Rattle.braces.proofs.braced_at.Tie as tie
 
 returns : tie.Need-returns
 returns c =

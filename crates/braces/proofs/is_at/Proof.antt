@@ -1,9 +1,9 @@
 -- `items::is_at` meets its contract: a place behind the text has no byte. Assumes nothing.
 use native.Mathlib.Omega.{arith}
-use Rattle.items.proofs.Class.{at-none, at-here}
+use Rattle.braces.proofs.Showing.{at-none, at-here}
 use borrow.Author.Needs.{needs}
-use Rattle.items.proofs.is_at.Statement.{statement}
-use Rattle.items.proofs.is_at.Tie as tie
+use Rattle.braces.proofs.is_at.Statement.{statement}
+use Rattle.braces.proofs.is_at.Tie as tie
 
 returns : tie.Need-returns
 returns c =

@@ -16,8 +16,8 @@ use Rattle.stages.specs.Items.{Item, fault, value, count, inner}
 use Rattle.stages.specs.Items.{wrong, braced, named, behindName, behindColon, behindLength, removal, signForm, operandMode}
 use Rattle.texts.specs.Classes.{Runs}
 use Rattle.texts.specs.declared.Class.the-variants.{NameByte}
-use Rattle.items.specs.Shows.{Behind, isAt, counted}
-use Rattle.items.proofs.Class.{wrong-byte, part-length}
+use Rattle.braces.specs.Shows.{Behind, isAt, counted}
+use Rattle.braces.proofs.Showing.{wrong-byte, part-length}
 
 -- Behind `${name:`.
 

@@ -6,11 +6,11 @@ use lib.ListN.{drop, getD}
 use Rattle.stages.specs.Bytes.{part}
 use Rattle.stages.specs.Syntax.{suffix, prefix}
 use Rattle.modes.specs.Modes.{modeOf}
-use Rattle.items.proofs.Class.{same-item, shows-value, braced-name, shows-inner, inner-same}
-use Rattle.items.proofs.Names.{name-end, name-close, name-colon, name-sign, name-suffix, name-prefix, name-wrong, colon-place, removal-place}
+use Rattle.braces.proofs.Showing.{same-item, shows-value, braced-name, shows-inner, inner-same}
+use Rattle.braces.proofs.Names.{name-end, name-close, name-colon, name-sign, name-suffix, name-prefix, name-wrong, colon-place, removal-place}
 use borrow.Author.Needs.{needs}
-use Rattle.items.proofs.braces.behind_name.Statement.{statement}
-use Rattle.items.proofs.braces.behind_name.Tie as tie
+use Rattle.braces.proofs.behind_name.Statement.{statement}
+use Rattle.braces.proofs.behind_name.Tie as tie
 
 returns : tie.Need-returns
 returns c =

@@ -1,0 +1,3 @@
+pub mod Showing
+pub mod Names
+pub mod Determined
