@@ -1,0 +1,80 @@
+//! The functions of include/drunquill.h, each called with the pointers and lengths of slices. All that is unsafe stands here.
+
+use crate::{Tables, Variables};
+
+/// `struct drunquill_answer`
+#[repr(C)]
+pub struct Answer {
+    pub number: u8,
+    pub place: usize,
+    pub out_len: usize,
+    pub used_len: usize,
+}
+
+/// `struct drunquill_quote_answer`
+#[repr(C)]
+pub struct QuoteAnswer {
+    pub number: u8,
+    pub place: usize,
+    pub out_len: usize,
+}
+
+/// Declares the jobs that take a line, which differ in their names alone, and defines each over slices.
+macro_rules! jobs {
+    ($($job:ident is $name:ident;)*) => {
+        extern "C" {
+            $(fn $job(
+                line: *const u8,
+                line_len: usize,
+                vars: *mut u8,
+                vars_len: usize,
+                used: usize,
+                homes: *const u8,
+                homes_len: usize,
+                paths: *const u8,
+                paths_len: usize,
+                work: *mut u8,
+                work_len: usize,
+                out: *mut u8,
+                out_len: usize,
+            ) -> Answer;)*
+        }
+        $(pub fn $name(line: &[u8], vars: &mut Variables, tables: Tables, work: &mut [u8], out: &mut [u8]) -> Answer {
+            let Tables { homes, paths } = tables;
+            // SAFETY: a slice's pointer is never null and has as many bytes as its length; the three that are written are lent for this call alone, so
+            // that they overlap nothing and nobody else looks at them. The function keeps no pointer, and is proved to reach nothing but these bytes and
+            // the stack, whatever the bytes and lengths are.
+            unsafe {
+                $job(
+                    line.as_ptr(),
+                    line.len(),
+                    vars.buffer.as_mut_ptr(),
+                    vars.buffer.len(),
+                    vars.used,
+                    homes.as_ptr(),
+                    homes.len(),
+                    paths.as_ptr(),
+                    paths.len(),
+                    work.as_mut_ptr(),
+                    work.len(),
+                    out.as_mut_ptr(),
+                    out.len(),
+                )
+            }
+        })*
+    };
+}
+
+jobs! {
+    drunquill_expand is expand;
+    drunquill_normalise is normalise;
+}
+
+extern "C" {
+    fn drunquill_quote(fields: *const u8, fields_len: usize, out: *mut u8, out_len: usize) -> QuoteAnswer;
+}
+
+pub fn quote(fields: &[u8], out: &mut [u8]) -> QuoteAnswer {
+    // SAFETY: as above.
+    unsafe { drunquill_quote(fields.as_ptr(), fields.len(), out.as_mut_ptr(), out.len()) }
+}

@@ -1,0 +1,104 @@
+//! Drunquill for Rust: a POSIX shell line expanded into fields, fields quoted as a line, and both in one call.
+//!
+//! The functions are the proved ones of include/drunquill.h, for x86-64 Linux; this crate turns slices into pointers and numbers into names, and nothing else.
+//! What the header asks of its callers holds of any slices: none is null, and what is lent for writing overlaps nothing. What is left to the caller is the
+//! stack: a call may need [`STACK`] bytes of it.
+//!
+//! Lines, images and numbers are those of docs/01-scope.md; man/drunquill.3 has them in short.
+//!
+//! ```
+//! use drunquill::{normalise, Number, Tables, Variables};
+//!
+//! let mut buffer = [0; 64];
+//! let image = b"\x01\0\x03job\0\x03a b";
+//! buffer[..image.len()].copy_from_slice(image);
+//! let mut variables = Variables { buffer: &mut buffer, used: image.len() };
+//! let mut work = vec![0; drunquill::WORK_LEAST];
+//! let mut out = [0; drunquill::LINE_MAX];
+//!
+//! let line = normalise(b"cp \"$job\" $job", &mut variables, Tables::NONE, &mut work, &mut out);
+//! assert_eq!(line, Ok(b"'cp' 'a b' 'a' 'b'".as_slice()));
+//!
+//! let refusal = normalise(b"cp 'a", &mut variables, Tables::NONE, &mut work, &mut out).unwrap_err();
+//! assert_eq!((refusal.number, refusal.place), (Number::Unended, 3));
+//! ```
+
+mod archive;
+mod number;
+
+pub use number::{Number, Refusal};
+
+/// The least length of the work area, in bytes.
+pub const WORK_LEAST: usize = 65_536;
+/// The longest line, and the longest quoted line.
+pub const LINE_MAX: usize = 2_048;
+/// The longest image of variables, homes or fields.
+pub const IMAGE_MAX: usize = 8_192;
+/// The longest image of paths.
+pub const PATHS_MAX: usize = 32_768;
+/// Units of a word, an operand or an arithmetic text: its bytes, and a mark for each opening quote.
+pub const UNITS_MAX: usize = 2_048;
+/// Expansions open at once.
+pub const DEPTH_MAX: usize = 8;
+/// Parentheses and unary signs open at once in arithmetic, together.
+pub const OPEN_MAX: usize = 32;
+/// What a call may need of the stack, in bytes: measured, not proved. The main thread and the threads of std have more.
+pub const STACK: usize = 524_288;
+
+/// The variables: an image in the first `used` bytes of a buffer, into which `${name=word}` stores. An accepted call leaves the new image and its length here;
+/// bytes behind it, and on a refusal all of them, are as before.
+#[derive(Debug)]
+pub struct Variables<'a> {
+    pub buffer: &'a mut [u8],
+    pub used: usize,
+}
+
+/// The images of homes and of paths.
+#[derive(Clone, Copy, Debug)]
+pub struct Tables<'a> {
+    pub homes: &'a [u8],
+    pub paths: &'a [u8],
+}
+
+impl Tables<'static> {
+    /// No homes and no paths.
+    pub const NONE: Tables<'static> = Tables { homes: &[1], paths: &[1] };
+}
+
+/// The expander: the fields of the line's words, as an image, to the front of `out`, which is given back. The work area has at least [`WORK_LEAST`] bytes,
+/// whatever they are; after the call all of them are zero. On a refusal `out` is as before.
+pub fn expand<'o>(
+    line: &[u8],
+    variables: &mut Variables,
+    tables: Tables,
+    work: &mut [u8],
+    out: &'o mut [u8],
+) -> Result<&'o [u8], Refusal> {
+    let answer = archive::expand(line, variables, tables, work, out);
+    given(answer, variables, out)
+}
+
+/// The normaliser: as the expander, but the fields go to `out` as a quoted line of at most [`LINE_MAX`] bytes.
+pub fn normalise<'o>(
+    line: &[u8],
+    variables: &mut Variables,
+    tables: Tables,
+    work: &mut [u8],
+    out: &'o mut [u8],
+) -> Result<&'o [u8], Refusal> {
+    let answer = archive::normalise(line, variables, tables, work, out);
+    given(answer, variables, out)
+}
+
+/// The quoter: an image of fields as a line of at most [`LINE_MAX`] bytes to the front of `out`, which is given back. On a refusal `out` is as before.
+pub fn quote<'o>(fields: &[u8], out: &'o mut [u8]) -> Result<&'o [u8], Refusal> {
+    let answer = archive::quote(fields, out);
+    Refusal::unless_accepted(answer.number, answer.place)?;
+    Ok(&out[..answer.out_len])
+}
+
+fn given<'o>(answer: archive::Answer, variables: &mut Variables, out: &'o [u8]) -> Result<&'o [u8], Refusal> {
+    Refusal::unless_accepted(answer.number, answer.place)?;
+    variables.used = answer.used_len;
+    Ok(&out[..answer.out_len])
+}

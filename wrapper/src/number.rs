@@ -1,0 +1,122 @@
+//! The refusals' numbers under their names, and the refusal that pairs one with a place.
+
+use std::error::Error;
+use std::fmt;
+
+/// Why a call was refused. The discriminant is the number of docs/01-scope.md, the name that of include/drunquill.h.
+#[derive(Clone, Copy, Debug, PartialEq, Eq, Hash, PartialOrd, Ord)]
+#[repr(u8)]
+pub enum Number {
+    WorkTooSmall = 1,
+    BadVariables = 2,
+    BadHomes = 3,
+    BadPaths = 4,
+    LineTooLong = 5,
+    ZeroByte = 6,
+    Unended = 7,
+    BareOperator = 8,
+    Substitution = 9,
+    Unserved = 10,
+    BadSyntax = 11,
+    TooDeep = 12,
+    Demanded = 13,
+    TooManyUnits = 14,
+    NotNumber = 15,
+    ArithmeticSyntax = 16,
+    Overflow = 17,
+    ZeroDivisor = 18,
+    BracketClass = 19,
+    VariableRoom = 20,
+    OutputRoom = 21,
+    BadFields = 22,
+}
+
+impl Number {
+    /// All of them, in order.
+    pub const ALL: [Number; 22] = [
+        Number::WorkTooSmall,
+        Number::BadVariables,
+        Number::BadHomes,
+        Number::BadPaths,
+        Number::LineTooLong,
+        Number::ZeroByte,
+        Number::Unended,
+        Number::BareOperator,
+        Number::Substitution,
+        Number::Unserved,
+        Number::BadSyntax,
+        Number::TooDeep,
+        Number::Demanded,
+        Number::TooManyUnits,
+        Number::NotNumber,
+        Number::ArithmeticSyntax,
+        Number::Overflow,
+        Number::ZeroDivisor,
+        Number::BracketClass,
+        Number::VariableRoom,
+        Number::OutputRoom,
+        Number::BadFields,
+    ];
+
+    /// The refusal of that number, if there is one: 0 is the acceptance.
+    pub fn of(number: u8) -> Option<Number> {
+        Number::ALL.into_iter().find(|known| *known as u8 == number)
+    }
+
+    /// What docs/01-scope.md says of the number.
+    pub fn words(self) -> &'static str {
+        match self {
+            Number::WorkTooSmall => "work area below 65,536 bytes",
+            Number::BadVariables => "variables malformed, too long, or used length beyond the buffer",
+            Number::BadHomes => "homes malformed or too long",
+            Number::BadPaths => "paths malformed or too long",
+            Number::LineTooLong => "line above 2,048 bytes",
+            Number::ZeroByte => "zero byte in the line",
+            Number::Unended => "line ends inside a quote, brace or arithmetic, or after a backslash",
+            Number::BareOperator => "bare operator",
+            Number::Substitution => "command substitution",
+            Number::Unserved => "parameter not served",
+            Number::BadSyntax => "other bad syntax",
+            Number::TooDeep => "too deep",
+            Number::Demanded => "`?` form on a missing value",
+            Number::TooManyUnits => "above 2,048 units",
+            Number::NotNumber => "not a number",
+            Number::ArithmeticSyntax => "arithmetic syntax",
+            Number::Overflow => "overflow",
+            Number::ZeroDivisor => "zero divisor",
+            Number::BracketClass => "bracket class",
+            Number::VariableRoom => "no room for a variable",
+            Number::OutputRoom => "no room for output",
+            Number::BadFields => "fields image malformed or too long",
+        }
+    }
+}
+
+/// A number, and the place: the offset in the line of the first byte of the word at fault, or of the operator itself if no word is open; 0 for numbers 1 to 6
+/// and 22, and for 21 from quoting.
+#[derive(Clone, Copy, Debug, PartialEq, Eq, Hash)]
+pub struct Refusal {
+    pub number: Number,
+    pub place: usize,
+}
+
+impl Refusal {
+    /// What a call's number and place say.
+    ///
+    /// # Panics
+    /// On a number above 22: the functions are proved to give none.
+    pub(crate) fn unless_accepted(number: u8, place: usize) -> Result<(), Refusal> {
+        match number {
+            0 => Ok(()),
+            _ => Err(Refusal { number: Number::of(number).expect("a number of document 01"), place }),
+        }
+    }
+}
+
+impl fmt::Display for Refusal {
+    fn fmt(&self, out: &mut fmt::Formatter) -> fmt::Result {
+        write!(out, "refused with {} at byte {}: {}", self.number as u8, self.place, self.number.words())
+    }
+}
+
+impl Error for Refusal {}

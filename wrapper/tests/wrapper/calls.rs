@@ -1,0 +1,178 @@
+//! Each function on good and bad input. What is expected is written out from docs/01-scope.md.
+
+use std::thread;
+
+use drunquill::{quote, Number, Refusal, IMAGE_MAX, LINE_MAX, WORK_LEAST};
+
+use crate::buffers::{differs, image, quote_differs, Given, Job};
+
+const VARIABLES: [&[u8]; 6] = [b"HOME", b"/home/crew", b"job", b"north field", b"note", b""];
+
+/// The variables and paths of the spoiled recipes, and a line.
+fn given(line: &[u8]) -> Given {
+    let vars = image(&VARIABLES);
+    Given {
+        line: line.to_vec(),
+        used: vars.len(),
+        vars,
+        vars_len: 300,
+        homes: image(&[]),
+        paths: image(&[b".hid.raw", b"a b.raw", b"n/p1.raw", b"p1.raw", b"p2.raw"]),
+        work_len: WORK_LEAST,
+        out_len: 200,
+        fill: [|at| (at * 31 % 251 + 5) as u8, |at| (at * 17 % 241 + 9) as u8],
+    }
+}
+
+fn accepted(job: Job, given: &Given, out: &[u8], vars: &[u8]) {
+    assert_eq!(
+        differs(job, given, &Ok((out.to_vec(), vars.to_vec()))),
+        None,
+        "{:?}",
+        given.line.escape_ascii().to_string()
+    );
+}
+
+fn refused_by(job: Job, given: &Given, number: Number, place: usize) {
+    assert_eq!(
+        differs(job, given, &Err(Refusal { number, place })),
+        None,
+        "{:?}",
+        given.line.escape_ascii().to_string()
+    );
+}
+
+fn refused(given: &Given, number: Number, place: usize) {
+    refused_by(Job::Expand, given, number, place);
+    refused_by(Job::Normalise, given, number, place);
+}
+
+#[test]
+fn lines_are_accepted() {
+    let vars = image(&VARIABLES);
+    let c1 = given(b"cp \"$job\" $job");
+    let fields = image(&[b"cp", b"north field", b"north", b"field"]);
+    accepted(Job::Expand, &c1, &fields, &vars);
+    accepted(Job::Expand, &Given { out_len: fields.len(), ..c1.clone() }, &fields, &vars);
+    accepted(Job::Expand, &Given { work_len: WORK_LEAST + 1_000, ..c1.clone() }, &fields, &vars);
+    accepted(Job::Normalise, &c1, b"'cp' 'north field' 'north' 'field'", &vars);
+    let c2 = given(b"*.raw ~/out $((7/-2))");
+    accepted(Job::Expand, &c2, &image(&[b"a b.raw", b"p1.raw", b"p2.raw", b"/home/crew/out", b"-3"]), &vars);
+    let home = Given { homes: image(&[b"kit", b"/k"]), ..given(b"~kit") };
+    accepted(Job::Expand, &home, &image(&[b"/k"]), &vars);
+}
+
+#[test]
+fn a_store_is_kept() {
+    let stored = image(&[VARIABLES.as_slice(), &[b"tilt", b"a b"]].concat());
+    let c6 = given(b"${tilt:=\"a b\"}");
+    accepted(Job::Expand, &c6, &image(&[b"a", b"b"]), &stored);
+    accepted(Job::Normalise, &c6, b"'a' 'b'", &stored);
+    accepted(Job::Normalise, &Given { vars_len: stored.len(), ..c6.clone() }, b"'a' 'b'", &stored);
+    refused(&Given { vars_len: stored.len() - 1, ..c6 }, Number::VariableRoom, 0);
+}
+
+#[test]
+fn empty_slices_are_taken() {
+    let (none, vars) = (given(b""), image(&VARIABLES));
+    accepted(Job::Expand, &none, &image(&[]), &vars);
+    accepted(Job::Normalise, &none, b"", &vars);
+    let no_output = Given { out_len: 0, ..none };
+    refused_by(Job::Expand, &no_output, Number::OutputRoom, 0);
+    accepted(Job::Normalise, &no_output, b"", &vars);
+    refused(&Given { work_len: 0, ..given(b"a") }, Number::WorkTooSmall, 0);
+    refused(&Given { used: 0, ..given(b"a") }, Number::BadVariables, 0);
+    refused(&Given { used: 0, vars_len: 0, ..given(b"a") }, Number::BadVariables, 0);
+    refused(&Given { homes: Vec::new(), ..given(b"a") }, Number::BadHomes, 0);
+    refused(&Given { paths: Vec::new(), ..given(b"a") }, Number::BadPaths, 0);
+}
+
+#[test]
+fn tables_are_refused() {
+    refused(&Given { work_len: WORK_LEAST - 1, ..given(b"a") }, Number::WorkTooSmall, 0);
+    refused(&Given { used: 301, ..given(b"a") }, Number::BadVariables, 0);
+    refused(&Given { used: usize::MAX, ..given(b"a") }, Number::BadVariables, 0);
+    refused(&Given { used: image(&VARIABLES).len() - 1, ..given(b"a") }, Number::BadVariables, 0);
+    refused(&Given { homes: image(&[b"b", b"/b", b"a", b"/a"]), ..given(b"a") }, Number::BadHomes, 0);
+    refused(&Given { paths: image(&[b""]), ..given(b"a") }, Number::BadPaths, 0);
+}
+
+#[test]
+fn lines_are_refused() {
+    refused(&given(&vec![b'a'; LINE_MAX + 1]), Number::LineTooLong, 0);
+    let lines: [(&[u8], Number, usize); 16] = [
+        (b"a\0b", Number::ZeroByte, 0),
+        (b"a \"b", Number::Unended, 2),
+        (b"a | b", Number::BareOperator, 2),
+        (b"a `b`", Number::Substitution, 2),
+        (b"a b$1", Number::Unserved, 2),
+        (b"a ${job!}", Number::BadSyntax, 2),
+        (b"a ${u-${u-${u-${u-${u-${u-${u-${u-${u-x}}}}}}}}}", Number::TooDeep, 2),
+        (b"${note:?}", Number::Demanded, 0),
+        (b"${tilt=x} ${note:?}", Number::Demanded, 10),
+        (b"a $((08))", Number::NotNumber, 2),
+        (b"a $(())", Number::ArithmeticSyntax, 2),
+        (b"a $((9223372036854775807+1))", Number::Overflow, 2),
+        (b"a $((1/0))", Number::ZeroDivisor, 2),
+        (b"a [[:alpha:]]", Number::BracketClass, 2),
+        (b"${tilt=x} $(", Number::Substitution, 10),
+        (b"a\\", Number::Unended, 0),
+    ];
+    for (line, number, place) in lines {
+        refused(&given(line), number, place);
+    }
+}
+
+#[test]
+fn edges_are_kept() {
+    for (bytes, good) in [(2_047, true), (2_048, false)] {
+        let value = vec![b'x'; bytes];
+        let vars = image(&[b"v", &value]);
+        let edge = Given {
+            used: vars.len(),
+            vars: vars.clone(),
+            vars_len: IMAGE_MAX + 100,
+            out_len: IMAGE_MAX,
+            ..given(b"\"$v\"")
+        };
+        if good {
+            accepted(Job::Expand, &edge, &image(&[&value]), &vars);
+            refused_by(Job::Normalise, &edge, Number::OutputRoom, 0);
+        } else {
+            refused(&edge, Number::TooManyUnits, 0);
+        }
+    }
+    let short = Given { out_len: 10, ..given(b"a ${tilt:=x} bc") };
+    refused_by(Job::Expand, &short, Number::OutputRoom, 13);
+    refused_by(Job::Normalise, &short, Number::OutputRoom, 0);
+}
+
+#[test]
+fn fields_are_quoted() {
+    let fill: fn(usize) -> u8 = |at| (at * 29 % 253 + 2) as u8;
+    let fields = image(&[b"it's", b"", b"a b"]);
+    let line = b"'it'\\''s' '' 'a b'".to_vec();
+    let refusal = |number| Err(Refusal { number, place: 0 });
+    assert_eq!(quote_differs(&fields, 60, fill, &Ok(line.clone())), None);
+    assert_eq!(quote_differs(&fields, line.len(), fill, &Ok(line.clone())), None);
+    assert_eq!(quote_differs(&fields, line.len() - 1, fill, &refusal(Number::OutputRoom)), None);
+    assert_eq!(quote_differs(&fields[..fields.len() - 1], 60, fill, &refusal(Number::BadFields)), None);
+    assert_eq!(quote_differs(&[], 60, fill, &refusal(Number::BadFields)), None);
+    assert_eq!(quote_differs(&[2], 60, fill, &refusal(Number::BadFields)), None);
+    assert_eq!(quote_differs(&[1], 0, fill, &Ok(Vec::new())), None);
+}
+
+#[test]
+fn threads_call_at_once() {
+    let calls =
+        || (0..200).for_each(|_| accepted(Job::Normalise, &given(b"\"$job\""), b"'north field'", &image(&VARIABLES)));
+    thread::scope(|scope| (0..4).for_each(|_| drop(scope.spawn(calls))));
+}
+
+#[test]
+fn a_refusal_says_itself() {
+    let refusal = quote(&[], &mut []).unwrap_err();
+    assert_eq!(refusal.to_string(), "refused with 22 at byte 0: fields image malformed or too long");
+    assert_eq!(Number::of(0), None);
+    assert_eq!(Number::of(23), None);
+}

@@ -1,0 +1,69 @@
+//! The calls of tests/vectors/base.txt through the wrapper. Two are left out, as in tools/test-replay: the plain matcher takes too long over them.
+
+use std::fs;
+use std::path::Path;
+
+use drunquill::{Number, Refusal};
+
+use crate::buffers::{differs, quote_differs, Given, Job, Wanted};
+
+const LEFT_OUT: [usize; 2] = [2083, 4084];
+
+fn bytes(word: &str) -> Vec<u8> {
+    let digits = word.trim_end_matches('-');
+    (0..digits.len()).step_by(2).map(|at| u8::from_str_radix(&digits[at..at + 2], 16).expect("two digits")).collect()
+}
+
+fn count(word: &str) -> usize {
+    word.parse().expect("a length")
+}
+
+/// What stands behind the `=`: number, place, then the output, which has the length that is said.
+fn outcome(words: &[&str]) -> Result<Vec<u8>, Refusal> {
+    let out = bytes(words[3]);
+    assert_eq!(out.len(), count(words[2]));
+    match words[0] {
+        "0" => Ok(out),
+        number => {
+            let number = Number::of(number.parse().expect("a number")).expect("a refusal");
+            Err(Refusal { number, place: count(words[1]) })
+        }
+    }
+}
+
+/// What differs in a case, if anything.
+fn case(line: &str) -> Option<String> {
+    let (call, answer) = line.split_once(" = ").expect("an answer");
+    let call: Vec<&str> = call.split(' ').collect();
+    let answer: Vec<&str> = answer.split(' ').collect();
+    let job = match call[0] {
+        "quote" => return quote_differs(&bytes(call[1]), count(call[2]), |_| 0xa5, &outcome(&answer)),
+        "expand" => Job::Expand,
+        _ => Job::Normalise,
+    };
+    let given = Given {
+        line: bytes(call[1]),
+        vars: bytes(call[2]),
+        used: count(call[3]),
+        vars_len: count(call[4]),
+        homes: bytes(call[5]),
+        paths: bytes(call[6]),
+        work_len: count(call[7]),
+        out_len: count(call[8]),
+        fill: [|_| 0x5a, |_| 0xa5],
+    };
+    let wanted: Wanted = outcome(&answer).map(|out| (out, bytes(answer[5])));
+    differs(job, &given, &wanted)
+}
+
+#[test]
+fn vectors_hold() {
+    let path = Path::new(env!("CARGO_MANIFEST_DIR")).join("../tests/vectors/base.txt");
+    let text = fs::read_to_string(path).expect("the vectors");
+    let mut cases = 0;
+    for (number, line) in (1..).zip(text.lines()).filter(|(number, _)| !LEFT_OUT.contains(number)) {
+        assert_eq!(case(line), None, "line {number}");
+        cases += 1;
+    }
+    assert!(cases > 6_000);
+}
