@@ -3,7 +3,7 @@ use Prim.Native.Nat.{_*_}
 use Rattle.expanding.proofs.Finishing.{stripped-inside, stripped-front, sum-refuses, sum-gives}
 use Rattle.rows.specs.Marks.{markOf}
 use Rattle.stages.specs.Images.{held}
-use Rattle.sums.proofs.Lexing.{kept}
+use Rattle.numbers.proofs.Ranges.{kept}
 use Rattle.texts.specs.Rows.{rowOf}
 use borrow.Author.Needs.{needs}
 use lib.ListN.{take, drop, length-append, length-drop}
