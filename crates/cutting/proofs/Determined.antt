@@ -5,15 +5,12 @@ use mathlib.Core.Bool.{Bool}
 use Rattle.stages.specs.Bytes.{Text}
 use Rattle.stages.proofs.Bools.{clash, some-same}
 use Rattle.texts.proofs.Determined.{one-answer}
-use Rattle.quoting.specs.Answers.{Puts}
+use Rattle.texts.specs.Putting.{Puts}
+use Rattle.texts.proofs.Filling.{puts-once}
 use Rattle.cutting.specs.Lines.{keptIn, nextIn, Takes, hasLine}
 use Rattle.cutting.specs.Said.{saidBy}
 use Rattle.cutting.specs.declared.Taken.{Taken}
 use Rattle.cutting.specs.declared.Taken.the-variants.{Ended, Open}
-
--- the same text over the same bytes is one length and one buffer
-puts-once : {t old left left′ : Text} {r s : ℕ} → Puts t old left r → Puts t old left′ s → (r ≡ s) × (left ≡ left′)
-puts-once p q = (one-answer (p .counts) (q .counts), one-answer (p .leaves) (q .leaves))
 
 one-taken : (r s : Taken) → keptIn r ≡ keptIn s → nextIn r ≡ nextIn s → r ≡ s
 one-taken (Ended k n) (Ended k′ n′) e f = let g : n ≡ n′ = some-same f in rw (e, g)

@@ -14,9 +14,8 @@ use Rattle.stages.specs.Call.{over, Answer}
 use Rattle.stages.specs.Program.{said}
 use Rattle.stages.proofs.Bools.{either}
 use Rattle.stages.proofs.Digits.{digits-one, digits-more}
-use Rattle.quoting.specs.Answers.{Puts}
-use Rattle.quoting.proofs.Filling.{Filling, fill-byte, fill-piece}
-use Rattle.decimals.specs.Answers as decimals
+use Rattle.texts.specs.Putting.{Puts}
+use Rattle.texts.proofs.Filling.{Filling, fill-byte, fill-piece}
 use Rattle.cutting.specs.Said.{saidBy, okText, noText, answerRoom}
 
 -- the two kinds of answer
@@ -57,10 +56,6 @@ begun t rest old out h e = record { front = t; splits = refl; long = refl; is = 
 copied : (t old left : Text) → left ≡ t ++ drop (length t) old → Puts t old left (length t)
 unfolding over
 copied t old left e = record { counts = refl; leaves = e }
-
-pub put-number : {t old left : Text} {n : ℕ} → decimals.Puts t old left n → Puts t old left n
-unfolding over
-put-number p = record { counts = p .counts; leaves = p .is }
 
 -- `put_ok`
 module _ (line out first : Text) (h : length line + 4 ≤ length out) (e : first ≡ text "ok " ++ drop 3 out) where

@@ -18,8 +18,8 @@ use Rattle.stages.specs.Call.{over}
 use Rattle.stages.proofs.Bools.{either}
 use Rattle.stages.proofs.Texts.{Stops, all-append, span-of}
 use Rattle.texts.proofs.Scans.{part-more}
-use Rattle.quoting.specs.Answers.{Puts}
-use Rattle.quoting.proofs.Filling.{Filling, fill-piece, fill-fits, fill-ends}
+use Rattle.texts.specs.Putting.{Puts}
+use Rattle.texts.proofs.Filling.{Filling, fill-piece, fill-fits, fill-ends}
 use Rattle.cutting.specs.Lines.{notNewline, lineKept, keptOf, came, behind, nextPlace, LineEnd, Takes, hasLine, anyLine}
 use Rattle.cutting.specs.declared.Taken.the-variants.{Ended, Open}
 

@@ -10,7 +10,7 @@ use lib.ListN.{length, take, drop}
 use Rattle.stages.specs.Numbers.{lineLimit}
 use Rattle.stages.specs.Bytes.{Text, part, span}
 use Rattle.stages.specs.Program.{linesOf}
-use Rattle.quoting.specs.Answers.{Puts}
+use Rattle.texts.specs.Putting.{Puts}
 use Rattle.cutting.specs.declared.Taken.{Taken}
 use Rattle.cutting.specs.declared.Taken.the-variants.{Ended, Open}
 

@@ -5,7 +5,7 @@ ghost use mathlib.Core.List.{_++_};
 ghost use mathlib.Core.Logic.{_⊎_};
 ghost use Prim.Native.Nat.{_+_, _≤_};
 ghost use lib.ListN.{length, take};
-ghost use Rattle.quoting.specs.Answers.{Puts};
+ghost use Rattle.texts.specs.Putting.{Puts};
 ghost use Rattle.cutting.specs.Lines.{lineKept, keptOf, hasLine, LineEnd, Takes};
 ghost use Rattle.cutting.specs.Said.{saidBy, okText, noText, answerRoom};
 

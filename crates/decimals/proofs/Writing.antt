@@ -14,10 +14,7 @@ use Rattle.stages.proofs.Bools.{no}
 use Rattle.stages.proofs.Digits as laws
 use Rattle.stages.specs.Units.{digits, decimal}
 use Rattle.stages.specs.Constants.{signed}
-
--- digits written at the front of a buffer
-abbrev pub laid : List ℕ → List ℕ → List ℕ
-laid D out = D ++ drop (length D) out
+use Rattle.stages.specs.Call.{over}
 
 pub digits-none : (f n : ℕ) → f ≡ 0 → digits f n ≡ []
 unfolding digits
@@ -31,19 +28,21 @@ pub digits-more : (k n : ℕ) → (k ≡ 0 → ⊥) → 10 ≤ n → digits k n 
 digits-more zero n h l = absurd (h refl)
 digits-more (suc k) n h l = let e : suc k - 1 ≡ k = omega arith in rw e (laws.digits-more k n l)
 
-pub put-last : (D out : List ℕ) (x k : ℕ) → length D ≡ k → k < length out → set (laid D out) k x ≡ laid (D ++ (x ∷ [])) out
+pub put-last : (D out : List ℕ) (x k : ℕ) → length D ≡ k → k < length out → set (over D out) k x ≡ over (D ++ (x ∷ [])) out
+unfolding over
 put-last D out x k e h =
     let l : length D + 1 ≡ suc k = omega arith in
     rw (e, drop-cons out k 0 h, set-at D (getD out k 0) (drop (suc k) out) x k e, length-append, l) (sym (append-snoc D x (drop (suc k) out)))
 
 -- a part with a start, lent, written and put back behind a sign
 pub put-signed : (out D last : List ℕ) → 0 < length out
-    → last ≡ laid D (take (length (set out 0 45) - 1) (drop 1 (set out 0 45)))
-    → putMid 1 (length (set out 0 45) - 1) (set out 0 45) last ≡ laid (45 ∷ D) out
+    → last ≡ over D (take (length (set out 0 45) - 1) (drop 1 (set out 0 45)))
+    → putMid 1 (length (set out 0 45) - 1) (set out 0 45) last ≡ over (45 ∷ D) out
+unfolding over
 put-signed [] D last h e = absurd (omega arith)
 put-signed (x ∷ o) D last h e =
     let z : suc (length o) - 1 ≡ length o = omega arith in
-    rw (e, z, take-length o, drop-length o) (ap (λ (l : List ℕ). 45 ∷ l) (append-nil (laid D o)))
+    rw (e, z, take-length o, drop-length o) (ap (λ (l : List ℕ). 45 ∷ l) (append-nil (over D o)))
 
 pub text-below : (z : ℤ) → ltZ z (pos 0) ≡ true → signed z ≡ 45 ∷ decimal (natAbs z)
 unfolding signed

@@ -3,7 +3,7 @@ ghost use Prim.Native.Nat.{_<_, _≤_};
 ghost use lib.ListN.{length};
 ghost use Rattle.stages.specs.Units.{digits, decimal};
 ghost use Rattle.stages.specs.Constants.{signed};
-ghost use Rattle.decimals.specs.Answers.{Puts};
+ghost use Rattle.texts.specs.Putting.{Puts};
 
 // No number of 64 bits has more digits.
 const MOST_DIGITS: usize = 20;

@@ -4,7 +4,6 @@ use native.Mathlib.Omega.{arith}
 use mathlib.Core.Path.{_≡_, refl, sym, ap, _∙_, subst}
 use mathlib.Core.Bool.{Bool, true, false, _&&_}
 use mathlib.Core.List.{List, [], _∷_, _++_}
-use mathlib.Core.Option.{Option, none, some}
 use lib.Dec.{leb}
 use lib.ListN.{length, take}
 use borrow.Author.Tests.{le-leb, lt-leb, leb-true, leb-false}
@@ -16,21 +15,17 @@ use Rattle.stages.specs.Syntax.{Word}
 use Rattle.stages.specs.Read.{readLine}
 use Rattle.stages.specs.Line.{Around, Fields, outFits, wordFields, expandWords, expandLine}
 use Rattle.stages.specs.Call.{Given, orRefused, expanded}
-use Rattle.stages.proofs.Bools.{no}
 use Rattle.stages.proofs.Tables.{vars-of, variables-are, homes-of, homes-are, paths-of, paths-are}
 use Rattle.stages.proofs.SafeLines.{no-zero}
 use Rattle.reading.specs.Says.{verdictOf}
 use Rattle.reading.specs.declared.LineRead.{LineRead}
 use Rattle.reading.proofs.Lines.{Accepted}
+use Rattle.quoting.proofs.Answers.{none-of}
 use Rattle.drunquill.specs.Calls.{roomOf, worked}
 use Rattle.drunquill.specs.Checks.{roomIn, among, Tabled, Passed, Checks}
 use Rattle.drunquill.specs.declared.Job.{Job}
 use Rattle.drunquill.specs.declared.checks.Checked.{Checked}
 use Rattle.drunquill.specs.declared.checks.Checked.the-variants.{Fine, Refused}
-
-none-of : {A : Type 0} (o : Option A) → isSome o ≡ false → o ≡ none
-none-of none e = refl
-none-of (some a) e = absurd (no (sym e))
 
 -- 1 to 4
 

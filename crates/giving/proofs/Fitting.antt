@@ -11,13 +11,14 @@ use Rattle.stages.specs.Numbers.{rowLimit, tooManyUnits}
 use Rattle.stages.specs.Bytes.{Text}
 use Rattle.stages.specs.Outcome.{Outcome, refused, done}
 use Rattle.stages.specs.Units.{Mark, Row, marked, fit}
+use Rattle.stages.specs.Call.{over}
 use Rattle.stages.proofs.Bools.{either}
 use Rattle.texts.specs.Rows.{rowBytes}
 use Rattle.rows.specs.Stands.{fronted}
 use Rattle.giving.specs.Added.{Adds, Fitting, measured, admitted}
 use Rattle.giving.specs.declared.Added.{Added}
 use Rattle.giving.specs.declared.Added.the-variants as added
-use Rattle.decimals.specs.Answers.{Puts}
+use Rattle.texts.specs.Putting.{Puts}
 
 pub fit-ok : (n k : ℕ) → n + k ≤ rowLimit → fit n k ≡ done (n + k)
 unfolding fit
@@ -63,7 +64,9 @@ adds-marked used area a {k} {m} e {t} {u} f h = adds-same used area a (ap (λ (j
 
 -- a text that was written at the front
 pub puts-front : {text entry exit : Text} {n : ℕ} → Puts text entry exit n → take n exit ≡ text
-puts-front {text} {entry} {exit} {n} p = ap (take n) (p .is) ∙ take-at text (drop (length text) entry) n (sym (p .counts))
+unfolding over
+puts-front {text} {entry} {exit} {n} p = ap (take n) (p .leaves) ∙ take-at text (drop (length text) entry) n (sym (p .counts))
 
 pub puts-inside : {text entry exit : Text} {n : ℕ} → Puts text entry exit n → n ≤ length exit
-puts-inside {text} {entry} {exit} {n} p = omega (arith, p .counts, ap length (p .is), length-append text (drop (length text) entry))
+unfolding over
+puts-inside {text} {entry} {exit} {n} p = omega (arith, p .counts, ap length (p .leaves), length-append text (drop (length text) entry))

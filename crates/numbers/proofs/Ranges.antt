@@ -31,6 +31,10 @@ least = negsuc 9223372036854775807
 pub held : (z : ℤ) → SFits w64 z → toZ w64 (ofZ w64 z) ≡ z
 held z h = toZ-ofZ w64 z h
 
+-- a number that an answer holds
+pub kept : (z : ℤ) → mag z < 2 ^ 63 → toZ w64 (ofZ w64 z) ≡ z
+kept z h = held z (record { sfits = h })
+
 -- an answer
 pub value : (z : ℤ) → SFits w64 z → done z ≡ ranged z
 unfolding ranged fits

@@ -30,7 +30,6 @@ use Rattle.stores.specs.declared.Stored.{Stored}
 use Rattle.stores.specs.declared.Stored.the-variants.{Used, Full}
 use Rattle.stores.proofs.Callers.{Grown, store-used, store-full}
 use Rattle.stores.proofs.StoredImages.{store-by}
-use Rattle.quoting.specs.Answers.{Puts}
 use Rattle.packing.specs.Escapes.{Reading, bad, good, readText, Reads, reads, fails, upTo}
 use Rattle.packing.specs.Entries.{Entry, faulty, entry, valued, entryAt, entryOf, Step, stop, go, enteredBy, entered, Sound, Enters, takes, stops}
 use Rattle.packing.specs.declared.Fault.{Fault}

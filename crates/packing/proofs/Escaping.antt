@@ -14,8 +14,8 @@ use Rattle.stages.proofs.Bools.{and-both}
 use Rattle.stages.proofs.Texts.{all-append}
 use Rattle.stages.specs.Outcome.{pick}
 use Rattle.stages.specs.Call.{over}
-use Rattle.quoting.specs.Answers.{Puts}
-use Rattle.quoting.proofs.Filling.{Filling, fill-byte, fill-ends}
+use Rattle.texts.specs.Putting.{Puts}
+use Rattle.texts.proofs.Filling.{Filling, fill-byte, fill-ends}
 use Rattle.packing.specs.Escapes.{hexValue, hexByte, escapeOf, byteOf, byteAt, Reading, bad, good, before, readOn, readFrom, readText, Reads, reads, fails, upTo}
 use Rattle.packing.specs.declared.Fault.{Fault}
 use Rattle.packing.specs.declared.Fault.the-variants.{BadEscape, ZeroByte}

@@ -8,7 +8,7 @@ use lib.Dec.{eqb, ltb}
 use lib.ListN.{length, getD}
 use Rattle.stages.specs.Bytes.{Text, all, notZero}
 use Rattle.stages.specs.Outcome.{pick}
-use Rattle.quoting.specs.Answers.{Puts}
+use Rattle.texts.specs.Putting.{Puts}
 use Rattle.packing.specs.declared.Fault.{Fault}
 use Rattle.packing.specs.declared.Fault.the-variants.{BadEscape, ZeroByte}
 use Rattle.packing.specs.declared.Byte.{Byte}

@@ -15,10 +15,11 @@ use Rattle.stages.specs.Quote.{quotedLine}
 use Rattle.stages.specs.Call.{orRefused, quotedIn, quoting, quoter}
 use Rattle.stages.proofs.Bools.{no, and-both}
 use Rattle.stages.proofs.Tables.{fields-of, fields-are}
-use Rattle.quoting.specs.Answers.{quotingOf, Puts}
+use Rattle.texts.specs.Putting.{Puts}
+use Rattle.quoting.specs.Answers.{quotingOf}
 use Rattle.quoting.specs.declared.Quoted.the-variants.{Len, Malformed, NoRoom}
 
-none-of : {A : Type 0} (o : Option A) → isSome o ≡ false → o ≡ none
+pub none-of : {A : Type 0} (o : Option A) → isSome o ≡ false → o ≡ none
 none-of none e = refl
 none-of (some a) e = absurd (no (sym e))
 

@@ -1,4 +1,3 @@
-pub mod Filling
 pub mod Lengths
 pub mod Writing
 pub mod Walks

@@ -4,8 +4,7 @@ use native.Mathlib.Omega.{arith}
 use mathlib.Core.Path.{_≡_, refl, sym, ap, _∙_}
 use mathlib.Core.List.{List, [], _++_, append-nil}
 use mathlib.Core.Option.{some}
-use lib.ListN.{length, drop, set, length-append, length-drop}
-use lib.Seq.{length-take-le}
+use lib.ListN.{length, set, length-append}
 use borrow.Rule.Slice.PartMut.{putMid, midOf}
 use Rattle.stages.specs.Numbers.{imageLimit}
 use Rattle.stages.specs.Bytes.{Text, part}
@@ -17,9 +16,10 @@ use Rattle.tables.specs.Pieces.{pieceAt}
 use Rattle.tables.specs.declared.Piece.{Piece}
 use Rattle.tables.specs.declared.Piece.the-variants.{End, Bad, At}
 use Rattle.tables.proofs.Pieces.{Ahead, Next, ahead-first, ahead-end, ahead-bad, ahead-text}
-use Rattle.quoting.specs.Answers.{Puts}
+use Rattle.texts.specs.Putting.{Puts}
 use Rattle.quoting.specs.Rests.{textsFrom, Rest}
-use Rattle.quoting.proofs.Filling.{Filling, fill-starts, fill-byte, fill-piece, fill-next, fill-fits, fill-ends}
+use Rattle.texts.proofs.Parts.{part-length}
+use Rattle.texts.proofs.Filling.{Filling, fill-starts, fill-byte, fill-piece, fill-next, fill-fits, fill-ends}
 use Rattle.quoting.proofs.Lengths.{bytes-small, field-length, blanked-small, blanked-first}
 
 pub rest-ahead : {t : Text} {at : ℕ} → Rest t at → Ahead t at (textsFrom t at)
@@ -31,10 +31,6 @@ ahead-from h = ap orEmpty (h .is)
 
 ahead-rest : {t : Text} {at : ℕ} {l : List Text} → length t ≤ imageLimit → Ahead t at l → Rest t at
 ahead-rest n h = record { small = n; within = h .within; is = h .is ∙ ap some (sym (ahead-from h)) }
-
--- the bytes of a field in its image
-pub part-length : (t : Text) (a e : ℕ) → a ≤ e → e ≤ length t → length (part t a e) ≡ e - a
-part-length t a e h k = length-take-le (e - a) (drop a t) (omega (arith, length-drop a t))
 
 -- a field stands in an image
 pub record Field (t : Text) (start end : ℕ) : Type 0 where

@@ -7,9 +7,9 @@ use lib.ListN.{length, set}
 use borrow.Rule.Slice.PartMut.{putMid, midOf}
 use Rattle.stages.specs.Bytes.{Text, text}
 use Rattle.stages.specs.Quote.{quotedBytes, quotedField}
-use Rattle.quoting.specs.Answers.{Puts}
+use Rattle.texts.specs.Putting.{Puts}
 use Rattle.quoting.specs.Rests.{quotedByte}
-use Rattle.quoting.proofs.Filling.{Filling, fill-starts, fill-byte, fill-piece, fill-ends}
+use Rattle.texts.proofs.Filling.{Filling, fill-starts, fill-byte, fill-piece, fill-ends}
 use Rattle.quoting.proofs.Lengths.{byte-quote, byte-other, field-is}
 
 -- `put_byte`

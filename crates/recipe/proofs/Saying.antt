@@ -18,7 +18,7 @@ use Rattle.stages.proofs.Bools.{either}
 use Rattle.stages.proofs.Answers.{over-front, normaliser-fits}
 use Rattle.io.proofs.Counting.{counts}
 use Rattle.io.specs.Counts.{Counts}
-use Rattle.quoting.specs.Answers.{Puts}
+use Rattle.texts.specs.Putting.{Puts}
 use Rattle.cutting.specs.Said.{saidBy, answerRoom}
 use Rattle.cutting.proofs.Saying.{said-is}
 use Rattle.drunquill.specs.Calls.{given}

@@ -9,7 +9,7 @@ use Rattle.stages.specs.Call.{Answer, normaliser}
 use Rattle.stages.specs.Program.{Variables, linesOf, givenLine, said, saidOf}
 use Rattle.stages.proofs.Answers.{over-front}
 use Rattle.stages.proofs.Program.{cutLine, normaliser-cut}
-use Rattle.quoting.specs.Answers.{Puts}
+use Rattle.texts.specs.Putting.{Puts}
 use Rattle.cutting.proofs.Callers.{InBlocks, joined, blocks-lines}
 use Rattle.recipe.specs.Says.{answerTo, Says}
 use Rattle.recipe.specs.declared.answering.Said.{Said}

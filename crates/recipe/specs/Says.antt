@@ -5,7 +5,7 @@ use Rattle.stages.specs.Bytes.{Text}
 use Rattle.stages.specs.Call.{Answer, normaliser}
 use Rattle.stages.specs.Program.{givenLine, said}
 use Rattle.io.specs.Counts.{Counts}
-use Rattle.quoting.specs.Answers.{Puts}
+use Rattle.texts.specs.Putting.{Puts}
 use Rattle.recipe.specs.declared.answering.Said.{Said}
 
 -- the normaliser's answer to a line of the program

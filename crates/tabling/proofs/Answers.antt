@@ -13,7 +13,7 @@ use Rattle.stages.proofs.Tables.{vars-of, homes-of, paths-of, fields-of, texts-
 use Rattle.tables.specs.Kinds.{wellFormed, inTwos}
 use Rattle.tables.specs.declared.Kind.{Kind}
 use Rattle.tables.specs.declared.Kind.the-variants.{Variables, Homes, Paths, Fields}
-use Rattle.quoting.specs.Answers.{Puts}
+use Rattle.texts.specs.Putting.{Puts}
 use Rattle.tabling.specs.Lines.{shownTexts, shownOf, showingOf, showing}
 use Rattle.tabling.specs.declared.Shown.{Shown}
 use Rattle.tabling.specs.declared.Shown.the-variants.{Len, Malformed}

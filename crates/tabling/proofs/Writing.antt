@@ -19,8 +19,8 @@ use Rattle.tables.specs.Pieces.{pieceAt}
 use Rattle.tables.specs.declared.Piece.{Piece}
 use Rattle.tables.specs.declared.Piece.the-variants.{End, Bad, At}
 use Rattle.tables.proofs.Pieces.{Ahead, Next, ahead-first, ahead-end, ahead-bad, ahead-text}
-use Rattle.quoting.specs.Answers.{Puts}
-use Rattle.quoting.proofs.Filling.{Filling, fill-starts, fill-byte, fill-piece, fill-ends, fill-next, fill-fits}
+use Rattle.texts.specs.Putting.{Puts}
+use Rattle.texts.proofs.Filling.{Filling, fill-starts, fill-byte, fill-piece, fill-ends, fill-next, fill-fits}
 use Rattle.tabling.specs.Lines.{hexDigit, isPlain, letterOf, escaped, shownByte, shownText, endOf, firstNext, shownTexts}
 
 -- a digit, and whether a byte stands for itself, by the tests

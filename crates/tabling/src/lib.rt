@@ -6,7 +6,7 @@ ghost use Prim.Native.Nat.{_*_, _<_, _≤_};
 ghost use lib.ListN.{length};
 ghost use Rattle.stages.specs.Images.{texts, heldTexts};
 ghost use Rattle.tables.specs.Kinds.{inTwos};
-ghost use Rattle.quoting.specs.Answers.{Puts};
+ghost use Rattle.texts.specs.Putting.{Puts};
 ghost use Rattle.tabling.specs.Lines.{hexDigit, isPlain, shownByte, shownText, endOf, firstNext, shownTexts, showingOf, showing};
 use tables::Kind;
 use tables::Piece;

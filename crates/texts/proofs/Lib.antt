@@ -5,3 +5,5 @@ pub mod Rows
 pub mod Determined
 pub mod Orders
 pub mod Runs
+pub mod Parts
+pub mod Filling

@@ -2,11 +2,12 @@
 use Prim.Native.Nat.{ℕ, _-_, _≤_}
 use native.Mathlib.Omega.{arith}
 use mathlib.Core.Path.{_≡_, refl, sym, ap, _∙_}
-use lib.ListN.{length, drop, length-take, length-drop}
+use lib.ListN.{length, drop, length-drop}
 use Rattle.stages.specs.Bytes.{Text, part}
 use Rattle.stages.specs.Outcome.{refused, done}
 use Rattle.stages.specs.Arith.{Lexed, stop, num, name, op, opens, shuts}
 use Rattle.stages.specs.Arith as arith-stage
+use Rattle.texts.proofs.Parts.{part-length}
 use Rattle.numbers.specs.Answers.{opOf}
 use Rattle.numbers.specs.declared.Op.{Op}
 use Rattle.numbers.specs.declared.Op.the-variants.{Mul, Div, Rem, Add, Sub, Lt, Le, Gt, Ge, Eq, Ne}
@@ -59,7 +60,7 @@ module _ (text : Text) where
   place next h = omega (arith, length-drop next text)
 
   begins : (from to : ℕ) → from ≤ to → to ≤ length text → length text - length (drop to text) - length (part text from to) ≡ from
-  begins from to h k = omega (arith, length-drop to text, length-drop from text, length-take (to - from) (drop from text))
+  begins from to h k = omega (arith, length-drop to text, part-length text from to h k)
 
   token-back : (at : ℕ) (r : Token) → Ends text at r → back text (lexed text r) ≡ r
   token-back at (code.Refused e) w = refl

@@ -1,5 +1,5 @@
 -- Laws of tokens: what the byte at a place tells of the token there, and what a `=` behind it tells. Assumes nothing.
-use Prim.Native.Nat.{ℕ, suc, _+_, _-_, _≤_, _<_, _^_}
+use Prim.Native.Nat.{ℕ, suc, _+_, _-_, _≤_, _<_}
 use Prim.Native.Char.{code}
 use native.Mathlib.Omega.{arith}
 use native.Mathlib.Numerals.{add-one}
@@ -11,10 +11,6 @@ use lib.IntN.{ℤ, pos}
 use lib.ListN.{length, drop, getD, length-take, drop-of-length-le}
 use lib.Seq.{drop-cons}
 use borrow.Author.Tests.{ne-eqb}
-use lib.Signed.{mag}
-use mir.Syntax.{w64}
-use mir.Val.{toZ, ofZ}
-use Rattle.numbers.proofs.Ranges.{held}
 use Rattle.stages.specs.Numbers.{arithmeticSyntax}
 use Rattle.stages.specs.Bytes.{Text, part, all, span, isBlank, isDigit, isNameStart, isNameByte}
 use Rattle.stages.specs.Outcome.{Outcome, refused, done, _>>=_, choose}
@@ -33,10 +29,6 @@ use Rattle.numbers.specs.declared.Number.{Number}
 use Rattle.tokens.specs.Tokens.{levelOf, lexed, Behind, Ends, TokenAt, Pairs, Symbol}
 use Rattle.tokens.specs.declared.Token.{Token}
 use Rattle.tokens.specs.declared.Token.the-variants as code
-
--- a number that an answer holds
-pub kept : (z : ℤ) → mag z < 2 ^ 63 → toZ w64 (ofZ w64 z) ≡ z
-kept z h = held z (record { sfits = h })
 
 pub level-is : (o : Op) → levelOf o ≡ level (opOf o)
 unfolding level

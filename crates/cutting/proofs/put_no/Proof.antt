@@ -2,8 +2,8 @@
 use native.Mathlib.Omega.{arith}
 use mathlib.Core.Path.{refl}
 use borrow.Author.Needs.{needs}
-use Rattle.quoting.proofs.Filling.{fill-room, fill-length, fill-free-length, fill-ends}
-use Rattle.cutting.proofs.Saying.{decimal-most, put-number, no-number, no-blank, no-place, no-ended}
+use Rattle.texts.proofs.Filling.{fill-room, fill-length, fill-free-length, fill-ends}
+use Rattle.cutting.proofs.Saying.{decimal-most, no-number, no-blank, no-place, no-ended}
 use Rattle.cutting.proofs.put_no.Statement.{statement}
 use Rattle.cutting.proofs.put_no.Tie as tie
 
@@ -30,7 +30,7 @@ add-blank c =
     let a = c .before .before .before .before .before .before .before .before .before .before in
     let p = c .before .before .before .before .before .before .copy-in in
     let q = c .before .before .put-decimal in
-    let f = no-number (a .args .number) (a .args .place) (a .args .out .now) (p .last .1 .0) (a .pre) (p .ensures) (q .last .0) (q .result) (put-number (q .ensures)) in
+    let f = no-number (a .args .number) (a .args .place) (a .args .out .now) (p .last .1 .0) (a .pre) (p .ensures) (q .last .0) (q .result) (q .ensures) in
     omega (arith, fill-room f)
 
 slice-write-out : tie.Need-slice-write-out
@@ -38,7 +38,7 @@ slice-write-out c =
     let a = c .before .before .before .before .before .before .before .before .before .before in
     let p = c .before .before .before .before .before .before .copy-in in
     let q = c .before .before .put-decimal in
-    let f = no-number (a .args .number) (a .args .place) (a .args .out .now) (p .last .1 .0) (a .pre) (p .ensures) (q .last .0) (q .result) (put-number (q .ensures)) in
+    let f = no-number (a .args .number) (a .args .place) (a .args .out .now) (p .last .1 .0) (a .pre) (p .ensures) (q .last .0) (q .result) (q .ensures) in
     omega (arith, fill-room f, fill-length f)
 
 add-start : tie.Need-add-start
@@ -46,7 +46,7 @@ add-start c =
     let a = c .before .before .before .before .before .before .before .before .before .before in
     let p = c .before .before .before .before .before .before .copy-in in
     let q = c .before .before .put-decimal in
-    let f = no-blank (a .args .number) (a .args .place) (a .args .out .now) (p .last .1 .0) (a .pre) (p .ensures) (q .last .0) (q .result) (put-number (q .ensures)) in
+    let f = no-blank (a .args .number) (a .args .place) (a .args .out .now) (p .last .1 .0) (a .pre) (p .ensures) (q .last .0) (q .result) (q .ensures) in
     omega (arith, fill-room f)
 
 sub-put-decimal-2 : tie.Need-sub-put-decimal-2
@@ -54,7 +54,7 @@ sub-put-decimal-2 c =
     let a = c .before .before .before .before .before .before .before .before .before .before in
     let p = c .before .before .before .before .before .before .copy-in in
     let q = c .before .before .put-decimal in
-    let f = no-blank (a .args .number) (a .args .place) (a .args .out .now) (p .last .1 .0) (a .pre) (p .ensures) (q .last .0) (q .result) (put-number (q .ensures)) in
+    let f = no-blank (a .args .number) (a .args .place) (a .args .out .now) (p .last .1 .0) (a .pre) (p .ensures) (q .last .0) (q .result) (q .ensures) in
     omega (arith, fill-room f, fill-length f)
 
 part-put-decimal-start-2 : tie.Need-part-put-decimal-start-2
@@ -62,7 +62,7 @@ part-put-decimal-start-2 c =
     let a = c .before .before .before .before .before .before .before .before .before .before in
     let p = c .before .before .before .before .before .before .copy-in in
     let q = c .before .before .put-decimal in
-    let f = no-blank (a .args .number) (a .args .place) (a .args .out .now) (p .last .1 .0) (a .pre) (p .ensures) (q .last .0) (q .result) (put-number (q .ensures)) in
+    let f = no-blank (a .args .number) (a .args .place) (a .args .out .now) (p .last .1 .0) (a .pre) (p .ensures) (q .last .0) (q .result) (q .ensures) in
     omega (arith, fill-room f, fill-length f)
 
 part-put-decimal-end-2 : tie.Need-part-put-decimal-end-2
@@ -73,7 +73,7 @@ put-decimal-requires-2 c κs =
     let a = c .before .before .before .before .before .before .before .before .before .before .before in
     let p = c .before .before .before .before .before .before .before .copy-in in
     let q = c .before .before .before .put-decimal in
-    let f = no-blank (a .args .number) (a .args .place) (a .args .out .now) (p .last .1 .0) (a .pre) (p .ensures) (q .last .0) (q .result) (put-number (q .ensures)) in
+    let f = no-blank (a .args .number) (a .args .place) (a .args .out .now) (p .last .1 .0) (a .pre) (p .ensures) (q .last .0) (q .result) (q .ensures) in
     omega (arith, fill-free-length f, q .ensures .counts, decimal-most (a .args .number), a .pre)
 
 add-end : tie.Need-add-end
@@ -82,7 +82,7 @@ add-end c =
     let p = c .before .before .before .before .before .before .before .before .before .before .copy-in in
     let q = c .before .before .before .before .before .before .put-decimal in
     let u = c .before .before .put-decimal2 in
-    let f = no-place (a .args .number) (a .args .place) (a .args .out .now) (p .last .1 .0) (a .pre) (p .ensures) (q .last .0) (q .result) (put-number (q .ensures)) (u .last .0) (u .result) (put-number (u .ensures)) in
+    let f = no-place (a .args .number) (a .args .place) (a .args .out .now) (p .last .1 .0) (a .pre) (p .ensures) (q .last .0) (q .result) (q .ensures) (u .last .0) (u .result) (u .ensures) in
     omega (arith, fill-room f)
 
 slice-write-out-2 : tie.Need-slice-write-out-2
@@ -91,7 +91,7 @@ slice-write-out-2 c =
     let p = c .before .before .before .before .before .before .before .before .before .before .copy-in in
     let q = c .before .before .before .before .before .before .put-decimal in
     let u = c .before .before .put-decimal2 in
-    let f = no-place (a .args .number) (a .args .place) (a .args .out .now) (p .last .1 .0) (a .pre) (p .ensures) (q .last .0) (q .result) (put-number (q .ensures)) (u .last .0) (u .result) (put-number (u .ensures)) in
+    let f = no-place (a .args .number) (a .args .place) (a .args .out .now) (p .last .1 .0) (a .pre) (p .ensures) (q .last .0) (q .result) (q .ensures) (u .last .0) (u .result) (u .ensures) in
     omega (arith, fill-room f, fill-length f)
 
 add-result : tie.Need-add-result
@@ -100,7 +100,7 @@ add-result c =
     let p = c .before .before .before .before .before .before .before .before .before .before .copy-in in
     let q = c .before .before .before .before .before .before .put-decimal in
     let u = c .before .before .put-decimal2 in
-    let f = no-ended (a .args .number) (a .args .place) (a .args .out .now) (p .last .1 .0) (a .pre) (p .ensures) (q .last .0) (q .result) (put-number (q .ensures)) (u .last .0) (u .result) (put-number (u .ensures)) in
+    let f = no-ended (a .args .number) (a .args .place) (a .args .out .now) (p .last .1 .0) (a .pre) (p .ensures) (q .last .0) (q .result) (q .ensures) (u .last .0) (u .result) (u .ensures) in
     omega (arith, fill-room f)
 
 same-length : tie.Need-same-length
@@ -109,7 +109,7 @@ same-length c =
     let p = c .before .before .before .before .before .before .before .before .before .before .copy-in in
     let q = c .before .before .before .before .before .before .put-decimal in
     let u = c .before .before .put-decimal2 in
-    let f = no-ended (a .args .number) (a .args .place) (a .args .out .now) (p .last .1 .0) (a .pre) (p .ensures) (q .last .0) (q .result) (put-number (q .ensures)) (u .last .0) (u .result) (put-number (u .ensures)) in
+    let f = no-ended (a .args .number) (a .args .place) (a .args .out .now) (p .last .1 .0) (a .pre) (p .ensures) (q .last .0) (q .result) (q .ensures) (u .last .0) (u .result) (u .ensures) in
     fill-length f
 
 returns : tie.Need-returns
@@ -118,7 +118,7 @@ returns c =
     let p = c .before .before .before .before .before .before .before .before .before .before .copy-in in
     let q = c .before .before .before .before .before .before .put-decimal in
     let u = c .before .before .put-decimal2 in
-    let f = no-ended (a .args .number) (a .args .place) (a .args .out .now) (p .last .1 .0) (a .pre) (p .ensures) (q .last .0) (q .result) (put-number (q .ensures)) (u .last .0) (u .result) (put-number (u .ensures)) in
+    let f = no-ended (a .args .number) (a .args .place) (a .args .out .now) (p .last .1 .0) (a .pre) (p .ensures) (q .last .0) (q .result) (q .ensures) (u .last .0) (u .result) (u .ensures) in
     fill-ends f refl
 
 pub put-no-spec : {M : Type 1} → statement M

@@ -1,7 +1,7 @@
 -- `cutting::put_ok` meets its contract: two copies and a newline behind them. Assumes nothing.
 use mathlib.Core.Path.{refl}
 use borrow.Author.Needs.{needs}
-use Rattle.quoting.proofs.Filling.{fill-length, fill-ends}
+use Rattle.texts.proofs.Filling.{fill-length, fill-ends}
 use Rattle.cutting.proofs.Saying.{ok-ended}
 use Rattle.cutting.proofs.put_ok.Statement.{statement}
 use Rattle.cutting.proofs.put_ok.Tie as tie

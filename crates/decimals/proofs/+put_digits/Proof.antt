@@ -5,6 +5,7 @@ use Prim.Native.Nat.{ℕ, _<_, _+_, _-_, _/_, _%_}
 use native.Mathlib.Omega.{arith}
 use lib.ListN.{length-set, length-append}
 use Rattle.stages.specs.Units.{digits}
+use Rattle.stages.specs.Call.{over}
 use Rattle.decimals.proofs.Writing.{digits-none, digits-one, digits-more, put-last}
 use borrow.Fn.Kinds.{In}
 use borrow.Fn.PlainCycle.{Measures, is, falls, and}
@@ -31,8 +32,9 @@ put-digits-returns :
     (put-digits-below t, put-digits.Post)
     (put-digits-at t)
     put-digits.Post
+unfolding over
 put-digits-returns t c =
-    let a = c .before .before .args in rw (digits-none (a .k) (a .n) (c .if1 .taken)) (record { counts = refl; is = refl })
+    let a = c .before .before .args in rw (digits-none (a .k) (a .n) (c .if1 .taken)) (record { counts = refl; leaves = refl })
 
 put-digits-cast-out :
     (t : ℕ) →
@@ -72,11 +74,12 @@ put-digits-returns-2 : (t : ℕ) → put-digits-lts.Need-returns-2 (
   put-digits-below t,
   put-digits.Post,
 ) (put-digits-at t) put-digits.Post
+unfolding over
 put-digits-returns-2 t c =
     let a = c .before .before .before .args in
     let one = digits-one (a .k) (a .n) (c .before .if1 .left) (c .if2 .taken) in
     let p = rw one at (c .before .before .before .pre .1) in
-    rw one (record { counts = refl; is = put-last [] (a .out .now) (48 + a .n) 0 refl (omega arith) })
+    rw one (record { counts = refl; leaves = put-last [] (a .out .now) (48 + a .n) 0 refl (omega arith) })
 
 put-digits-sub-put-digits : (t : ℕ) → put-digits-lts.Need-sub-put-digits (
   put-digits-below t,
@@ -163,7 +166,7 @@ put-digits-returns-3 t c =
     let p = simp (more, length-append) at (s .pre .1) in
     let call = c .before .before .put-digits in
     let is = call .ensures in
-    record { counts = rw (more, length-append, is .counts); is = rw (is .is, more) (put-last (digits (a .k - 1) (a .n / 10)) (a .out .now) (48 + a .n % 10) (call .result) (sym (is .counts)) (omega (arith, is .counts))) }
+    record { counts = rw (more, length-append, is .counts); leaves = rw (is .leaves, more) (put-last (digits (a .k - 1) (a .n / 10)) (a .out .now) (48 + a .n % 10) (call .result) (sym (is .counts)) (omega (arith, is .counts))) }
 
 pub +put-digits-spec : {M : Type 1} → statement M
 +put-digits-spec = close μ-put-digits λ t. put-digits-lts.spec (

@@ -9,8 +9,9 @@ use lib.IntN.{natAbs}
 use borrow.Rule.Slice.PartMut.{same-len-mid}
 use Rattle.stages.specs.Units.{digits, decimal}
 use Rattle.stages.specs.Constants.{signed}
+use Rattle.stages.specs.Call.{over}
 use Rattle.numbers.proofs.Ranges.{held}
-use Rattle.decimals.proofs.Writing.{laid, abs-room, put-signed, text-below, text-not-below}
+use Rattle.decimals.proofs.Writing.{abs-room, put-signed, text-below, text-not-below}
 use Rattle.decimals.proofs.put_signed.Statement.{statement}
 use Rattle.decimals.proofs.put_signed.Tie as tie
 
@@ -64,9 +65,9 @@ returns c =
     let h = s .pre in
     record {
       counts = omega (arith, call .ensures .counts, ap length text);
-      is =
-          put-signed (a .out .now) (digits 20 (m .result)) (call .last .0) (omega arith) (call .ensures .is)
-          ∙ ap (λ (D : List ℕ). laid D (a .out .now)) (sym text);
+      leaves =
+          put-signed (a .out .now) (digits 20 (m .result)) (call .last .0) (omega arith) (call .ensures .leaves)
+          ∙ ap (λ (D : List ℕ). over D (a .out .now)) (sym text);
     }
 
 put-digits-requires-2 : tie.Need-put-digits-requires-2

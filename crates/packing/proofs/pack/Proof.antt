@@ -4,7 +4,7 @@ use Prim.Native.Nat.{_+_, _-_}
 use native.Mathlib.Omega.{arith}
 use mathlib.Core.Path.{_≡_, refl, _∙_}
 use lib.ListN.{length, length-set}
-use Rattle.quoting.proofs.Walks.{part-length}
+use Rattle.texts.proofs.Parts.{part-length}
 use Rattle.packing.proofs.Going.{Going, stands-table, stands-length, going-starts, going-ends, going-end, going-bad, going-more, packs-from}
 use Rattle.packing.proofs.pack.Statement.{statement}
 use Rattle.packing.proofs.pack.Tie as tie

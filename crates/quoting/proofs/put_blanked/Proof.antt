@@ -3,7 +3,7 @@ use Prim.Native.Nat.{_-_}
 use native.Mathlib.Omega.{arith}
 use borrow.Author.Needs.{needs}
 use lib.ListN.{length}
-use Rattle.quoting.proofs.Filling.{fill-room, fill-length}
+use Rattle.texts.proofs.Filling.{fill-room, fill-length}
 use Rattle.quoting.proofs.Walks.{Fills, fills-starts, fills-end, fills-bad, fills-text, fills-blank, fills-fits, fills-next, fills-more}
 use Rattle.quoting.proofs.put_blanked.Statement.{statement}
 use Rattle.quoting.proofs.put_blanked.Tie as tie

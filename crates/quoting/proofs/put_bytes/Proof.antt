@@ -6,7 +6,7 @@ use borrow.Author.Needs.{needs}
 use lib.ListN.{length, drop, getD}
 use Rattle.stages.specs.Quote.{quotedBytes}
 use Rattle.quoting.specs.Rests.{quotedByte}
-use Rattle.quoting.proofs.Filling.{Filling, fill-starts, fill-room, fill-length, fill-next, fill-fits, fill-piece, fill-ends}
+use Rattle.texts.proofs.Filling.{Filling, fill-starts, fill-room, fill-length, fill-next, fill-fits, fill-piece, fill-ends}
 use Rattle.quoting.proofs.Lengths.{bytes-at, bytes-none}
 use Rattle.quoting.proofs.put_bytes.Statement.{statement}
 use Rattle.quoting.proofs.put_bytes.Tie as tie

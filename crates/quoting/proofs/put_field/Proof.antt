@@ -4,7 +4,7 @@ use mathlib.Core.Path.{refl}
 use mathlib.Core.List.{[], _∷_}
 use borrow.Author.Needs.{needs}
 use Rattle.stages.specs.Quote.{quotedBytes}
-use Rattle.quoting.proofs.Filling.{fill-room, fill-length, fill-fits, fill-ends}
+use Rattle.texts.proofs.Filling.{fill-room, fill-length, fill-fits, fill-ends}
 use Rattle.quoting.proofs.Writing.{field-opened, field-inside, field-closed}
 use Rattle.quoting.proofs.put_field.Statement.{statement}
 use Rattle.quoting.proofs.put_field.Tie as tie

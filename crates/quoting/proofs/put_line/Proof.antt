@@ -1,7 +1,7 @@
 -- `quoting::put_line` meets its contract: the first field stands at the front, and those behind it in the part that is left. Assumes nothing.
 use native.Mathlib.Omega.{arith}
 use borrow.Author.Needs.{needs}
-use Rattle.quoting.proofs.Filling.{fill-room, fill-length, fill-free-length}
+use Rattle.texts.proofs.Filling.{fill-room, fill-length, fill-free-length}
 use Rattle.quoting.proofs.Walks.{line-end, line-bad, line-text, line-rest, line-length, line-first, line-whole, puts-none}
 use Rattle.quoting.proofs.put_line.Statement.{statement}
 use Rattle.quoting.proofs.put_line.Tie as tie

@@ -1,6 +1,6 @@
 -- `sums::once` meets its contract: an expression, and nothing behind it. Assumes nothing.
 use Rattle.stages.specs.Images.{held}
-use Rattle.tokens.proofs.Lexing.{kept}
+use Rattle.numbers.proofs.Ranges.{kept}
 use Rattle.sums.proofs.Operands.{says-shown}
 use Rattle.sums.proofs.Wholes.{once-fails, once-says}
 use borrow.Author.Needs.{needs}

@@ -6,7 +6,7 @@ use mathlib.Core.List.{_++_}
 use borrow.Author.Needs.{needs}
 use lib.ListN.{length, drop, getD}
 use Rattle.tabling.specs.Lines.{shownByte, shownText}
-use Rattle.quoting.proofs.Filling.{Filling, fill-starts, fill-room, fill-length, fill-next, fill-fits, fill-piece, fill-ends}
+use Rattle.texts.proofs.Filling.{Filling, fill-starts, fill-room, fill-length, fill-next, fill-fits, fill-piece, fill-ends}
 use Rattle.tabling.proofs.Writing.{bytes-at, bytes-none}
 use Rattle.tabling.proofs.put_text.Statement.{statement}
 use Rattle.tabling.proofs.put_text.Tie as tie

@@ -3,7 +3,7 @@ use borrow.Author.Needs.{needs}
 use Prim.Native.Nat.{_-_}
 use native.Mathlib.Omega.{arith}
 use lib.ListN.{length}
-use Rattle.quoting.proofs.Filling.{fill-room, fill-length}
+use Rattle.texts.proofs.Filling.{fill-room, fill-length}
 use Rattle.tabling.proofs.Writing.{Fills, fills-starts, fills-end, fills-bad, fills-text, fills-fits, fills-next, fills-bytes, fills-more}
 use Rattle.tabling.proofs.put_texts.Statement.{statement}
 use Rattle.tabling.proofs.put_texts.Tie as tie

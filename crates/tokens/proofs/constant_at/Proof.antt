@@ -1,7 +1,8 @@
 -- `tokens::constant_at` meets its contract: the run is a constant, whose number or refusal is the token's. Assumes nothing.
 use mathlib.Core.Path.{sym, _∙_, ap}
 use Rattle.numbers.specs.Answers.{numbered}
-use Rattle.tokens.proofs.Lexing.{kept, bad-constant, good-constant}
+use Rattle.numbers.proofs.Ranges.{kept}
+use Rattle.tokens.proofs.Lexing.{bad-constant, good-constant}
 use borrow.Author.Needs.{needs}
 use Rattle.tokens.proofs.constant_at.Statement.{statement}
 use Rattle.tokens.proofs.constant_at.Tie as tie

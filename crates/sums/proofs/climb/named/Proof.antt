@@ -5,7 +5,7 @@ use borrow.Author.Tests.{not-true, not-false}
 use Rattle.stages.specs.Outcome.{Outcome}
 use Rattle.numbers.specs.Answers.{numbered}
 use Rattle.sums.specs.Climbs.{climbing}
-use Rattle.tokens.proofs.Lexing.{kept}
+use Rattle.numbers.proofs.Ranges.{kept}
 use borrow.Author.Needs.{needs}
 use Rattle.sums.proofs.climb.named.Statement.{statement}
 use Rattle.sums.proofs.climb.named.Tie as tie

@@ -6,7 +6,7 @@ use Rattle.stages.specs.Outcome.{Outcome}
 use Rattle.numbers.specs.Answers.{numbered}
 use Rattle.numbers.proofs.Ranges.{held}
 use Rattle.sums.specs.Climbs.{climbing}
-use Rattle.tokens.proofs.Lexing.{kept}
+use Rattle.numbers.proofs.Ranges.{kept}
 use borrow.Author.Needs.{needs}
 use Rattle.sums.proofs.climb.turned.Statement.{statement}
 use Rattle.sums.proofs.climb.turned.Tie as tie

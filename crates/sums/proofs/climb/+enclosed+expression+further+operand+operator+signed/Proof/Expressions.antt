@@ -7,8 +7,9 @@ use borrow.Author.Needs.{needs}
 use Rattle.stages.specs.Images.{held}
 use mir.Syntax.{w64}
 use mir.Val.{toZ}
+use Rattle.numbers.proofs.Ranges.{kept}
 use Rattle.numbers.proofs.Ranges as ranges
-use Rattle.tokens.proofs.Lexing.{kept, level-small}
+use Rattle.tokens.proofs.Lexing.{level-small}
 use Rattle.sums.proofs.Operands.{token-shown, says-shown}
 use Rattle.sums.proofs.Climbing.{turns-shown, expression-fails, expression-says, turn-refused, last-stop, last-number, last-name, last-opens, last-shuts, last-loose}
 use Rattle.sums.proofs.Climbing.{right-fails, turn-says, Going, going-start, going-refused, going-last, going-next}

@@ -6,7 +6,7 @@ use lib.ListN.{drop}
 use borrow.Author.Needs.{needs}
 use Rattle.stages.specs.Images.{held}
 use Rattle.stages.specs.Arith as stage
-use Rattle.tokens.proofs.Lexing.{kept}
+use Rattle.numbers.proofs.Ranges.{kept}
 use Rattle.sums.proofs.Operands.{token-shown, says-shown, operand-refused, operand-none, operand-shut, operand-number, operand-sign, operand-opens, operand-name}
 use Rattle.sums.proofs.Operands.{plus-deep, minus-deep, plus-says, minus-fails, minus-says, no-sign, enclosed-deep, enclosed-fails, enclosed-says}
 use Rattle.sums.proofs.climb.enclosed.Reads as enclosed

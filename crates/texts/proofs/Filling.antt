@@ -9,7 +9,13 @@ use lib.Seq.{take-at, drop-at, drop-drop, drop-cons, set-at, take-all, drop-leng
 use borrow.Rule.Slice.PartMut.{putMid, midOf}
 use Rattle.stages.specs.Bytes.{Text}
 use Rattle.stages.specs.Call.{over}
-use Rattle.quoting.specs.Answers.{Puts}
+use Rattle.stages.proofs.Answers.{over-length}
+use Rattle.texts.specs.Putting.{Puts}
+use Rattle.texts.proofs.Determined.{one-answer}
+
+-- the same text over the same bytes is one length and one buffer
+pub puts-once : {t old left left′ : Text} {r s : ℕ} → Puts t old left r → Puts t old left′ s → (r ≡ s) × (left ≡ left′)
+puts-once p q = (one-answer (p .counts) (q .counts), one-answer (p .leaves) (q .leaves))
 
 -- `rest` is still to be written of the whole; `used` bytes stand at the front of a buffer that held `old`
 pub record Filling (whole rest old out : Text) (used : ℕ) : Type 0 where
@@ -22,10 +28,6 @@ pub record Filling (whole rest old out : Text) (used : ℕ) : Type 0 where
 pub fill-starts : (whole old : Text) → length whole ≤ length old → Filling whole whole old old 0
 unfolding over
 fill-starts whole old h = record { front = []; splits = refl; long = refl; is = refl; fits = h }
-
-pub over-length : (t old : Text) → length t ≤ length old → length (over t old) ≡ length old
-unfolding over
-over-length t old h = simp (length-append, length-drop) (omega arith)
 
 module _ {whole rest old out : Text} {used : ℕ} (f : Filling whole rest old out used) where
   pub fill-room : used + length rest ≤ length old
