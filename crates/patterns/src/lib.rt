@@ -1,15 +1,15 @@
 // Patterns: which texts they match, whether a class refuses them, and whether a field is one. A pattern is the slice of a row's units
 // without its N. The matcher goes over the elements up to the next star; there it tries the rest of the pattern at each place of the
 // text in turn.
-use elements::ByteSet;
 use elements::Piece;
+use sets::ByteSet;
 ghost use mathlib.Core.Path.{_≡_};
 ghost use mathlib.Core.Bool.{true, _&&_};
 ghost use lib.ListN.{length};
 ghost use Rattle.stages.specs.Pattern.{elements, hasClass, passes, takes, matchesFrom, matches};
 ghost use Rattle.stages.specs.Paths.{active};
 ghost use Rattle.texts.specs.Rows.{signsOf};
-ghost use Rattle.elements.specs.Sets.{has};
+ghost use Rattle.sets.specs.Sets.{has};
 ghost use Rattle.elements.specs.Pieces.{elementOf, Lies, isClassPiece};
 ghost use Rattle.patterns.specs.Steps.{isStar, isSlash, isSpecial, takesOne, RunSays};
 ghost use Rattle.patterns.specs.Kept.{isMark, Dropped};
@@ -208,7 +208,7 @@ fn takes_one(pattern: &[u8], piece: Piece, b: u8, path: bool, head: bool, first:
         Piece::Byte(c) => takes_byte(c, b, path, head, first),
         Piece::Class => takes_byte(b'[', b, path, head, first),
         Piece::Set { negative, from, to } => {
-            let set = elements::set_of(&pattern[from..to], negative);
+            let set = sets::set_of(&pattern[from..to], negative);
             takes_member(set, b, path, first)
         }
     }
