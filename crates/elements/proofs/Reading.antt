@@ -16,7 +16,7 @@ use Rattle.texts.specs.Rows.{signsOf}
 use Rattle.elements.specs.Pieces.{setFrom, bracketAt, pieceAt, behindOf, elementOf, isClassPiece, Lies}
 use Rattle.elements.specs.declared.Piece.{Piece}
 use Rattle.elements.specs.declared.Piece.the-variants.{Star, One, Byte}
-use Rattle.elements.proofs.Units.{signAt, unit-at, none-at, units-behind, units-of, units-there}
+use Rattle.sets.proofs.Units.{signAt, unit-at, none-at, units-behind, units-of, units-there}
 use Rattle.elements.proofs.Searches.{found-inside}
 
 -- skipping units is dropping them

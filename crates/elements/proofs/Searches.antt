@@ -10,12 +10,12 @@ use Rattle.stages.specs.Bytes.{Text, isIn, text}
 use Rattle.stages.specs.Outcome.{pick}
 use Rattle.stages.specs.Pattern.{Sign, Signs, isLive, Found, class, unclosed, closedAfter, oneMore, opensClass, find, bracket, others}
 use Rattle.texts.specs.Rows.{signsOf}
-use Rattle.elements.specs.Heads.{begins, opens}
+use Rattle.sets.specs.Heads.{begins, opens}
 use Rattle.elements.specs.Pieces.{searchOf, setFrom, bracketAt, pieceAt}
 use Rattle.elements.specs.declared.Search.{Search}
 use Rattle.elements.specs.declared.Search.the-variants.{Class as ClassMet, Unclosed, After}
 use Rattle.elements.specs.declared.Piece.the-variants.{Star, One, Byte, Class, Set}
-use Rattle.elements.proofs.Units.{signAt, unit-at, none-at, units-there}
+use Rattle.sets.proofs.Units.{signAt, unit-at, none-at, units-there}
 
 -- one of three
 three : (b : ℕ) (live : Bool) → (live && isIn b (text ":.=")) ≡ ((live && eqb b 58) || ((live && eqb b 46) || (live && eqb b 61)))

@@ -17,7 +17,7 @@ use Rattle.texts.specs.Rows.{signsOf}
 use Rattle.elements.specs.Pieces.{pieceAt, behindOf, elementOf, isClassPiece, Lies}
 use Rattle.elements.specs.declared.Piece.{Piece}
 use Rattle.elements.specs.declared.Piece.the-variants.{Star, One, Byte, Class, Set}
-use Rattle.elements.proofs.Units.{to-end}
+use Rattle.sets.proofs.Units.{to-end}
 use Rattle.elements.proofs.Reading.{next-inside, next-further, elements-on, class-on, piece-lies, elements-over}
 use Rattle.patterns.proofs.Stars.{some-last, some-next, some-here, passes-inside, passes-other, passes-slash, passes-unless, bars, star-star, absorbs, inside-part, some-inside}
 use Rattle.patterns.specs.Steps.{isStar, isSlash, isSpecial, takesOne, from, behindStar, MeetsStar, RunSays}

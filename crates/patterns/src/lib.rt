@@ -1,8 +1,8 @@
 // Patterns: which texts they match, whether a class refuses them, and whether a field is one. A pattern is the slice of a row's units
 // without its N. The matcher goes over the elements up to the next star and remembers only the last star and where it stood in the text:
 // where the elements behind it fail, it goes back there and the star takes one byte more.
-use elements::ByteSet;
 use elements::Piece;
+use sets::ByteSet;
 ghost use mathlib.Core.Path.{_≡_};
 ghost use mathlib.Core.Bool.{true, false, _&&_};
 ghost use Prim.Native.Nat.{_≤_};
@@ -10,7 +10,7 @@ ghost use lib.ListN.{length, drop};
 ghost use Rattle.stages.specs.Pattern.{elements, hasClass, passes, takes, matches};
 ghost use Rattle.stages.specs.Paths.{active};
 ghost use Rattle.texts.specs.Rows.{signsOf};
-ghost use Rattle.elements.specs.Sets.{has};
+ghost use Rattle.sets.specs.Sets.{has};
 ghost use Rattle.elements.specs.Pieces.{elementOf, Lies, isClassPiece};
 ghost use Rattle.patterns.specs.Steps.{isStar, isSlash, isSpecial, takesOne, behindStar, RunSays};
 ghost use Rattle.patterns.specs.Kept.{isMark, Dropped};
@@ -209,7 +209,7 @@ fn takes_one(pattern: &[u8], piece: Piece, b: u8, path: bool, head: bool, first:
         Piece::Byte(c) => takes_byte(c, b, path, head, first),
         Piece::Class => takes_byte(b'[', b, path, head, first),
         Piece::Set { negative, from, to } => {
-            let set = elements::set_of(&pattern[from..to], negative);
+            let set = sets::set_of(&pattern[from..to], negative);
             takes_member(set, b, path, first)
         }
     }

@@ -1,7 +1,7 @@
 -- The members begin behind the `!` if there is one. Assumes nothing.
 use mathlib.Core.Path.{sym, _∙_}
 use native.Mathlib.Omega.{arith}
-use Rattle.elements.proofs.Units.{live-inside}
+use Rattle.sets.proofs.Units.{live-inside}
 use Rattle.elements.proofs.Searches.{bracket-others, bracket-plain}
 use borrow.Author.Needs.{needs}
 use Rattle.elements.proofs.bracket_at.Statement.{statement}

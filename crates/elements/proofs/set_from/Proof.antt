@@ -4,7 +4,7 @@ use native.Mathlib.Omega.{arith}
 use lib.ListN.{drop, length-drop}
 use Rattle.stages.specs.Pattern.{find}
 use Rattle.texts.specs.Rows.{signsOf}
-use Rattle.elements.proofs.Units.{to-end}
+use Rattle.sets.proofs.Units.{to-end}
 use Rattle.elements.proofs.Searches.{met-class, met-none, met-end, end-inside}
 use borrow.Author.Needs.{needs}
 use Rattle.elements.proofs.set_from.Statement.{statement}

@@ -7,7 +7,7 @@ use lib.Seq.{length-take-le}
 use Rattle.stages.specs.Pattern.{elements}
 use Rattle.stages.specs.Removal.{cut, left, removed}
 use Rattle.texts.specs.Rows.{signsOf}
-use Rattle.elements.proofs.Units.{to-end}
+use Rattle.sets.proofs.Units.{to-end}
 use Rattle.removals.proofs.Cutting.{cut-is}
 use borrow.Author.Needs.{needs}
 use Rattle.removals.proofs.removed.Statement.{statement}

@@ -9,10 +9,10 @@ use lib.ListN.{length, drop, getD}
 use Rattle.stages.specs.Bytes.{between}
 use Rattle.stages.specs.Pattern.{listed}
 use Rattle.texts.specs.Rows.{signsOf}
-use Rattle.elements.specs.Sets.{has}
-use Rattle.elements.proofs.Gathering.{range-inside, lists-member, lists-range, lists-none, gathered}
-use Rattle.elements.proofs.members.Statement.{statement}
-use Rattle.elements.proofs.members.Tie as tie
+use Rattle.sets.specs.Sets.{has}
+use Rattle.sets.proofs.Gathering.{range-inside, lists-member, lists-range, lists-none, gathered}
+use Rattle.sets.proofs.members.Statement.{statement}
+use Rattle.sets.proofs.members.Tie as tie
 
 abbrev Inv-loop : tie.InvT-loop
 Inv-loop units set₀ at₀ set at =

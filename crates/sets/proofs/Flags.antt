@@ -10,7 +10,7 @@ use lib.Dec.{leb, eqb}
 use borrow.Author.Tests.{lt-leb, eq-eqb, ne-eqb}
 use lib.Seq.{getD-set-same, getD-set-other}
 use Rattle.stages.specs.Bytes.{between}
-use Rattle.elements.specs.Sets.{has}
+use Rattle.sets.specs.Sets.{has}
 
 -- an array in a struct's field: its length, out of what owning the struct tells
 pub counted : (l : List Bool) {n : ℕ} → length (map (λ (v : Bool). v) l) ≡ n → length l ≡ n

@@ -1,9 +1,9 @@
 -- Without two units behind there is no range; else the `-` decides. Assumes nothing.
 use mathlib.Core.Path.{sym, _∙_}
-use Rattle.elements.proofs.Gathering.{range-short, range-long}
+use Rattle.sets.proofs.Gathering.{range-short, range-long}
 use borrow.Author.Needs.{needs}
-use Rattle.elements.proofs.is_range.Statement.{statement}
-use Rattle.elements.proofs.is_range.Tie as tie
+use Rattle.sets.proofs.is_range.Statement.{statement}
+use Rattle.sets.proofs.is_range.Tie as tie
 
 sub-if1 : tie.Need-sub-if1
 sub-if1 c = search needs

@@ -1,8 +1,8 @@
 -- Each of 256 flags that are false is false. Assumes nothing.
 use mathlib.Core.Bool.{false}
 use lib.ListN.{getD-replicate}
-use Rattle.elements.proofs.none.Statement.{statement}
-use Rattle.elements.proofs.none.Tie as tie
+use Rattle.sets.proofs.none.Statement.{statement}
+use Rattle.sets.proofs.none.Tie as tie
 
 returns : tie.Need-returns
 returns c = λ k h. getD-replicate 256 k false false h

@@ -5,12 +5,12 @@ use Prim.Native.Nat.{ℕ, _+_, _≤_, _<_, _-_}
 use native.Mathlib.Omega.{arith}
 use lib.ListN.{length, length-set}
 use native.Mathlib.Decide.{decLt}
-use Rattle.elements.specs.Sets.{has}
+use Rattle.sets.specs.Sets.{has}
 use Rattle.stages.specs.Bytes.{between}
 use Rattle.stages.proofs.Bools.{between-true}
-use Rattle.elements.proofs.Flags.{counted, below-stored, above-stored, below-range, above-range}
-use Rattle.elements.proofs.ByteSet.with_range.Statement.{statement}
-use Rattle.elements.proofs.ByteSet.with_range.Tie as tie
+use Rattle.sets.proofs.Flags.{counted, below-stored, above-stored, below-range, above-range}
+use Rattle.sets.proofs.ByteSet.with_range.Statement.{statement}
+use Rattle.sets.proofs.ByteSet.with_range.Tie as tie
 
 abbrev Inv-loop : tie.InvT-loop
 Inv-loop lo hi self₀ i₀ end self i = (end ≡ hi) × (hi < 256) × (i₀ ≡ lo) × (i₀ ≤ i) × (length (self .on) ≡ 256)

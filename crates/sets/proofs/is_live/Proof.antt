@@ -1,9 +1,9 @@
 -- A unit is there or not, its mark is that of quoted bytes or not, and its byte decides. Assumes nothing.
 use mathlib.Core.Path.{sym}
-use Rattle.elements.proofs.Units.{live-beyond, live-quoted, live-at}
+use Rattle.sets.proofs.Units.{live-beyond, live-quoted, live-at}
 use borrow.Author.Needs.{needs}
-use Rattle.elements.proofs.is_live.Statement.{statement}
-use Rattle.elements.proofs.is_live.Tie as tie
+use Rattle.sets.proofs.is_live.Statement.{statement}
+use Rattle.sets.proofs.is_live.Tie as tie
 
 add-if1 : tie.Need-add-if1
 add-if1 c = search needs

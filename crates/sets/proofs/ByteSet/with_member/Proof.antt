@@ -1,11 +1,11 @@
 -- One store sets the flag of `b` and leaves all others. Assumes nothing.
 use borrow.Author.Needs.{needs}
 use mathlib.Core.Path.{_≡_}
-use Rattle.elements.proofs.Flags.{counted, stored}
+use Rattle.sets.proofs.Flags.{counted, stored}
 use native.Mathlib.Omega.{arith}
 use lib.ListN.{length}
-use Rattle.elements.proofs.ByteSet.with_member.Statement.{statement}
-use Rattle.elements.proofs.ByteSet.with_member.Tie as tie
+use Rattle.sets.proofs.ByteSet.with_member.Statement.{statement}
+use Rattle.sets.proofs.ByteSet.with_member.Tie as tie
 
 element-write-self : tie.Need-element-write-self
 element-write-self c = search needs

@@ -14,7 +14,7 @@ use Rattle.stages.specs.Outcome.{pick}
 use Rattle.stages.specs.Bytes.{Text}
 use Rattle.stages.specs.Pattern.{Sign, Signs}
 use Rattle.texts.specs.Rows.{signsOf}
-use Rattle.elements.specs.Heads.{begins}
+use Rattle.sets.specs.Heads.{begins}
 
 -- the unit of two bytes
 abbrev pub signOf : ℕ → ℕ → Sign

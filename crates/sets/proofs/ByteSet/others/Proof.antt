@@ -5,10 +5,10 @@ use Prim.Native.Nat.{ℕ, _≤_, _<_, _-_}
 use native.Mathlib.Omega.{arith}
 use borrow.Author.Needs.{needs}
 use lib.ListN.{length, length-set}
-use Rattle.elements.specs.Sets.{has}
-use Rattle.elements.proofs.Flags.{counted, below-stored, above-stored}
-use Rattle.elements.proofs.ByteSet.others.Statement.{statement}
-use Rattle.elements.proofs.ByteSet.others.Tie as tie
+use Rattle.sets.specs.Sets.{has}
+use Rattle.sets.proofs.Flags.{counted, below-stored, above-stored}
+use Rattle.sets.proofs.ByteSet.others.Statement.{statement}
+use Rattle.sets.proofs.ByteSet.others.Tie as tie
 
 abbrev Inv-loop : tie.InvT-loop
 Inv-loop self₀ i₀ self i =

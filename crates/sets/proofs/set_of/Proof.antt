@@ -3,10 +3,10 @@ use mathlib.Core.Path.{sym, _∙_, ap}
 use mathlib.Core.Bool.{Bool}
 use Rattle.texts.specs.Rows.{signsOf}
 use Rattle.stages.specs.Pattern.{inSet}
-use Rattle.elements.proofs.Gathering.{in-members, in-others}
+use Rattle.sets.proofs.Gathering.{in-members, in-others}
 use borrow.Author.Needs.{needs}
-use Rattle.elements.proofs.set_of.Statement.{statement}
-use Rattle.elements.proofs.set_of.Tie as tie
+use Rattle.sets.proofs.set_of.Statement.{statement}
+use Rattle.sets.proofs.set_of.Tie as tie
 
 members-requires : tie.Need-members-requires
 members-requires c κs = search needs

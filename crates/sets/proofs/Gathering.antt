@@ -13,8 +13,8 @@ use Rattle.stages.proofs.Bools.{apart}
 use Rattle.stages.specs.Outcome.{pick}
 use Rattle.stages.specs.Pattern.{Sign, Signs, isLive, listed, inSet}
 use Rattle.texts.specs.Rows.{signsOf}
-use Rattle.elements.specs.Heads.{begins, ranges}
-use Rattle.elements.proofs.Units.{signAt, unit-at, none-at}
+use Rattle.sets.specs.Heads.{begins, ranges}
+use Rattle.sets.proofs.Units.{signAt, unit-at, none-at}
 
 -- three units or more, by whether the middle one makes a range
 parted : (m s u : Sign) (r : Signs) (x : ℕ)

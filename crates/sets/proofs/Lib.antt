@@ -1,0 +1,4 @@
+pub mod Flags
+pub mod Units
+pub mod Gathering
+pub mod Determined
