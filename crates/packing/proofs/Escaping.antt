@@ -124,7 +124,7 @@ abbrev Within : Byte → ℕ → Type 0
 Within (Bad f) n = Unit {0}
 Within (Is b k) n = (k < n) × (1 ≤ b)
 
-by-pick : (P : Byte → Type 0) (x : Bool) (a b : Byte) → (x ≡ true → P a) → (x ≡ false → P b) → P (pick x a b)
+pub by-pick : (P : Byte → Type 0) (x : Bool) (a b : Byte) → (x ≡ true → P a) → (x ≡ false → P b) → P (pick x a b)
 by-pick P true a b f g = f refl
 by-pick P false a b f g = g refl
 
@@ -181,6 +181,12 @@ from-at : (t : Text) (i : ℕ) → i < length t → readFrom 0 (drop i t) ≡ re
 unfolding readFrom
 from-at t i h = rw (← byte-drop t i, drop-cons t i 0 h)
 
+good-same : {t u : Text} → good t ≡ good u → t ≡ u
+good-same e = cc
+
+bad-good : {f : Fault} {t : Text} → bad f ≡ good t → ⊥
+bad-good e = let z : _≡_ {A = ℕ} 0 1 = cc in omega arith
+
 -- a text in front of what is read behind it
 abbrev onto : Text → Reading → Reading
 onto [] r = r
@@ -197,6 +203,29 @@ onto-good (b ∷ t) = rw (onto-good t)
 onto-byte : (t : Text) (b : ℕ) (r : Reading) → onto (t ++ (b ∷ [])) r ≡ onto t (before b r)
 onto-byte [] b r = refl
 onto-byte (c ∷ t) b r = rw (onto-byte t b r)
+
+-- what is read passes a test that each of its bytes passes
+module _ (f : ℕ → Bool) (Q : Text → Type 0) (later : (b : ℕ) (t : Text) → Q (b ∷ t) → Q t)
+    (passes : (b : ℕ) (t : Text) (c k : ℕ) → Q (b ∷ t) → byteAt (b ∷ t) 0 ≡ Is c k → f c ≡ true) where
+  pub from-all : (k : ℕ) (t u : Text) → Q t → readFrom k t ≡ good u → all f u ≡ true
+  unfolding readFrom
+  from-all k [] u q e = rw (← good-same e) refl
+  from-all (suc k) (b ∷ t) u q e = from-all k t u (later b t q) e
+  from-all zero (b ∷ t) u q e = by-byte (λ k w d. from-all k t w (later b t q) d) (byteAt (b ∷ t) 0) refl e
+    where
+      by-rest : (c : ℕ) (r : Reading) → f c ≡ true → ((w : Text) → r ≡ good w → all f w ≡ true) → before c r ≡ good u → all f u ≡ true
+      by-rest c (bad g) h ih d = absurd (bad-good d)
+      by-rest c (good w) h ih d = rw (← good-same d) (and-both h (ih w refl))
+
+      by-byte : ((k : ℕ) (w : Text) → readFrom k t ≡ good w → all f w ≡ true) → (y : Byte) → byteAt (b ∷ t) 0 ≡ y → readOn y (λ k. readFrom k t) ≡ good u
+          → all f u ≡ true
+      by-byte ih (Bad g) d e = absurd (bad-good e)
+      by-byte ih (Is c k) d e = by-rest c (readFrom k t) (passes b t c k q d) (ih k) e
+
+pub read-fine : (t u : Text) → readText t ≡ good u → all notZero u ≡ true
+unfolding readText
+read-fine t u e =
+    from-all notZero (λ _. Unit {0}) (λ _ _ _. tt) (λ b t c k _ d. le-leb 1 c (is-within (b ∷ t) 0 c k (Is c k) (omega arith) (sym d) refl .1)) 0 t u tt e
 
 -- the bytes before i are read and stand in the buffer
 pub record Front (t old out : Text) (used i : ℕ) : Type 0 where

@@ -9,23 +9,25 @@ use mathlib.Core.Option.{some}
 use lib.Dec.{eqb}
 use lib.ListN.{length, take, drop, set, length-set, length-drop, drop-of-length-le}
 use lib.Seq.{take-at, take-all, drop-at, drop-drop}
-use Rattle.stages.specs.Numbers.{imageLimit}
 use Rattle.stages.specs.Bytes.{Text, part}
-use Rattle.stages.specs.Images.{Pairs, texts, pairsOf, keys, rising, flat, image, imageLength, held}
+use Rattle.stages.specs.Images.{Pairs, texts, pairsOf, keys, rising, image, recordBytes, imageLength}
 use Rattle.stages.specs.Call.{over}
 use Rattle.stages.specs.Program.{longerLine, linesOf}
 use Rattle.stages.proofs.Bools.{either}
-use Rattle.stages.proofs.Images.{length-image, pairs-image, held-image}
+use Rattle.stages.proofs.Images.{length-image, pairs-image, held-image, texts-image, heldTexts-image, Fine}
+use Rattle.tables.specs.Kinds.{inTwos}
 use Rattle.tables.specs.Places.{Table}
 use Rattle.tables.specs.declared.Kind.{Kind}
 use Rattle.stores.proofs.Callers.{fills-none, over-length}
 use Rattle.packing.specs.Escapes.{upTo}
-use Rattle.packing.specs.Entries.{entryOf, Step, stop, go, entered, Sound, Enters, takes, stops, Packing, whole, fault, packOn, packed, Packs, packs, fails}
+use Rattle.packing.specs.Records.{alone, textsBy, recordsBy, limitBy, TableBy}
+use Rattle.packing.specs.Entries.{entryOf, Step, stop, go, entered, Enters, takes, stops, Packing, whole, fault, packOn, packed, Packs, packs, fails}
 use Rattle.packing.specs.declared.Fault.{Fault}
 use Rattle.packing.specs.declared.Entered.{Entered}
 use Rattle.packing.specs.declared.Entered.the-variants as answer
 use Rattle.packing.specs.declared.Packed.{Packed}
 use Rattle.packing.specs.declared.Packed.the-variants as told
+use Rattle.packing.proofs.Sounds.{Bare, Sound, sound-none, Kept, kept}
 
 -- an image over a shorter one
 over-over : (a b old : Text) → length a ≤ length b → over b (over a old) ≡ over b old
@@ -49,36 +51,49 @@ pub up-within : (b : ℕ) (t : Text) → upTo b t ≤ length t
 up-within b [] = omega arith
 up-within b (c ∷ t) = either (eqb c b) (λ e. rw e (omega arith)) (λ e. rw e (omega (arith, up-within b t)))
 
+-- the records of an image that was written
+held-by : (two : Bool) (v : Pairs) → Fine (textsBy two v) → Bare two v → recordsBy two (image (textsBy two v)) ≡ v
+held-by true v f b = held-image v f
+held-by false v f b = ap alone (heldTexts-image (keys v) f) ∙ b
+
+table-by : (two : Bool) (v : Pairs) → Fine (textsBy two v) → rising (keys v) ≡ true → TableBy two (image (textsBy two v))
+table-by true v f r = record {
+  pairs = pairs-image v f ∙ ap some (sym (held-image v f));
+  rises = ap (λ (w : Pairs). rising (keys w)) (held-image v f) ∙ r;
+}
+table-by false v f r = record { table = texts-image (keys v) f ∙ ap some (sym (heldTexts-image (keys v) f)); rises = ap rising (heldTexts-image (keys v) f) ∙ r }
+
 -- records stand as an image at the front of a buffer
-pub record Stands (v : Pairs) (old out : Text) (used : ℕ) : Type 0 where
-  pub sound : Sound v
-  pub long : used ≡ imageLength (flat v)
-  pub small : used ≤ imageLimit
-  pub room : imageLimit ≤ length old
-  pub is : out ≡ over (image (flat v)) old
+pub record Stands (kind : Kind) (v : Pairs) (old out : Text) (used : ℕ) : Type 0 where
+  pub sound : Sound kind v
+  pub long : used ≡ imageLength (textsBy (inTwos kind) v)
+  pub room : limitBy (inTwos kind) ≤ length old
+  pub is : out ≡ over (image (textsBy (inTwos kind) v)) old
 
-module _ {v : Pairs} {old out : Text} {used : ℕ} (s : Stands v old out used) where
-  pub stands-take : take used out ≡ image (flat v)
+module _ {kind : Kind} {v : Pairs} {old out : Text} {used : ℕ} (s : Stands kind v old out used) where
+  abbrev bytes : Text
+  bytes = image (textsBy (inTwos kind) v)
+
+  pub stands-small : used ≤ limitBy (inTwos kind)
+  stands-small = rw (s .long) (s .sound .small)
+
+  pub stands-take : take used out ≡ bytes
   unfolding over
-  stands-take =
-      ap (take used) (s .is) ∙ take-at (image (flat v)) (drop (length (image (flat v))) old) used (length-image (flat v) ∙ sym (s .long))
+  stands-take = ap (take used) (s .is) ∙ take-at bytes (drop (length bytes) old) used (length-image (textsBy (inTwos kind) v) ∙ sym (s .long))
 
-  pub stands-held : held (take used out) ≡ v
-  stands-held = ap held stands-take ∙ held-image v (s .sound .fine)
+  pub stands-held : recordsBy (inTwos kind) (take used out) ≡ v
+  stands-held = ap (recordsBy (inTwos kind)) stands-take ∙ held-by (inTwos kind) v (s .sound .fine) (s .sound .bare)
 
-  pub stands-table : Table (take used out)
-  stands-table = record {
-    pairs = ap (λ (t : Text). pairsOf (texts t)) stands-take ∙ pairs-image v (s .sound .fine) ∙ ap some (sym stands-held);
-    rises = ap (λ (w : Pairs). rising (keys w)) stands-held ∙ s .sound .rises;
-  }
+  pub stands-table : TableBy (inTwos kind) (take used out)
+  stands-table = rw stands-take (table-by (inTwos kind) v (s .sound .fine) (s .sound .rises))
 
   pub stands-length : length out ≡ length old
-  stands-length = ap length (s .is) ∙ over-length (image (flat v)) old (omega (arith, length-image (flat v), s .long, s .small, s .room))
+  stands-length = ap length (s .is) ∙ over-length bytes old (omega (arith, length-image (textsBy (inTwos kind) v), s .sound .small, s .room))
 
 -- the lines before `at` are packed
 pub record Going (kind : Kind) (text old out : Text) (used at line : ℕ) : Type 0 where
   pub records : Pairs
-  pub stands : Stands records old out used
+  pub stands : Stands kind records old out used
   pub is : packed kind 1 [] (linesOf text) ≡ packed kind line records (linesOf (drop at text))
   pub within : at ≤ length text + 1
   pub count : line ≤ at + 1
@@ -89,32 +104,39 @@ unfolding over image
 over-set l [] = refl
 over-set l (b ∷ t) = refl
 
-pub going-starts : (kind : Kind) (text old : Text) → imageLimit ≤ length old → Going kind text (set old 0 1) (set old 0 1) 1 0 1
-unfolding imageLength rising
+no-texts : (two : Bool) → textsBy two [] ≡ []
+no-texts true = refl
+no-texts false = refl
+
+pub limit-some : (two : Bool) → 1 ≤ limitBy two
+limit-some true = omega arith
+limit-some false = omega arith
+
+pub going-starts : (kind : Kind) (text old : Text) → limitBy (inTwos kind) ≤ length old → Going kind text (set old 0 1) (set old 0 1) 1 0 1
+unfolding imageLength recordBytes
 going-starts kind text old h = record {
   records = [];
   stands = record {
-    sound = record { fine = tt; rises = refl };
-    long = refl;
-    small = omega arith;
+    sound = sound-none kind;
+    long = rw (no-texts (inTwos kind)) refl;
     room = rw (length-set old 0 1) h;
-    is = fills-none old (omega (arith, h)) .is ∙ sym (over-set [] old);
+    is = rw (no-texts (inTwos kind)) (fills-none old (omega (arith, h, limit-some (inTwos kind))) .is ∙ sym (over-set [] old));
   };
   is = refl;
   within = omega arith;
   count = omega arith;
 }
 
-pub packs-from : {o : Packing} {old left : Text} {r : Packed} → Packs o (set old 0 1) left r → Packs o old left r
-packs-from {o} {old} (packs {v} e n k) = packs {v = v} e n (k ∙ over-set (flat v) old)
-packs-from {o} {old} (fails {v} e k) = fails {v = v} e (k ∙ over-set (flat v) old)
+pub packs-from : {two : Bool} {o : Packing} {old left : Text} {r : Packed} → Packs two o (set old 0 1) left r → Packs two o old left r
+packs-from {two} {o} {old} (packs {v} e n k) = packs {v = v} e n (k ∙ over-set (textsBy two v) old)
+packs-from {two} {o} {old} (fails {v} e k) = fails {v = v} e (k ∙ over-set (textsBy two v) old)
 
 module _ {kind : Kind} {text old out : Text} {used at line : ℕ} (g : Going kind text old out used at line) where
-  pub going-ends : length text ≤ at → Packs (packed kind 1 [] (linesOf text)) old out (told.Len used)
+  pub going-ends : length text ≤ at → Packs (inTwos kind) (packed kind 1 [] (linesOf text)) old out (told.Len used)
   unfolding packed linesOf
   going-ends h =
       packs {v = g .records} (g .is ∙ ap (λ (t : Text). packed kind line (g .records) (linesOf t)) (drop-of-length-le text h))
-      (g .stands .long ∙ sym (length-image (flat (g .records)))) (g .stands .is)
+      (g .stands .long ∙ sym (length-image (textsBy (inTwos kind) (g .records)))) (g .stands .is)
 
   module _ (h : at < length text) (r : ℕ) (f : r ≡ upTo 10 (take (length text - at) (drop at text))) where
     rest : take (length text - at) (drop at text) ≡ drop at text
@@ -140,7 +162,7 @@ module _ {kind : Kind} {text old out : Text} {used at line : ℕ} (g : Going kin
         ∙ ap (λ (t : Text). take r (drop at text) ∷ linesOf t) (drop-drop (suc r) at text ∙ ap (λ (k : ℕ). drop k text) y)
         ∙ ap (λ (k : ℕ). take k (drop at text) ∷ linesOf (drop (at + r + 1) text)) (sym z)
 
-    step : (o : Step) → entered (entryOf kind (part text at (at + r))) (g .records) ≡ o
+    step : (o : Step) → entered (inTwos kind) (entryOf kind (part text at (at + r))) (g .records) ≡ o
         → packed kind 1 [] (linesOf text) ≡ packOn o line (g .records) (λ w. packed kind (suc line) w (linesOf (drop (at + r + 1) text)))
     unfolding packed
     step o e =
@@ -148,34 +170,37 @@ module _ {kind : Kind} {text old out : Text} {used at line : ℕ} (g : Going kin
         ∙ ap (λ (x : Step). packOn x line (g .records) (λ w. packed kind (suc line) w (linesOf (drop (at + r + 1) text)))) e
 
     module _ {left : Text} {a : Entered}
-        (s : Enters (entered (entryOf kind (part text at (at + r))) (held (take used out))) (held (take used out)) out left a) where
-      here : Enters (entered (entryOf kind (part text at (at + r))) (g .records)) (g .records) out left a
-      here = subst (λ (v : Pairs). Enters (entered (entryOf kind (part text at (at + r))) v) v out left a) (stands-held (g .stands)) s
+        (s : Enters (inTwos kind) (entered (inTwos kind) (entryOf kind (part text at (at + r))) (recordsBy (inTwos kind) (take used out))) out left a) where
+      here : Enters (inTwos kind) (entered (inTwos kind) (entryOf kind (part text at (at + r))) (g .records)) out left a
+      here = subst (λ (v : Pairs). Enters (inTwos kind) (entered (inTwos kind) (entryOf kind (part text at (at + r))) v) out left a) (stands-held (g .stands)) s
 
-      pub going-bad : (x : Fault) → a ≡ answer.Bad x → Packs (packed kind 1 [] (linesOf text)) old left (told.Bad line x)
+      pub going-bad : (x : Fault) → a ≡ answer.Bad x → Packs (inTwos kind) (packed kind 1 [] (linesOf text)) old left (told.Bad line x)
       going-bad x q = bad-of (rw q at here)
         where
-          bad-of : Enters (entered (entryOf kind (part text at (at + r))) (g .records)) (g .records) out left (answer.Bad x)
-              → Packs (packed kind 1 [] (linesOf text)) old left (told.Bad line x)
+          bad-of : Enters (inTwos kind) (entered (inTwos kind) (entryOf kind (part text at (at + r))) (g .records)) out left (answer.Bad x)
+              → Packs (inTwos kind) (packed kind 1 [] (linesOf text)) old left (told.Bad line x)
           bad-of (stops e k) = fails {v = g .records} (step (stop x) e) (k ∙ g .stands .is)
 
       pub going-more : (n : ℕ) → a ≡ answer.Used n → Going kind text old left n (at + r + 1) (line + 1)
       going-more n q = used-of (rw q at here)
         where
-          used-of : Enters (entered (entryOf kind (part text at (at + r))) (g .records)) (g .records) out left (answer.Used n)
+          used-of : Enters (inTwos kind) (entered (inTwos kind) (entryOf kind (part text at (at + r))) (g .records)) out left (answer.Used n)
               → Going kind text old left n (at + r + 1) (line + 1)
-          used-of (takes {w} e d m k i j) = record {
+          used-of (takes {w} e k j) = record {
             records = w;
             stands = record {
-              sound = d (g .stands .sound);
+              sound = keeps .sound (g .stands .sound);
               long = k;
-              small = i;
               room = g .stands .room;
               is =
-                  j ∙ ap (over (image (flat w))) (g .stands .is)
-                  ∙ over-over (image (flat (g .records))) (image (flat w)) old (omega (arith, length-image (flat (g .records)), length-image (flat w), m, k));
+                  j ∙ ap (over (image (textsBy (inTwos kind) w))) (g .stands .is)
+                  ∙ over-over (image (textsBy (inTwos kind) (g .records))) (image (textsBy (inTwos kind) w)) old
+                  (omega (arith, length-image (textsBy (inTwos kind) (g .records)), length-image (textsBy (inTwos kind) w), keeps .longer));
             };
             is = rw (add-one line) (step (go w) e);
             within = omega (arith, going-end);
             count = omega (arith, g .count);
           }
+            where
+              keeps : Kept kind (g .records) w
+              keeps = kept kind (part text at (at + r)) (g .records) w e

@@ -1,5 +1,5 @@
--- What the lines of a text are as records of variables or homes: a key, `=` and the value's text. Each is entered in order; the first line that is none
--- is told by its number. Assumes nothing.
+-- What the lines of a text are as records: of variables or homes a key, `=` and the value's text, of paths the path's text. Each is entered in order;
+-- the first line that is none is told by its number. Assumes nothing.
 use Prim.Native.Nat.{ℕ, suc, _≤_}
 use mathlib.Core.Path.{_≡_}
 use mathlib.Core.Bool.{Bool, true, false}
@@ -7,14 +7,14 @@ use mathlib.Core.List.{List, [], _∷_}
 use mathlib.Core.Option.{Option, none, some}
 use lib.Dec.{leb}
 use lib.ListN.{length, take, drop}
-use Rattle.stages.specs.Numbers.{imageLimit}
 use Rattle.stages.specs.Bytes.{Text}
 use Rattle.stages.specs.Outcome.{pick}
-use Rattle.stages.specs.Images.{Pairs, keys, rising, flat, image, imageLength, lookup, stored}
+use Rattle.stages.specs.Images.{Pairs, image, imageLength, lookup, stored}
 use Rattle.stages.specs.Call.{over}
-use Rattle.stages.proofs.Images.{Fine}
-use Rattle.tables.specs.Kinds.{keyFits}
+use Rattle.tables.specs.Kinds.{keyFits, inTwos}
 use Rattle.tables.specs.declared.Kind.{Kind}
+use Rattle.tables.specs.declared.Kind.the-variants.{Variables, Homes, Paths, Fields}
+use Rattle.packing.specs.Records.{textsBy, limitBy}
 use Rattle.packing.specs.Escapes.{Reading, bad, good, readText, upTo}
 use Rattle.packing.specs.declared.Fault.{Fault}
 use Rattle.packing.specs.declared.Fault.the-variants.{NoEquals, NoKey, Twice, TooLong}
@@ -38,8 +38,22 @@ entryAt kind line e =
     pick (leb (length line) e) (faulty NoEquals)
     (pick (keyFits kind [] (take e line)) (valued (take e line) (readText (drop (suc e) line))) (faulty NoKey))
 
+unfoldable pub pairOf : Kind → Text → Entry
+pairOf kind line = entryAt kind line (upTo 61 line)
+
+-- a path is not empty
+abbrev pub pathOf : Reading → Entry
+pathOf (bad f) = faulty f
+pathOf (good []) = faulty NoKey
+pathOf (good (b ∷ t)) = entry (b ∷ t) []
+
+-- fields have no keys, and no line is a record of them
 unfoldable pub entryOf : Kind → Text → Entry
-entryOf kind line = entryAt kind line (upTo 61 line)
+unfolding pairOf readText
+entryOf Variables line = pairOf Variables line
+entryOf Homes line = pairOf Homes line
+entryOf Paths line = pathOf (readText line)
+entryOf Fields line = faulty NoKey
 
 -- the records with one more, or why not
 pub data Step : Type 0 where
@@ -51,21 +65,16 @@ enteredBy (some t) fits v = stop Twice
 enteredBy none false v = stop TooLong
 enteredBy none true v = go v
 
-unfoldable pub entered : Entry → Pairs → Step
+unfoldable pub entered : Bool → Entry → Pairs → Step
 unfolding lookup stored imageLength
-entered (faulty f) v = stop f
-entered (entry key t) v = enteredBy (lookup key v) (leb (imageLength (flat (stored key t v))) imageLimit) (stored key t v)
-
--- texts without a zero byte, in rising order of keys
-pub record Sound (v : Pairs) : Type 0 where
-  pub fine : Fine (flat v)
-  pub rises : rising (keys v) ≡ true
+entered two (faulty f) v = stop f
+entered two (entry key t) v = enteredBy (lookup key v) (leb (imageLength (textsBy two (stored key t v))) (limitBy two)) (stored key t v)
 
 -- what entering a record answers and leaves
-pub data Enters (o : Step) (v : Pairs) (old left : Text) : Entered → Type 0 where
-  takes : {w : Pairs} {n : ℕ} → o ≡ go w → (Sound v → Sound w) → imageLength (flat v) ≤ n → n ≡ imageLength (flat w) → n ≤ imageLimit → left ≡ over (image (flat w)) old
-      → Enters o v old left (answer.Used n)
-  stops : {f : Fault} → o ≡ stop f → left ≡ old → Enters o v old left (answer.Bad f)
+pub data Enters (two : Bool) (o : Step) (old left : Text) : Entered → Type 0 where
+  takes : {w : Pairs} {n : ℕ} → o ≡ go w → n ≡ imageLength (textsBy two w) → left ≡ over (image (textsBy two w)) old
+      → Enters two o old left (answer.Used n)
+  stops : {f : Fault} → o ≡ stop f → left ≡ old → Enters two o old left (answer.Bad f)
 
 -- the records of lines; or the number of the first that is none, why, and the records before it
 pub data Packing : Type 0 where
@@ -79,9 +88,9 @@ packOn (go w) n v on = on w
 unfoldable pub packed : Kind → ℕ → Pairs → List Text → Packing
 unfolding entryOf entered
 packed kind n v [] = whole v
-packed kind n v (line ∷ l) = packOn (entered (entryOf kind line) v) n v (λ w. packed kind (suc n) w l)
+packed kind n v (line ∷ l) = packOn (entered (inTwos kind) (entryOf kind line) v) n v (λ w. packed kind (suc n) w l)
 
 -- what packing answers and leaves: the image stands at the front of the old bytes, at a fault that of the records before it
-pub data Packs (o : Packing) (old left : Text) : Packed → Type 0 where
-  packs : {v : Pairs} {n : ℕ} → o ≡ whole v → n ≡ length (image (flat v)) → left ≡ over (image (flat v)) old → Packs o old left (told.Len n)
-  fails : {v : Pairs} {n : ℕ} {f : Fault} → o ≡ fault n f v → left ≡ over (image (flat v)) old → Packs o old left (told.Bad n f)
+pub data Packs (two : Bool) (o : Packing) (old left : Text) : Packed → Type 0 where
+  packs : {v : Pairs} {n : ℕ} → o ≡ whole v → n ≡ length (image (textsBy two v)) → left ≡ over (image (textsBy two v)) old → Packs two o old left (told.Len n)
+  fails : {v : Pairs} {n : ℕ} {f : Fault} → o ≡ fault n f v → left ≡ over (image (textsBy two v)) old → Packs two o old left (told.Bad n f)

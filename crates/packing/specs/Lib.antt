@@ -1,2 +1,3 @@
 pub mod Escapes
+pub mod Records
 pub mod Entries

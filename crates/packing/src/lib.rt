@@ -1,17 +1,19 @@
 // Text to tables: each line becomes a record, in the order of the kind, or the first line that is none is told with its cause.
 ghost use mathlib.Core.Path.{_≡_};
-ghost use mathlib.Core.Bool.{true};
+ghost use mathlib.Core.Bool.{true, false};
 ghost use mathlib.Core.List.{[]};
 ghost use Prim.Native.Nat.{_<_, _≤_};
 ghost use lib.ListN.{length, take};
-ghost use Rattle.stages.specs.Numbers.{imageLimit};
-ghost use Rattle.stages.specs.Bytes.{all, notZero};
-ghost use Rattle.stages.specs.Images.{held};
+ghost use Rattle.stages.specs.Numbers.{imageLimit, pathsLimit};
+ghost use Rattle.stages.specs.Images.{held, heldTexts};
 ghost use Rattle.stages.specs.Program.{linesOf};
 ghost use Rattle.tables.specs.Kinds.{inTwos};
 ghost use Rattle.tables.specs.Places.{Table};
-ghost use Rattle.packing.specs.Entries.{entry, entryOf, entered, Enters, packed, Packs};
+ghost use Rattle.adding.specs.Added.{Column};
+ghost use Rattle.packing.specs.Records.{alone, recordsBy, limitBy, TableBy};
+ghost use Rattle.packing.specs.Entries.{entry, pairOf, pathOf, entryOf, entered, Enters, packed, Packs};
 ghost use Rattle.packing.specs.Escapes.{hexValue, hexByte, byteAt, readText, Reads, upTo};
+use adding::Added;
 use stores::Stored;
 use tables::Found;
 use tables::Kind;
@@ -62,8 +64,10 @@ pub enum Packed {
 // "one version byte, 1"
 const VERSION: u8 = 1;
 
-// "An image has at most 8,192 bytes"
+// "An image has at most 8,192 bytes, that of paths 32,768."
 const IMAGE_LIMIT: usize = 8192;
+
+const PATHS_LIMIT: usize = 32768;
 
 const EQUALS: u8 = b'=';
 
@@ -185,12 +189,11 @@ fn find(text: &[u8], b: u8) -> usize
     i
 }
 
-// Enters a record at its place, if its key is new and the image has room.
+// Enters a record of two texts at its place, if its key is new and the image has room.
 fn enter(image: &mut [u8], used: usize, key: &[u8], value: &[u8]) -> Entered
     requires { ⌜ (used ≤ imageLimit) × (imageLimit ≤ length (now image)) ⌝ }
     requires { ⌜ Table (take used (now image)) ⌝ }
-    requires { ⌜ (all notZero (now key) ≡ true) × (all notZero (now value) ≡ true) ⌝ }
-    ensures { λ r. ⌜ Enters (entered (entry (now (key .entry)) (now (value .entry))) (held (take used (now (image .entry))))) (held (take used (now (image .entry)))) (now (image .entry)) (now (image .exit)) r ⌝ }
+    ensures { λ r. ⌜ Enters true (entered true (entry (now (key .entry)) (now (value .entry))) (held (take used (now (image .entry))))) (now (image .entry)) (now (image .exit)) r ⌝ }
 {
     let found = lookups::look_up(&image[..used], key);
     match found {
@@ -204,12 +207,12 @@ fn enter(image: &mut [u8], used: usize, key: &[u8], value: &[u8]) -> Entered
     }
 }
 
-// Enters the record of a line: a key, `=`, and the value's text.
-fn enter_line(kind: Kind, line: &[u8], image: &mut [u8], used: usize, work: &mut [u8]) -> Entered
+// Enters the record of a line of variables or homes: a key, `=`, and the value's text.
+fn enter_pair(kind: Kind, line: &[u8], image: &mut [u8], used: usize, work: &mut [u8]) -> Entered
     requires { ⌜ inTwos kind ≡ true ⌝ }
     requires { ⌜ (used ≤ imageLimit) × (imageLimit ≤ length (now image)) × (length (now line) ≤ length (now work)) ⌝ }
     requires { ⌜ Table (take used (now image)) ⌝ }
-    ensures { λ r. ⌜ Enters (entered (entryOf kind (now (line .entry))) (held (take used (now (image .entry))))) (held (take used (now (image .entry)))) (now (image .entry)) (now (image .exit)) r ⌝ }
+    ensures { λ r. ⌜ Enters true (entered true (pairOf kind (now (line .entry))) (held (take used (now (image .entry))))) (now (image .entry)) (now (image .exit)) r ⌝ }
 {
     let end = find(line, EQUALS);
     if line.len() <= end {
@@ -226,12 +229,48 @@ fn enter_line(kind: Kind, line: &[u8], image: &mut [u8], used: usize, work: &mut
     }
 }
 
-// Packs the lines of a text into an image of the kind, variables or homes, at the front of a buffer. The bytes behind it stay. At a line that is no
-// record the image of those before it is left. The work area has room for a line.
+// Enters the record of a line of paths: the path's text.
+fn enter_path(line: &[u8], image: &mut [u8], used: usize, work: &mut [u8]) -> Entered
+    requires { ⌜ (used ≤ pathsLimit) × (pathsLimit ≤ length (now image)) × (length (now line) ≤ length (now work)) ⌝ }
+    requires { ⌜ Column (take used (now image)) ⌝ }
+    ensures { λ r. ⌜ Enters false (entered false (pathOf (readText (now (line .entry)))) (alone (heldTexts (take used (now (image .entry)))))) (now (image .entry)) (now (image .exit)) r ⌝ }
+{
+    let got = read_text(line, work);
+    match got {
+        Read::Bad(fault) => Entered::Bad(fault),
+        Read::Len(n) => {
+            if n == 0 {
+                return Entered::Bad(Fault::NoKey);
+            }
+            let added = adding::add(image, used, &work[..n], PATHS_LIMIT);
+            match added {
+                Added::Used(m) => Entered::Used(m),
+                Added::Twice => Entered::Bad(Fault::Twice),
+                Added::Full => Entered::Bad(Fault::TooLong),
+            }
+        }
+    }
+}
+
+// Enters the record of a line. Fields have no keys: no line is a record of them.
+fn enter_line(kind: Kind, line: &[u8], image: &mut [u8], used: usize, work: &mut [u8]) -> Entered
+    requires { ⌜ (used ≤ limitBy (inTwos kind)) × (limitBy (inTwos kind) ≤ length (now image)) × (length (now line) ≤ length (now work)) ⌝ }
+    requires { ⌜ TableBy (inTwos kind) (take used (now image)) ⌝ }
+    ensures { λ r. ⌜ Enters (inTwos kind) (entered (inTwos kind) (entryOf kind (now (line .entry))) (recordsBy (inTwos kind) (take used (now (image .entry))))) (now (image .entry)) (now (image .exit)) r ⌝ }
+{
+    match kind {
+        Kind::Variables => enter_pair(kind, line, image, used, work),
+        Kind::Homes => enter_pair(kind, line, image, used, work),
+        Kind::Paths => enter_path(line, image, used, work),
+        Kind::Fields => Entered::Bad(Fault::NoKey),
+    }
+}
+
+// Packs the lines of a text into an image of the kind at the front of a buffer. The bytes behind it stay. At a line that is no record the image of those
+// before it is left. The work area has room for a line.
 pub fn pack(kind: Kind, text: &[u8], image: &mut [u8], work: &mut [u8]) -> Packed
-    requires { ⌜ inTwos kind ≡ true ⌝ }
-    requires { ⌜ (imageLimit ≤ length (now image)) × (length (now text) ≤ length (now work)) ⌝ }
-    ensures { λ r. ⌜ Packs (packed kind 1 [] (linesOf (now (text .entry)))) (now (image .entry)) (now (image .exit)) r ⌝ }
+    requires { ⌜ (limitBy (inTwos kind) ≤ length (now image)) × (length (now text) ≤ length (now work)) ⌝ }
+    ensures { λ r. ⌜ Packs (inTwos kind) (packed kind 1 [] (linesOf (now (text .entry)))) (now (image .entry)) (now (image .exit)) r ⌝ }
 {
     image[0] = VERSION;
     let mut used: usize = 1;

@@ -2,10 +2,10 @@
 // cannot do it tells on standard error, and writes nothing else then. The work is that of `tabling` and `packing`.
 ghost use mathlib.Core.Path.{_≡_};
 ghost use Prim.Native.Nat.{_*_, _≤_};
-ghost use mathlib.Core.Bool.{true};
 ghost use lib.ListN.{length};
-ghost use Rattle.stages.specs.Numbers.{imageLimit};
+ghost use Rattle.stages.specs.Numbers.{pathsLimit};
 ghost use Rattle.tables.specs.Kinds.{inTwos};
+ghost use Rattle.packing.specs.Records.{limitBy};
 use libc::STDERR_FILENO;
 use libc::STDIN_FILENO;
 use libc::STDOUT_FILENO;
@@ -78,11 +78,21 @@ fn show(kind: Kind) {
     show_input(kind, &mut image, &mut out);
 }
 
+// A line without a key: of paths it is empty, and no line is a record of fields.
+fn say_no_key(kind: Kind) {
+    match kind {
+        Kind::Variables => say(b": no name before its `=`\n"),
+        Kind::Homes => say(b": no login before its `=`\n"),
+        Kind::Paths => say(b": an empty line is no path\n"),
+        Kind::Fields => say(b": no record of fields\n"),
+    }
+}
+
 // Why a line is no record.
-fn say_fault(fault: Fault) {
+fn say_fault(kind: Kind, fault: Fault) {
     match fault {
         Fault::NoEquals => say(b": no `=` in it\n"),
-        Fault::NoKey => say(b": no name or login before its `=`\n"),
+        Fault::NoKey => say_no_key(kind),
         Fault::BadEscape => say(b": an unknown escape\n"),
         Fault::ZeroByte => say(b": a zero byte\n"),
         Fault::Twice => say(b": the key of an earlier line\n"),
@@ -92,8 +102,7 @@ fn say_fault(fault: Fault) {
 
 // Packs the lines that are read.
 fn pack_input(kind: Kind, text: &mut [u8], image: &mut [u8], work: &mut [u8])
-    requires { ⌜ inTwos kind ≡ true ⌝ }
-    requires { ⌜ (imageLimit ≤ length (now image)) × (length (now text) ≤ length (now work)) ⌝ }
+    requires { ⌜ (limitBy (inTwos kind) ≤ length (now image)) × (length (now text) ≤ length (now work)) ⌝ }
 {
     let n = io::read_full(STDIN_FILENO, text);
     if !was_read(n, text.len()) {
@@ -109,13 +118,13 @@ fn pack_input(kind: Kind, text: &mut [u8], image: &mut [u8], work: &mut [u8])
         Packed::Bad { line, fault } => {
             say(b"tab: line ");
             io::print_decimal(STDERR_FILENO, line as u64);
-            say_fault(fault);
+            say_fault(kind, fault);
         }
     }
 }
 
 fn pack(kind: Kind)
-    requires { ⌜ inTwos kind ≡ true ⌝ }
+    requires { ⌜ limitBy (inTwos kind) ≤ pathsLimit ⌝ }
 {
     let mut text = lines_room();
     let mut image = image_room();
@@ -125,7 +134,7 @@ fn pack(kind: Kind)
 
 fn usage() {
     say(
-        b"usage: tab show vars|homes|paths < image > text\n       tab pack vars|homes < text > image\n",
+        b"usage: tab show vars|homes|paths < image > text\n       tab pack vars|homes|paths < text > image\n",
     );
 }
 
@@ -136,6 +145,10 @@ fn pack_named(word: &[u8]) {
     }
     if texts::same(word, b"homes") {
         pack(Kind::Homes);
+        return;
+    }
+    if texts::same(word, b"paths") {
+        pack(Kind::Paths);
         return;
     }
     usage();

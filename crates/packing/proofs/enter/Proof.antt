@@ -44,7 +44,7 @@ same-length-2 : tie.Need-same-length-2
 same-length-2 c = search needs
 
 returns-2 : tie.Need-returns-2
-returns-2 c = stored-in (c .before .before .before .before .before .before .before .before .before .before .before .before .before .before .args .key .now) (c .before .before .before .before .before .before .before .before .before .before .before .before .before .before .args .value .now) (held (take (c .before .before .before .before .before .before .before .before .before .before .before .before .before .before .args .used) (c .before .before .before .before .before .before .before .before .before .before .before .before .before .before .args .image .now))) (c .before .before .before .before .before .before .before .before .before .before .before .before .before .before .args .image .now) (c .before .before .before .before .before .store .last .0) (c .before .before .before .before .before .store .result) (is-absent (c .before .before .before .before .before .before .before .before .before .look-up .ensures) (c .before .before .before .before .before .before .before .enum-told2 .given .1)) (c .before .before .before .before .before .store .ensures) _ (c .before .stored .given .1) (c .before .before .before .before .before .before .before .before .before .before .before .before .before .before .pre .1 .1 .0) (c .before .before .before .before .before .before .before .before .before .before .before .before .before .before .pre .1 .1 .1)
+returns-2 c = stored-in (c .before .before .before .before .before .before .before .before .before .before .before .before .before .before .args .key .now) (c .before .before .before .before .before .before .before .before .before .before .before .before .before .before .args .value .now) (held (take (c .before .before .before .before .before .before .before .before .before .before .before .before .before .before .args .used) (c .before .before .before .before .before .before .before .before .before .before .before .before .before .before .args .image .now))) (c .before .before .before .before .before .before .before .before .before .before .before .before .before .before .args .image .now) (c .before .before .before .before .before .store .last .0) (c .before .before .before .before .before .store .result) (is-absent (c .before .before .before .before .before .before .before .before .before .look-up .ensures) (c .before .before .before .before .before .before .before .enum-told2 .given .1)) (c .before .before .before .before .before .store .ensures) _ (c .before .stored .given .1)
 
 same-length-3 : tie.Need-same-length-3
 same-length-3 c = search needs

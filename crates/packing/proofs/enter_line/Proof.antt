@@ -1,105 +1,81 @@
--- `packing::enter_line` meets its contract: its tests are the definition's, and what is read behind the `=` is entered under the key. Assumes nothing.
-use native.Mathlib.Omega.{arith}
-use mathlib.Core.Path.{sym, ap, subst, _∙_}
-use lib.ListN.{length, take}
-use lib.Seq.{length-take-le}
-use borrow.Author.Tests.{not-true, not-false}
-use Rattle.stages.specs.Images.{held}
-use Rattle.packing.specs.Entries.{Enters, entered}
-use Rattle.packing.proofs.Entering.{key-fine, no-equals, no-key, behind-equals, read-bad, read-good}
+-- `packing::enter_line` meets its contract: each kind's line is entered by its own function. Assumes nothing.
+use mathlib.Core.Path.{ap}
+use lib.ListN.{take}
+use Rattle.tables.specs.Kinds.{inTwos}
+use Rattle.packing.proofs.Entering.{pair-ready, path-ready, line-pair, line-path, line-field}
 use borrow.Author.Needs.{needs}
 use Rattle.packing.proofs.enter_line.Statement.{statement}
 use Rattle.packing.proofs.enter_line.Tie as tie
 
-find-requires : tie.Need-find-requires
-find-requires c κs = search needs
+enum-told : tie.Need-enum-told
+enum-told c = search needs
 
-returns : tie.Need-returns
-returns c = no-equals (c .before .before .before .before .before .args .kind) (c .before .before .before .before .before .args .line .now) (c .before .find .result) (c .before .find .ensures) _ _ (c .if1 .taken)
+enter-pair-requires : tie.Need-enter-pair-requires
+enter-pair-requires c κs = let e = ap inTwos (c .before .before .enum-told .given .1) in let p = pair-ready (c .before .before .before .before .before .before .before .args .kind) e (c .before .before .before .before .before .before .before .pre .0) (c .before .before .before .before .before .before .before .pre .1) in (e, (p .0, p .1))
 
-slice-aggregate-key-fits : tie.Need-slice-aggregate-key-fits
-slice-aggregate-key-fits c = search needs
+enum-told-2 : tie.Need-enum-told-2
+enum-told-2 c = search needs
 
-slice-aggregate-key-fits-2 : tie.Need-slice-aggregate-key-fits-2
-slice-aggregate-key-fits-2 c = sym (length-take-le (c .before .before .before .find .result) (c .before .before .before .before .before .before .before .args .line .now) (omega (arith, c .before .before .if1 .left)))
+enter-pair-requires-2 : tie.Need-enter-pair-requires-2
+enter-pair-requires-2 c κs = let e = ap inTwos (c .before .before .enum-told2 .given .1) in let p = pair-ready (c .before .before .before .before .before .before .before .args .kind) e (c .before .before .before .before .before .before .before .pre .0) (c .before .before .before .before .before .before .before .pre .1) in (e, (p .0, p .1))
 
-key-fits-requires : tie.Need-key-fits-requires
-key-fits-requires c κs = search needs
+enum-told-3 : tie.Need-enum-told-3
+enum-told-3 c = search needs
 
-returns-2 : tie.Need-returns-2
-returns-2 c = no-key (c .before .before .before .before .before .before .before .before .before .args .kind) (c .before .before .before .before .before .before .before .before .before .args .line .now) (c .before .before .before .before .before .find .result) (c .before .before .before .before .before .find .ensures) (c .before .before .before .before .if1 .left) _ _ (sym (c .before .key-fits .ensures) ∙ not-true _ (c .if2 .taken))
+enter-path-requires : tie.Need-enter-path-requires
+enter-path-requires c κs = let p = path-ready (c .before .before .before .before .before .before .before .args .kind) (c .before .before .enum-told3 .given .1) (c .before .before .before .before .before .before .before .pre .0) (c .before .before .before .before .before .before .before .pre .1) in (p .0, p .1)
 
-add-start : tie.Need-add-start
-add-start c = search needs
-
-sub-read-text : tie.Need-sub-read-text
-sub-read-text c = search needs
-
-part-read-text-start : tie.Need-part-read-text-start
-part-read-text-start c = search needs
-
-part-read-text-end : tie.Need-part-read-text-end
-part-read-text-end c = search needs
-
-read-text-requires : tie.Need-read-text-requires
-read-text-requires c κs = search needs
-
-enum-known-got : tie.Need-enum-known-got
-enum-known-got c = search needs
-
-enum-known-got-2 : tie.Need-enum-known-got-2
-enum-known-got-2 c = search needs
-
-slice-aggregate-enter : tie.Need-slice-aggregate-enter
-slice-aggregate-enter c = sym (length-take-le (c .before .before .before .before .before .before .before .before .before .before .before .before .before .before .before .find .result) (c .before .before .before .before .before .before .before .before .before .before .before .before .before .before .before .before .before .before .before .args .line .now) (omega (arith, c .before .before .before .before .before .before .before .before .before .before .before .before .before .before .if1 .left)))
-
-slice-reshare-prefix-enter : tie.Need-slice-reshare-prefix-enter
-slice-reshare-prefix-enter c = read-good (c .before .before .before .before .before .before .before .before .before .before .before .before .before .before .before .before .before .before .before .args .kind) (c .before .before .before .before .before .before .before .before .before .before .before .before .before .before .before .before .before .before .before .args .line .now) (c .before .before .before .before .before .before .before .before .before .before .before .before .before .before .before .find .result) (c .before .before .before .before .before .before .before .before .before .before .before .before .before .before .before .find .ensures) (c .before .before .before .before .before .before .before .before .before .before .before .before .before .before .if1 .left) (sym (c .before .before .before .before .before .before .before .before .before .before .before .key-fits .ensures) ∙ not-false _ (c .before .before .before .before .before .before .before .before .before .before .if2 .left)) _ (behind-equals (c .before .before .before .before .before .before .before .before .before .before .before .before .before .before .before .before .before .before .before .args .kind) (c .before .before .before .before .before .before .before .before .before .before .before .before .before .before .before .before .before .before .before .args .line .now) (c .before .before .before .before .before .before .before .before .before .before .before .before .before .before .before .find .result) (c .before .before .before .before .before .before .before .before .before .before .before .before .before .before .before .find .ensures) (c .before .before .before .before .before .before .before .before .before .before .before .before .before .before .if1 .left)) (c .before .before .before .before .before .before .before .read-text .ensures) _ (c .before .before .before .got2 .given .1) .long
-
-slice-aggregate-enter-2 : tie.Need-slice-aggregate-enter-2
-slice-aggregate-enter-2 c = sym (length-take-le _ (c .before .before .before .before .before .before .before .before .read-text .last .1 .0) (read-good (c .before .before .before .before .before .before .before .before .before .before .before .before .before .before .before .before .before .before .before .before .args .kind) (c .before .before .before .before .before .before .before .before .before .before .before .before .before .before .before .before .before .before .before .before .args .line .now) (c .before .before .before .before .before .before .before .before .before .before .before .before .before .before .before .before .find .result) (c .before .before .before .before .before .before .before .before .before .before .before .before .before .before .before .before .find .ensures) (c .before .before .before .before .before .before .before .before .before .before .before .before .before .before .before .if1 .left) (sym (c .before .before .before .before .before .before .before .before .before .before .before .before .key-fits .ensures) ∙ not-false _ (c .before .before .before .before .before .before .before .before .before .before .before .if2 .left)) _ (behind-equals (c .before .before .before .before .before .before .before .before .before .before .before .before .before .before .before .before .before .before .before .before .args .kind) (c .before .before .before .before .before .before .before .before .before .before .before .before .before .before .before .before .before .before .before .before .args .line .now) (c .before .before .before .before .before .before .before .before .before .before .before .before .before .before .before .before .find .result) (c .before .before .before .before .before .before .before .before .before .before .before .before .before .before .before .before .find .ensures) (c .before .before .before .before .before .before .before .before .before .before .before .before .before .before .before .if1 .left)) (c .before .before .before .before .before .before .before .before .read-text .ensures) _ (c .before .before .before .before .got2 .given .1) .long))
-
-enter-requires : tie.Need-enter-requires
-enter-requires c κs = ((omega (arith, c .before .before .before .before .before .before .before .before .before .before .before .before .before .before .before .before .before .before .before .before .pre .1 .0), omega (arith, c .before .before .before .before .before .before .before .before .before .before .before .before .before .before .before .before .before .before .before .before .pre .1 .0)), (c .before .before .before .before .before .before .before .before .before .before .before .before .before .before .before .before .before .before .before .before .pre .1 .1, (key-fine (c .before .before .before .before .before .before .before .before .before .before .before .before .before .before .before .before .before .before .before .before .args .kind) _ (c .before .before .before .before .before .before .before .before .before .before .before .before .before .before .before .before .before .before .before .before .pre .0) (sym (c .before .before .before .before .before .before .before .before .before .before .before .before .key-fits .ensures) ∙ not-false _ (c .before .before .before .before .before .before .before .before .before .before .before .if2 .left)), read-good (c .before .before .before .before .before .before .before .before .before .before .before .before .before .before .before .before .before .before .before .before .args .kind) (c .before .before .before .before .before .before .before .before .before .before .before .before .before .before .before .before .before .before .before .before .args .line .now) (c .before .before .before .before .before .before .before .before .before .before .before .before .before .before .before .before .find .result) (c .before .before .before .before .before .before .before .before .before .before .before .before .before .before .before .before .find .ensures) (c .before .before .before .before .before .before .before .before .before .before .before .before .before .before .before .if1 .left) (sym (c .before .before .before .before .before .before .before .before .before .before .before .before .key-fits .ensures) ∙ not-false _ (c .before .before .before .before .before .before .before .before .before .before .before .if2 .left)) _ (behind-equals (c .before .before .before .before .before .before .before .before .before .before .before .before .before .before .before .before .before .before .before .before .args .kind) (c .before .before .before .before .before .before .before .before .before .before .before .before .before .before .before .before .before .before .before .before .args .line .now) (c .before .before .before .before .before .before .before .before .before .before .before .before .before .before .before .before .find .result) (c .before .before .before .before .before .before .before .before .before .before .before .before .before .before .before .before .find .ensures) (c .before .before .before .before .before .before .before .before .before .before .before .before .before .before .before .if1 .left)) (c .before .before .before .before .before .before .before .before .read-text .ensures) _ (c .before .before .before .before .got2 .given .1) .fine)))
+enum-told-4 : tie.Need-enum-told-4
+enum-told-4 c = search needs
 
 same-length : tie.Need-same-length
 same-length c = search needs
 
-returns-3 : tie.Need-returns-3
-returns-3 c = read-bad (c .before .before .before .before .before .before .before .before .before .before .before .before .before .before .before .before .before .args .kind) (c .before .before .before .before .before .before .before .before .before .before .before .before .before .before .before .before .before .args .line .now) (c .before .before .before .before .before .before .before .before .before .before .before .before .before .find .result) (c .before .before .before .before .before .before .before .before .before .before .before .before .before .find .ensures) (c .before .before .before .before .before .before .before .before .before .before .before .before .if1 .left) (sym (c .before .before .before .before .before .before .before .before .before .key-fits .ensures) ∙ not-false _ (c .before .before .before .before .before .before .before .before .if2 .left)) _ (behind-equals (c .before .before .before .before .before .before .before .before .before .before .before .before .before .before .before .before .before .args .kind) (c .before .before .before .before .before .before .before .before .before .before .before .before .before .before .before .before .before .args .line .now) (c .before .before .before .before .before .before .before .before .before .before .before .before .before .find .result) (c .before .before .before .before .before .before .before .before .before .before .before .before .before .find .ensures) (c .before .before .before .before .before .before .before .before .before .before .before .before .if1 .left)) (c .before .before .before .before .before .read-text .ensures) _ _ _ (c .before .got .given .1)
-
 same-length-2 : tie.Need-same-length-2
 same-length-2 c = search needs
+
+returns : tie.Need-returns
+returns c = line-pair (c .before .before .before .before .before .before .before .before .before .before .before .before .args .kind) (c .before .before .before .before .before .before .before .before .before .before .before .before .args .line .now) (take (c .before .before .before .before .before .before .before .before .before .before .before .before .args .used) (c .before .before .before .before .before .before .before .before .before .before .before .before .args .image .now)) (ap inTwos (c .before .before .before .before .before .before .before .enum-told .given .1)) (c .before .before .before .before .enter-pair .ensures)
 
 same-length-3 : tie.Need-same-length-3
 same-length-3 c = search needs
 
+same-length-4 : tie.Need-same-length-4
+same-length-4 c = search needs
+
+returns-2 : tie.Need-returns-2
+returns-2 c = line-pair (c .before .before .before .before .before .before .before .before .before .before .before .before .args .kind) (c .before .before .before .before .before .before .before .before .before .before .before .before .args .line .now) (take (c .before .before .before .before .before .before .before .before .before .before .before .before .args .used) (c .before .before .before .before .before .before .before .before .before .before .before .before .args .image .now)) (ap inTwos (c .before .before .before .before .before .before .before .enum-told2 .given .1)) (c .before .before .before .before .enter-pair2 .ensures)
+
+same-length-5 : tie.Need-same-length-5
+same-length-5 c = search needs
+
+same-length-6 : tie.Need-same-length-6
+same-length-6 c = search needs
+
+returns-3 : tie.Need-returns-3
+returns-3 c = line-path (c .before .before .before .before .before .before .before .before .before .before .before .before .args .kind) (c .before .before .before .before .before .before .before .before .before .before .before .before .args .line .now) (take (c .before .before .before .before .before .before .before .before .before .before .before .before .args .used) (c .before .before .before .before .before .before .before .before .before .before .before .before .args .image .now)) (c .before .before .before .before .before .before .before .enum-told3 .given .1) (c .before .before .before .before .enter-path .ensures)
+
 returns-4 : tie.Need-returns-4
-returns-4 c = subst (λ x. Enters (entered x (held (take (c .before .before .before .before .before .before .before .before .before .before .before .before .before .before .before .before .before .before .before .before .before .before .before .args .used) (c .before .before .before .before .before .before .before .before .before .before .before .before .before .before .before .before .before .before .before .before .before .before .before .args .image .now)))) (held (take (c .before .before .before .before .before .before .before .before .before .before .before .before .before .before .before .before .before .before .before .before .before .before .before .args .used) (c .before .before .before .before .before .before .before .before .before .before .before .before .before .before .before .before .before .before .before .before .before .before .before .args .image .now))) (c .before .before .before .before .before .before .before .before .before .before .before .before .before .before .before .before .before .before .before .before .before .before .before .args .image .now) (c .before .before .enter .last .0) (c .before .before .enter .result)) (sym (read-good (c .before .before .before .before .before .before .before .before .before .before .before .before .before .before .before .before .before .before .before .before .before .before .before .args .kind) (c .before .before .before .before .before .before .before .before .before .before .before .before .before .before .before .before .before .before .before .before .before .before .before .args .line .now) (c .before .before .before .before .before .before .before .before .before .before .before .before .before .before .before .before .before .before .before .find .result) (c .before .before .before .before .before .before .before .before .before .before .before .before .before .before .before .before .before .before .before .find .ensures) (c .before .before .before .before .before .before .before .before .before .before .before .before .before .before .before .before .before .before .if1 .left) (sym (c .before .before .before .before .before .before .before .before .before .before .before .before .before .before .before .key-fits .ensures) ∙ not-false _ (c .before .before .before .before .before .before .before .before .before .before .before .before .before .before .if2 .left)) _ (behind-equals (c .before .before .before .before .before .before .before .before .before .before .before .before .before .before .before .before .before .before .before .before .before .before .before .args .kind) (c .before .before .before .before .before .before .before .before .before .before .before .before .before .before .before .before .before .before .before .before .before .before .before .args .line .now) (c .before .before .before .before .before .before .before .before .before .before .before .before .before .before .before .before .before .before .before .find .result) (c .before .before .before .before .before .before .before .before .before .before .before .before .before .before .before .before .before .before .before .find .ensures) (c .before .before .before .before .before .before .before .before .before .before .before .before .before .before .before .before .before .before .if1 .left)) (c .before .before .before .before .before .before .before .before .before .before .before .read-text .ensures) _ (c .before .before .before .before .before .before .before .got2 .given .1) .is)) (c .before .before .enter .ensures)
+returns-4 c = line-field (c .before .before .before .before .before .args .kind) (c .before .before .before .before .before .args .line .now) (take (c .before .before .before .before .before .args .used) (c .before .before .before .before .before .args .image .now)) (c .before .before .before .before .before .args .image .now) (c .enum-told4 .given .1)
 
 pub enter-line-spec : {M : Type 1} → statement M
 enter-line-spec =
     tie.close
     (tie.spec
-    find-requires
-    returns
-    slice-aggregate-key-fits
-    slice-aggregate-key-fits-2
-    key-fits-requires
-    returns-2
-    add-start
-    sub-read-text
-    part-read-text-start
-    part-read-text-end
-    read-text-requires
-    enum-known-got
-    enum-known-got-2
-    slice-aggregate-enter
-    slice-reshare-prefix-enter
-    slice-aggregate-enter-2
-    enter-requires
+    enum-told
+    enter-pair-requires
+    enum-told-2
+    enter-pair-requires-2
+    enum-told-3
+    enter-path-requires
+    enum-told-4
     same-length
-    returns-3
     same-length-2
+    returns
     same-length-3
+    same-length-4
+    returns-2
+    same-length-5
+    same-length-6
+    returns-3
     returns-4)

@@ -5,7 +5,8 @@ use native.Mathlib.Omega.{arith}
 use mathlib.Core.Path.{_≡_, refl, _∙_}
 use lib.ListN.{length, length-set}
 use Rattle.texts.proofs.Parts.{part-length}
-use Rattle.packing.proofs.Going.{Going, stands-table, stands-length, going-starts, going-ends, going-end, going-bad, going-more, packs-from}
+use Rattle.tables.specs.Kinds.{inTwos}
+use Rattle.packing.proofs.Going.{Going, stands-small, stands-table, stands-length, limit-some, going-starts, going-ends, going-end, going-bad, going-more, packs-from}
 use Rattle.packing.proofs.pack.Statement.{statement}
 use Rattle.packing.proofs.pack.Tie as tie
 
@@ -16,10 +17,10 @@ abbrev μ-loop : tie.MeasureT-loop
 μ-loop kind text image₀ work₀ used₀ at₀ line₀ image work used at line = length text + 1 - at
 
 slice-write-image : tie.Need-slice-write-image Inv-loop μ-loop
-slice-write-image c = omega (arith, c .before .before .before .pre .1)
+slice-write-image c = omega (arith, c .before .before .before .pre .0, limit-some (inTwos (c .before .before .before .args .kind)))
 
 loop-holds : tie.Need-loop-holds Inv-loop μ-loop
-loop-holds c = (going-starts (c .before .before .before .args .kind) (c .before .before .before .args .text .now) (c .before .before .before .args .image .now) (c .before .before .before .pre .1 .0), refl)
+loop-holds c = (going-starts (c .before .before .before .args .kind) (c .before .before .before .args .text .now) (c .before .before .before .args .image .now) (c .before .before .before .pre .0), refl)
 
 sub-find : tie.Need-sub-find Inv-loop μ-loop
 sub-find c = omega (arith, c .loop-test .taken)
@@ -46,7 +47,7 @@ part-enter-line-end : tie.Need-part-enter-line-end Inv-loop μ-loop
 part-enter-line-end c = going-end (c .before .before .before .loop .inv .0) (c .before .before .loop-test .taken) (c .find .result) (c .find .ensures)
 
 enter-line-requires : tie.Need-enter-line-requires Inv-loop μ-loop
-enter-line-requires c κs = (c .before .before .before .before .before .before .before .before .before .before .pre .0, ((c .before .before .before .before .before .before .loop .inv .0 .stands .small, omega (arith, stands-length (c .before .before .before .before .before .before .loop .inv .0 .stands), c .before .before .before .before .before .before .loop .inv .0 .stands .room), omega (arith, going-end (c .before .before .before .before .before .before .loop .inv .0) (c .before .before .before .before .before .loop-test .taken) (c .before .before .before .find .result) (c .before .before .before .find .ensures), part-length (c .before .before .before .before .before .before .before .before .before .before .args .text .now) (c .before .before .before .before .before .before .loop .at) (c .before .before .before .before .before .before .loop .at + c .before .before .before .find .result) (omega arith) (going-end (c .before .before .before .before .before .before .loop .inv .0) (c .before .before .before .before .before .loop-test .taken) (c .before .before .before .find .result) (c .before .before .before .find .ensures)), c .before .before .before .before .before .before .loop .inv .1, c .before .before .before .before .before .before .before .before .before .before .pre .1)), stands-table (c .before .before .before .before .before .before .loop .inv .0 .stands)))
+enter-line-requires c κs = ((stands-small (c .before .before .before .before .before .before .loop .inv .0 .stands), omega (arith, stands-length (c .before .before .before .before .before .before .loop .inv .0 .stands), c .before .before .before .before .before .before .loop .inv .0 .stands .room), omega (arith, going-end (c .before .before .before .before .before .before .loop .inv .0) (c .before .before .before .before .before .loop-test .taken) (c .before .before .before .find .result) (c .before .before .before .find .ensures), part-length (c .before .before .before .before .before .before .before .before .before .before .args .text .now) (c .before .before .before .before .before .before .loop .at) (c .before .before .before .before .before .before .loop .at + c .before .before .before .find .result) (omega arith) (going-end (c .before .before .before .before .before .before .loop .inv .0) (c .before .before .before .before .before .loop-test .taken) (c .before .before .before .find .result) (c .before .before .before .find .ensures)), c .before .before .before .before .before .before .loop .inv .1, c .before .before .before .before .before .before .before .before .before .before .pre .1)), stands-table (c .before .before .before .before .before .before .loop .inv .0 .stands))
 
 enum-known-entered : tie.Need-enum-known-entered Inv-loop μ-loop
 enum-known-entered c = search needs
