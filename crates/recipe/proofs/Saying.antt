@@ -21,9 +21,9 @@ use Rattle.io.specs.Counts.{Counts}
 use Rattle.quoting.specs.Answers.{Puts}
 use Rattle.cutting.specs.Said.{saidBy, answerRoom}
 use Rattle.cutting.proofs.Saying.{said-is}
-use Rattle.drunquill.specs.Calls.{given}
-use Rattle.drunquill.specs.Hands.{Gives}
-use Rattle.drunquill.specs.declared.Answer.{Answer}
+use Rattle.checking.specs.Calls.{given}
+use Rattle.handing.specs.Hands.{Gives}
+use Rattle.handing.specs.declared.Answer.{Answer}
 use Rattle.recipe.specs.Says.{answerTo, Says}
 
 -- answers to the same outcome that differ in the output's old bytes and in the work area are said alike and leave the same variables

@@ -8,8 +8,8 @@ use crate::words::byte_at;
 use crate::words::byte_count;
 use crate::words::number;
 use crate::words::word;
-use drunquill::Answer;
 use drunquill::QuoteAnswer;
+use handing::Answer;
 ghost use lib.ListN.{length};
 ghost use Rattle.io.specs.Counts.{Counts};
 

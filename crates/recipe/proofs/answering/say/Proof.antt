@@ -3,7 +3,7 @@ use mathlib.Core.Path.{sym}
 use lib.ListN.{length}
 use lib.Seq.{length-take-le}
 use borrow.Author.Needs.{needs}
-use Rattle.drunquill.specs.Calls.{given}
+use Rattle.checking.specs.Calls.{given}
 use Rattle.recipe.proofs.Saying.{out-inside, room-fits, said-so}
 use Rattle.recipe.proofs.answering.say.Statement.{statement}
 use Rattle.recipe.proofs.answering.say.Tie as tie
