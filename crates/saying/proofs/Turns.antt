@@ -11,8 +11,8 @@ use Rattle.stages.proofs.Answers.{over-front}
 use Rattle.stages.proofs.Program.{cutLine, normaliser-cut}
 use Rattle.quoting.specs.Answers.{Puts}
 use Rattle.cutting.proofs.Callers.{InBlocks, joined, blocks-lines}
-use Rattle.recipe.specs.Says.{answerTo, Says}
-use Rattle.recipe.specs.declared.answering.Said.{Said}
+use Rattle.saying.specs.Says.{answerTo, Says}
+use Rattle.saying.specs.declared.Said.{Said}
 
 abbrev variablesOf : Text → ℕ → Variables
 variablesOf vars used = record { bytes = vars; used = used }

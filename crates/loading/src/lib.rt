@@ -1,7 +1,7 @@
 // A table's file of the current folder, read into a lent buffer. "(absent: no records)"; a file that is there and cannot be read is an error.
 ghost use Prim.Native.Nat.{_≤_};
 ghost use lib.ListN.{length};
-ghost use Rattle.recipe.specs.Loads.{Loads, Ends};
+ghost use Rattle.loading.specs.Loads.{Loads, Ends};
 
 pub enum Loaded {
     // So many bytes of the file stand in the buffer: all, or as many as it takes.

@@ -1,12 +1,12 @@
--- `recipe::loading::read_file` meets its contract and ends: each turn of the loop reads a byte or more into what is left of the buffer. Assumes nothing.
+-- `read_file` meets its contract and ends: each turn of the loop reads a byte or more into what is left of the buffer. Assumes nothing.
 use borrow.Author.Needs.{needs}
 use native.Mathlib.Omega.{arith}
 use Prim.Native.Nat.{_≤_, _-_}
 use mathlib.Core.Path.{_≡_}
 use lib.ListN.{length}
-use Rattle.recipe.proofs.Reading.{ends-loads}
-use Rattle.recipe.proofs.loading.read_file.Statement.{statement}
-use Rattle.recipe.proofs.loading.read_file.Tie as tie
+use Rattle.loading.proofs.Reading.{ends-loads}
+use Rattle.loading.proofs.read_file.Statement.{statement}
+use Rattle.loading.proofs.read_file.Tie as tie
 
 abbrev Inv-loop : tie.InvT-loop
 Inv-loop fd name buffer₀ done₀ buffer done = (done ≤ length buffer) × (length buffer ≡ length buffer₀)

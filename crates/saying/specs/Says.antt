@@ -6,7 +6,7 @@ use Rattle.stages.specs.Call.{Answer, normaliser}
 use Rattle.stages.specs.Program.{givenLine, said}
 use Rattle.io.specs.Counts.{Counts}
 use Rattle.quoting.specs.Answers.{Puts}
-use Rattle.recipe.specs.declared.answering.Said.{Said}
+use Rattle.saying.specs.declared.Said.{Said}
 
 -- the normaliser's answer to a line of the program
 unfoldable pub answerTo : Text → Text → Text → Text → ℕ → Answer

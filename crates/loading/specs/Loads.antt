@@ -1,8 +1,8 @@
 -- What the contracts on tables cite. Assumes nothing.
 use Prim.Native.Nat.{ℕ, _≤_}
 use mathlib.Core.Path.{_≡_}
-use Rattle.recipe.specs.declared.loading.Loaded.{Loaded}
-use Rattle.recipe.specs.declared.loading.Loaded.the-variants.{Length, Failed}
+use Rattle.loading.specs.declared.Loaded.{Loaded}
+use Rattle.loading.specs.declared.Loaded.the-variants.{Length, Failed}
 
 -- a table that was read lies within a buffer of so many bytes
 abbrev pub Loads : ℕ → Loaded → Type 0

@@ -24,7 +24,7 @@ use Rattle.cutting.proofs.Saying.{said-is}
 use Rattle.checking.specs.Calls.{given}
 use Rattle.handing.specs.Hands.{Gives}
 use Rattle.handing.specs.declared.Answer.{Answer}
-use Rattle.recipe.specs.Says.{answerTo, Says}
+use Rattle.saying.specs.Says.{answerTo, Says}
 
 -- answers to the same outcome that differ in the output's old bytes and in the work area are said alike and leave the same variables
 pub record Alike (a b : stage.Answer) : Type 0 where

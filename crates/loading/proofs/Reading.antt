@@ -2,9 +2,9 @@
 use Prim.Native.Nat.{ℕ, _≤_}
 use native.Mathlib.Omega.{arith}
 use mathlib.Core.Path.{_≡_, subst}
-use Rattle.recipe.specs.Loads.{Loads, Ends}
-use Rattle.recipe.specs.declared.loading.Loaded.{Loaded}
-use Rattle.recipe.specs.declared.loading.Loaded.the-variants.{Length, Failed}
+use Rattle.loading.specs.Loads.{Loads, Ends}
+use Rattle.loading.specs.declared.Loaded.{Loaded}
+use Rattle.loading.specs.declared.Loaded.the-variants.{Length, Failed}
 
 pub ends-loads : (room done : ℕ) (r : Loaded) → done ≤ room → Ends done r → Loads room r
 ends-loads room done (Length n) h e = omega arith

@@ -1,12 +1,12 @@
--- `recipe::answering::say` meets its contract: the normaliser's answer in `cutting`'s words is what the stage says of the line. Assumes nothing.
+-- `say` meets its contract: the normaliser's answer in `cutting`'s words is what the stage says of the line. Assumes nothing.
 use mathlib.Core.Path.{sym}
 use lib.ListN.{length}
 use lib.Seq.{length-take-le}
 use borrow.Author.Needs.{needs}
 use Rattle.checking.specs.Calls.{given}
-use Rattle.recipe.proofs.Saying.{out-inside, room-fits, said-so}
-use Rattle.recipe.proofs.answering.say.Statement.{statement}
-use Rattle.recipe.proofs.answering.say.Tie as tie
+use Rattle.saying.proofs.Saying.{out-inside, room-fits, said-so}
+use Rattle.saying.proofs.say.Statement.{statement}
+use Rattle.saying.proofs.say.Tie as tie
 
 normalise-requires : tie.Need-normalise-requires
 normalise-requires c κs = search needs
