@@ -2,8 +2,8 @@
 use Prim.Native.Nat.{_-_, _≤_}
 use lib.ListN.{length}
 use borrow.Author.Needs.{needs}
-use Rattle.replay.proofs.words.all_in.Statement.{statement}
-use Rattle.replay.proofs.words.all_in.Tie as tie
+use Rattle.cases.proofs.words.all_in.Statement.{statement}
+use Rattle.cases.proofs.words.all_in.Tie as tie
 
 abbrev Inv-loop : tie.InvT-loop
 Inv-loop word set i₀ i = i ≤ length word

@@ -1,17 +1,15 @@
--- The place stays among the bytes that the block holds. Assumes nothing.
+-- Each turn reads a byte of the area. Assumes nothing.
 use Prim.Native.Nat.{_-_, _≤_}
-use mathlib.Core.Path.{sym}
-use native.Mathlib.Omega.{arith}
-use lib.Seq.{length-take-le}
+use lib.ListN.{length}
 use borrow.Author.Needs.{needs}
-use Rattle.replay.proofs.line_end.Statement.{statement}
-use Rattle.replay.proofs.line_end.Tie as tie
+use Rattle.cases.proofs.telling.first_difference.Statement.{statement}
+use Rattle.cases.proofs.telling.first_difference.Tie as tie
 
 abbrev Inv-loop : tie.InvT-loop
-Inv-loop block have i₀ i = i ≤ have
+Inv-loop area after before fill i₀ i = i ≤ length area
 
 abbrev μ-loop : tie.MeasureT-loop
-μ-loop block have i₀ i = have - i
+μ-loop area after before fill i₀ i = length area - i
 
 loop-holds : tie.Need-loop-holds Inv-loop μ-loop
 loop-holds c = search needs
@@ -19,8 +17,11 @@ loop-holds c = search needs
 shared-slice-read-if1 : tie.Need-shared-slice-read-if1 Inv-loop μ-loop
 shared-slice-read-if1 c = search needs
 
+wanted-at-requires : tie.Need-wanted-at-requires Inv-loop μ-loop
+wanted-at-requires c κs = search needs
+
 returns : tie.Need-returns Inv-loop μ-loop
-returns c = (omega arith, (omega arith, sym (length-take-le _ _ (omega arith))))
+returns c = search needs
 
 add-i : tie.Need-add-i Inv-loop μ-loop
 add-i c = search needs
@@ -32,16 +33,17 @@ loop-again : tie.Need-loop-again Inv-loop μ-loop
 loop-again c = search needs
 
 returns-2 : tie.Need-returns-2 Inv-loop μ-loop
-returns-2 c = (omega arith, (omega arith, sym (length-take-le _ _ (omega arith))))
+returns-2 c = search needs
 
-pub line-end-spec : {M : Type 1} → statement M
-line-end-spec =
+pub first-difference-spec : {M : Type 1} → statement M
+first-difference-spec =
     tie.close
     (tie.spec
     Inv-loop
     μ-loop
     loop-holds
     shared-slice-read-if1
+    wanted-at-requires
     returns
     add-i
     loop-less
