@@ -4,27 +4,11 @@ use Prim.Native.Nat.{ℕ}
 use mathlib.Core.Path.{_≡_, sym, ap, _∙_}
 use Rattle.stages.specs.Bytes.{Text}
 use Rattle.stages.specs.Call as stage
-use Rattle.drunquill.specs.Hands.{Gives, Quotes}
-use Rattle.drunquill.specs.declared.Answer.{Answer}
+use Rattle.handing.specs.Hands.{Gives}
+use Rattle.handing.specs.declared.Answer.{Answer}
+use Rattle.answering.proofs.Determined.{gives-determined}
+use Rattle.drunquill.specs.Hands.{Quotes}
 use Rattle.drunquill.specs.declared.QuoteAnswer.{QuoteAnswer}
-
-answer-same : (r s : Answer) → r .number ≡ s .number → r .place ≡ s .place → r .«out_len» ≡ s .«out_len» → r .«used_len» ≡ s .«used_len» → r ≡ s
-answer-same r s a b c d =
-    ap (λ (n : ℕ). record { number = n; place = r .place; «out_len» = r .«out_len»; «used_len» = r .«used_len» }) a
-    ∙ ap (λ (n : ℕ). record { number = s .number; place = n; «out_len» = r .«out_len»; «used_len» = r .«used_len» }) b
-    ∙ ap (λ (n : ℕ). record { number = s .number; place = s .place; «out_len» = n; «used_len» = r .«used_len» }) c
-    ∙ ap (λ (n : ℕ). record { number = s .number; place = s .place; «out_len» = s .«out_len»; «used_len» = n }) d
-
-gives-determined : (a : stage.Answer) (r s : Answer) (vars vars' work work' out out' : Text) → Gives a r vars work out → Gives a s vars' work' out'
-    → (r ≡ s) × (vars ≡ vars') × (work ≡ work') × (out ≡ out')
-gives-determined a r s vars vars' work work' out out' g h =
-    let i = g .hands in
-    let j = h .hands in (
-      answer-same r s (i .number ∙ sym (j .number)) (i .place ∙ sym (j .place)) (i .outLength ∙ sym (j .outLength)) (i .usedLength ∙ sym (j .usedLength)),
-      i .variables ∙ sym (j .variables),
-      g .clears ∙ sym (h .clears),
-      i .output ∙ sym (j .output),
-    )
 
 module _ (g : stage.Given) (r s : Answer) (vars vars' work work' out out' : Text) where
   pub expand-determined : Gives (stage.expander g) r vars work out → Gives (stage.expander g) s vars' work' out'

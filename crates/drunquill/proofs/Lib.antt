@@ -1,4 +1,2 @@
-pub mod Checking
-pub mod Handing
-pub mod Working
+pub mod Quoting
 pub mod Determined

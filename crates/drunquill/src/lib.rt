@@ -1,33 +1,19 @@
 // Drunquill's three jobs. Each takes any bytes in any buffers and answers by document 01's numbers. Inside, a line is worked on in copies of the
 // variables and the output, which are handed over at the end, so that a refusal has touched neither.
-mod checks;
-mod copies;
-mod refusals;
-
+use checking::Job;
+use checking::refusals;
+use handing::Answer;
 use quoting::Quoted;
 ghost use Rattle.stages.specs.Call.{expander, normaliser, quoter};
-ghost use Rattle.drunquill.specs.Calls.{given};
-ghost use Rattle.drunquill.specs.Hands.{Gives, Quotes};
-
-// "The answer is a number, a place, the output length and the variables' used length."
-pub struct Answer {
-    pub number: u8,
-    pub place: usize,
-    pub out_len: usize,
-    pub used_len: usize,
-}
+ghost use Rattle.checking.specs.Calls.{given};
+ghost use Rattle.handing.specs.Hands.{Gives};
+ghost use Rattle.drunquill.specs.Hands.{Quotes};
 
 // The quoter's answer: "The quoter has neither variables nor work area."
 pub struct QuoteAnswer {
     pub number: u8,
     pub place: usize,
     pub len: usize,
-}
-
-// The two jobs that take a line: one gives the fields' image, the other the fields as a quoted line.
-enum Job {
-    Expander,
-    Normaliser,
 }
 
 // The expander: the line's fields, an image, to `out`. The variables are an image in the first `used` bytes of their buffer, and may change. On refusal
@@ -43,7 +29,7 @@ pub fn expand(
 ) -> Answer
     ensures { λ r. ⌜ Gives (expander (given (now (line .entry)) (now (vars .entry)) used (now (homes .entry)) (now (paths .entry)) (now (work .entry)) (now (out .entry)))) r (now (vars .exit)) (now (work .exit)) (now (out .exit)) ⌝ }
 {
-    copies::answer(Job::Expander, line, vars, used, homes, paths, work, out)
+    answering::answer_call(Job::Expander, line, vars, used, homes, paths, work, out)
 }
 
 // The normaliser: the line's fields as a quoted line to `out`, all else as in the expander.
@@ -58,7 +44,7 @@ pub fn normalise(
 ) -> Answer
     ensures { λ r. ⌜ Gives (normaliser (given (now (line .entry)) (now (vars .entry)) used (now (homes .entry)) (now (paths .entry)) (now (work .entry)) (now (out .entry)))) r (now (vars .exit)) (now (work .exit)) (now (out .exit)) ⌝ }
 {
-    copies::answer(Job::Normaliser, line, vars, used, homes, paths, work, out)
+    answering::answer_call(Job::Normaliser, line, vars, used, homes, paths, work, out)
 }
 
 // The quoter: an image of fields as a quoted line to `out`, whose bytes behind the line stay; on refusal all of them do.

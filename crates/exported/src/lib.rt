@@ -1,7 +1,7 @@
 // The three jobs under C's calling convention: include/drunquill.h declares them for C. Each lent buffer comes as a pointer and a length, and a job's
 // answer goes out as a struct that C lays out the same way.
 ghost use Rattle.stages.specs.Call.{expander, normaliser, quoter};
-ghost use Rattle.drunquill.specs.Calls.{given};
+ghost use Rattle.checking.specs.Calls.{given};
 ghost use Rattle.exported.specs.Hands.{Gives, Quotes};
 
 // "The answer is a number, a place, the output length and the variables' used length."

@@ -1,4 +1,1 @@
-pub mod Reading
 pub mod Taking
-pub mod Saying
-pub mod Turns

@@ -1,3 +1,1 @@
-pub mod Loads
 pub mod Keeps
-pub mod Says

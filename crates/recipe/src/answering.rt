@@ -3,24 +3,14 @@ use cutting::Taken;
 use libc::STDIN_FILENO;
 use libc::STDOUT_FILENO;
 ghost use mathlib.Core.Path.{_≡_};
-ghost use Prim.Native.Nat.{_≤_, _+_};
 ghost use lib.ListN.{length};
-ghost use Rattle.stages.specs.Numbers.{workLeast, imageLimit};
-ghost use Rattle.cutting.specs.Said.{answerRoom};
 ghost use Rattle.recipe.specs.Keeps.{Keeps};
-ghost use Rattle.recipe.specs.Says.{answerTo, Says};
 
 // What is carried from line to line: the bytes kept of a line that has not ended, the variables' used length, and whether there is more to answer.
 pub struct Carried {
     pub kept: usize,
     pub used: usize,
     pub goes_on: bool,
-}
-
-// An answer in words: its length, and the variables' used length behind it.
-struct Said {
-    len: usize,
-    used: usize,
 }
 
 // Room for what is said of a line.
@@ -37,29 +27,6 @@ fn out_room() -> [u8; 8192]
     [0; 8192]
 }
 
-// Works out what is said of a line.
-fn say(
-    line: &[u8],
-    vars: &mut [u8],
-    used: usize,
-    homes: &[u8],
-    paths: &[u8],
-    work: &mut [u8],
-    out: &mut [u8],
-    said: &mut [u8],
-) -> Said
-    requires { ⌜ (workLeast ≡ length (now work)) × (imageLimit ≡ length (now out)) × (length (now out) + answerRoom ≤ length (now said)) ⌝ }
-    ensures { λ r. ⌜ Says (answerTo (now (homes .entry)) (now (paths .entry)) (now (line .entry)) (now (vars .entry)) used) (now (said .entry)) (now (said .exit)) (now (vars .exit)) r ⌝ }
-{
-    let answer = drunquill::normalise(line, vars, used, homes, paths, work, out);
-    let n = answer.out_len;
-    let len = cutting::put_answer(answer.number, answer.place, &out[..n], said);
-    Said {
-        len: len,
-        used: answer.used_len,
-    }
-}
-
 // Answers a line. Output that cannot be written ends the run.
 fn answer_line(line: &[u8], vars: &mut [u8], used: usize, homes: &[u8], paths: &[u8]) -> Carried
     ensures { λ r. ⌜ r .kept ≡ 0 ⌝ }
@@ -67,7 +34,7 @@ fn answer_line(line: &[u8], vars: &mut [u8], used: usize, homes: &[u8], paths: &
     let mut work = io::large_buffer();
     let mut out = out_room();
     let mut said = said_room();
-    let told = say(
+    let told = saying::say(
         line,
         vars,
         used,

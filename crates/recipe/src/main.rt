@@ -1,7 +1,6 @@
 // The program of document 01. It reads the tables of the current folder, then answers the lines of standard input one by one. The buffers are made here
 // and lent; how an answer is worked out is in the libraries.
 mod answering;
-mod loading;
 
 ghost use mathlib.Core.Path.{_≡_};
 ghost use lib.ListN.{length};

@@ -1,29 +1,17 @@
 // Runs the cases of standard input, or of the file that its first argument names, through Drunquill's three jobs: a case to a line, as
 // tests/vectors/README.md has them. Tells each case that differs, and at the end how many were run and how many differ.
-mod cases;
-mod telling;
-mod words;
+mod calls;
 
+use cases::Job;
+use cases::telling;
+use cases::telling::Told;
+use cases::words::ROOM;
 use std::num::wrapping_add_u64;
-use telling::Told;
-use words::ROOM;
 ghost use mathlib.Core.Path.{_≡_};
-ghost use Prim.Native.Nat.{_≤_};
 ghost use lib.ListN.{length};
-ghost use Rattle.io.specs.Counts.{Counts};
 
 // How long a case may be, its newline included.
 const LONGEST: usize = 262144;
-
-const NEWLINE: u8 = b'\n';
-
-// What a case asks for, if it is one.
-enum Job {
-    Expander,
-    Normaliser,
-    Quoter,
-    None,
-}
 
 // Room for a line, a table or another buffer of a call.
 fn area() -> [u8; ROOM]
@@ -39,82 +27,6 @@ fn block() -> [u8; LONGEST]
     [0; LONGEST]
 }
 
-// Reads behind the bytes that the block holds, and answers how many it holds then.
-fn read_behind(fd: i32, block: &mut [u8], have: usize) -> usize
-    requires { ⌜ have ≤ length (now block) ⌝ }
-    ensures { λ r. ⌜ (r ≤ length (now (block .exit))) × (length (now (block .exit)) ≡ length (now (block .entry))) ⌝ }
-{
-    have + io::read_full(fd, &mut block[have..])
-}
-
-// The place of the first newline among the bytes that the block holds, or their end.
-fn line_end(block: &[u8], have: usize) -> usize
-    requires { ⌜ have ≤ length (now block) ⌝ }
-    ensures { λ r. ⌜ (r ≤ have) × (Counts r (now (block .entry))) ⌝ }
-{
-    let mut i: usize = 0;
-    while i < have {
-        if block[i] == NEWLINE {
-            return i;
-        }
-        i += 1;
-    }
-    i
-}
-
-// Drops a line and its newline from the block's front, and answers how many bytes it holds then.
-fn drop_line(block: &mut [u8], have: usize, end: usize) -> usize
-    requires { ⌜ (end ≤ have) × (have ≤ length (now block)) ⌝ }
-    ensures { λ r. ⌜ r ≤ length (now (block .exit)) ⌝ }
-{
-    if end == have {
-        return 0;
-    }
-    let left = have - end - 1;
-    moves::shift(block, end + 1, 0, left);
-    left
-}
-
-// Is the case one of the expander or the normaliser: words of the right kinds, variables that their buffer holds, bytes as many as told? On a refusal
-// there are none.
-fn is_line_case(case: &[u8]) -> bool {
-    if !words::has_shape(case, b"jhhdshhss=dddhdh")
-        || !words::fits(case, words::VARS, words::VARS_BUFFER)
-        || !words::agrees(case, words::OUT_LENGTH, words::OUT_BYTES)
-    {
-        return false;
-    }
-    if words::number(words::word(case, words::NUMBER)) == 0 {
-        words::agrees(case, words::USED_LENGTH, words::VARS_BYTES)
-    } else {
-        words::byte_count(words::word(case, words::VARS_BYTES)) == 0
-    }
-}
-
-// Is the case one of the quoter?
-fn is_quote_case(case: &[u8]) -> bool {
-    words::has_shape(case, b"jhs=dddh")
-        && words::agrees(case, words::QUOTE_LENGTH, words::QUOTE_BYTES)
-}
-
-// The job of a case that is sound and that there is room for.
-fn job_of(case: &[u8]) -> Job {
-    let job = words::word(case, words::JOB);
-    if texts::same(job, b"quote") && is_quote_case(case) {
-        return Job::Quoter;
-    }
-    if !is_line_case(case) {
-        return Job::None;
-    }
-    if texts::same(job, b"expand") {
-        return Job::Expander;
-    }
-    if texts::same(job, b"normalise") {
-        return Job::Normaliser;
-    }
-    Job::None
-}
-
 // Runs a case, and tells in what it differs.
 fn try_case(
     told: Told,
@@ -126,11 +38,20 @@ fn try_case(
     work: &mut [u8],
     out: &mut [u8],
 ) -> Told {
-    let job = job_of(case);
+    let job = cases::job_of(case);
     match job {
-        Job::Expander => cases::try_line(false, told, case, line, vars, homes, paths, work, out),
-        Job::Normaliser => cases::try_line(true, told, case, line, vars, homes, paths, work, out),
-        Job::Quoter => cases::try_quote(told, case, line, out),
+        Job::Line { is_normaliser } => calls::try_line(
+            is_normaliser,
+            told,
+            case,
+            line,
+            vars,
+            homes,
+            paths,
+            work,
+            out,
+        ),
+        Job::Quoter => calls::try_quote(told, case, line, out),
         Job::None => telling::tell(told, b"not a case, or too large for its buffers here"),
     }
 }
@@ -172,19 +93,19 @@ fn run_cases(fd: i32, block: &mut [u8]) {
     let mut cases: u64 = 0;
     let mut differ: u64 = 0;
     let mut turns = u64::MAX;
-    let mut have = read_behind(fd, block, 0);
+    let mut have = cases::blocks::read_behind(fd, block, 0);
     while have > 0 {
         if turns == 0 {
             return;
         }
         turns -= 1;
-        let end = line_end(block, have);
+        let end = cases::blocks::line_end(block, have);
         cases = wrapping_add_u64(cases, 1);
         if differs(cases, &block[..end]) {
             differ = wrapping_add_u64(differ, 1);
         }
-        let left = drop_line(block, have, end);
-        have = read_behind(fd, block, left);
+        let left = cases::blocks::drop_line(block, have, end);
+        have = cases::blocks::read_behind(fd, block, left);
     }
     telling::say_sum(cases, differ);
 }

@@ -1,6 +1,7 @@
 -- The values are those of the quoter's answer, case by case. Assumes nothing.
 use Rattle.quoting.specs.declared.Quoted.the-variants.{Len, Malformed, NoRoom}
-use Rattle.drunquill.proofs.Handing.{quoted-as, quotes}
+use Rattle.handing.proofs.Handing.{quoted-as}
+use Rattle.drunquill.proofs.Quoting.{quotes}
 use borrow.Author.Needs.{needs}
 use Rattle.drunquill.proofs.quote.Statement.{statement}
 use Rattle.drunquill.proofs.quote.Tie as tie

@@ -1,0 +1,96 @@
+// The buffers of a call: cut to the case's sizes and filled as it says before the call, held against its answer after it.
+use crate::telling::Told;
+use crate::telling::hold_bytes;
+use crate::telling::hold_number;
+use crate::words;
+use crate::words::byte_at;
+use crate::words::byte_count;
+use crate::words::number;
+use crate::words::word;
+ghost use lib.ListN.{length};
+ghost use Rattle.io.specs.Counts.{Counts};
+
+// What stands in the output before a call, and behind the variables in their buffer.
+pub const OUT_FILL: u8 = 0xa5;
+
+const VARS_FILL: u8 = 0x5a;
+
+// What stands in the work area before a call, behind the bytes of the line, and after it.
+const WORK_JUNK: u8 = 0xc3;
+
+const WORK_ZERO: u8 = 0;
+
+// Writes the bytes of a word to the front of an area, and the fill behind them.
+pub fn lay(area: &mut [u8], bytes: &[u8], fill: u8) {
+    let mut i: usize = 0;
+    while i < area.len() {
+        area[i] = byte_at(bytes, i, fill);
+        i += 1;
+    }
+}
+
+// The size, or the area's if that is less.
+fn cut(size: usize, area: &[u8]) -> usize
+    ensures { λ r. ⌜ Counts r (now (area .entry)) ⌝ }
+{
+    if size < area.len() { size } else { area.len() }
+}
+
+// As many bytes of the area as a word of the case writes.
+pub fn cut_to_bytes(case: &[u8], n: usize, area: &[u8]) -> usize
+    ensures { λ r. ⌜ Counts r (now (area .entry)) ⌝ }
+{
+    cut(byte_count(word(case, n)), area)
+}
+
+// As many bytes of the area as a number of the case says.
+pub fn cut_to_size(case: &[u8], n: usize, area: &[u8]) -> usize
+    ensures { λ r. ⌜ Counts r (now (area .entry)) ⌝ }
+{
+    cut(number(word(case, n)), area)
+}
+
+// Writes what the case has for a buffer, and the fill behind it.
+pub fn lay_word(area: &mut [u8], case: &[u8], n: usize, fill: u8) {
+    lay(area, word(case, n), fill);
+}
+
+// Holds a number of the answer against the case's.
+pub fn hold_word(told: Told, what: &[u8], given: usize, case: &[u8], n: usize) -> Told {
+    hold_number(told, what, given, number(word(case, n)))
+}
+
+// Holds what a job left in the buffers against the case.
+pub fn hold_buffers(told: Told, case: &[u8], vars: &[u8], work: &[u8], out: &[u8]) -> Told {
+    let told = hold_bytes(
+        told,
+        b"output",
+        out,
+        word(case, words::OUT_BYTES),
+        b"-",
+        OUT_FILL,
+    );
+    let told = hold_bytes(
+        told,
+        b"variables",
+        vars,
+        word(case, words::VARS_BYTES),
+        word(case, words::VARS),
+        VARS_FILL,
+    );
+    hold_bytes(told, b"work area", work, b"-", b"-", WORK_ZERO)
+}
+
+// Writes a case's line, homes and paths.
+pub fn lay_given(case: &[u8], line: &mut [u8], homes: &mut [u8], paths: &mut [u8]) {
+    lay_word(line, case, words::LINE, 0);
+    lay_word(homes, case, words::HOMES, 0);
+    lay_word(paths, case, words::PATHS, 0);
+}
+
+// Fills the buffers that a job writes.
+pub fn lay_buffers(case: &[u8], vars: &mut [u8], work: &mut [u8], out: &mut [u8]) {
+    lay_word(vars, case, words::VARS, VARS_FILL);
+    lay_word(work, case, words::LINE, WORK_JUNK);
+    lay(out, b"-", OUT_FILL);
+}
