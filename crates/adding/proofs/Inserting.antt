@@ -4,7 +4,7 @@ use Prim.Native.Nat.{ℕ, _+_, _-_, _≤_, _<_}
 use native.Mathlib.Omega.{arith}
 use mathlib.Core.Path.{_≡_, refl, sym, ap, _∙_}
 use mathlib.Core.Bool.{true, false}
-use mathlib.Core.List.{List, _∷_, _++_}
+use mathlib.Core.List.{List, _∷_}
 use lib.Dec.{leb}
 use lib.ListN.{length, take, drop}
 use lib.Seq.{paste, take-take, length-take-le}
@@ -25,10 +25,9 @@ use Rattle.stores.proofs.Writing.{writes-done, writes-refused}
 use Rattle.stores.proofs.Splices.{within-fits, within-full, spliced-length, put-placed, splice-is, placed}
 use Rattle.stores.proofs.StoredImages.{drop-take}
 use Rattle.stores.proofs.Callers.{Wrote, wrote, unwritten}
-use Rattle.adding.specs.Added.{hasText, withText, Gap, Free, free, taken, Adding, twice, full, holds, addingBy, adding, answerOf, leftOf, Adds}
+use Rattle.adding.specs.Added.{withText, Gap, Free, free, taken, adding, Adds}
 use Rattle.adding.specs.declared.Place.{Place}
 use Rattle.adding.specs.declared.Place.the-variants.{At, Taken}
-use Rattle.adding.specs.declared.Added.{Added}
 use Rattle.adding.specs.declared.Added.the-variants.{Used, Twice, Full}
 
 same : {t u : Text} → done t ≡ done u → t ≡ u

@@ -1,21 +1,19 @@
 -- The walk to the place of a path: those passed are below it, and what is left of the image is those ahead. Assumes nothing.
-use Prim.Native.Nat.{ℕ, _+_, _-_, _≤_, _<_}
+use Prim.Native.Nat.{ℕ, _+_, _-_}
 use native.Mathlib.Omega.{arith}
 use mathlib.Core.Path.{_≡_, refl, sym, ap, _∙_}
 use mathlib.Core.Bool.{true, false}
 use mathlib.Core.List.{List, [], _∷_, _++_, append-assoc, append-nil}
-use mathlib.Core.Option.{some}
 use lib.ListN.{length, take, drop, length-drop}
 use lib.Seq.{take-add, take-at}
-use Rattle.stages.specs.Bytes.{Text, part, eqText, ltText}
-use Rattle.stages.specs.Images.{texts, textsIn, rising, framed, written, image, recordBytes, heldTexts}
-use Rattle.stages.proofs.Bools.{either, no}
-use Rattle.stages.proofs.Texts.{eqText-same, ltText-asym, ltText-trans, ltText-other, ltText-irrefl}
-use Rattle.stages.proofs.Images.{Bytes, texts-canonical, image-canonical, written-append}
-use Rattle.stages.proofs.Stores.{rising-tail, rising-under, Under, under-next}
+use Rattle.stages.specs.Bytes.{Text, part}
+use Rattle.stages.specs.Images.{rising, framed, written, image, heldTexts}
+use Rattle.stages.proofs.Texts.{ltText-other}
+use Rattle.stages.proofs.Images.{Bytes, image-canonical, written-append}
+use Rattle.stages.proofs.Stores.{rising-tail, Under, under-next}
 use Rattle.texts.specs.Orders.{orderOf}
 use Rattle.texts.specs.declared.Order.the-variants.{Less, Same, More}
-use Rattle.texts.proofs.Orders.{order-below, order-equal, order-above, above-not-equal, above-not-below}
+use Rattle.texts.proofs.Orders.{order-below, order-equal, above-not-equal, above-not-below}
 use Rattle.tables.specs.Pieces.{pieceAt}
 use Rattle.tables.specs.declared.Piece.{Piece}
 use Rattle.tables.specs.declared.Piece.the-variants as piece

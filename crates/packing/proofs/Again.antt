@@ -1,17 +1,16 @@
 -- What is shown is read again: the escapes of a text stand for the text. Assumes nothing.
-use Prim.Native.Nat.{ℕ, zero, suc, _+_, _-_, _*_, _/_, _%_, _≤_, _<_}
+use Prim.Native.Nat.{ℕ, suc, _+_, _-_, _*_, _/_, _%_, _≤_, _<_}
 use native.Mathlib.Omega.{arith}
 use mathlib.Core.Path.{_≡_, refl, sym, ap, _∙_}
-use mathlib.Core.Bool.{Bool, true, false, _&&_, not}
-use mathlib.Core.List.{List, [], _∷_, _++_, append-assoc}
+use mathlib.Core.Bool.{true, false, not}
+use mathlib.Core.List.{[], _∷_, _++_}
 use lib.Dec.{eqb, ltb}
-use lib.ListN.{length, getD}
 use borrow.Author.Tests.{leb-true, eqb-true, eqb-false, ltb-true, ltb-false, not-true}
 use Rattle.stages.specs.Bytes.{Text, all, notZero, between}
-use Rattle.stages.proofs.Bools.{either, and-left, and-right, between-bounds}
+use Rattle.stages.proofs.Bools.{either, and-left, and-right}
 use Rattle.stages.proofs.Images.{Bytes}
-use Rattle.tabling.specs.Lines.{hexDigit, isPlain, letterOf, escaped, shownByte, shownText}
-use Rattle.packing.specs.Escapes.{hexValue, hexByte, byteAt, Reading, good, before, readOn, readFrom, readText}
+use Rattle.tabling.specs.Lines.{hexDigit, isPlain, shownByte, shownText}
+use Rattle.packing.specs.Escapes.{hexValue, hexByte, byteAt, good, before, readOn, readFrom, readText}
 use Rattle.packing.specs.declared.Byte.the-variants.{Is}
 use Rattle.packing.proofs.Escaping.{value-2, value-4, byte-is, at-plain, at-newline, at-backslash, at-hex}
 

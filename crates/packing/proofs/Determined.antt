@@ -1,5 +1,4 @@
 -- The contract of packing determines the answer and every byte of the image's buffer. The work area is scratch: its bytes are left open. Assumes nothing.
-use Prim.Native.Nat.{ℕ}
 use mathlib.Core.Bool.{Bool}
 use mathlib.Core.Path.{_≡_, sym, ap, _∙_}
 use lib.ListN.{length}

@@ -22,8 +22,8 @@ use Rattle.tables.specs.Places.{Table, Looked}
 use Rattle.tables.specs.declared.Kind.{Kind}
 use Rattle.tables.specs.declared.Kind.the-variants.{Variables, Homes, Paths, Fields}
 use Rattle.tables.specs.declared.Found.{Found}
-use Rattle.tables.specs.declared.Found.the-variants.{At, Missing}
-use Rattle.tables.proofs.Finds.{is-shown, is-absent}
+use Rattle.tables.specs.declared.Found.the-variants.{At}
+use Rattle.tables.proofs.Finds.{is-shown}
 use Rattle.stores.specs.Answers.{storedOutcome, imageIn, Writes}
 use Rattle.stores.specs.declared.Stored.{Stored}
 use Rattle.stores.specs.declared.Stored.the-variants.{Used, Full}
@@ -32,9 +32,8 @@ use Rattle.stores.proofs.StoredImages.{store-by}
 use Rattle.adding.specs.Added.{Column, hasText, withText, Adding, twice, full, holds, addingBy, adding, answerOf, leftOf, Adds}
 use Rattle.adding.specs.declared.Added.{Added}
 use Rattle.adding.specs.declared.Added.the-variants as added
-use Rattle.texts.specs.Putting.{Puts}
 use Rattle.packing.specs.Escapes.{Reading, bad, good, readText, Reads, reads, fails, upTo}
-use Rattle.packing.specs.Records.{alone, textsBy, recordsBy, limitBy, TableBy}
+use Rattle.packing.specs.Records.{alone, recordsBy, limitBy, TableBy}
 use Rattle.packing.specs.Entries.{Entry, entry, valued, pairOf, pathOf, entryOf, Step, stop, go, enteredBy, entered, Enters, takes, stops}
 use Rattle.packing.specs.declared.Fault.{Fault}
 use Rattle.packing.specs.declared.Fault.the-variants.{NoEquals, NoKey, Twice, TooLong}

@@ -10,18 +10,17 @@ use lib.Dec.{eqb}
 use lib.ListN.{length, take, drop, set, length-set, length-drop, drop-of-length-le}
 use lib.Seq.{take-at, take-all, drop-at, drop-drop}
 use Rattle.stages.specs.Bytes.{Text, part}
-use Rattle.stages.specs.Images.{Pairs, texts, pairsOf, keys, rising, image, recordBytes, imageLength}
+use Rattle.stages.specs.Images.{Pairs, keys, rising, image, recordBytes, imageLength}
 use Rattle.stages.specs.Call.{over}
 use Rattle.stages.specs.Program.{longerLine, linesOf}
 use Rattle.stages.proofs.Bools.{either}
 use Rattle.stages.proofs.Images.{length-image, pairs-image, held-image, texts-image, heldTexts-image, Fine}
 use Rattle.tables.specs.Kinds.{inTwos}
-use Rattle.tables.specs.Places.{Table}
 use Rattle.tables.specs.declared.Kind.{Kind}
 use Rattle.stores.proofs.Callers.{fills-none, over-length}
 use Rattle.packing.specs.Escapes.{upTo}
 use Rattle.packing.specs.Records.{alone, textsBy, recordsBy, limitBy, TableBy}
-use Rattle.packing.specs.Entries.{entryOf, Step, stop, go, entered, Enters, takes, stops, Packing, whole, fault, packOn, packed, Packs, packs, fails}
+use Rattle.packing.specs.Entries.{entryOf, Step, stop, go, entered, Enters, takes, stops, Packing, packOn, packed, Packs, packs, fails}
 use Rattle.packing.specs.declared.Fault.{Fault}
 use Rattle.packing.specs.declared.Entered.{Entered}
 use Rattle.packing.specs.declared.Entered.the-variants as answer

@@ -5,3 +5,4 @@ pub mod Going
 pub mod Determined
 pub mod Again
 pub mod Shown
+pub mod Rounds

@@ -2,15 +2,14 @@
 use Prim.Native.Nat.{ℕ, suc, _+_, _/_, _%_, _≤_, _<_}
 use native.Mathlib.Omega.{arith}
 use mathlib.Core.Path.{_≡_, refl, sym, ap, _∙_}
-use mathlib.Core.Bool.{Bool, true, false, _&&_, _||_, not}
+use mathlib.Core.Bool.{Bool, true, false, _||_, not}
 use mathlib.Core.Logic.{_⊎_, inl, inr}
 use mathlib.Core.List.{List, [], _∷_, _++_, append-assoc}
-use lib.Dec.{eqb, leb, ltb}
-use lib.ListN.{length, take, drop, length-append}
+use lib.Dec.{eqb, ltb}
+use lib.ListN.{length, drop, length-append}
 use lib.Seq.{take-at}
-use borrow.Author.Tests.{eqb-true, eqb-false, ne-eqb, lt-leb, not-true}
+use borrow.Author.Tests.{eqb-true, ne-eqb, lt-leb, not-true}
 use Rattle.stages.specs.Bytes.{Text, text, all, notZero, isIn, between, isLetter, isDigit, isNameStart, isNameByte, isLoginByte, ltText}
-use Rattle.stages.specs.Outcome.{pick}
 use Rattle.stages.specs.Images.{Pairs, isName, isLogin, notEmpty, keys, flat}
 use Rattle.stages.specs.Program.{linesOf}
 use Rattle.stages.proofs.Bools.{no, either, and-left, and-right, and-both, or-cases, or-left, between-bounds, between-true}
@@ -20,10 +19,10 @@ use Rattle.stages.proofs.Program.{NoNewline, lines-first}
 use Rattle.tables.specs.Kinds.{keyFits, inTwos}
 use Rattle.tables.specs.declared.Kind.{Kind}
 use Rattle.tables.specs.declared.Kind.the-variants.{Variables, Homes, Paths, Fields}
-use Rattle.tabling.specs.Lines.{hexDigit, isPlain, letterOf, escaped, shownByte, shownText, shownTexts}
-use Rattle.packing.specs.Escapes.{good, readText, upTo}
+use Rattle.tabling.specs.Lines.{hexDigit, isPlain, shownByte, shownText, shownTexts}
+use Rattle.packing.specs.Escapes.{good, upTo}
 use Rattle.packing.specs.Records.{textsBy}
-use Rattle.packing.specs.Entries.{entry, valued, pairOf, pathOf, entryOf}
+use Rattle.packing.specs.Entries.{entry, pairOf, pathOf, entryOf}
 use Rattle.packing.proofs.Sounds.{keyTest}
 use Rattle.packing.proofs.Again.{read-shown}
 

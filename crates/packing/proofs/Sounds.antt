@@ -1,16 +1,16 @@
 -- What entering records keeps: texts without a zero byte, keys that pass their test and rise, no value behind a path, and an image within its limit.
 -- Assumes nothing.
-use Prim.Native.Nat.{ℕ, zero, suc, _+_, _≤_, _<_}
+use Prim.Native.Nat.{ℕ, zero, suc, _≤_}
 use native.Mathlib.Omega.{arith}
 use mathlib.Core.Path.{_≡_, refl, sym, ap, _∙_}
-use mathlib.Core.Bool.{Bool, true, false, _&&_}
+use mathlib.Core.Bool.{Bool, true, false}
 use mathlib.Core.List.{List, [], _∷_}
 use mathlib.Core.Option.{Option, none, some}
 use lib.Dec.{leb}
 use lib.ListN.{length, take, drop}
 use borrow.Author.Tests.{leb-true, le-leb}
-use Rattle.stages.specs.Bytes.{Text, all, notZero, isLoginByte, eqText, ltText}
-use Rattle.stages.specs.Images.{Pairs, isName, isLogin, notEmpty, keys, allTexts, rising, flat, recordBytes, imageLength, lookup, stored}
+use Rattle.stages.specs.Bytes.{Text, all, notZero, isLoginByte, ltText}
+use Rattle.stages.specs.Images.{Pairs, isName, isLogin, notEmpty, keys, allTexts, rising, recordBytes, imageLength, lookup, stored}
 use Rattle.stages.proofs.Bools.{no, clash, either, and-left}
 use Rattle.stages.proofs.Texts.{all-weaker}
 use Rattle.stages.proofs.Images.{Fine}
@@ -20,7 +20,7 @@ use Rattle.tables.specs.declared.Kind.{Kind}
 use Rattle.tables.specs.declared.Kind.the-variants.{Variables, Homes, Paths, Fields}
 use Rattle.packing.specs.Escapes.{Reading, bad, good, readText, upTo}
 use Rattle.packing.specs.Records.{alone, textsBy, limitBy}
-use Rattle.packing.specs.Entries.{Entry, faulty, entry, valued, entryAt, pairOf, pathOf, entryOf, Step, stop, go, enteredBy, entered}
+use Rattle.packing.specs.Entries.{Entry, faulty, entry, valued, pairOf, pathOf, entryOf, stop, go, entered}
 use Rattle.packing.specs.declared.Fault.{Fault}
 use Rattle.packing.proofs.Escaping.{read-fine}
 

@@ -1,6 +1,6 @@
 -- What the lines of a text are as records: of variables or homes a key, `=` and the value's text, of paths the path's text. Each is entered in order;
 -- the first line that is none is told by its number. Assumes nothing.
-use Prim.Native.Nat.{ℕ, suc, _≤_}
+use Prim.Native.Nat.{ℕ, suc}
 use mathlib.Core.Path.{_≡_}
 use mathlib.Core.Bool.{Bool, true, false}
 use mathlib.Core.List.{List, [], _∷_}

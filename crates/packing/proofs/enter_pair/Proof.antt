@@ -1,7 +1,7 @@
 -- `packing::enter_pair` meets its contract: its tests are the definition's, and what is read behind the `=` is entered under the key. Assumes nothing.
 use native.Mathlib.Omega.{arith}
-use mathlib.Core.Path.{sym, ap, subst, _∙_}
-use lib.ListN.{length, take}
+use mathlib.Core.Path.{sym, subst, _∙_}
+use lib.ListN.{take}
 use lib.Seq.{length-take-le}
 use borrow.Author.Tests.{not-true, not-false}
 use Rattle.stages.specs.Images.{held}
