@@ -1,8 +1,8 @@
 /* Drunquill: POSIX words expanded, fields quoted. Three functions over buffers that the caller lends.
  *
  * The functions are proved to answer as docs/01-scope.md says, for any bytes in any buffers: they call nothing but memcpy and memset, keep nothing
- * between calls, use no heap, always return, and may run in several threads at once on buffers of their own. How soon they return is not proved: a pattern
- * of many stars that does not match is tried in every way, and the time grows with each star (9 stars on 60 bytes: seconds). Who takes patterns or lines from
+ * between calls, use no heap, always return, and may run in several threads at once on buffers of their own. How soon they return is not proved: a removal
+ * tries its pattern at each place of the value, so that a long pattern that does not match a long value can take minutes. Who takes patterns or lines from
  * strangers should bound the call's time from outside.
  * Link target/staticlib/libexported.a, which `rt staticlib exported` builds (x86-64 Linux).
  *
@@ -40,8 +40,8 @@ extern "C" {
 #define DRUNQUILL_DEPTH_MAX 8      /* expansions open at once, "${" and "$((" together */
 #define DRUNQUILL_OPEN_MAX 32      /* parentheses and unary signs open at once in arithmetic, together */
 
-/* What a call needs of the stack, in bytes, rounded up from what tests/c measures on the deepest lines known: 391,200. It is measured and not proved. Most
- * lines take below 32,768; each star of a pattern takes 176 more while it is matched, and each open parenthesis of arithmetic up to 1,250. */
+/* What a call may need of the stack, in bytes: well above what tests/c measures on the deepest lines known, 64,256. It is measured and not proved. Most lines
+ * take below 32,768; each open parenthesis of arithmetic takes up to 1,250 more. */
 #define DRUNQUILL_STACK 524288
 
 /* The numbers. 0 is the acceptance, each other one a refusal. */
