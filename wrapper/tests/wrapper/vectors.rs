@@ -1,4 +1,4 @@
-//! The calls of tests/vectors/base.txt through the wrapper. Two are left out, as in tools/test-replay: the plain matcher takes too long over them.
+//! The calls of tests/vectors/base.txt through the wrapper.
 
 use std::fs;
 use std::path::Path;
@@ -6,8 +6,6 @@ use std::path::Path;
 use drunquill::{Number, Refusal};
 
 use crate::buffers::{differs, quote_differs, Given, Job, Wanted};
-
-const LEFT_OUT: [usize; 2] = [2083, 4084];
 
 fn bytes(word: &str) -> Vec<u8> {
     let digits = word.trim_end_matches('-');
@@ -61,7 +59,7 @@ fn vectors_hold() {
     let path = Path::new(env!("CARGO_MANIFEST_DIR")).join("../tests/vectors/base.txt");
     let text = fs::read_to_string(path).expect("the vectors");
     let mut cases = 0;
-    for (number, line) in (1..).zip(text.lines()).filter(|(number, _)| !LEFT_OUT.contains(number)) {
+    for (number, line) in (1..).zip(text.lines()) {
         assert_eq!(case(line), None, "line {number}");
         cases += 1;
     }
