@@ -15,8 +15,8 @@ use Rattle.stages.specs.Pattern.{Element, signs, elements, hasClass, pattern}
 use Rattle.stages.specs.Paths.{chosen, active, pathsFor}
 use Rattle.stages.proofs.Images.{recordBytes-append}
 use Rattle.texts.specs.Rows.{rowOf, signsOf}
-use Rattle.patterns.specs.Kept.{withoutEmpty, kept, Dropped}
-use Rattle.patterns.proofs.Keeping.{kept-fits, kept-signs, row-of-bytes}
+use Rattle.signs.specs.Kept.{withoutEmpty, kept, Dropped}
+use Rattle.signs.proofs.Keeping.{kept-fits, kept-signs, row-of-bytes}
 use Rattle.paths.specs.Chosen.{textsFrom, Walks, pathElements, Shows, nothing, path, NextSays}
 use Rattle.paths.specs.declared.Next.{Next}
 use Rattle.paths.specs.declared.Next.the-variants.{Path, Nothing}

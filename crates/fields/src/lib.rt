@@ -76,7 +76,7 @@ fn put_paths_or_own(field: &mut [u8], paths: &[u8], out: &mut [u8], used: usize)
     requires { ⌜ Listed (now paths) ⌝ }
     ensures { λ r. ⌜ Says (done (pathsFor (heldTexts (now (paths .entry))) (rowOf (now (field .entry))) (pathElements (now (field .entry))))) used (now (out .entry)) (now (out .exit)) r ⌝ }
 {
-    if !patterns::is_active(field) {
+    if !signs::is_active(field) {
         return put_own(field, out, used);
     }
     match put_paths(field, paths, out, used) {
@@ -97,8 +97,8 @@ pub fn put_field(field: &mut [u8], paths: &[u8], out: &mut [u8], used: usize) ->
     requires { ⌜ Listed (now paths) ⌝ }
     ensures { λ r. ⌜ Says (fieldTexts (heldTexts (now (paths .entry))) (rowOf (now (field .entry)))) used (now (out .entry)) (now (out .exit)) r ⌝ }
 {
-    let n = patterns::drop_empty(field);
-    if patterns::has_class(&field[..n], true) {
+    let n = signs::drop_empty(field);
+    if signs::has_class(&field[..n], true) {
         return Written::Class;
     }
     put_paths_or_own(&mut field[..n], paths, out, used)

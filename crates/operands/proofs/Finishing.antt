@@ -28,8 +28,8 @@ use Rattle.stages.proofs.Tables.{Vars, variables-are, is-some}
 use Rattle.texts.specs.Rows.{rowBytes, rowOf, signsOf}
 use Rattle.texts.proofs.Rows.{length-rowBytes}
 use Rattle.rows.specs.Stands.{Stands, fronted, Stripped}
-use Rattle.patterns.specs.Kept.{kept, Dropped}
-use Rattle.patterns.proofs.Keeping.{kept-signs}
+use Rattle.signs.specs.Kept.{kept, Dropped}
+use Rattle.signs.proofs.Keeping.{kept-signs}
 use Rattle.stores.specs.Answers.{imageIn, storedOutcome, Writes}
 use Rattle.stores.specs.declared.Stored.{Stored}
 use Rattle.stores.specs.declared.Stored.the-variants.{Used, Full}

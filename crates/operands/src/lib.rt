@@ -115,8 +115,8 @@ fn cut(
     ensures { λ r. ⌜ Adds used (leftBy suffix long (now (name .entry)) (markOf mark) (rowOf (take (2 * units) (now (work .entry)))) (held (now (vars .entry)))) (now (work .exit)) r ⌝ }
 {
     let end = 2 * units;
-    let n = patterns::drop_empty(&mut work[..end]);
-    if patterns::has_class(&work[..n], false) {
+    let n = signs::drop_empty(&mut work[..end]);
+    if signs::has_class(&work[..n], false) {
         return Added::Refused(REFUSED_CLASS);
     }
     let value = lookups::value_of(vars, name);

@@ -1,4 +1,3 @@
 pub mod Stars
 pub mod Matching
-pub mod Keeping
 pub mod Determined

@@ -1,26 +1,24 @@
 -- Matching by steps: what one element does with one byte of the text, and what a star does with the ends of the text. Assumes nothing.
-use Prim.Native.Nat.{ℕ, suc, _+_, _-_, _≤_, _<_}
+use Prim.Native.Nat.{ℕ, suc, _+_, _≤_, _<_}
 use mathlib.Core.Path.{_≡_, refl, sym, _∙_, ap}
-use mathlib.Core.Bool.{Bool, true, false, _&&_, _||_}
+use mathlib.Core.Bool.{Bool, true, false, _&&_}
 use mathlib.Core.List.{List, [], _∷_}
-use native.Mathlib.Omega.{arith}
 use native.Mathlib.Numerals.{add-one}
 use lib.Dec.{eqb}
-use lib.ListN.{length, take, drop, getD, length-drop, drop-of-length-le}
+use lib.ListN.{length, drop, getD, drop-of-length-le}
 use lib.Seq.{drop-cons}
 use borrow.Author.Tests.{eqb-true}
 use Rattle.stages.proofs.Bools.{no, either, same-tests, and-left, and-right}
 use Rattle.stages.specs.Bytes.{Text}
-use Rattle.stages.specs.Pattern.{Element, one, byte, set, elements, hasClass, passes, takes, inSet, someEnd, matchesFrom}
-use Rattle.stages.specs.Paths.{active}
-use Rattle.texts.specs.Rows.{signsOf}
-use Rattle.elements.specs.Pieces.{pieceAt, behindOf, elementOf, isClassPiece, Lies}
+use Rattle.stages.specs.Pattern.{Element, one, byte, set, passes, takes, inSet, someEnd, matchesFrom}
+use Rattle.elements.specs.Pieces.{elementOf, Lies}
 use Rattle.elements.specs.declared.Piece.{Piece}
 use Rattle.elements.specs.declared.Piece.the-variants.{Star, One, Byte, Class, Set}
-use Rattle.sets.proofs.Units.{to-end}
-use Rattle.elements.proofs.Reading.{next-inside, next-further, elements-on, class-on, piece-lies, elements-over}
+use Rattle.elements.proofs.Reading.{elements-over}
+use Rattle.signs.specs.Special.{from}
+use Rattle.signs.proofs.Standing.{Standing, parted}
 use Rattle.patterns.proofs.Stars.{some-last, some-next, some-here, passes-inside, passes-other, passes-slash, passes-unless, bars, star-star, absorbs, inside-part, some-inside}
-use Rattle.patterns.specs.Steps.{isStar, isSlash, isSpecial, takesOne, from, behindStar, MeetsStar, RunSays}
+use Rattle.patterns.specs.Steps.{isStar, isSlash, takesOne, behindStar, MeetsStar, RunSays}
 use Rattle.patterns.specs.declared.Run.{Run}
 use Rattle.patterns.specs.declared.Run.the-variants.{Whole, Fails, Star as StarMet}
 
@@ -135,46 +133,15 @@ again path head first p n t (Byte c) y z = absurd (no y)
 again path head first p n t Class y z = absurd (no y)
 again path head first p n t (Set negative a e) y z = absurd (no y)
 
-active-step : (p : Text) (q : Piece) (es : List Element) → active (elementOf p q ∷ es) ≡ (isSpecial q || active es)
-unfolding active elementOf
-active-step p Star es = refl
-active-step p One es = refl
-active-step p (Byte b) es = refl
-active-step p Class es = refl
-active-step p (Set negative a e) es = refl
-
--- the piece q stands at a place of the pattern, n is the place behind it
-pub record Standing (path : Bool) (p : Text) (at : ℕ) (q : Piece) (n : ℕ) : Type 0 where
-  pub there : at + 1 < length p
-  pub is : q ≡ pieceAt path at (signsOf (drop at p))
-  pub ends : n ≡ behindOf q at
-
+-- the piece that stands at a place
 module _ {path : Bool} {p : Text} {at : ℕ} {q : Piece} {n : ℕ} (s : Standing path p at q n) where
-  pub piece-inside : n ≤ length p
-  piece-inside = rw (s .ends, s .is) (next-inside path p at (s .there))
-
-  pub piece-further : at + 2 ≤ n
-  piece-further = rw (s .ends, s .is) (next-further path p at (s .there))
-
-  pub piece-within : Lies (length p) q
-  piece-within = rw (s .is) (piece-lies path p at (s .there))
-
-  parted : from path p at ≡ elementOf p q ∷ from path p n
-  parted = rw (s .ends, s .is) (elements-on path p at (s .there))
-
-  pub class-step : hasClass path 0 (signsOf (drop at p)) ≡ (isClassPiece q || hasClass path 0 (signsOf (drop n p)))
-  class-step = rw (s .ends, s .is) (class-on path p at (s .there))
-
-  pub special-step : active (from path p at) ≡ (isSpecial q || active (from path p n))
-  special-step = ap active parted ∙ active-step p q (from path p n)
-
   -- what the run does there with the text from k on
   module _ (head first : Bool) (t : Text) (k : ℕ) where
     abbrev running : Bool
     running = matchesFrom path (from path p at) head first (drop k t)
 
     seen : running ≡ matchesFrom path (elementOf p q ∷ from path p n) head first (drop k t)
-    seen = ap (λ (es : List Element). matchesFrom path es head first (drop k t)) parted
+    seen = ap (λ (es : List Element). matchesFrom path es head first (drop k t)) (parted s)
 
     pub run-star : isStar q ≡ true → running ≡ behindStar path p n false first (drop k t)
     run-star y = seen ∙ met path head first p n (drop k t) q y
@@ -182,7 +149,7 @@ module _ {path : Bool} {p : Text} {at : ℕ} {q : Piece} {n : ℕ} (s : Standing
     -- and had a star stood there
     star-seen : behindStar path p at head first (drop k t) ≡ someEnd path (λ f u. matchesFrom path (elementOf p q ∷ from path p n) head f u) first (drop k t)
     unfolding behindStar
-    star-seen = ap (λ (es : List Element). someEnd path (λ f u. matchesFrom path es head f u) first (drop k t)) parted
+    star-seen = ap (λ (es : List Element). someEnd path (λ f u. matchesFrom path es head f u) first (drop k t)) (parted s)
 
     pub star-met : isStar q ≡ true → behindStar path p at head first (drop k t) ≡ true → behindStar path p n false first (drop k t) ≡ true
     unfolding behindStar
@@ -223,10 +190,6 @@ module _ (path head first : Bool) (p t : Text) (at k : ℕ) (h : length p ≤ at
   pub run-whole : length t ≤ k → matchesFrom path (from path p at) head first (drop k t) ≡ true
   unfolding matchesFrom
   run-whole l = rw (elements-over path p at h, drop-of-length-le t l)
-
-pub special-over : (path : Bool) (p : Text) (at : ℕ) → length p ≤ at + 1 → active (from path p at) ≡ false
-unfolding active
-special-over path p at h = rw (elements-over path p at h)
 
 -- behind a star the ends of the text, one after the other
 module _ (path : Bool) (p : Text) (at : ℕ) (first : Bool) (t : Text) (k : ℕ) where

@@ -4,7 +4,6 @@ use mathlib.Core.Path.{_≡_, refl, sym, _∙_, ap}
 use mathlib.Core.Bool.{Bool, true, false, _&&_, _||_, not}
 use mathlib.Core.List.{List, [], _∷_}
 use lib.Dec.{eqb}
-use borrow.Author.Tests.{eqb-true}
 use Rattle.stages.proofs.Bools.{no, apart, and-left, and-right, or-right, and-both}
 use Rattle.stages.specs.Bytes.{Text}
 use Rattle.stages.specs.Pattern.{Element, star, one, byte, set, passes, takes, someEnd, matchesFrom}

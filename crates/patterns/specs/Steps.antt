@@ -3,14 +3,13 @@ use Prim.Native.Nat.{ℕ, _≤_, _<_}
 use Prim.Native.Char.{code}
 use mathlib.Core.Path.{_≡_}
 use mathlib.Core.Bool.{Bool, true, false, _&&_}
-use mathlib.Core.List.{List}
 use lib.Dec.{eqb}
 use lib.ListN.{length, drop}
 use Rattle.stages.specs.Bytes.{Text}
-use Rattle.stages.specs.Pattern.{Element, star, one, byte, set, elements, passes, takes, inSet, someEnd, matchesFrom}
-use Rattle.texts.specs.Rows.{signsOf}
+use Rattle.stages.specs.Pattern.{Element, star, one, byte, set, passes, takes, inSet, someEnd, matchesFrom}
 use Rattle.elements.specs.declared.Piece.{Piece}
 use Rattle.elements.specs.declared.Piece.the-variants.{Star, One, Byte, Class, Set}
+use Rattle.signs.specs.Special.{from}
 use Rattle.patterns.specs.declared.Run.{Run}
 use Rattle.patterns.specs.declared.Run.the-variants.{Whole, Fails, Star as StarMet}
 
@@ -29,14 +28,6 @@ isSlash (Byte b) = eqb b (code "/")
 isSlash Class = false
 isSlash (Set negative from to) = false
 
--- an active `*`, `?` or closed bracket
-abbrev pub isSpecial : Piece → Bool
-isSpecial Star = true
-isSpecial One = true
-isSpecial (Byte b) = false
-isSpecial Class = false
-isSpecial (Set negative from to) = true
-
 -- an element that is no star takes the byte b
 unfoldable pub takesOne : Bool → Bool → Bool → Element → ℕ → Bool
 unfolding passes takes inSet
@@ -44,10 +35,6 @@ takesOne path head first star b = false
 takesOne path head first one b = passes path first b
 takesOne path head first (byte c) b = takes path head first c b
 takesOne path head first (set negative members) b = passes path first b && inSet negative members b
-
--- the elements of a pattern from a place on
-abbrev pub from : Bool → Text → ℕ → List Element
-from path p at = elements path 0 (signsOf (drop at p))
 
 -- behind a star that stands before the place `at`: some end of the text matches the rest of the pattern
 unfoldable pub behindStar : Bool → Text → ℕ → Bool → Bool → Text → Bool

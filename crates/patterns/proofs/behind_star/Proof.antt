@@ -8,7 +8,8 @@ use borrow.Author.Needs.{needs}
 use borrow.Author.Tests.{not-true, not-false}
 use lib.ListN.{length, drop}
 use Rattle.stages.specs.Pattern.{matchesFrom}
-use Rattle.patterns.specs.Steps.{from, behindStar}
+use Rattle.signs.specs.Special.{from}
+use Rattle.patterns.specs.Steps.{behindStar}
 use Rattle.patterns.proofs.Matching.{says-whole, says-fails, says-star, end-matches, end-last, end-bars, end-on, last-star}
 use Rattle.patterns.proofs.behind_star.Statement.{statement}
 use Rattle.patterns.proofs.behind_star.Tie as tie

@@ -9,8 +9,10 @@ use borrow.Author.Tests.{not-true, not-false}
 use lib.ListN.{length, drop}
 use Rattle.stages.specs.Pattern.{matchesFrom}
 use Rattle.elements.specs.Pieces.{behindOf}
-use Rattle.patterns.specs.Steps.{from, behindStar}
-use Rattle.patterns.proofs.Matching.{Standing, piece-inside, piece-further, piece-within, run-star, star-met, run-short, run-fails, run-takes, star-takes, run-left, run-whole}
+use Rattle.signs.specs.Special.{from}
+use Rattle.signs.proofs.Standing.{Standing, piece-inside, piece-further, piece-within}
+use Rattle.patterns.specs.Steps.{behindStar}
+use Rattle.patterns.proofs.Matching.{run-star, star-met, run-short, run-fails, run-takes, star-takes, run-left, run-whole}
 use Rattle.patterns.proofs.run_to_star.Statement.{statement}
 use Rattle.patterns.proofs.run_to_star.Tie as tie
 

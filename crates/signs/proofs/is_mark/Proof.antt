@@ -1,7 +1,7 @@
 -- The three marks, one after the other. Assumes nothing.
 use borrow.Author.Tests.{eq-eqb, ne-eqb}
-use Rattle.patterns.proofs.is_mark.Statement.{statement}
-use Rattle.patterns.proofs.is_mark.Tie as tie
+use Rattle.signs.proofs.is_mark.Statement.{statement}
+use Rattle.signs.proofs.is_mark.Tie as tie
 
 returns : tie.Need-returns
 returns c =

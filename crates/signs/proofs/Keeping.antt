@@ -15,7 +15,7 @@ use Rattle.stages.specs.Units.{L, E, Q, cell, N, Row}
 use Rattle.stages.specs.Pattern.{signs, hasClass, elements, pattern}
 use Rattle.texts.specs.Rows.{rowBytes, rowOf, unitOf, signsOf}
 use Rattle.sets.proofs.Units.{two-on}
-use Rattle.patterns.specs.Kept.{isMark, withoutEmpty, kept, Dropped}
+use Rattle.signs.specs.Kept.{isMark, withoutEmpty, kept, Dropped}
 
 -- the first unit of a row stays if its mark is that of a byte
 kept-first : (b m : ℕ) (t : Text) → kept (b ∷ m ∷ t) ≡ pick (isMark m) (b ∷ m ∷ kept t) (kept t)

@@ -5,9 +5,9 @@ use native.Mathlib.Omega.{arith}
 use borrow.Author.Needs.{needs}
 use borrow.Author.Tests.{not-true, not-false}
 use lib.ListN.{length, length-set}
-use Rattle.patterns.proofs.Keeping.{Going, going-start, going-length, going-skip, going-keep, going-end}
-use Rattle.patterns.proofs.drop_empty.Statement.{statement}
-use Rattle.patterns.proofs.drop_empty.Tie as tie
+use Rattle.signs.proofs.Keeping.{Going, going-start, going-length, going-skip, going-keep, going-end}
+use Rattle.signs.proofs.drop_empty.Statement.{statement}
+use Rattle.signs.proofs.drop_empty.Tie as tie
 
 abbrev Inv-loop : tie.InvT-loop
 Inv-loop row₀ at₀ to₀ row at to = Going row₀ row at to

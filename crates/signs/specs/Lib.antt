@@ -1,0 +1,2 @@
+pub mod Special
+pub mod Kept
