@@ -5,8 +5,8 @@ use lib.ListN.{length}
 use Rattle.stages.specs.Bytes.{Text}
 use Rattle.stages.specs.Images.{Pairs, image}
 use Rattle.stages.specs.Call.{over}
-use Rattle.packing.specs.Records.{textsBy}
-use Rattle.packing.specs.Entries.{Packing, whole, fault, Packs, packs, fails}
+use Rattle.entering.specs.Records.{textsBy}
+use Rattle.packing.specs.Packings.{Packing, whole, fault, Packs, packs, fails}
 use Rattle.packing.specs.declared.Packed.{Packed}
 use Rattle.packing.specs.declared.Packed.the-variants as told
 

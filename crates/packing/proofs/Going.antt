@@ -18,15 +18,16 @@ use Rattle.stages.proofs.Images.{length-image, pairs-image, held-image, texts-i
 use Rattle.tables.specs.Kinds.{inTwos}
 use Rattle.tables.specs.declared.Kind.{Kind}
 use Rattle.stores.proofs.Callers.{fills-none, over-length}
-use Rattle.packing.specs.Escapes.{upTo}
-use Rattle.packing.specs.Records.{alone, textsBy, recordsBy, limitBy, TableBy}
-use Rattle.packing.specs.Entries.{entryOf, Step, stop, go, entered, Enters, takes, stops, Packing, packOn, packed, Packs, packs, fails}
-use Rattle.packing.specs.declared.Fault.{Fault}
-use Rattle.packing.specs.declared.Entered.{Entered}
-use Rattle.packing.specs.declared.Entered.the-variants as answer
+use Rattle.escapes.specs.Escapes.{upTo}
+use Rattle.entering.specs.Records.{alone, textsBy, recordsBy, limitBy, TableBy}
+use Rattle.entering.specs.Entries.{entryOf, Step, stop, go, entered, Enters, takes, stops}
+use Rattle.packing.specs.Packings.{Packing, packOn, packed, Packs, packs, fails}
+use Rattle.escapes.specs.declared.Fault.{Fault}
+use Rattle.entering.specs.declared.Entered.{Entered}
+use Rattle.entering.specs.declared.Entered.the-variants as answer
 use Rattle.packing.specs.declared.Packed.{Packed}
 use Rattle.packing.specs.declared.Packed.the-variants as told
-use Rattle.packing.proofs.Sounds.{Bare, Sound, sound-none, Kept, kept}
+use Rattle.entering.proofs.Sounds.{Bare, Sound, sound-none, Kept, kept}
 
 -- an image over a shorter one
 over-over : (a b old : Text) → length a ≤ length b → over b (over a old) ≡ over b old

@@ -24,16 +24,17 @@ use Rattle.tables.specs.declared.Kind.{Kind}
 use Rattle.tables.specs.declared.Kind.the-variants as kinds
 use Rattle.tables.proofs.Splits.{equal-not-above}
 use Rattle.tabling.specs.Lines.{shownOf, showing}
-use Rattle.packing.specs.Escapes.{hexValue, hexByte, escapeOf, byteAt, good, readText}
-use Rattle.packing.specs.Records.{alone, textsBy, recordsBy, limitBy}
-use Rattle.packing.specs.Entries.{Entry, faulty, entry, entryOf, Step, stop, go, entered, Packing, whole, fault, packOn, packed, Packs, packs}
-use Rattle.packing.specs.declared.Fault.{Fault}
-use Rattle.packing.specs.declared.Byte.{Byte}
-use Rattle.packing.specs.declared.Byte.the-variants.{Bad, Is}
+use Rattle.escapes.specs.Escapes.{hexValue, hexByte, escapeOf, byteAt, good, readText}
+use Rattle.entering.specs.Records.{alone, textsBy, recordsBy, limitBy}
+use Rattle.entering.specs.Entries.{Entry, faulty, entry, entryOf, Step, stop, go, entered}
+use Rattle.packing.specs.Packings.{Packing, whole, fault, packOn, packed, Packs, packs}
+use Rattle.escapes.specs.declared.Fault.{Fault}
+use Rattle.escapes.specs.declared.Byte.{Byte}
+use Rattle.escapes.specs.declared.Byte.the-variants.{Bad, Is}
 use Rattle.packing.specs.declared.Packed.{Packed}
 use Rattle.packing.specs.declared.Packed.the-variants as told
-use Rattle.packing.proofs.Escaping.{by-pick, from-all}
-use Rattle.packing.proofs.Sounds.{keyTest, Bare, Sound, sound-none, keys-alone, bare-tail, Pair, pair-of, path-of, Goes, goes-of, stop-go, entered-faulty, faulty-entry, kept}
+use Rattle.escapes.proofs.Escaping.{by-pick, from-all}
+use Rattle.entering.proofs.Sounds.{keyTest, Bare, Sound, sound-none, keys-alone, bare-tail, Pair, pair-of, path-of, Goes, goes-of, stop-go, entered-faulty, faulty-entry, kept}
 use Rattle.packing.proofs.Shown.{linesBy, lines-shown, Fit, keyed, line-again}
 use Rattle.packing.proofs.Determined.{pack-determined}
 

@@ -20,11 +20,11 @@ use Rattle.tables.specs.Kinds.{keyFits, inTwos}
 use Rattle.tables.specs.declared.Kind.{Kind}
 use Rattle.tables.specs.declared.Kind.the-variants.{Variables, Homes, Paths, Fields}
 use Rattle.tabling.specs.Lines.{hexDigit, isPlain, shownByte, shownText, shownTexts}
-use Rattle.packing.specs.Escapes.{good, upTo}
-use Rattle.packing.specs.Records.{textsBy}
-use Rattle.packing.specs.Entries.{entry, pairOf, pathOf, entryOf}
-use Rattle.packing.proofs.Sounds.{keyTest}
-use Rattle.packing.proofs.Again.{read-shown}
+use Rattle.escapes.specs.Escapes.{good, upTo}
+use Rattle.entering.specs.Records.{textsBy}
+use Rattle.entering.specs.Entries.{entry, pairOf, pathOf, entryOf}
+use Rattle.entering.proofs.Sounds.{keyTest}
+use Rattle.escapes.proofs.Again.{read-shown}
 
 -- no newline in what is shown
 

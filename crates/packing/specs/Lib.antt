@@ -1,3 +1,1 @@
-pub mod Escapes
-pub mod Records
-pub mod Entries
+pub mod Packings

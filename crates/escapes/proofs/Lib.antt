@@ -1,0 +1,3 @@
+pub mod Escaping
+pub mod Again
+pub mod Determined
