@@ -1,28 +1,26 @@
 -- A tilde goes by the bytes of the line as written: the stage's login of the parts behind `~` is the longest run of login bytes, if the word ends or a `/`
 -- stands behind it. Assumes nothing.
-use Prim.Native.Nat.{ℕ, zero, suc, _+_, _-_, _≤_, _<_}
+use Prim.Native.Nat.{ℕ, zero, suc, _+_, _-_, _<_}
 use Prim.Native.Char.{code}
 use native.Mathlib.Omega.{arith}
 use mathlib.Core.Path.{_≡_, refl, sym, ap, _∙_}
 use mathlib.Core.Bool.{Bool, true, false, _||_, not, _&&_}
-use mathlib.Core.List.{List, [], _∷_}
-use mathlib.Core.Option.{Option, none, some}
+use mathlib.Core.List.{[], _∷_}
+use mathlib.Core.Option.{none, some}
 use borrow.Author.Tests.{eqb-true, ne-eqb}
 use lib.Dec.{eqb}
 use lib.ListN.{length, drop}
-use Rattle.stages.specs.Bytes.{Text, text, all, isIn, span, isLetter, isDigit, isNameStart, isNameByte, isLoginByte, isBlank, isOperator, blanks, longer}
-use Rattle.stages.specs.Outcome.{Outcome, refused, done, pick}
+use Rattle.stages.specs.Bytes.{Text, text, all, isIn, span, isLetter, isDigit, isNameStart, isNameByte, isLoginByte, isBlank, isOperator, blanks}
+use Rattle.stages.specs.Outcome.{refused, done, pick}
 use Rattle.stages.specs.Images.{Pairs}
 use Rattle.stages.specs.Syntax.{Form, suffix, prefix, Parts, end, lit, quo, par, len, ari, word, plain, arith as sums}
-use Rattle.stages.specs.Items.{Item, fault, stop, byte, paren, quote, value, count, inner, sum, item, ended, itemOf, sort, Sort}
-use Rattle.stages.specs.Items.{backquote, closes, operator, quotes, quotes2, backslash, dollar, bad, opening, closing, literal}
-use Rattle.stages.specs.Items.{wrong, escaped, quotable, behindColon, removal, behindName, behindLength, named, braced, parenthesis, expansion, notServed}
-use Rattle.stages.specs.Read.{Taken, put, nest, readItem, parts}
+use Rattle.stages.specs.Items.{Item, fault, stop, byte, paren, quote, value, count, inner, sum, item, ended, itemOf, sort, Sort, backquote, closes, operator, quotes, quotes2, backslash, dollar, literal, wrong, escaped, quotable, behindColon, removal, behindName, behindLength, named, braced, parenthesis, expansion, notServed}
+use Rattle.stages.specs.Read.{Taken, readItem, parts}
 use Rattle.stages.specs.Expand.{login, longerLogin, homed, tilde}
 use Rattle.stages.proofs.Bools.{either, apart, no, or-neither, and-right}
 use Rattle.stages.proofs.Texts.{span-more, span-stop}
 use Rattle.stages.proofs.Items.{Fair, faults, a-byte, a-paren, a-quote, a-value, a-count, an-inner, a-sum, word-goes}
-use Rattle.stages.proofs.Read.{parts-item, Behind, behind, Within, within}
+use Rattle.stages.proofs.Read.{parts-item, Behind, behind, within}
 use Rattle.expanding.specs.Tildes.{endsLogin}
 
 -- Items whose bare byte, if they are one, fails a test that `$` and `\` fail.

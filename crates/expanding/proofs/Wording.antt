@@ -1,10 +1,10 @@
 -- A word of the line: its tilde, found or not, and the text behind it. Assumes nothing.
-use Prim.Native.Nat.{ℕ, suc, _+_, _-_, _*_, _≤_, _<_}
+use Prim.Native.Nat.{ℕ, _+_, _-_, _*_, _≤_, _<_}
 use Prim.Native.Char.{code}
 use native.Mathlib.Omega.{arith}
 use mathlib.Core.Path.{_≡_, refl, sym, ap, _∙_, subst}
-use mathlib.Core.Bool.{Bool, true, false, _||_, not}
-use mathlib.Core.List.{List, [], _∷_, _++_, append-assoc}
+use mathlib.Core.Bool.{Bool, true, false}
+use mathlib.Core.List.{[], _∷_, _++_, append-assoc}
 use mathlib.Core.Option.{Option, none, some}
 use borrow.Author.Tests.{eq-eqb, ne-eqb, eqb-true}
 use lib.Dec.{eqb}
@@ -16,12 +16,11 @@ use Rattle.stages.specs.Bytes.{Text, text, part, span, isLoginByte, isBlank}
 use Rattle.stages.specs.Outcome.{Outcome, refused, done, _>>=_}
 use Rattle.stages.specs.Images.{Pairs, held, lookup}
 use Rattle.stages.specs.Syntax.{Parts, word}
-use Rattle.stages.specs.Read.{Taken, parts}
-use Rattle.stages.specs.Units.{Mark, L, Q, N, Row, marked, fit}
-use Rattle.stages.specs.Expand.{Made, expand, onto, login, directory, housed, homed, tilde, rowOf, wordRow}
-use Rattle.stages.proofs.Bools.{either, no}
+use Rattle.stages.specs.Read.{parts}
+use Rattle.stages.specs.Units.{L, Q, N, Row, marked, fit}
+use Rattle.stages.specs.Expand.{expand, onto, directory, housed, homed, tilde, rowOf, wordRow}
+use Rattle.stages.proofs.Bools.{no}
 use Rattle.texts.specs.Rows.{rowBytes}
-use Rattle.texts.proofs.Rows.{rowBytes-append}
 use Rattle.texts.specs.Classes.{Runs}
 use Rattle.texts.specs.declared.Class.the-variants.{LoginByte}
 use Rattle.rows.specs.Stands.{Stands, fronted}
@@ -37,7 +36,6 @@ use Rattle.giving.specs.declared.Added.{Added}
 use Rattle.giving.specs.declared.Added.the-variants as added
 use Rattle.expanding.specs.declared.homes.Login.{Login as CodeLogin}
 use Rattle.expanding.specs.declared.homes.Home.{Home}
-use Rattle.expanding.specs.declared.homes.Home.the-variants as home
 use Rattle.giving.specs.declared.answers.Expanded.{Expanded}
 use Rattle.giving.specs.declared.answers.Expanded.the-variants as answer
 use Rattle.giving.proofs.Fitting.{by-fit, fit-ok, measured-full, marked-count}

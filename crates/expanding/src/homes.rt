@@ -1,11 +1,10 @@
 // The tilde at a word's start. It goes by the bytes of the line as written: a quote, a backslash or a `$` before the first `/` leaves it literal.
 ghost use mathlib.Core.Path.{_≡_};
-ghost use mathlib.Core.List.{_∷_, []};
+ghost use mathlib.Core.List.{_∷_};
 ghost use Prim.Native.Nat.{_*_, _≤_};
 ghost use lib.ListN.{length};
 ghost use Rattle.stages.specs.Numbers.{rowLimit};
 ghost use Rattle.stages.specs.Outcome.{done};
-ghost use Rattle.stages.specs.Bytes.{part};
 ghost use Rattle.stages.specs.Images.{held, lookup};
 ghost use Rattle.stages.specs.Units.{Q, N, marked};
 ghost use Rattle.stages.specs.Expand.{directory};

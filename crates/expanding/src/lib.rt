@@ -1,6 +1,5 @@
 // Expands a word of the line into a row of units at the front of a lent area. The text is read as it is expanded: what stands at a place is
 // answered by the classifier of `items`, and an operand is expanded by the same function on the inner text.
-ghost use mathlib.Core.Path.{_≡_};
 ghost use lib.ListN.{length, take, drop};
 ghost use Rattle.stages.specs.Numbers.{depthLimit};
 ghost use Rattle.stages.specs.Images.{held};

@@ -1,8 +1,8 @@
 -- What an answer says, once its case is known, and the variables that stand in their bytes. Assumes nothing.
-use Prim.Native.Nat.{ℕ, _+_, _≤_}
+use Prim.Native.Nat.{ℕ}
 use native.Mathlib.Omega.{arith}
 use mathlib.Core.Path.{_≡_, subst}
-use lib.ListN.{length, take}
+use lib.ListN.{take}
 use Rattle.stages.specs.Bytes.{Text}
 use Rattle.stages.specs.Outcome.{Outcome, done}
 use Rattle.stages.specs.Images.{held}

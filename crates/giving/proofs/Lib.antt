@@ -2,3 +2,4 @@ pub mod Fitting
 pub mod Steps
 pub mod Standing
 pub mod Holding
+pub mod Determined

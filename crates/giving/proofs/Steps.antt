@@ -1,22 +1,21 @@
 -- A text's row is what its first part gives, and behind it the row of the others: one equation for each part. Assumes nothing.
-use Prim.Native.Nat.{ℕ, suc, _+_}
+use Prim.Native.Nat.{ℕ, suc, _+_, _≤_}
 use native.Mathlib.Omega.{arith}
 use mathlib.Core.Path.{_≡_, refl, sym, ap, _∙_}
 use mathlib.Core.Bool.{Bool}
-use mathlib.Core.List.{List, [], _∷_, _++_, append-assoc}
+use mathlib.Core.List.{[], _∷_, _++_, append-assoc}
 use lib.ListN.{length}
 use Rattle.stages.specs.Bytes.{Text}
 use Rattle.stages.specs.Outcome.{Outcome, refused, done, _>>=_}
 use Rattle.stages.specs.Images.{Pairs}
 use Rattle.stages.specs.Syntax.{Form, Parts, lit, quo, par, len, ari}
-use Rattle.stages.specs.Units.{Mark, Q, Cell, cell, N, Row, marked, bytes, expanded, litMark, fit, decimal}
+use Rattle.stages.specs.Units.{Mark, Q, cell, N, Row, marked, bytes, expanded, litMark, decimal}
 use Rattle.stages.specs.Arith.{arithmeticOf}
 use Rattle.stages.specs.Expand.{Made, value, parameter, onto, adding, expand}
 use Rattle.giving.specs.Steps.{beside, placed, quoted, summed, followed}
 use Rattle.giving.specs.Added.{measured}
 use Rattle.giving.proofs.Fitting.{by-fit, fit-ok}
 use Rattle.stages.specs.Numbers.{rowLimit}
-use Prim.Native.Nat.{_≤_}
 
 pub onto-none : (o : Made) → o ≡ onto [] o
 onto-none (refused e) = refl

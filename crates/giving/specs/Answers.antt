@@ -1,8 +1,7 @@
 -- What the answers of the expander say: by cases on the code's answer, an equation with the stage, and what stands in the lent bytes. Assumes nothing.
-use Prim.Native.Nat.{ℕ, _+_, _*_, _≤_, _<_}
+use Prim.Native.Nat.{ℕ, _+_, _*_, _≤_}
 use mathlib.Core.Path.{_≡_}
 use mathlib.Core.Bool.{true}
-use mathlib.Core.List.{List, []}
 use lib.ListN.{length, take, drop}
 use Rattle.stages.specs.Numbers.{rowLimit, imageLimit}
 use Rattle.stages.specs.Bytes.{Text, all, notZero}
@@ -10,8 +9,8 @@ use Rattle.stages.specs.Outcome.{refused, done}
 use Rattle.stages.specs.Images.{variables, held, isSome}
 use Rattle.stages.specs.Syntax.{Parts}
 use Rattle.stages.specs.Read.{Taken, parts}
-use Rattle.stages.specs.Units.{Mark, Row}
-use Rattle.stages.specs.Expand.{Made, expand, onto}
+use Rattle.stages.specs.Units.{Row}
+use Rattle.stages.specs.Expand.{Made}
 use Rattle.rows.specs.Stands.{Stands}
 use Rattle.modes.specs.Modes.{modeOf, openIn}
 use Rattle.modes.specs.declared.Mode.{Mode}

@@ -1,13 +1,11 @@
 // What a part of a text gives: a whole row, worked out, measured and then put at the front of the lent area.
-ghost use mathlib.Core.Path.{_≡_};
-ghost use mathlib.Core.List.{_∷_, []};
 ghost use Prim.Native.Nat.{_+_, _*_, _≤_};
 ghost use lib.ListN.{length};
 ghost use Rattle.stages.specs.Numbers.{rowLimit};
 ghost use Rattle.stages.specs.Outcome.{done};
 ghost use Rattle.stages.specs.Images.{held};
 ghost use Rattle.stages.specs.Expand.{value};
-ghost use Rattle.stages.specs.Units.{cell, marked, expanded, decimal};
+ghost use Rattle.stages.specs.Units.{marked, expanded};
 ghost use Rattle.stages.specs.Constants.{signed};
 ghost use Rattle.rows.specs.Marks.{markOf};
 ghost use Rattle.tables.specs.Places.{Table};
@@ -26,18 +24,6 @@ pub const REFUSED_UNITS: u8 = 14;
 pub enum Added {
     Units(usize),
     Refused(u8),
-}
-
-// Adds one unit behind `used` others.
-pub fn give_unit(b: u8, mark: Mark, used: usize, area: &mut [u8]) -> Added
-    requires { ⌜ (used ≤ rowLimit) × (2 * rowLimit ≤ length (now area) + 2 * used) ⌝ }
-    ensures { λ r. ⌜ Adds used (done (cell (markOf mark) b ∷ [])) (now (area .exit)) r ⌝ }
-{
-    if used >= ROW_LIMIT {
-        return Added::Refused(REFUSED_UNITS);
-    }
-    rows::put_unit(area, b, mark);
-    Added::Units(1)
 }
 
 // Adds the bytes of a text, each with the mark, behind `used` others.
@@ -63,26 +49,7 @@ pub fn give_value(name: &[u8], mark: Mark, used: usize, vars: &[u8], area: &mut 
 }
 
 // The most bytes of a number's decimal text.
-const DIGITS: usize = 20;
-
-// Adds the decimal text of a count, which is worked out in `digits`.
-fn give_count(n: u64, mark: Mark, used: usize, digits: &mut [u8], area: &mut [u8]) -> Added
-    requires { ⌜ (20 ≤ length (now digits)) × (used ≤ rowLimit) × (2 * rowLimit ≤ length (now area) + 2 * used) ⌝ }
-    ensures { λ r. ⌜ Adds used (done (marked (expanded (markOf mark)) (decimal n))) (now (area .exit)) r ⌝ }
-{
-    let n = decimals::put_decimal(digits, n);
-    give_text(&digits[..n], rows::expanded_mark(mark), used, area)
-}
-
-// Adds the length in bytes of a name's value in the image, 0 if it is unset.
-pub fn give_length(name: &[u8], mark: Mark, used: usize, vars: &[u8], area: &mut [u8]) -> Added
-    requires { ⌜ Table (now vars) × (used ≤ rowLimit) × (2 * rowLimit ≤ length (now area) + 2 * used) ⌝ }
-    ensures { λ r. ⌜ Adds used (done (marked (expanded (markOf mark)) (decimal (length (value (held (now (vars .entry))) (now (name .entry))))))) (now (area .exit)) r ⌝ }
-{
-    let value = lookups::value_of(vars, name);
-    let mut digits = [0u8; DIGITS];
-    give_count(value.len() as u64, mark, used, &mut digits, area)
-}
+pub const DIGITS: usize = 20;
 
 // Adds the decimal text of a number, which is worked out in `digits`.
 fn give_signed(z: i64, mark: Mark, used: usize, digits: &mut [u8], area: &mut [u8]) -> Added

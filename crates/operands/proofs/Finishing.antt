@@ -1,17 +1,17 @@
 -- What is done with an operand's row: stored, cut by, or given. Assumes nothing.
-use Prim.Native.Nat.{ℕ, suc, _+_, _-_, _*_, _≤_, _<_}
+use Prim.Native.Nat.{ℕ, _+_, _-_, _*_, _≤_, _<_}
 use native.Mathlib.Omega.{arith}
 use mathlib.Core.Path.{_≡_, refl, sym, ap, _∙_, subst}
 use mathlib.Core.Bool.{Bool, true, false, _&&_}
-use mathlib.Core.List.{List, [], _∷_, _++_, append-assoc}
+use mathlib.Core.List.{List, [], _++_, append-assoc}
 use borrow.Author.Tests.{leb-true, leb-false, le-leb, lt-leb}
 use lib.Dec.{leb}
 use lib.ListN.{length, take, drop, length-append, take-append-drop}
 use lib.Seq.{take-at, length-take-le}
-use Rattle.stages.specs.Numbers.{rowLimit, imageLimit, variableRoom, bracketClass, tooManyUnits, demanded}
+use Rattle.stages.specs.Numbers.{rowLimit, imageLimit, variableRoom, bracketClass}
 use Rattle.stages.specs.Bytes.{Text, all, notZero}
-use Rattle.stages.specs.Outcome.{Outcome, refused, done, _>>=_, pick}
-use Rattle.stages.specs.Images.{Pairs, isName, isSome, variables, held, stored, flat, imageLength}
+use Rattle.stages.specs.Outcome.{Outcome, refused, done, _>>=_}
+use Rattle.stages.specs.Images.{Pairs, isName, held, stored, flat, imageLength}
 use Rattle.stages.specs.Units.{Mark, Row, marked, bytes, expanded}
 use Rattle.stages.specs.Pattern.{Signs, Element, signs, hasClass, elements, pattern}
 use Rattle.stages.specs.Removal.{removed}
@@ -22,12 +22,12 @@ use Rattle.numbers.specs.Answers.{numbered}
 use Rattle.numbers.specs.declared.Number.{Number}
 use Rattle.numbers.specs.declared.Number.the-variants as number
 use Rattle.sums.specs.Climbs.{comesTo}
-use Rattle.stages.specs.Expand.{Made, value, given, store, assigned, cutBy}
+use Rattle.stages.specs.Expand.{Made, value, store, assigned, cutBy}
 use Rattle.stages.proofs.Bools.{either, same-tests, and-left, and-right, and-both}
-use Rattle.stages.proofs.Tables.{Vars, variables-are, is-some}
+use Rattle.stages.proofs.Tables.{variables-are, is-some}
 use Rattle.texts.specs.Rows.{rowBytes, rowOf, signsOf}
 use Rattle.texts.proofs.Rows.{length-rowBytes}
-use Rattle.rows.specs.Stands.{Stands, fronted, Stripped}
+use Rattle.rows.specs.Stands.{Stands, Stripped}
 use Rattle.signs.specs.Kept.{kept, Dropped}
 use Rattle.signs.proofs.Keeping.{kept-signs}
 use Rattle.stores.specs.Answers.{imageIn, storedOutcome, Writes}
@@ -35,21 +35,20 @@ use Rattle.stores.specs.declared.Stored.{Stored}
 use Rattle.stores.specs.declared.Stored.the-variants.{Used, Full}
 use Rattle.stores.proofs.StoredImages.{store-by}
 use Rattle.stores.proofs.Callers.{store-used, store-full, store-held, store-vars}
-use Rattle.giving.specs.Added.{Adds, Fitting, measured, admitted}
-use Rattle.plans.specs.Plans.{settled, finished, wants}
+use Rattle.giving.specs.Added.{Adds, measured, admitted}
+use Rattle.plans.specs.Plans.{settled, finished}
 use Rattle.giving.specs.Steps.{beside, placed}
 use Rattle.operands.specs.Operands.{Operand, leftBy, sumOf, capOf, StoresIn}
-use Rattle.giving.specs.Answers.{goingOn, Holds, IsRow, Finishes}
+use Rattle.giving.specs.Answers.{goingOn, Holds, Finishes}
 use Rattle.giving.specs.declared.Added.{Added}
 use Rattle.giving.specs.declared.Added.the-variants as added
 use Rattle.giving.specs.declared.answers.Expanded.{Expanded}
 use Rattle.giving.specs.declared.answers.Expanded.the-variants as answer
 use Rattle.plans.specs.declared.Plan.{Plan}
-use Rattle.plans.specs.declared.Plan.the-variants.{Gives, Nothing, Demands, Uses, Assigns, Cuts}
+use Rattle.plans.specs.declared.Plan.the-variants.{Assigns, Cuts}
 use Rattle.giving.proofs.Fitting.{measured-full, adds-same}
 use Rattle.giving.proofs.Steps.{placed-refused, beside-refused}
-use Rattle.giving.proofs.Holding.{fitting-row}
-use Rattle.giving.proofs.Holding.{vars-held}
+use Rattle.giving.proofs.Holding.{fitting-row, vars-held}
 
 -- the bytes that were left at the front of a part
 pub front-of : (b x rest left : Text) (n : ℕ) → left ≡ b ++ x → n ≡ length b → take n (left ++ rest) ≡ b

@@ -4,16 +4,14 @@ use mathlib.Core.Path.{_≡_}
 use mathlib.Core.Bool.{Bool, true, false}
 use lib.ListN.{length, take}
 use Rattle.stages.specs.Bytes.{Text, all, notZero}
-use Rattle.stages.specs.Outcome.{Outcome, done, _>>=_}
-use Rattle.stages.specs.Images.{Pairs, isName}
+use Rattle.stages.specs.Outcome.{Outcome, done, _>>=_, refused, pick}
+use Rattle.stages.specs.Images.{Pairs, isName, held}
 use Rattle.stages.specs.Units.{Mark, Row, marked, bytes, expanded}
 use Rattle.stages.specs.Pattern.{pattern}
 use Rattle.stages.specs.Removal.{removed}
 use Rattle.stages.specs.Arith.{arithmeticOf}
 use Rattle.stages.specs.Expand.{value, store}
 use Rattle.stages.specs.Numbers.{imageLimit, variableRoom}
-use Rattle.stages.specs.Outcome.{refused, pick}
-use Rattle.stages.specs.Images.{held}
 use Rattle.stores.specs.declared.Stored.{Stored}
 use Rattle.stores.specs.declared.Stored.the-variants.{Used, Full}
 use Rattle.giving.specs.Answers.{Holds}

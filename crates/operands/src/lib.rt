@@ -1,11 +1,9 @@
 // What is done with an operand's row, which stands at the front of the area: it is stored, it is the pattern of a removal, it is an arithmetic text, or
 // it is the expansion itself.
 ghost use mathlib.Core.Path.{_≡_};
-ghost use mathlib.Core.List.{_∷_, []};
-ghost use Prim.Native.Nat.{_+_, _*_, _≤_};
+ghost use Prim.Native.Nat.{_*_, _≤_};
 ghost use lib.ListN.{length, take};
 ghost use Rattle.stages.specs.Numbers.{rowLimit};
-ghost use Rattle.stages.specs.Outcome.{done};
 ghost use Rattle.stages.specs.Images.{held};
 ghost use Rattle.stages.specs.Units.{bytes};
 ghost use Rattle.texts.specs.Rows.{rowOf};

@@ -3,23 +3,22 @@ use Prim.Native.Nat.{ℕ, _-_, _≤_}
 use native.Mathlib.Omega.{arith}
 use mathlib.Core.Path.{_≡_, refl, sym, ap, _∙_}
 use mathlib.Core.Bool.{Bool, true, false, _&&_}
-use mathlib.Core.List.{List, [], _∷_}
-use mathlib.Core.Option.{Option, none, some}
+use mathlib.Core.List.{[], _∷_}
+use mathlib.Core.Option.{some}
 use borrow.Author.Tests.{eq-eqb, ne-eqb}
 use lib.Dec.{eqb}
-use lib.ListN.{length, take, drop, length-take, length-drop}
+use lib.ListN.{length, length-take, length-drop}
 use Rattle.stages.specs.Numbers.{demanded}
 use Rattle.stages.specs.Bytes.{Text, part}
-use Rattle.stages.specs.Outcome.{Outcome, refused, done, _>>=_, pick}
-use Rattle.stages.specs.Images.{Pairs, lookup, held}
+use Rattle.stages.specs.Outcome.{refused, done, _>>=_, pick}
+use Rattle.stages.specs.Images.{Pairs, held}
 use Rattle.stages.specs.Syntax.{Form, plain, minus, equals, query, plus, suffix, prefix}
-use Rattle.stages.specs.Units.{Mark, L, Row, marked, expanded}
+use Rattle.stages.specs.Units.{Mark, L, expanded}
 use Rattle.stages.specs.Expand.{Made, given, assigned, cutBy, missing, parameter}
 use Rattle.stages.specs.Expand as stage
 use Rattle.stages.proofs.Bools.{either, no}
 use Rattle.tables.specs.Places as places
 use Rattle.tables.specs.declared.Found.{Found}
-use Rattle.tables.specs.declared.Found.the-variants.{At, Missing}
 use Rattle.plans.specs.Plans.{planOf, missingIn, wants, operandMark, settled, finished}
 use Rattle.giving.specs.Steps.{beside}
 use Rattle.plans.specs.declared.Plan.{Plan}

@@ -5,7 +5,7 @@ use mathlib.Core.List.{[]}
 use lib.Dec.{eqb}
 use Rattle.stages.specs.Numbers.{demanded}
 use Rattle.stages.specs.Bytes.{Text}
-use Rattle.stages.specs.Outcome.{Outcome, refused, done, _>>=_, pick}
+use Rattle.stages.specs.Outcome.{Outcome, refused, done, pick}
 use Rattle.stages.specs.Images.{Pairs}
 use Rattle.stages.specs.Syntax.{Form, plain, minus, equals, query, plus, suffix, prefix}
 use Rattle.stages.specs.Units.{Mark, L, Row, marked, expanded}

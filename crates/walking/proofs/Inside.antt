@@ -1,30 +1,30 @@
 -- The ways of what holds a text: a quote, an operand that is used or not, an arithmetic text. Assumes nothing.
-use Prim.Native.Nat.{ℕ, suc, _+_, _-_, _*_, _≤_, _<_}
+use Prim.Native.Nat.{ℕ, _+_, _-_, _*_, _≤_, _<_}
 use native.Mathlib.Omega.{arith}
 use mathlib.Core.Path.{_≡_, refl, sym, ap, _∙_, subst}
-use mathlib.Core.Bool.{Bool, true, false}
-use mathlib.Core.List.{List, [], _∷_, _++_, append-assoc}
+use mathlib.Core.Bool.{true, false}
+use mathlib.Core.List.{[], _∷_, _++_, append-assoc}
 use lib.ListN.{length, take, drop}
 use lib.Seq.{length-take-le}
-use Rattle.stages.specs.Numbers.{rowLimit, imageLimit, tooManyUnits}
+use Rattle.stages.specs.Numbers.{rowLimit, tooManyUnits}
 use Rattle.stages.specs.Bytes.{Text, all, notZero}
 use Rattle.stages.specs.Outcome.{Outcome, refused, done, _>>=_}
 use Rattle.stages.specs.Images.{Pairs, isName, held}
 use Rattle.stages.specs.Syntax.{Form, Parts, arith as sums}
 use Rattle.stages.specs.Read.{Taken, parts}
-use Rattle.stages.specs.Units.{Mark, Q, N, Row, marked, bytes, expanded, fit}
+use Rattle.stages.specs.Units.{Mark, Q, N, Row, marked, bytes, expanded}
 use Rattle.stages.specs.Arith.{arithmeticOf}
-use Rattle.stages.specs.Expand.{Made, value, parameter, expand, onto}
+use Rattle.stages.specs.Expand.{Made, parameter, expand, onto}
 use Rattle.stages.proofs.Texts.{all-drop}
-use Rattle.stages.proofs.Tables.{Vars, vars-of, table-fine, table-length}
-use Rattle.stages.proofs.Outcomes.{Safe, refuses, gives, safe-done}
+use Rattle.stages.proofs.Tables.{table-fine, table-length}
+use Rattle.stages.proofs.Outcomes.{Safe, gives, safe-done}
 use Rattle.stages.proofs.SafeSums.{arithmetic-safe}
-use Rattle.stages.proofs.Safe.{NoZero, SafeParts, SafeTaken, parts-safe}
-use Rattle.stages.proofs.SafeRows.{Kept, SafeMade, bytes-safe, expand-safe}
+use Rattle.stages.proofs.Safe.{NoZero, SafeParts, parts-safe}
+use Rattle.stages.proofs.SafeRows.{Kept, bytes-safe, expand-safe}
 use Rattle.texts.specs.Rows.{rowBytes, rowOf}
 use Rattle.texts.proofs.Rows.{rowOf-rowBytes}
-use Rattle.rows.specs.Stands.{Stands, fronted}
-use Rattle.modes.specs.Modes.{modeOf, openIn}
+use Rattle.rows.specs.Stands.{Stands}
+use Rattle.modes.specs.Modes.{modeOf}
 use Rattle.modes.specs.declared.Mode.{Mode}
 use Rattle.modes.specs.declared.Mode.the-variants.{Arith}
 use Rattle.reading.specs.Says.{ReadSays}
@@ -44,9 +44,8 @@ use Rattle.plans.specs.declared.Plan.{Plan}
 use Rattle.giving.proofs.Fitting.{fit-ok, fit-full}
 use Rattle.plans.proofs.Forms.{unused-operand, used-operand}
 use Rattle.giving.proofs.Steps.{placed-refused, beside-refused}
-use Rattle.giving.proofs.Holding.{says-known, answers-known, fitting-row}
+use Rattle.giving.proofs.Holding.{says-known, answers-known, fitting-row, vars-held}
 use Rattle.giving.proofs.Standing.{front, stands-inside}
-use Rattle.giving.proofs.Holding.{vars-held}
 
 -- the variables that stand in their bytes, as the stages have them
 kept-held : (room : ℕ) (vars : Text) (have : ℕ) → Holds room vars have → Kept room (held (take have vars))

@@ -1,4 +1,3 @@
 pub mod Turning
 pub mod Looping
 pub mod Inside
-pub mod Determined

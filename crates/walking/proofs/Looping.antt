@@ -1,12 +1,11 @@
 -- The loop over the items of a text: what is expanded stands before what is still to be expanded. Assumes nothing.
-use Prim.Native.Nat.{ℕ, suc, _+_, _-_, _*_, _≤_, _<_}
+use Prim.Native.Nat.{ℕ, _+_, _-_, _*_, _≤_}
 use native.Mathlib.Omega.{arith}
 use native.Mathlib.Nat.{add-zero}
 use mathlib.Core.Path.{_≡_, refl, sym, ap, _∙_, subst}
 use mathlib.Core.Bool.{true}
-use mathlib.Core.List.{List, [], _∷_, _++_, append-assoc, append-nil}
+use mathlib.Core.List.{[], _++_, append-nil}
 use lib.ListN.{length, take, drop, length-append}
-use lib.Seq.{take-at}
 use Rattle.stages.specs.Numbers.{rowLimit}
 use Rattle.stages.specs.Bytes.{Text, all, notZero}
 use Rattle.stages.specs.Outcome.{refused, done}
@@ -16,16 +15,14 @@ use Rattle.stages.specs.Read.{Taken, parts}
 use Rattle.stages.specs.Units.{Mark, Row}
 use Rattle.stages.specs.Expand.{Made, expand, onto}
 use Rattle.texts.specs.Rows.{rowBytes}
-use Rattle.texts.proofs.Rows.{length-rowBytes, rowBytes-append}
 use Rattle.rows.specs.Stands.{Stands}
 use Rattle.modes.specs.Modes.{modeOf, openIn}
 use Rattle.modes.specs.declared.Mode.{Mode}
-use Rattle.giving.specs.Answers.{Holds, Ready, IsRow, Ends, Answers, Says}
+use Rattle.giving.specs.Answers.{Holds, Ready, Says}
 use Rattle.walking.specs.Turns.{Moves, Closes, TurnOf, Turns}
-use Rattle.giving.specs.declared.answers.Expanded.{Expanded}
 use Rattle.giving.specs.declared.answers.Expanded.the-variants as answer
-use Rattle.walking.specs.declared.turns.Turn.{Turn}
-use Rattle.walking.specs.declared.turns.Turn.the-variants as turn
+use Rattle.turns.specs.declared.Turn.{Turn}
+use Rattle.turns.specs.declared.Turn.the-variants as turn
 use Rattle.giving.proofs.Steps.{onto-none, onto-onto}
 use Rattle.giving.proofs.Standing.{stands-inside, stands-nest, stands-kept}
 

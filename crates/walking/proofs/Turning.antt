@@ -1,47 +1,65 @@
 -- What an item says of expanding: the item's own row, and behind it what is still to be expanded. One law for the items that are added at once, one for
 -- those that hold a text. Assumes nothing.
-use Prim.Native.Nat.{ℕ, zero, suc, _+_, _-_, _*_, _≤_, _<_}
+use Prim.Native.Nat.{ℕ, _+_, _-_, _≤_, _<_}
 use native.Mathlib.Omega.{arith}
 use mathlib.Core.Path.{_≡_, refl, sym, ap, _∙_, subst}
 use mathlib.Core.Bool.{Bool, true, false}
-use mathlib.Core.List.{List, [], _∷_}
+use mathlib.Core.List.{[], _∷_}
 use lib.ListN.{length, take, drop}
-use Rattle.stages.specs.Numbers.{rowLimit}
-use Rattle.stages.specs.Bytes.{Text, part, all, notZero}
-use Rattle.stages.specs.Outcome.{Outcome, refused, done, _>>=_}
+use Rattle.stages.specs.Bytes.{Text, part, notZero}
+use Rattle.stages.specs.Outcome.{Outcome, refused, done}
 use Rattle.stages.specs.Images.{Pairs, isName, held}
 use Rattle.stages.specs.Syntax.{Form, Parts, plain, end, lit, quo, par, len, ari, arith as sums}
 use Rattle.stages.specs.Items.{item}
 use Rattle.stages.specs.Read.{Taken, parts, nest}
-use Rattle.stages.specs.Units.{Mark, Q, Cell, cell, N, Row, marked, expanded, litMark, decimal}
-use Rattle.stages.specs.Expand.{Made, value, parameter, expand, onto}
+use Rattle.stages.specs.Units.{Mark, cell, Row, marked, expanded, litMark, decimal}
+use Rattle.stages.specs.Expand.{Made, value, parameter, expand}
 use Rattle.stages.proofs.Texts.{all-drop}
 use Rattle.stages.proofs.Outcomes.{safe-done}
 use Rattle.stages.proofs.Safe.{SafeParts, parts-safe}
-use Rattle.stages.proofs.Read.{at-fault, at-stop, at-byte, at-paren, at-value, at-count, at-quote, at-inner, at-sum, Behind, behind, Within, within}
+use Rattle.stages.proofs.Read.{at-fault, at-stop, at-byte, at-paren, at-value, at-count, at-quote, at-inner, at-sum, behind, Within, within}
 use Rattle.modes.specs.Modes.{modeOf, openIn, formOf}
 use Rattle.modes.specs.declared.Mode.{Mode}
 use Rattle.modes.specs.declared.Mode.the-variants.{Arith}
 use Rattle.modes.specs.declared.Form as code-form
 use Rattle.braces.specs.Shows.{Shows}
 use Rattle.braces.specs.declared.Item.{Item}
+use Rattle.braces.proofs.Item as item-type
+use denote.Enum.Declared.{tagOf}
+use types.Run.{OneOf, miss}
 use Rattle.braces.specs.declared.Item.the-variants.{Fault, Stop, Byte, Paren, Quote, Value, Count, Inner, Sum}
-use Rattle.giving.specs.Added.{Adds, Fitting}
-use Rattle.giving.specs.Steps.{beside, placed, quoted, summed, summing, followed}
-use Rattle.walking.specs.Turns.{turnOf, turnFrom, Moves, Closes, TurnOf, Turns}
-use Rattle.giving.specs.Answers.{goingOn, Holds, Ready, IsRow, Ends, Answers, Says}
+use Rattle.giving.specs.Added.{Adds}
+use Rattle.giving.specs.Steps.{beside, placed, quoted, summing, followed}
+use Rattle.turns.specs.Given.{turnOf, Within as Lies, Gives}
+use Rattle.walking.specs.Turns.{turnFrom, TurnOf, Turns}
+use Rattle.giving.specs.Answers.{Holds, Ready, IsRow, Answers, Says}
 use Rattle.giving.specs.declared.Added.{Added}
 use Rattle.giving.specs.declared.Added.the-variants as added
 use Rattle.giving.specs.declared.answers.Expanded.{Expanded}
 use Rattle.giving.specs.declared.answers.Expanded.the-variants as answer
-use Rattle.walking.specs.declared.turns.Turn.{Turn}
-use Rattle.walking.specs.declared.turns.Turn.the-variants as turn
-use Rattle.giving.proofs.Steps.{expand-lit, expand-par, expand-len, expand-quo, expand-ari, followed-refused, followed-row, placed-fits, beside-refused, beside-done}
-use Rattle.giving.proofs.Holding.{says-known, answers-known, fitting-row}
+use Rattle.turns.specs.declared.Turn.{Turn}
+use Rattle.turns.specs.declared.Turn.the-variants as turn
+use Rattle.giving.proofs.Steps.{expand-lit, expand-par, expand-len, expand-quo, expand-ari, followed-refused, followed-row, beside-refused}
+use Rattle.giving.proofs.Holding.{says-known, fitting-row}
 
 -- an enum's answer, once its case is known
 pub shown : (text : Text) (at d : ℕ) {r s : Item} (i : _) → Shows text at d r i → r ≡ s → Shows text at d s i
 shown text at d i h e = subst (λ (x : Item). Shows text at d x i) e h
+
+-- the kinds of item that hold no text
+abbrev pub Plain : Item → Type 0
+Plain i = OneOf (0 ∷ 1 ∷ 2 ∷ 3 ∷ 5 ∷ 6 ∷ []) (tagOf item-type.the-type i)
+
+pub shown-within : (text : Text) (at d : ℕ) (r : Item) (i : _) → Shows text at d r i → Lies text at r
+shown-within text at d (Fault e) i h = tt
+shown-within text at d (Stop next) i h = tt
+shown-within text at d (Byte q b next) i h = tt
+shown-within text at d (Paren b n) i h = h .1
+shown-within text at d (Quote n) i h = tt
+shown-within text at d (Value from to next) i h = h .2
+shown-within text at d (Count from to next) i h = h .2
+shown-within text at d (Inner from to f n next) i h = tt
+shown-within text at d (Sum next) i h = tt
 
 -- The text from `at` on is read (`y`), the variables stand in their bytes (`w`).
 
@@ -97,32 +115,32 @@ module _ (room : ℕ) (text : Text) (at : ℕ) (mode : Mode) (d : ℕ) (m : Mark
       rw q (own-row p (placed used (beside v o)) is area vars₀ count have next mode′ (fitting-row room used o area vars₀ count have h w) read i l k)
 
   module _ {r : Item} (h : Shows text at d r (item (modeOf mode) d (drop at text))) where
-    pub item-fault : (area vars : Text) {e : ℕ} → r ≡ Fault e → Turned area vars (turn.Refused e)
+    item-fault : (area vars : Text) {e : ℕ} → r ≡ Fault e → Turned area vars (turn.Refused e)
     item-fault area vars {e} c =
         let n : parts (modeOf mode) d (drop at text) ≡ refused e = at-fault text at (modeOf mode) d e (shown text at d _ h c) in
         let u : _≡_ {A = Taken} (refused e) (done (y .tree, y .rest)) = sym n ∙ y .is in
         let z : _≡_ {A = ℕ} 0 1 = cc in
         absurd (omega arith)
 
-    pub item-stop : (area : Text) {next : ℕ} → r ≡ Stop next → Turned area vars₀ (turn.End next)
+    item-stop : (area : Text) {next : ℕ} → r ≡ Stop next → Turned area vars₀ (turn.End next)
     unfolding expand
     item-stop area {next} c =
         let s = shown text at d _ h c in
         let n : parts (modeOf mode) d (drop at text) ≡ done (end, drop next text) = at-stop text at (modeOf mode) d next (s .0) (s .1) in
         rw n (record { is = refl; holds = w; ends = record { ends = refl; onward = s .1; within = s .2 } })
 
-    pub item-byte : {q : Bool} {b next : ℕ} → r ≡ Byte q b next → (k : Mark) → k ≡ litMark q m → (area : Text) (a : Added)
-        → Adds used (done (cell k b ∷ [])) area a → {g : Turn} → g ≡ turnOf a next mode have → Turned area vars₀ g
-    item-byte {q} {b} {next} c k e area a f g =
+    item-byte : {q : Bool} {b next : ℕ} → r ≡ Byte q b next → (area : Text) (a : Added)
+        → Adds used (done (cell (litMark q m) b ∷ [])) area a → {g : Turn} → g ≡ turnOf a next mode have → Turned area vars₀ g
+    item-byte {q} {b} {next} c area a f g =
         let s = shown text at d _ h c in
         let o = y .opens in
         let i = s .1 .onward in
         let t = behind (lit q b) (parts (modeOf mode) d (drop next text)) (y .tree) (y .rest) (sym (at-byte text at (modeOf mode) d q b next (s .0) (s .1 .onward)) ∙ y .is) in
-        own-added (t .next) (done (cell k b ∷ []))
-        (ap (λ (x : Parts). expand room x m used v) (t .whole) ∙ expand-lit room (t .next) m used q b v ∙ ap (λ (j : Mark). followed room (t .next) m used (placed used (done (cell j b ∷ [], v)))) (sym e))
+        own-added (t .next) (done (cell (litMark q m) b ∷ []))
+        (ap (λ (x : Parts). expand room x m used v) (t .whole) ∙ expand-lit room (t .next) m used q b v)
         next mode (t .read) (omega arith) i (s .1 .within) area a f g
 
-    pub item-paren : {b n : ℕ} → r ≡ Paren b n → (area : Text) (a : Added)
+    item-paren : {b n : ℕ} → r ≡ Paren b n → (area : Text) (a : Added)
         → Adds used (done (cell m b ∷ [])) area a → {g : Turn} → g ≡ turnOf a (at + 1) (Arith n) have → Turned area vars₀ g
     item-paren {b} {n} c area a f g =
         let s = shown text at d _ h c in
@@ -132,7 +150,7 @@ module _ (room : ℕ) (text : Text) (at : ℕ) (mode : Mode) (d : ℕ) (m : Mark
         (ap (λ (x : Parts). expand room x m used v) (t .whole) ∙ expand-lit room (t .next) m used false b v)
         (at + 1) (Arith n) (t .read) (s .2) (omega arith) (omega arith) area a f g
 
-    pub item-value : {from to next : ℕ} → r ≡ Value from to next → (area : Text) (a : Added)
+    item-value : {from to next : ℕ} → r ≡ Value from to next → (area : Text) (a : Added)
         → Adds used (done (marked (expanded m) (value v (part text from to)))) area a → {g : Turn} → g ≡ turnOf a next mode have → Turned area vars₀ g
     unfolding parameter
     item-value {from} {to} {next} c area a f g =
@@ -144,7 +162,7 @@ module _ (room : ℕ) (text : Text) (at : ℕ) (mode : Mode) (d : ℕ) (m : Mark
         (ap (λ (x : Parts). expand room x m used v) (t .whole) ∙ expand-par room (t .next) m used (part text from to) plain end v)
         next mode (t .read) (omega arith) i (s .1 .within) area a f g
 
-    pub item-count : {from to next : ℕ} → r ≡ Count from to next → (area : Text) (a : Added)
+    item-count : {from to next : ℕ} → r ≡ Count from to next → (area : Text) (a : Added)
         → Adds used (done (marked (expanded m) (decimal (length (value v (part text from to)))))) area a → {g : Turn} → g ≡ turnOf a next mode have → Turned area vars₀ g
     item-count {from} {to} {next} c area a f g =
         let s = shown text at d _ h c in
@@ -255,3 +273,16 @@ module _ (room : ℕ) (text : Text) (at : ℕ) (mode : Mode) (d : ℕ) (m : Mark
           (ap (λ (x : Parts). expand room x m used v) (t .whole) ∙ expand-ari room (t .next) m used (t .inside) v)
           next (t .mid) (t .read) (omega arith) area vars a
           (says-known room text next used (λ q. placed used (summing room q m v)) area vars a s (t .first)) q
+
+  -- what holds no text turns as it is given
+  pub item-given : (r : Item) → Shows text at d r (item (modeOf mode) d (drop at text)) → (area : Text) (g : Turn) → Plain r → Gives r text at mode m used v have area g
+      → Turned area vars₀ g
+  item-given (Fault e) h area g k q = rw q (item-fault {r = Fault e} h area vars₀ refl)
+  item-given (Stop next) h area g k q = rw q (item-stop {r = Stop next} h area refl)
+  item-given (Byte q b next) h area g k p = item-byte {r = Byte q b next} h refl area (p .added) (p .adds) (p .is)
+  item-given (Paren b n) h area g k p = item-paren {r = Paren b n} h refl area (p .added) (p .adds) (p .is)
+  item-given (Quote n) h area g k p = absurd (miss (0 ∷ 1 ∷ 2 ∷ 3 ∷ 5 ∷ 6 ∷ []) 4 tt k)
+  item-given (Value from to next) h area g k p = item-value {r = Value from to next} h refl area (p .added) (p .adds) (p .is)
+  item-given (Count from to next) h area g k p = item-count {r = Count from to next} h refl area (p .added) (p .adds) (p .is)
+  item-given (Inner from to f n next) h area g k p = absurd (miss (0 ∷ 1 ∷ 2 ∷ 3 ∷ 5 ∷ 6 ∷ []) 7 tt k)
+  item-given (Sum next) h area g k p = absurd (miss (0 ∷ 1 ∷ 2 ∷ 3 ∷ 5 ∷ 6 ∷ []) 8 tt k)

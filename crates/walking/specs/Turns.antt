@@ -15,16 +15,10 @@ use Rattle.rows.specs.Stands.{Stands}
 use Rattle.modes.specs.Modes.{modeOf, openIn}
 use Rattle.modes.specs.declared.Mode.{Mode}
 use Rattle.giving.specs.Answers.{Holds, Ends}
-use Rattle.giving.specs.declared.Added.{Added}
-use Rattle.giving.specs.declared.Added.the-variants as added
 use Rattle.giving.specs.declared.answers.Expanded.{Expanded}
 use Rattle.giving.specs.declared.answers.Expanded.the-variants as expanded
-use Rattle.walking.specs.declared.turns.Turn.{Turn}
-use Rattle.walking.specs.declared.turns.Turn.the-variants as turn
-
-abbrev pub turnOf : Added → ℕ → Mode → ℕ → Turn
-turnOf (added.Units units) next mode have = turn.Row units next mode have
-turnOf (added.Refused e) next mode have = turn.Refused e
+use Rattle.turns.specs.declared.Turn.{Turn}
+use Rattle.turns.specs.declared.Turn.the-variants as turn
 
 abbrev pub turnFrom : Expanded → Mode → Turn
 turnFrom (expanded.Row units next have) mode = turn.Row units next mode have

@@ -13,15 +13,12 @@ ghost use Rattle.rows.specs.Marks.{markOf};
 ghost use Rattle.modes.specs.Modes.{modeOf, formOf};
 ghost use Rattle.giving.specs.Steps.{placed, quoted, summing};
 ghost use Rattle.giving.specs.Answers.{Holds, Ready, Says};
-ghost use Rattle.walking.specs.Turns.{Turns};
+ghost use Rattle.walking.specs.Turns.{turnFrom, Turns};
 use braces::Item;
 use giving::REFUSED_UNITS;
 use giving::ROW_LIMIT;
 use giving::answers::Expanded;
 use giving::answers::going_on;
-use giving::give_length;
-use giving::give_unit;
-use giving::give_value;
 use modes::Form;
 use modes::Mode;
 use operands::finish;
@@ -33,10 +30,21 @@ use plans::wants_operand;
 use reading::Reading;
 use rows::Mark;
 use turns::Turn;
-use turns::turn_from;
-use turns::turn_of;
 
-mod turns;
+// An inner text's answer, as an item's.
+fn turn_from(got: Expanded, mode: Mode) -> Turn
+    ensures { λ r. ⌜ r ≡ turnFrom got mode ⌝ }
+{
+    match got {
+        Expanded::Row { units, next, have } => Turn::Row {
+            units: units,
+            next: next,
+            mode: mode,
+            have: have,
+        },
+        Expanded::Refused(e) => Turn::Refused(e),
+    }
+}
 
 // The text of a quote that opens before `at`: an N, and behind it its bytes as Q.
 fn expand_quote(
@@ -182,35 +190,9 @@ fn expand_item(
 {
     let item = items::item_at(text, at, mode, depth);
     match item {
-        Item::Fault(e) => Turn::Refused(e),
-        Item::Stop(next) => Turn::End(next),
-        Item::Byte { quoted, byte, next } => turn_of(
-            give_unit(byte, rows::literal_mark(quoted, mark), used, work),
-            next,
-            mode,
-            have,
-        ),
-        Item::Paren { byte, parens } => turn_of(
-            give_unit(byte, mark, used, work),
-            at + 1,
-            Mode::Arith(parens),
-            have,
-        ),
         Item::Quote(inner) => turn_from(
             expand_quote(text, at + 1, inner, depth, used, vars, have, room, work),
             mode,
-        ),
-        Item::Value { from, to, next } => turn_of(
-            give_value(&text[from..to], mark, used, &vars[..have], work),
-            next,
-            mode,
-            have,
-        ),
-        Item::Count { from, to, next } => turn_of(
-            give_length(&text[from..to], mark, used, &vars[..have], work),
-            next,
-            mode,
-            have,
         ),
         Item::Inner {
             from,
@@ -239,6 +221,7 @@ fn expand_item(
             expand_sum(text, next, depth - 1, mark, used, vars, have, room, work),
             mode,
         ),
+        _ => turns::give_item(item, text, at, mode, mark, used, &vars[..have], have, work),
     }
 }
 

@@ -3,8 +3,7 @@ use Rattle.giving.proofs.Fitting.{adds-marked, puts-front, puts-inside}
 use Rattle.stages.specs.Constants.{signed}
 use borrow.Author.Needs.{needs}
 use lib.Seq.{length-take-le}
-use mathlib.Core.Path.{ap, _∙_}
-use mathlib.Core.Path.{sym}
+use mathlib.Core.Path.{ap, _∙_, sym}
 use mir.Syntax.{w64}
 use mir.ValLaws.{toZ-ofZ}
 use Rattle.giving.proofs.give_signed.Statement.{statement}

@@ -4,7 +4,7 @@ use Rattle.operands.proofs.Finishing.{dropped-inside, dropped-front, cu
 use Rattle.rows.specs.Marks.{markOf}
 use Rattle.stages.specs.Images.{held}
 use borrow.Author.Needs.{needs}
-use lib.ListN.{take, drop}
+use lib.ListN.{drop}
 use lib.Seq.{length-take-le}
 use mathlib.Core.List.{_++_}
 use mathlib.Core.Path.{sym, _∙_}

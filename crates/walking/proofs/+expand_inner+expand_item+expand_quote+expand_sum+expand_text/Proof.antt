@@ -1,15 +1,15 @@
 -- The text from `at` on has been read: what stands at each place is one part of its tree, and its own row stands behind the rows before it. The
 -- measure is the place, which grows from each text to those in it. Assumes nothing.
 use Prim.Native.Nat.{ℕ, _<_, _≤_, _*_, _+_, _-_}
-use mathlib.Core.Path.{_≡_, sym, _∙_}
-use lib.ListN.{length, take, drop}
+use mathlib.Core.Path.{sym, _∙_}
+use lib.ListN.{length, take}
 use lib.Seq.{length-take-le}
 use denote.Ref.{now}
 use borrow.Rule.Slice.PartMut.{same-len-mid, mid-len}
 use Rattle.stages.specs.Images.{held}
 use Rattle.modes.specs.Modes.{formOf}
 use Rattle.rows.specs.Marks.{markOf}
-use Rattle.walking.proofs.Turning.{shown, item-fault, item-stop, item-byte, item-paren, item-value, item-count, quote-ready, item-quote, inner-name, inner-ready, item-inner, sum-ready, item-sum}
+use Rattle.walking.proofs.Turning.{shown, shown-within, item-given, quote-ready, item-quote, inner-name, inner-ready, item-inner, sum-ready, item-sum}
 use Rattle.walking.proofs.Looping.{Going, going-start, going-room, going-ready, going-refused, going-end, moved, going-row}
 use Rattle.giving.proofs.Holding.{table-held}
 use Rattle.walking.proofs.Inside.{read-known, quote-full, quote-inner, quote-refused, quote-fits, quote-row, unused-fault, unused-given, used-refused, used-holds, used-ready, used-given, sum-refused, sum-holds, sum-inside, sum-given}
@@ -33,12 +33,9 @@ use Rattle.walking.proofs.+expand_inner+expand_item+expand_quote+expand
 use Rattle.walking.proofs.expand_text.Reads as expand-text
 use Rattle.walking.proofs.expand_text.Kinds as expand-text-kinds
 use Rattle.walking.proofs.+expand_inner+expand_item+expand_quote+expand_sum+expand_text.Lts-expand_text as expand-text-lts
-use Rattle.giving.proofs.give_length.Reads as give-length-reads
-use Rattle.giving.proofs.give_unit.Reads as give-unit-reads
-use Rattle.giving.proofs.give_value.Reads as give-value-reads
 use Rattle.giving.proofs.answers.going_on.Reads as going-on-reads
-use Rattle.walking.proofs.turns.turn_from.Reads as turn-from-reads
-use Rattle.walking.proofs.turns.turn_of.Reads as turn-of-reads
+use Rattle.walking.proofs.turn_from.Reads as turn-from-reads
+use Rattle.turns.proofs.give_item.Reads as give-item-reads
 use Rattle.operands.proofs.finish.Reads as finish-reads
 use Rattle.operands.proofs.settle.Reads as settle-reads
 use Rattle.operands.proofs.sum_up.Reads as sum-up-reads
@@ -47,7 +44,6 @@ use Rattle.plans.proofs.plan_of.Reads as plan-of-reads
 use Rattle.plans.proofs.wants_operand.Reads as wants-operand-reads
 use Rattle.items.proofs.item_at.Reads as item-at-reads
 use Rattle.reading.proofs.read_text.Reads as read-text-reads
-use Rattle.rows.proofs.literal_mark.Reads as literal-mark-reads
 use Rattle.rows.proofs.put_empty.Reads as put-empty-reads
 use Rattle.lookups.proofs.look_up.Reads as look-up-reads
 use Rattle.walking.proofs.+expand_inner+expand_item+expand_quote+expand_sum+expand_text.{statement}
@@ -257,68 +253,21 @@ module _ (t : ℕ) where
       unused-given (a .room) (a .text .now) (a .at) (a .mode) (a .depth) (a .used) _ (a .vars .now) (a .have) (a .name .now) (formOf (a .form)) (markOf (a .mark)) y w (c .before .before .before .before .before .before .before .before .before .before .before .before .before .look-up .result) (c .before .before .before .before .before .before .before .before .before .before .before .before .before .look-up .ensures .shows) (c .before .before .before .before .before .before .before .before .before .before .before .before .plan-of .ensures) (sym (c .before .before .before .before .before .before .before .before .before .before .before .wants-operand .ensures) ∙ c .before .before .before .before .before .before .before .before .before .before .if1 .left) (t .is) (t .onward) (t .within) _ (c .before .before .before .settle .result) (c .before .before .before .settle .ensures) (c .going-on .ensures)
 
 abbrev expand-item-callees : ℕ → expand-item-lts.Claims
-expand-item-callees t = (item-at-reads.Asked, item-at-reads.Learnt, literal-mark-reads.Asked, literal-mark-reads.Learnt, give-unit-reads.Asked, give-unit-reads.Learnt, turn-of-reads.Asked, turn-of-reads.Learnt, expand-quote-below t, expand-quote.Post, turn-from-reads.Asked, turn-from-reads.Learnt, give-value-reads.Asked, give-value-reads.Learnt, give-length-reads.Asked, give-length-reads.Learnt, expand-inner-below t, expand-inner.Post, expand-sum-below t, expand-sum.Post)
+expand-item-callees t = (item-at-reads.Asked, item-at-reads.Learnt, expand-quote-below t, expand-quote.Post, turn-from-reads.Asked, turn-from-reads.Learnt, expand-inner-below t, expand-inner.Post, expand-sum-below t, expand-sum.Post, give-item-reads.Asked, give-item-reads.Learnt)
 
 module _ (t : ℕ) where
   expand-item-item-at-requires : expand-item-lts.Need-item-at-requires (expand-item-callees t) (expand-item-at t) expand-item.Post
   expand-item-item-at-requires c κs =
-      let a = c .before .before .before .args in
       let y = c .before .before .before .pre .1 .0 in
-      let w = c .before .before .before .pre .1 .1 in
       (y .start, y .opens)
 
   expand-item-enum-known-item : expand-item-lts.Need-enum-known-item (expand-item-callees t) (expand-item-at t) expand-item.Post
   expand-item-enum-known-item c = search needs
 
-  expand-item-enum-known-item-2 : expand-item-lts.Need-enum-known-item-2 (expand-item-callees t) (expand-item-at t) expand-item.Post
-  expand-item-enum-known-item-2 c = search needs
-
-  expand-item-enum-known-item-3 : expand-item-lts.Need-enum-known-item-3 (expand-item-callees t) (expand-item-at t) expand-item.Post
-  expand-item-enum-known-item-3 c = search needs
-
-  expand-item-literal-mark-requires : expand-item-lts.Need-literal-mark-requires (expand-item-callees t) (expand-item-at t) expand-item.Post
-  expand-item-literal-mark-requires c κs = search needs
-
-  expand-item-give-unit-requires : expand-item-lts.Need-give-unit-requires (expand-item-callees t) (expand-item-at t) expand-item.Post
-  expand-item-give-unit-requires c κs =
-      let a = c .before .before .before .before .before .before .before .before .before .args in
-      let y = c .before .before .before .before .before .before .before .before .before .pre .1 .0 in
-      let w = c .before .before .before .before .before .before .before .before .before .pre .1 .1 in
-      (y .few, omega (arith, y .area))
-
-  expand-item-turn-of-requires : expand-item-lts.Need-turn-of-requires (expand-item-callees t) (expand-item-at t) expand-item.Post
-  expand-item-turn-of-requires c κs = search needs
-
-  expand-item-enum-known-item-4 : expand-item-lts.Need-enum-known-item-4 (expand-item-callees t) (expand-item-at t) expand-item.Post
-  expand-item-enum-known-item-4 c = search needs
-
-  expand-item-give-unit-requires-2 : expand-item-lts.Need-give-unit-requires-2 (expand-item-callees t) (expand-item-at t) expand-item.Post
-  expand-item-give-unit-requires-2 c κs =
-      let a = c .before .before .before .before .before .before .before .before .args in
-      let y = c .before .before .before .before .before .before .before .before .pre .1 .0 in
-      let w = c .before .before .before .before .before .before .before .before .pre .1 .1 in
-      (y .few, omega (arith, y .area))
-
-  expand-item-add-turn-of : expand-item-lts.Need-add-turn-of (expand-item-callees t) (expand-item-at t) expand-item.Post
-  expand-item-add-turn-of c =
-      let a = c .before .before .before .before .before .before .before .before .before .before .before .args in
-      let y = c .before .before .before .before .before .before .before .before .before .before .before .pre .1 .0 in
-      let w = c .before .before .before .before .before .before .before .before .before .before .before .pre .1 .1 in
-      let s = shown (a .text .now) (a .at) (a .depth) _ (c .before .before .before .before .before .before .before .item-at .ensures) (c .before .before .before .before .before .item4 .given .1) in
-      omega (arith, s .1)
-
-  expand-item-turn-of-requires-2 : expand-item-lts.Need-turn-of-requires-2 (expand-item-callees t) (expand-item-at t) expand-item.Post
-  expand-item-turn-of-requires-2 c κs = search needs
-
-  expand-item-enum-known-item-5 : expand-item-lts.Need-enum-known-item-5 (expand-item-callees t) (expand-item-at t) expand-item.Post
-  expand-item-enum-known-item-5 c = search needs
-
   expand-item-add-expand-quote : expand-item-lts.Need-add-expand-quote (expand-item-callees t) (expand-item-at t) expand-item.Post
   expand-item-add-expand-quote c =
       let a = c .before .before .before .before .before .before .before .args in
-      let y = c .before .before .before .before .before .before .before .pre .1 .0 in
-      let w = c .before .before .before .before .before .before .before .pre .1 .1 in
-      let s = shown (a .text .now) (a .at) (a .depth) _ (c .before .before .before .item-at .ensures) (c .before .item5 .given .1) in
+      let s = shown (a .text .now) (a .at) (a .depth) _ (c .before .before .before .item-at .ensures) (c .before .item .given .1) in
       omega (arith, s .1)
 
   expand-item-expand-quote-requires : expand-item-lts.Need-expand-quote-requires (expand-item-callees t) (expand-item-at t) expand-item.Post
@@ -326,141 +275,37 @@ module _ (t : ℕ) where
       let a = c .before .before .before .before .before .before .before .before .before .args in
       let y = c .before .before .before .before .before .before .before .before .before .pre .1 .0 in
       let w = c .before .before .before .before .before .before .before .before .before .pre .1 .1 in
-      let s = shown (a .text .now) (a .at) (a .depth) _ (c .before .before .before .before .before .item-at .ensures) (c .before .before .before .item5 .given .1) in
-      (omega (arith, c .before .before .before .before .before .before .before .before .before .pre .0, s .1), (quote-ready (a .room) (a .text .now) (a .at) (a .mode) (a .depth) (markOf (a .mark)) (a .used) _ (a .vars .now) (a .have) y w (c .before .before .before .before .before .item-at .ensures) (c .before .before .before .item5 .given .1), w))
+      let s = shown (a .text .now) (a .at) (a .depth) _ (c .before .before .before .before .before .item-at .ensures) (c .before .before .before .item .given .1) in
+      (omega (arith, c .before .before .before .before .before .before .before .before .before .pre .0, s .1), (quote-ready (a .room) (a .text .now) (a .at) (a .mode) (a .depth) (markOf (a .mark)) (a .used) _ (a .vars .now) (a .have) y w (c .before .before .before .before .before .item-at .ensures) (c .before .before .before .item .given .1), w))
 
   expand-item-turn-from-requires : expand-item-lts.Need-turn-from-requires (expand-item-callees t) (expand-item-at t) expand-item.Post
   expand-item-turn-from-requires c κs = search needs
 
-  expand-item-enum-known-item-6 : expand-item-lts.Need-enum-known-item-6 (expand-item-callees t) (expand-item-at t) expand-item.Post
-  expand-item-enum-known-item-6 c = search needs
-
-  expand-item-sub-give-value : expand-item-lts.Need-sub-give-value (expand-item-callees t) (expand-item-at t) expand-item.Post
-  expand-item-sub-give-value c =
-      let a = c .before .before .before .before .before .before .before .args in
-      let y = c .before .before .before .before .before .before .before .pre .1 .0 in
-      let w = c .before .before .before .before .before .before .before .pre .1 .1 in
-      let s = shown (a .text .now) (a .at) (a .depth) _ (c .before .before .before .item-at .ensures) (c .before .item6 .given .1) in
-      omega (arith, s .2 .onward)
-
-  expand-item-part-give-value-start : expand-item-lts.Need-part-give-value-start (expand-item-callees t) (expand-item-at t) expand-item.Post
-  expand-item-part-give-value-start c =
-      let a = c .before .before .before .before .before .before .before .args in
-      let y = c .before .before .before .before .before .before .before .pre .1 .0 in
-      let w = c .before .before .before .before .before .before .before .pre .1 .1 in
-      let s = shown (a .text .now) (a .at) (a .depth) _ (c .before .before .before .item-at .ensures) (c .before .item6 .given .1) in
-      omega (arith, s .2 .onward, s .2 .within)
-
-  expand-item-part-give-value-end : expand-item-lts.Need-part-give-value-end (expand-item-callees t) (expand-item-at t) expand-item.Post
-  expand-item-part-give-value-end c =
-      let a = c .before .before .before .before .before .before .before .args in
-      let y = c .before .before .before .before .before .before .before .pre .1 .0 in
-      let w = c .before .before .before .before .before .before .before .pre .1 .1 in
-      let s = shown (a .text .now) (a .at) (a .depth) _ (c .before .before .before .item-at .ensures) (c .before .item6 .given .1) in
-      omega (arith, s .2 .onward, s .2 .within)
-
-  expand-item-slice-reshare-prefix-give-value : expand-item-lts.Need-slice-reshare-prefix-give-value (expand-item-callees t) (expand-item-at t) expand-item.Post
-  expand-item-slice-reshare-prefix-give-value c =
-      c .before .before .before .before .before .before .before .before .pre .1 .1 .inside
-
-  expand-item-slice-aggregate-give-value : expand-item-lts.Need-slice-aggregate-give-value (expand-item-callees t) (expand-item-at t) expand-item.Post
-  expand-item-slice-aggregate-give-value c =
-      let a = c .before .before .before .before .before .before .before .before .before .args in
-      let y = c .before .before .before .before .before .before .before .before .before .pre .1 .0 in
-      let w = c .before .before .before .before .before .before .before .before .before .pre .1 .1 in
-      sym (length-take-le (a .have) (a .vars .now) (w .inside))
-
-  expand-item-give-value-requires : expand-item-lts.Need-give-value-requires (expand-item-callees t) (expand-item-at t) expand-item.Post
-  expand-item-give-value-requires c κs =
-      let a = c .before .before .before .before .before .before .before .before .before .before .args in
-      let y = c .before .before .before .before .before .before .before .before .before .before .pre .1 .0 in
-      let w = c .before .before .before .before .before .before .before .before .before .before .pre .1 .1 in
-      (table-held (a .room) (a .vars .now) (a .have) w, y .few, omega (arith, y .area))
-
-  expand-item-turn-of-requires-3 : expand-item-lts.Need-turn-of-requires-3 (expand-item-callees t) (expand-item-at t) expand-item.Post
-  expand-item-turn-of-requires-3 c κs = search needs
-
-  expand-item-enum-known-item-7 : expand-item-lts.Need-enum-known-item-7 (expand-item-callees t) (expand-item-at t) expand-item.Post
-  expand-item-enum-known-item-7 c = search needs
-
-  expand-item-sub-give-length : expand-item-lts.Need-sub-give-length (expand-item-callees t) (expand-item-at t) expand-item.Post
-  expand-item-sub-give-length c =
-      let a = c .before .before .before .before .before .before .before .args in
-      let y = c .before .before .before .before .before .before .before .pre .1 .0 in
-      let w = c .before .before .before .before .before .before .before .pre .1 .1 in
-      let s = shown (a .text .now) (a .at) (a .depth) _ (c .before .before .before .item-at .ensures) (c .before .item7 .given .1) in
-      omega (arith, s .2 .onward)
-
-  expand-item-part-give-length-start : expand-item-lts.Need-part-give-length-start (expand-item-callees t) (expand-item-at t) expand-item.Post
-  expand-item-part-give-length-start c =
-      let a = c .before .before .before .before .before .before .before .args in
-      let y = c .before .before .before .before .before .before .before .pre .1 .0 in
-      let w = c .before .before .before .before .before .before .before .pre .1 .1 in
-      let s = shown (a .text .now) (a .at) (a .depth) _ (c .before .before .before .item-at .ensures) (c .before .item7 .given .1) in
-      omega (arith, s .2 .onward, s .2 .within)
-
-  expand-item-part-give-length-end : expand-item-lts.Need-part-give-length-end (expand-item-callees t) (expand-item-at t) expand-item.Post
-  expand-item-part-give-length-end c =
-      let a = c .before .before .before .before .before .before .before .args in
-      let y = c .before .before .before .before .before .before .before .pre .1 .0 in
-      let w = c .before .before .before .before .before .before .before .pre .1 .1 in
-      let s = shown (a .text .now) (a .at) (a .depth) _ (c .before .before .before .item-at .ensures) (c .before .item7 .given .1) in
-      omega (arith, s .2 .onward, s .2 .within)
-
-  expand-item-slice-reshare-prefix-give-length : expand-item-lts.Need-slice-reshare-prefix-give-length (expand-item-callees t) (expand-item-at t) expand-item.Post
-  expand-item-slice-reshare-prefix-give-length c =
-      c .before .before .before .before .before .before .before .before .pre .1 .1 .inside
-
-  expand-item-slice-aggregate-give-length : expand-item-lts.Need-slice-aggregate-give-length (expand-item-callees t) (expand-item-at t) expand-item.Post
-  expand-item-slice-aggregate-give-length c =
-      let a = c .before .before .before .before .before .before .before .before .before .args in
-      let y = c .before .before .before .before .before .before .before .before .before .pre .1 .0 in
-      let w = c .before .before .before .before .before .before .before .before .before .pre .1 .1 in
-      sym (length-take-le (a .have) (a .vars .now) (w .inside))
-
-  expand-item-give-length-requires : expand-item-lts.Need-give-length-requires (expand-item-callees t) (expand-item-at t) expand-item.Post
-  expand-item-give-length-requires c κs =
-      let a = c .before .before .before .before .before .before .before .before .before .before .args in
-      let y = c .before .before .before .before .before .before .before .before .before .before .pre .1 .0 in
-      let w = c .before .before .before .before .before .before .before .before .before .before .pre .1 .1 in
-      (table-held (a .room) (a .vars .now) (a .have) w, y .few, omega (arith, y .area))
-
-  expand-item-turn-of-requires-4 : expand-item-lts.Need-turn-of-requires-4 (expand-item-callees t) (expand-item-at t) expand-item.Post
-  expand-item-turn-of-requires-4 c κs = search needs
-
-  expand-item-enum-known-item-8 : expand-item-lts.Need-enum-known-item-8 (expand-item-callees t) (expand-item-at t) expand-item.Post
-  expand-item-enum-known-item-8 c = search needs
+  expand-item-enum-known-item-2 : expand-item-lts.Need-enum-known-item-2 (expand-item-callees t) (expand-item-at t) expand-item.Post
+  expand-item-enum-known-item-2 c = search needs
 
   expand-item-sub-expand-inner : expand-item-lts.Need-sub-expand-inner (expand-item-callees t) (expand-item-at t) expand-item.Post
   expand-item-sub-expand-inner c =
       let a = c .before .before .before .before .before .before .before .args in
-      let y = c .before .before .before .before .before .before .before .pre .1 .0 in
-      let w = c .before .before .before .before .before .before .before .pre .1 .1 in
-      let s = shown (a .text .now) (a .at) (a .depth) _ (c .before .before .before .item-at .ensures) (c .before .item8 .given .1) in
+      let s = shown (a .text .now) (a .at) (a .depth) _ (c .before .before .before .item-at .ensures) (c .before .item2 .given .1) in
       omega (arith, s .2 .onward)
 
   expand-item-part-expand-inner-start : expand-item-lts.Need-part-expand-inner-start (expand-item-callees t) (expand-item-at t) expand-item.Post
   expand-item-part-expand-inner-start c =
       let a = c .before .before .before .before .before .before .before .args in
-      let y = c .before .before .before .before .before .before .before .pre .1 .0 in
-      let w = c .before .before .before .before .before .before .before .pre .1 .1 in
-      let s = shown (a .text .now) (a .at) (a .depth) _ (c .before .before .before .item-at .ensures) (c .before .item8 .given .1) in
+      let s = shown (a .text .now) (a .at) (a .depth) _ (c .before .before .before .item-at .ensures) (c .before .item2 .given .1) in
       omega (arith, s .2 .onward, s .2 .within)
 
   expand-item-part-expand-inner-end : expand-item-lts.Need-part-expand-inner-end (expand-item-callees t) (expand-item-at t) expand-item.Post
   expand-item-part-expand-inner-end c =
       let a = c .before .before .before .before .before .before .before .args in
-      let y = c .before .before .before .before .before .before .before .pre .1 .0 in
-      let w = c .before .before .before .before .before .before .before .pre .1 .1 in
-      let s = shown (a .text .now) (a .at) (a .depth) _ (c .before .before .before .item-at .ensures) (c .before .item8 .given .1) in
+      let s = shown (a .text .now) (a .at) (a .depth) _ (c .before .before .before .item-at .ensures) (c .before .item2 .given .1) in
       omega (arith, s .2 .onward, s .2 .within)
 
   expand-item-sub-expand-inner-2 : expand-item-lts.Need-sub-expand-inner-2 (expand-item-callees t) (expand-item-at t) expand-item.Post
   expand-item-sub-expand-inner-2 c =
       let a = c .before .before .before .before .before .before .before .before .args in
-      let y = c .before .before .before .before .before .before .before .before .pre .1 .0 in
-      let w = c .before .before .before .before .before .before .before .before .pre .1 .1 in
-      let s = shown (a .text .now) (a .at) (a .depth) _ (c .before .before .before .before .item-at .ensures) (c .before .before .item8 .given .1) in
+      let s = shown (a .text .now) (a .at) (a .depth) _ (c .before .before .before .before .item-at .ensures) (c .before .before .item2 .given .1) in
       omega (arith, s .3)
 
   expand-item-expand-inner-requires : expand-item-lts.Need-expand-inner-requires (expand-item-callees t) (expand-item-at t) expand-item.Post
@@ -468,21 +313,19 @@ module _ (t : ℕ) where
       let a = c .before .before .before .before .before .before .before .before .before .before .args in
       let y = c .before .before .before .before .before .before .before .before .before .before .pre .1 .0 in
       let w = c .before .before .before .before .before .before .before .before .before .before .pre .1 .1 in
-      let s = shown (a .text .now) (a .at) (a .depth) _ (c .before .before .before .before .before .before .item-at .ensures) (c .before .before .before .before .item8 .given .1) in
-      (omega (arith, c .before .before .before .before .before .before .before .before .before .before .pre .0, s .1 .onward, s .1 .within), (inner-ready (a .room) (a .text .now) (a .at) (a .mode) (a .depth) (markOf (a .mark)) (a .used) _ (a .vars .now) (a .have) y w (c .before .before .before .before .before .before .item-at .ensures) (c .before .before .before .before .item8 .given .1), w, y .few, inner-name (a .room) (a .text .now) (a .at) (a .mode) (a .depth) (markOf (a .mark)) (a .used) _ (a .vars .now) (a .have) y w (c .before .before .before .before .before .before .item-at .ensures) (c .before .before .before .before .item8 .given .1)))
+      let s = shown (a .text .now) (a .at) (a .depth) _ (c .before .before .before .before .before .before .item-at .ensures) (c .before .before .before .before .item2 .given .1) in
+      (omega (arith, c .before .before .before .before .before .before .before .before .before .before .pre .0, s .1 .onward, s .1 .within), (inner-ready (a .room) (a .text .now) (a .at) (a .mode) (a .depth) (markOf (a .mark)) (a .used) _ (a .vars .now) (a .have) y w (c .before .before .before .before .before .before .item-at .ensures) (c .before .before .before .before .item2 .given .1), w, y .few, inner-name (a .room) (a .text .now) (a .at) (a .mode) (a .depth) (markOf (a .mark)) (a .used) _ (a .vars .now) (a .have) y w (c .before .before .before .before .before .before .item-at .ensures) (c .before .before .before .before .item2 .given .1)))
 
   expand-item-turn-from-requires-2 : expand-item-lts.Need-turn-from-requires-2 (expand-item-callees t) (expand-item-at t) expand-item.Post
   expand-item-turn-from-requires-2 c κs = search needs
 
-  expand-item-enum-known-item-9 : expand-item-lts.Need-enum-known-item-9 (expand-item-callees t) (expand-item-at t) expand-item.Post
-  expand-item-enum-known-item-9 c = search needs
+  expand-item-enum-known-item-3 : expand-item-lts.Need-enum-known-item-3 (expand-item-callees t) (expand-item-at t) expand-item.Post
+  expand-item-enum-known-item-3 c = search needs
 
   expand-item-sub-expand-sum : expand-item-lts.Need-sub-expand-sum (expand-item-callees t) (expand-item-at t) expand-item.Post
   expand-item-sub-expand-sum c =
       let a = c .before .before .before .before .before .before .before .args in
-      let y = c .before .before .before .before .before .before .before .pre .1 .0 in
-      let w = c .before .before .before .before .before .before .before .pre .1 .1 in
-      let s = shown (a .text .now) (a .at) (a .depth) _ (c .before .before .before .item-at .ensures) (c .before .item9 .given .1) in
+      let s = shown (a .text .now) (a .at) (a .depth) _ (c .before .before .before .item-at .ensures) (c .before .item3 .given .1) in
       omega (arith, s .3)
 
   expand-item-expand-sum-requires : expand-item-lts.Need-expand-sum-requires (expand-item-callees t) (expand-item-at t) expand-item.Post
@@ -490,120 +333,88 @@ module _ (t : ℕ) where
       let a = c .before .before .before .before .before .before .before .before .before .args in
       let y = c .before .before .before .before .before .before .before .before .before .pre .1 .0 in
       let w = c .before .before .before .before .before .before .before .before .before .pre .1 .1 in
-      let s = shown (a .text .now) (a .at) (a .depth) _ (c .before .before .before .before .before .item-at .ensures) (c .before .before .before .item9 .given .1) in
-      (omega (arith, c .before .before .before .before .before .before .before .before .before .pre .0, s .1, s .2), (sum-ready (a .room) (a .text .now) (a .at) (a .mode) (a .depth) (markOf (a .mark)) (a .used) _ (a .vars .now) (a .have) y w (c .before .before .before .before .before .item-at .ensures) (c .before .before .before .item9 .given .1), w, y .few))
+      let s = shown (a .text .now) (a .at) (a .depth) _ (c .before .before .before .before .before .item-at .ensures) (c .before .before .before .item3 .given .1) in
+      (omega (arith, c .before .before .before .before .before .before .before .before .before .pre .0, s .1, s .2), (sum-ready (a .room) (a .text .now) (a .at) (a .mode) (a .depth) (markOf (a .mark)) (a .used) _ (a .vars .now) (a .have) y w (c .before .before .before .before .before .item-at .ensures) (c .before .before .before .item3 .given .1), w, y .few))
 
   expand-item-turn-from-requires-3 : expand-item-lts.Need-turn-from-requires-3 (expand-item-callees t) (expand-item-at t) expand-item.Post
   expand-item-turn-from-requires-3 c κs = search needs
 
-  expand-item-returns : expand-item-lts.Need-returns (expand-item-callees t) (expand-item-at t) expand-item.Post
-  expand-item-returns c =
-      let a = c .before .before .before .before .before .before .before .args in
-      let y = c .before .before .before .before .before .before .before .pre .1 .0 in
-      let w = c .before .before .before .before .before .before .before .pre .1 .1 in
-      item-fault (a .room) (a .text .now) (a .at) (a .mode) (a .depth) (markOf (a .mark)) (a .used) _ (a .vars .now) (a .have) y w (c .before .before .before .item-at .ensures) _ _ (c .before .item .given .1)
+  expand-item-slice-reshare-prefix-give-item : expand-item-lts.Need-slice-reshare-prefix-give-item (expand-item-callees t) (expand-item-at t) expand-item.Post
+  expand-item-slice-reshare-prefix-give-item c =
+      let w = c .before .before .before .before .before .pre .1 .1 in
+      w .inside
 
-  expand-item-returns-2 : expand-item-lts.Need-returns-2 (expand-item-callees t) (expand-item-at t) expand-item.Post
-  expand-item-returns-2 c =
+  expand-item-slice-aggregate-give-item : expand-item-lts.Need-slice-aggregate-give-item (expand-item-callees t) (expand-item-at t) expand-item.Post
+  expand-item-slice-aggregate-give-item c =
+      let a = c .before .before .before .before .before .before .args in
+      let w = c .before .before .before .before .before .before .pre .1 .1 in
+      sym (length-take-le (a .have) (a .vars .now) (w .inside))
+
+  expand-item-give-item-requires : expand-item-lts.Need-give-item-requires (expand-item-callees t) (expand-item-at t) expand-item.Post
+  expand-item-give-item-requires c κs =
       let a = c .before .before .before .before .before .before .before .args in
       let y = c .before .before .before .before .before .before .before .pre .1 .0 in
       let w = c .before .before .before .before .before .before .before .pre .1 .1 in
-      item-stop (a .room) (a .text .now) (a .at) (a .mode) (a .depth) (markOf (a .mark)) (a .used) _ (a .vars .now) (a .have) y w (c .before .before .before .item-at .ensures) _ (c .before .item2 .given .1)
+      (shown-within (a .text .now) (a .at) (a .depth) (c .before .before .before .item-at .result) _ (c .before .before .before .item-at .ensures), table-held (a .room) (a .vars .now) (a .have) w, y .few, omega (arith, y .area))
 
   expand-item-same-length : expand-item-lts.Need-same-length (expand-item-callees t) (expand-item-at t) expand-item.Post
   expand-item-same-length c =
-      omega (arith, c .before .before .before .give-unit .kept .1 .1 .1 .0)
-
-  expand-item-returns-3 : expand-item-lts.Need-returns-3 (expand-item-callees t) (expand-item-at t) expand-item.Post
-  expand-item-returns-3 c =
-      let a = c .before .before .before .before .before .before .before .before .before .before .before .before .before .args in
-      let y = c .before .before .before .before .before .before .before .before .before .before .before .before .before .pre .1 .0 in
-      let w = c .before .before .before .before .before .before .before .before .before .before .before .before .before .pre .1 .1 in
-      item-byte (a .room) (a .text .now) (a .at) (a .mode) (a .depth) (markOf (a .mark)) (a .used) _ (a .vars .now) (a .have) y w (c .before .before .before .before .before .before .before .before .before .item-at .ensures) (c .before .before .before .before .before .before .before .item3 .given .1) (markOf (c .before .before .before .before .before .literal-mark .result)) (c .before .before .before .before .before .literal-mark .ensures) _ (c .before .before .before .give-unit .result) (c .before .before .before .give-unit .ensures) (c .turn-of .ensures)
+      omega (arith, c .before .before .before .before .before .expand-quote .kept .1 .1 .1 .1 .1 .0)
 
   expand-item-same-length-2 : expand-item-lts.Need-same-length-2 (expand-item-callees t) (expand-item-at t) expand-item.Post
   expand-item-same-length-2 c =
-      omega (arith, c .before .before .before .give-unit2 .kept .1 .1 .1 .0)
-
-  expand-item-returns-4 : expand-item-lts.Need-returns-4 (expand-item-callees t) (expand-item-at t) expand-item.Post
-  expand-item-returns-4 c =
-      let a = c .before .before .before .before .before .before .before .before .before .before .before .before .args in
-      let y = c .before .before .before .before .before .before .before .before .before .before .before .before .pre .1 .0 in
-      let w = c .before .before .before .before .before .before .before .before .before .before .before .before .pre .1 .1 in
-      item-paren (a .room) (a .text .now) (a .at) (a .mode) (a .depth) (markOf (a .mark)) (a .used) _ (a .vars .now) (a .have) y w (c .before .before .before .before .before .before .before .before .item-at .ensures) (c .before .before .before .before .before .before .item4 .given .1) _ (c .before .before .before .give-unit2 .result) (c .before .before .before .give-unit2 .ensures) (c .turn-of2 .ensures)
-
-  expand-item-same-length-3 : expand-item-lts.Need-same-length-3 (expand-item-callees t) (expand-item-at t) expand-item.Post
-  expand-item-same-length-3 c =
-      omega (arith, c .before .before .before .before .before .expand-quote .kept .1 .1 .1 .1 .1 .0)
-
-  expand-item-same-length-4 : expand-item-lts.Need-same-length-4 (expand-item-callees t) (expand-item-at t) expand-item.Post
-  expand-item-same-length-4 c =
       omega (arith, c .before .before .before .before .before .expand-quote .kept .1 .1 .1 .1 .1 .1 .1 .1 .0)
 
-  expand-item-returns-5 : expand-item-lts.Need-returns-5 (expand-item-callees t) (expand-item-at t) expand-item.Post
-  expand-item-returns-5 c =
+  expand-item-returns : expand-item-lts.Need-returns (expand-item-callees t) (expand-item-at t) expand-item.Post
+  expand-item-returns c =
       let a = c .before .before .before .before .before .before .before .before .before .before .before .before .before .before .before .args in
       let y = c .before .before .before .before .before .before .before .before .before .before .before .before .before .before .before .pre .1 .0 in
       let w = c .before .before .before .before .before .before .before .before .before .before .before .before .before .before .before .pre .1 .1 in
-      item-quote (a .room) (a .text .now) (a .at) (a .mode) (a .depth) (markOf (a .mark)) (a .used) _ (a .vars .now) (a .have) y w (c .before .before .before .before .before .before .before .before .before .before .before .item-at .ensures) (c .before .before .before .before .before .before .before .before .before .item5 .given .1) _ _ _ (c .before .before .before .before .before .expand-quote .ensures) (c .turn-from .ensures)
+      item-quote (a .room) (a .text .now) (a .at) (a .mode) (a .depth) (markOf (a .mark)) (a .used) _ (a .vars .now) (a .have) y w (c .before .before .before .before .before .before .before .before .before .before .before .item-at .ensures) (c .before .before .before .before .before .before .before .before .before .item .given .1) _ _ _ (c .before .before .before .before .before .expand-quote .ensures) (c .turn-from .ensures)
+
+  expand-item-same-length-3 : expand-item-lts.Need-same-length-3 (expand-item-callees t) (expand-item-at t) expand-item.Post
+  expand-item-same-length-3 c =
+      omega (arith, c .before .before .before .before .before .expand-inner .kept .1 .1 .1 .1 .1 .1 .1 .1 .0)
+
+  expand-item-same-length-4 : expand-item-lts.Need-same-length-4 (expand-item-callees t) (expand-item-at t) expand-item.Post
+  expand-item-same-length-4 c =
+      omega (arith, c .before .before .before .before .before .expand-inner .kept .1 .1 .1 .1 .1 .1 .1 .1 .1 .1 .1 .0)
+
+  expand-item-returns-2 : expand-item-lts.Need-returns-2 (expand-item-callees t) (expand-item-at t) expand-item.Post
+  expand-item-returns-2 c =
+      let a = c .before .before .before .before .before .before .before .before .before .before .before .before .before .before .before .before .args in
+      let y = c .before .before .before .before .before .before .before .before .before .before .before .before .before .before .before .before .pre .1 .0 in
+      let w = c .before .before .before .before .before .before .before .before .before .before .before .before .before .before .before .before .pre .1 .1 in
+      item-inner (a .room) (a .text .now) (a .at) (a .mode) (a .depth) (markOf (a .mark)) (a .used) _ (a .vars .now) (a .have) y w (c .before .before .before .before .before .before .before .before .before .before .before .before .item-at .ensures) (c .before .before .before .before .before .before .before .before .before .before .item2 .given .1) _ _ _ (c .before .before .before .before .before .expand-inner .ensures) (c .turn-from2 .ensures)
 
   expand-item-same-length-5 : expand-item-lts.Need-same-length-5 (expand-item-callees t) (expand-item-at t) expand-item.Post
-  expand-item-same-length-5 c = search needs
+  expand-item-same-length-5 c =
+      omega (arith, c .before .before .before .before .before .expand-sum .kept .1 .1 .1 .1 .1 .0)
 
   expand-item-same-length-6 : expand-item-lts.Need-same-length-6 (expand-item-callees t) (expand-item-at t) expand-item.Post
   expand-item-same-length-6 c =
-      omega (arith, c .before .before .before .give-value .kept .1 .1 .1 .1 .0)
+      omega (arith, c .before .before .before .before .before .expand-sum .kept .1 .1 .1 .1 .1 .1 .1 .1 .0)
 
-  expand-item-returns-6 : expand-item-lts.Need-returns-6 (expand-item-callees t) (expand-item-at t) expand-item.Post
-  expand-item-returns-6 c =
-      let a = c .before .before .before .before .before .before .before .before .before .before .before .before .before .before .args in
-      let y = c .before .before .before .before .before .before .before .before .before .before .before .before .before .before .pre .1 .0 in
-      let w = c .before .before .before .before .before .before .before .before .before .before .before .before .before .before .pre .1 .1 in
-      item-value (a .room) (a .text .now) (a .at) (a .mode) (a .depth) (markOf (a .mark)) (a .used) _ (a .vars .now) (a .have) y w (c .before .before .before .before .before .before .before .before .before .before .item-at .ensures) (c .before .before .before .before .before .before .before .before .item6 .given .1) _ (c .before .before .before .give-value .result) (c .before .before .before .give-value .ensures) (c .turn-of3 .ensures)
+  expand-item-returns-3 : expand-item-lts.Need-returns-3 (expand-item-callees t) (expand-item-at t) expand-item.Post
+  expand-item-returns-3 c =
+      let a = c .before .before .before .before .before .before .before .before .before .before .before .before .before .before .before .args in
+      let y = c .before .before .before .before .before .before .before .before .before .before .before .before .before .before .before .pre .1 .0 in
+      let w = c .before .before .before .before .before .before .before .before .before .before .before .before .before .before .before .pre .1 .1 in
+      item-sum (a .room) (a .text .now) (a .at) (a .mode) (a .depth) (markOf (a .mark)) (a .used) _ (a .vars .now) (a .have) y w (c .before .before .before .before .before .before .before .before .before .before .before .item-at .ensures) (c .before .before .before .before .before .before .before .before .before .item3 .given .1) _ _ _ (c .before .before .before .before .before .expand-sum .ensures) (c .turn-from3 .ensures)
 
   expand-item-same-length-7 : expand-item-lts.Need-same-length-7 (expand-item-callees t) (expand-item-at t) expand-item.Post
   expand-item-same-length-7 c = search needs
 
   expand-item-same-length-8 : expand-item-lts.Need-same-length-8 (expand-item-callees t) (expand-item-at t) expand-item.Post
   expand-item-same-length-8 c =
-      omega (arith, c .before .before .before .give-length .kept .1 .1 .1 .1 .0)
+      omega (arith, c .before .before .give-item .kept .1 .1 .1 .1 .1 .1 .1 .1 .0)
 
-  expand-item-returns-7 : expand-item-lts.Need-returns-7 (expand-item-callees t) (expand-item-at t) expand-item.Post
-  expand-item-returns-7 c =
-      let a = c .before .before .before .before .before .before .before .before .before .before .before .before .before .before .args in
-      let y = c .before .before .before .before .before .before .before .before .before .before .before .before .before .before .pre .1 .0 in
-      let w = c .before .before .before .before .before .before .before .before .before .before .before .before .before .before .pre .1 .1 in
-      item-count (a .room) (a .text .now) (a .at) (a .mode) (a .depth) (markOf (a .mark)) (a .used) _ (a .vars .now) (a .have) y w (c .before .before .before .before .before .before .before .before .before .before .item-at .ensures) (c .before .before .before .before .before .before .before .before .item7 .given .1) _ (c .before .before .before .give-length .result) (c .before .before .before .give-length .ensures) (c .turn-of4 .ensures)
-
-  expand-item-same-length-9 : expand-item-lts.Need-same-length-9 (expand-item-callees t) (expand-item-at t) expand-item.Post
-  expand-item-same-length-9 c =
-      omega (arith, c .before .before .before .before .before .expand-inner .kept .1 .1 .1 .1 .1 .1 .1 .1 .0)
-
-  expand-item-same-length-10 : expand-item-lts.Need-same-length-10 (expand-item-callees t) (expand-item-at t) expand-item.Post
-  expand-item-same-length-10 c =
-      omega (arith, c .before .before .before .before .before .expand-inner .kept .1 .1 .1 .1 .1 .1 .1 .1 .1 .1 .1 .0)
-
-  expand-item-returns-8 : expand-item-lts.Need-returns-8 (expand-item-callees t) (expand-item-at t) expand-item.Post
-  expand-item-returns-8 c =
-      let a = c .before .before .before .before .before .before .before .before .before .before .before .before .before .before .before .before .args in
-      let y = c .before .before .before .before .before .before .before .before .before .before .before .before .before .before .before .before .pre .1 .0 in
-      let w = c .before .before .before .before .before .before .before .before .before .before .before .before .before .before .before .before .pre .1 .1 in
-      item-inner (a .room) (a .text .now) (a .at) (a .mode) (a .depth) (markOf (a .mark)) (a .used) _ (a .vars .now) (a .have) y w (c .before .before .before .before .before .before .before .before .before .before .before .before .item-at .ensures) (c .before .before .before .before .before .before .before .before .before .before .item8 .given .1) _ _ _ (c .before .before .before .before .before .expand-inner .ensures) (c .turn-from2 .ensures)
-
-  expand-item-same-length-11 : expand-item-lts.Need-same-length-11 (expand-item-callees t) (expand-item-at t) expand-item.Post
-  expand-item-same-length-11 c =
-      omega (arith, c .before .before .before .before .before .expand-sum .kept .1 .1 .1 .1 .1 .0)
-
-  expand-item-same-length-12 : expand-item-lts.Need-same-length-12 (expand-item-callees t) (expand-item-at t) expand-item.Post
-  expand-item-same-length-12 c =
-      omega (arith, c .before .before .before .before .before .expand-sum .kept .1 .1 .1 .1 .1 .1 .1 .1 .0)
-
-  expand-item-returns-9 : expand-item-lts.Need-returns-9 (expand-item-callees t) (expand-item-at t) expand-item.Post
-  expand-item-returns-9 c =
-      let a = c .before .before .before .before .before .before .before .before .before .before .before .before .before .before .before .args in
-      let y = c .before .before .before .before .before .before .before .before .before .before .before .before .before .before .before .pre .1 .0 in
-      let w = c .before .before .before .before .before .before .before .before .before .before .before .before .before .before .before .pre .1 .1 in
-      item-sum (a .room) (a .text .now) (a .at) (a .mode) (a .depth) (markOf (a .mark)) (a .used) _ (a .vars .now) (a .have) y w (c .before .before .before .before .before .before .before .before .before .before .before .item-at .ensures) (c .before .before .before .before .before .before .before .before .before .item9 .given .1) _ _ _ (c .before .before .before .before .before .expand-sum .ensures) (c .turn-from3 .ensures)
+  expand-item-returns-4 : expand-item-lts.Need-returns-4 (expand-item-callees t) (expand-item-at t) expand-item.Post
+  expand-item-returns-4 c =
+      let a = c .before .before .before .before .before .before .before .before .before .before .args in
+      let y = c .before .before .before .before .before .before .before .before .before .before .pre .1 .0 in
+      let w = c .before .before .before .before .before .before .before .before .before .before .pre .1 .1 in
+      item-given (a .room) (a .text .now) (a .at) (a .mode) (a .depth) (markOf (a .mark)) (a .used) _ (a .vars .now) (a .have) y w (c .before .before .before .before .before .before .item-at .result) (c .before .before .before .before .before .before .item-at .ensures) _ _ (c .before .before .before .before .before .match .keys4) (c .before .before .give-item .ensures)
 
 abbrev expand-quote-callees : ℕ → expand-quote-lts.Claims
 expand-quote-callees t = (put-empty-reads.Asked, put-empty-reads.Learnt, expand-text-below t, expand-text.Post)
@@ -947,67 +758,35 @@ pub +expand-inner+expand-item+expand-quote+expand-sum+expand-text-spec : {M : Ty
     expand-item.Post
     (expand-item-item-at-requires t)
     (expand-item-enum-known-item t)
-    (expand-item-enum-known-item-2 t)
-    (expand-item-enum-known-item-3 t)
-    (expand-item-literal-mark-requires t)
-    (expand-item-give-unit-requires t)
-    (expand-item-turn-of-requires t)
-    (expand-item-enum-known-item-4 t)
-    (expand-item-give-unit-requires-2 t)
-    (expand-item-add-turn-of t)
-    (expand-item-turn-of-requires-2 t)
-    (expand-item-enum-known-item-5 t)
     (expand-item-add-expand-quote t)
     (expand-item-expand-quote-requires t)
     (expand-item-turn-from-requires t)
-    (expand-item-enum-known-item-6 t)
-    (expand-item-sub-give-value t)
-    (expand-item-part-give-value-start t)
-    (expand-item-part-give-value-end t)
-    (expand-item-slice-reshare-prefix-give-value t)
-    (expand-item-slice-aggregate-give-value t)
-    (expand-item-give-value-requires t)
-    (expand-item-turn-of-requires-3 t)
-    (expand-item-enum-known-item-7 t)
-    (expand-item-sub-give-length t)
-    (expand-item-part-give-length-start t)
-    (expand-item-part-give-length-end t)
-    (expand-item-slice-reshare-prefix-give-length t)
-    (expand-item-slice-aggregate-give-length t)
-    (expand-item-give-length-requires t)
-    (expand-item-turn-of-requires-4 t)
-    (expand-item-enum-known-item-8 t)
+    (expand-item-enum-known-item-2 t)
     (expand-item-sub-expand-inner t)
     (expand-item-part-expand-inner-start t)
     (expand-item-part-expand-inner-end t)
     (expand-item-sub-expand-inner-2 t)
     (expand-item-expand-inner-requires t)
     (expand-item-turn-from-requires-2 t)
-    (expand-item-enum-known-item-9 t)
+    (expand-item-enum-known-item-3 t)
     (expand-item-sub-expand-sum t)
     (expand-item-expand-sum-requires t)
     (expand-item-turn-from-requires-3 t)
-    (expand-item-returns t)
-    (expand-item-returns-2 t)
+    (expand-item-slice-reshare-prefix-give-item t)
+    (expand-item-slice-aggregate-give-item t)
+    (expand-item-give-item-requires t)
     (expand-item-same-length t)
-    (expand-item-returns-3 t)
     (expand-item-same-length-2 t)
-    (expand-item-returns-4 t)
+    (expand-item-returns t)
     (expand-item-same-length-3 t)
     (expand-item-same-length-4 t)
-    (expand-item-returns-5 t)
+    (expand-item-returns-2 t)
     (expand-item-same-length-5 t)
     (expand-item-same-length-6 t)
-    (expand-item-returns-6 t)
+    (expand-item-returns-3 t)
     (expand-item-same-length-7 t)
     (expand-item-same-length-8 t)
-    (expand-item-returns-7 t)
-    (expand-item-same-length-9 t)
-    (expand-item-same-length-10 t)
-    (expand-item-returns-8 t)
-    (expand-item-same-length-11 t)
-    (expand-item-same-length-12 t)
-    (expand-item-returns-9 t))
+    (expand-item-returns-4 t))
     (λ t. expand-quote-lts.spec (expand-quote-callees t) (expand-quote-at t)
     expand-quote.Post
     (expand-quote-returns t)

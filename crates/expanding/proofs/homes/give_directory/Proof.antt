@@ -4,7 +4,7 @@ use Rattle.giving.proofs.Standing.{empty-front}
 use Rattle.expanding.proofs.Wording.{directory-wide, directory-given}
 use borrow.Author.Needs.{needs}
 use borrow.Rule.Slice.PartMut.{same-len-mid, mid-len}
-use lib.ListN.{length, drop}
+use lib.ListN.{length}
 use mathlib.Core.Path.{_∙_}
 use native.Mathlib.Omega.{arith}
 use Rattle.expanding.proofs.homes.give_directory.Statement.{statement}

@@ -1,12 +1,12 @@
 -- The length of the value that is found.
 use Rattle.giving.proofs.Fitting.{adds-marked}
 use Rattle.stages.specs.Bytes.{Text}
 use Rattle.stages.specs.Units.{decimal}
 use borrow.Author.Needs.{needs}
 use lib.ListN.{length}
 use mathlib.Core.Path.{refl, ap}
-use Rattle.giving.proofs.give_length.Statement.{statement}
-use Rattle.giving.proofs.give_length.Tie as tie
+use Rattle.turns.proofs.give_length.Statement.{statement}
+use Rattle.turns.proofs.give_length.Tie as tie
 
 value-of-requires : tie.Need-value-of-requires
 value-of-requires c κs = search needs

@@ -1,7 +1,7 @@
 -- By the cases of what was added.
 use borrow.Author.Needs.{needs}
-use Rattle.walking.proofs.turns.turn_of.Statement.{statement}
-use Rattle.walking.proofs.turns.turn_of.Tie as tie
+use Rattle.turns.proofs.turn_of.Statement.{statement}
+use Rattle.turns.proofs.turn_of.Tie as tie
 
 enum-known-added : tie.Need-enum-known-added
 enum-known-added c = search needs

@@ -1,7 +1,7 @@
 -- By the cases of the inner answer.
 use borrow.Author.Needs.{needs}
-use Rattle.walking.proofs.turns.turn_from.Statement.{statement}
-use Rattle.walking.proofs.turns.turn_from.Tie as tie
+use Rattle.walking.proofs.turn_from.Statement.{statement}
+use Rattle.walking.proofs.turn_from.Tie as tie
 
 enum-known-got : tie.Need-enum-known-got
 enum-known-got c = search needs

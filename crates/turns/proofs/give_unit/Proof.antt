@@ -1,9 +1,9 @@
 -- One unit fits behind fewer than 2,048.
 use native.Mathlib.Omega.{arith}
 use borrow.Author.Needs.{needs}
 use Rattle.giving.proofs.Fitting.{measured-full, fronted-fits}
-use Rattle.giving.proofs.give_unit.Statement.{statement}
-use Rattle.giving.proofs.give_unit.Tie as tie
+use Rattle.turns.proofs.give_unit.Statement.{statement}
+use Rattle.turns.proofs.give_unit.Tie as tie
 use mathlib.Core.Path.{refl}
 
 returns : tie.Need-returns

@@ -1,10 +1,10 @@
 -- The decimal text of a count is what its writer leaves at the front.
 use Rattle.giving.proofs.Fitting.{adds-marked, puts-front, puts-inside}
 use borrow.Author.Needs.{needs}
 use lib.Seq.{length-take-le}
 use mathlib.Core.Path.{sym}
-use Rattle.giving.proofs.give_count.Statement.{statement}
-use Rattle.giving.proofs.give_count.Tie as tie
+use Rattle.turns.proofs.give_count.Statement.{statement}
+use Rattle.turns.proofs.give_count.Tie as tie
 
 put-decimal-requires : tie.Need-put-decimal-requires
 put-decimal-requires c κs = search needs
