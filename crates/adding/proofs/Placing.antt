@@ -5,7 +5,7 @@ use mathlib.Core.Path.{_≡_, refl, sym, ap, _∙_}
 use mathlib.Core.Bool.{true, false}
 use mathlib.Core.List.{List, [], _∷_, _++_, append-assoc, append-nil}
 use lib.ListN.{length, take, drop, length-drop}
-use lib.Seq.{take-add, take-at}
+use lib.Seq.{take-add, take-at, length-take-le}
 use Rattle.stages.specs.Bytes.{Text, part}
 use Rattle.stages.specs.Images.{rising, framed, written, image, heldTexts}
 use Rattle.stages.proofs.Texts.{ltText-other}
@@ -107,7 +107,7 @@ module _ {t x : Text} {at : ℕ} (s : Walking t x at) where
       end-is = omega (arith, next .low, size)
         where
           size : length key ≡ end - (at + 2)
-          size = lib.Seq.length-take-le (end - (at + 2)) (drop (at + 2) t) (omega (arith, next .ahead .within, length-drop (at + 2) t))
+          size = length-take-le (end - (at + 2)) (drop (at + 2) t) (omega (arith, next .ahead .within, length-drop (at + 2) t))
 
       passes : take end t ≡ image (s .passed ++ (key ∷ []))
       passes =

@@ -10,6 +10,7 @@ use lib.Dec.{leb}
 use lib.ListN.{length, take, drop}
 use borrow.Author.Tests.{leb-true, le-leb}
 use Rattle.stages.specs.Bytes.{Text, all, notZero, isLoginByte, ltText}
+use Rattle.stages.specs.Outcome.{pick}
 use Rattle.stages.specs.Images.{Pairs, isName, isLogin, notEmpty, keys, allTexts, rising, recordBytes, imageLength, lookup, stored}
 use Rattle.stages.proofs.Bools.{no, clash, either, and-left}
 use Rattle.stages.proofs.Texts.{all-weaker}
@@ -22,7 +23,8 @@ use Rattle.escapes.specs.Escapes.{Reading, bad, good, readText, upTo}
 use Rattle.entering.specs.Records.{alone, textsBy, limitBy}
 use Rattle.entering.specs.Entries.{Entry, faulty, entry, valued, pairOf, pathOf, entryOf, stop, go, entered}
 use Rattle.escapes.specs.declared.Fault.{Fault}
-use Rattle.escapes.proofs.Escaping.{read-fine}
+use Rattle.escapes.specs.declared.Fault.the-variants.{NoKey}
+use Rattle.escapes.proofs.Passing.{read-fine}
 
 -- the test of a kind's keys
 abbrev pub keyTest : Kind → Text → Bool
@@ -157,7 +159,7 @@ pub pair-of : (kind : Kind) (line k t : Text) → pairOf kind line ≡ entry k t
 unfolding pairOf
 pair-of kind line k t e = either (leb (length line) (upTo 61 line)) (λ d. absurd (faulty-entry (rw d at e))) (λ d. by-key (rw d at e))
   where
-    by-key : Rattle.stages.specs.Outcome.pick (keyFits kind [] (take (upTo 61 line) line)) (valued (take (upTo 61 line) line) (readText (drop (suc (upTo 61 line)) line))) (faulty Rattle.escapes.specs.declared.Fault.the-variants.NoKey)
+    by-key : pick (keyFits kind [] (take (upTo 61 line) line)) (valued (take (upTo 61 line) line) (readText (drop (suc (upTo 61 line)) line))) (faulty NoKey)
         ≡ entry k t → Pair kind line k t
     by-key e =
         either (keyFits kind [] (take (upTo 61 line) line))

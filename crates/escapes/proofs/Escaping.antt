@@ -4,7 +4,7 @@ use native.Mathlib.Omega.{arith}
 use native.Mathlib.Numerals.{add-one}
 use mathlib.Core.Path.{_≡_, refl, sym, ap, _∙_}
 use mathlib.Core.Bool.{Bool, true, false}
-use mathlib.Core.List.{List, [], _∷_, _++_, append-nil}
+use mathlib.Core.List.{[], _∷_, _++_}
 use lib.Dec.{eqb, ltb}
 use lib.ListN.{length, drop, getD, set, length-append, length-drop, drop-of-length-le}
 use lib.Seq.{drop-cons, drop-drop, getD-drop}
@@ -16,12 +16,11 @@ use Rattle.stages.specs.Outcome.{pick}
 use Rattle.stages.specs.Call.{over}
 use Rattle.texts.specs.Putting.{Puts}
 use Rattle.texts.proofs.Filling.{Filling, fill-byte, fill-ends}
-use Rattle.escapes.specs.Escapes.{hexValue, hexByte, escapeOf, byteOf, byteAt, Reading, bad, good, before, readOn, readFrom, readText, Reads, reads, fails, upTo}
+use Rattle.escapes.specs.Escapes.{hexValue, hexByte, escapeOf, byteAt, Reading, bad, good, before, readOn, readFrom, readText, Reads, reads, fails, upTo}
 use Rattle.escapes.specs.declared.Fault.{Fault}
 use Rattle.escapes.specs.declared.Fault.the-variants.{BadEscape, ZeroByte}
 use Rattle.escapes.specs.declared.Byte.{Byte}
 use Rattle.escapes.specs.declared.Byte.the-variants.{Bad, Is}
-use Rattle.escapes.specs.declared.Read.{Read}
 use Rattle.escapes.specs.declared.Read.the-variants as read
 
 -- `hex_value`
@@ -181,12 +180,6 @@ from-at : (t : Text) (i : ℕ) → i < length t → readFrom 0 (drop i t) ≡ re
 unfolding readFrom
 from-at t i h = rw (← byte-drop t i, drop-cons t i 0 h)
 
-good-same : {t u : Text} → good t ≡ good u → t ≡ u
-good-same e = cc
-
-bad-good : {f : Fault} {u t : Text} → bad f u ≡ good t → ⊥
-bad-good e = let z : _≡_ {A = ℕ} 0 1 = cc in omega arith
-
 -- a text in front of what is read behind it
 abbrev onto : Text → Reading → Reading
 onto [] r = r
@@ -203,29 +196,6 @@ onto-good (b ∷ t) = rw (onto-good t)
 onto-byte : (t : Text) (b : ℕ) (r : Reading) → onto (t ++ (b ∷ [])) r ≡ onto t (before b r)
 onto-byte [] b r = refl
 onto-byte (c ∷ t) b r = rw (onto-byte t b r)
-
--- what is read passes a test that each of its bytes passes
-module _ (f : ℕ → Bool) (Q : Text → Type 0) (later : (b : ℕ) (t : Text) → Q (b ∷ t) → Q t)
-    (passes : (b : ℕ) (t : Text) (c k : ℕ) → Q (b ∷ t) → byteAt (b ∷ t) 0 ≡ Is c k → f c ≡ true) where
-  pub from-all : (k : ℕ) (t u : Text) → Q t → readFrom k t ≡ good u → all f u ≡ true
-  unfolding readFrom
-  from-all k [] u q e = rw (← good-same e) refl
-  from-all (suc k) (b ∷ t) u q e = from-all k t u (later b t q) e
-  from-all zero (b ∷ t) u q e = by-byte (λ k w d. from-all k t w (later b t q) d) (byteAt (b ∷ t) 0) refl e
-    where
-      by-rest : (c : ℕ) (r : Reading) → f c ≡ true → ((w : Text) → r ≡ good w → all f w ≡ true) → before c r ≡ good u → all f u ≡ true
-      by-rest c (bad g w) h ih d = absurd (bad-good d)
-      by-rest c (good w) h ih d = rw (← good-same d) (and-both h (ih w refl))
-
-      by-byte : ((k : ℕ) (w : Text) → readFrom k t ≡ good w → all f w ≡ true) → (y : Byte) → byteAt (b ∷ t) 0 ≡ y → readOn y (λ k. readFrom k t) ≡ good u
-          → all f u ≡ true
-      by-byte ih (Bad g) d e = absurd (bad-good e)
-      by-byte ih (Is c k) d e = by-rest c (readFrom k t) (passes b t c k q d) (ih k) e
-
-pub read-fine : (t u : Text) → readText t ≡ good u → all notZero u ≡ true
-unfolding readText
-read-fine t u e =
-    from-all notZero (λ _. Unit {0}) (λ _ _ _. tt) (λ b t c k _ d. le-leb 1 c (is-within (b ∷ t) 0 c k (Is c k) (omega arith) (sym d) refl .1)) 0 t u tt e
 
 -- the bytes before i are read and stand in the buffer
 pub record Front (t old out : Text) (used i : ℕ) : Type 0 where

@@ -1,3 +1,4 @@
 pub mod Escaping
+pub mod Passing
 pub mod Again
 pub mod Determined

@@ -1,4 +1,5 @@
 pub mod Going
 pub mod Determined
 pub mod Shown
+pub mod Smalls
 pub mod Rounds

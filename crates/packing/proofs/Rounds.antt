@@ -1,22 +1,21 @@
 -- Packing and showing again gives the same records: a table that is shown and packed is the same table, and the records of lines that are packed are
 -- shown as lines that are packed to them. Assumes nothing.
-use Prim.Native.Nat.{ℕ, zero, suc, _+_, _-_, _*_, _≤_}
+use Prim.Native.Nat.{ℕ, suc, _+_, _-_, _≤_}
 use native.Mathlib.Omega.{arith}
 use mathlib.Core.Path.{_≡_, refl, sym, ap, _∙_}
 use mathlib.Core.Bool.{Bool, true, false}
 use mathlib.Core.List.{List, [], _∷_, _++_, append-assoc, append-nil}
 use mathlib.Core.Option.{none, some}
-use lib.Dec.{eqb, ltb}
-use lib.ListN.{length, drop, getD}
-use borrow.Author.Tests.{ltb-true, ltb-false, lt-ltb, le-leb}
-use Rattle.stages.specs.Bytes.{Text, all, eqText, ltText}
-use Rattle.stages.specs.Images.{Pairs, textsIn, texts, isName, isLogin, notEmpty, keys, allTexts, rising, flat, image, imageLength, lookup, stored, held, heldTexts}
+use lib.ListN.{length, drop}
+use borrow.Author.Tests.{le-leb}
+use Rattle.stages.specs.Bytes.{Text, eqText, ltText}
+use Rattle.stages.specs.Images.{Pairs, texts, isName, isLogin, notEmpty, keys, allTexts, rising, flat, image, imageLength, lookup, stored, held, heldTexts}
 use Rattle.stages.specs.Call.{over}
-use Rattle.stages.specs.Program.{longerLine, linesOf}
-use Rattle.stages.proofs.Bools.{no, apart, either, and-left, and-right, and-both}
+use Rattle.stages.specs.Program.{linesOf}
+use Rattle.stages.proofs.Bools.{no, apart, either, and-left, and-right}
 use Rattle.stages.proofs.Texts.{all-take, all-drop, ltText-trans, ltText-asym}
 use Rattle.stages.proofs.Outcomes.{Each}
-use Rattle.stages.proofs.Images.{Bytes, Fine, by-texts, texts-inside, image-canonical, heldTexts-texts, heldTexts-image, pairsOf-some, recordBytes-append, flat-append}
+use Rattle.stages.proofs.Images.{Bytes, Fine, image-canonical, heldTexts-texts, heldTexts-image, pairsOf-some, recordBytes-append, flat-append}
 use Rattle.stages.proofs.Tables.{Vars, Homes, Paths, is-some, table-fine, table-length, table-image, vars-of, variables-are, homes-of, homes-are, paths-of, paths-are, paths-image, texts-held-fine, texts-held-length}
 use Rattle.stages.proofs.Stores.{store-cases, store-later, lookup-later, rising-tail}
 use Rattle.tables.specs.Kinds.{inTwos, wellFormed}
@@ -24,89 +23,17 @@ use Rattle.tables.specs.declared.Kind.{Kind}
 use Rattle.tables.specs.declared.Kind.the-variants as kinds
 use Rattle.tables.proofs.Splits.{equal-not-above}
 use Rattle.tabling.specs.Lines.{shownOf, showing}
-use Rattle.escapes.specs.Escapes.{hexValue, hexByte, escapeOf, byteAt, good, readText}
+use Rattle.escapes.specs.Escapes.{good, readText}
 use Rattle.entering.specs.Records.{alone, textsBy, recordsBy, limitBy}
 use Rattle.entering.specs.Entries.{Entry, faulty, entry, entryOf, Step, stop, go, entered}
 use Rattle.packing.specs.Packings.{Packing, whole, fault, packOn, packed, Packs, packs}
 use Rattle.escapes.specs.declared.Fault.{Fault}
-use Rattle.escapes.specs.declared.Byte.{Byte}
-use Rattle.escapes.specs.declared.Byte.the-variants.{Bad, Is}
 use Rattle.packing.specs.declared.Packed.{Packed}
 use Rattle.packing.specs.declared.Packed.the-variants as told
-use Rattle.escapes.proofs.Escaping.{by-pick, from-all}
 use Rattle.entering.proofs.Sounds.{keyTest, Bare, Sound, sound-none, keys-alone, bare-tail, Pair, pair-of, path-of, Goes, goes-of, stop-go, entered-faulty, faulty-entry, kept}
 use Rattle.packing.proofs.Shown.{linesBy, lines-shown, Fit, keyed, line-again}
 use Rattle.packing.proofs.Determined.{pack-determined}
-
--- BYTES: what is read, cut into lines and packed from bytes is bytes
-
-abbrev isByte : ℕ → Bool
-isByte b = ltb b 256
-
-abbrev Small : Text → Type 0
-Small t = all isByte t ≡ true
-
-small-of : (t : Text) → Bytes t → Small t
-small-of [] h = refl
-small-of (b ∷ t) h = and-both (lt-ltb b 256 (h 0)) (small-of t (λ i. h (suc i)))
-
-bytes-of : (t : Text) → Small t → Bytes t
-bytes-of [] e i = omega arith
-bytes-of (b ∷ t) e zero = ltb-true b 256 (and-left (isByte b) (all isByte t) e)
-bytes-of (b ∷ t) e (suc i) = bytes-of t (and-right (isByte b) (all isByte t) e) i
-
-abbrev Lesser : Byte → Type 0
-Lesser (Bad f) = Unit {0}
-Lesser (Is b k) = isByte b ≡ true
-
-hex-lesser : (h l : ℕ) → Lesser (hexByte h l)
-hex-lesser h l =
-    by-pick Lesser (ltb 15 h) _ _ (λ _. tt)
-    (λ e. by-pick Lesser (ltb 15 l) _ _ (λ _. tt)
-    (λ d. by-pick Lesser (eqb (h * 16 + l) 0) _ _ (λ _. tt) (λ _. lt-ltb (h * 16 + l) 256 (omega (arith, ltb-false 15 h e, ltb-false 15 l d)))))
-
-escape-lesser : (n c h l : ℕ) → Lesser (escapeOf n c h l)
-escape-lesser n c h l =
-    by-pick Lesser (ltb n 2) _ _ (λ _. tt)
-    (λ _. by-pick Lesser (eqb c 110) _ _ (λ _. refl)
-    (λ _. by-pick Lesser (eqb c 92) _ _ (λ _. refl)
-    (λ _. by-pick Lesser (eqb c 120) _ _ (λ _. by-pick Lesser (ltb n 4) _ _ (λ _. tt) (λ _. hex-lesser (hexValue h) (hexValue l))) (λ _. tt))))
-
-byte-lesser : (b : ℕ) (t : Text) → isByte b ≡ true → Lesser (byteAt (b ∷ t) 0)
-unfolding byteAt
-byte-lesser b t e =
-    by-pick Lesser (eqb b 0) _ _ (λ _. tt)
-    (λ _. by-pick Lesser (eqb b 92) _ _ (λ _. escape-lesser (length (b ∷ t) - 0) (getD (b ∷ t) 1 0) (getD (b ∷ t) 2 0) (getD (b ∷ t) 3 0)) (λ _. e))
-
-read-small : (t u : Text) → Small t → readText t ≡ good u → Small u
-unfolding readText
-read-small t u h e =
-    from-all isByte Small (λ b t d. and-right (isByte b) (all isByte t) d)
-    (λ b t c k d q. rw q at (byte-lesser b t (and-left (isByte b) (all isByte t) d))) 0 t u h e
-
-longer-small : (b : ℕ) (l : List Text) → isByte b ≡ true → Each Small l → Each Small (longerLine b l)
-unfolding longerLine
-longer-small b [] h e = (and-both h refl, tt)
-longer-small b (t ∷ l) h e = (and-both h (e .0), e .1)
-
-lines-small : (t : Text) → Small t → Each Small (linesOf t)
-unfolding linesOf
-lines-small [] h = tt
-lines-small (b ∷ t) h =
-    either (eqb b 10) (λ e. rw (e, linesOf) (refl, lines-small t (and-right (isByte b) (all isByte t) h)))
-    (λ e. rw (e, linesOf) (longer-small b (linesOf t) (and-left (isByte b) (all isByte t) h) (lines-small t (and-right (isByte b) (all isByte t) h))))
-
--- the texts of an image of bytes
-texts-small : (t : Text) (l : List Text) → textsIn t ≡ some l → Small t → Each Small l
-texts-small t l e =
-    by-texts (λ (t : Text) (l : List Text). Small t → Each Small l) (λ _. tt)
-    (λ a b u m w ih h. (all-take isByte (a * 256 + b) u (inside a b u h), ih (all-drop isByte (a * 256 + b) u (inside a b u h)))) t l e
-  where
-    inside : (a b : ℕ) (u : Text) → Small (a ∷ b ∷ u) → Small u
-    inside a b u h = and-right (isByte b) (all isByte u) (and-right (isByte a) (all isByte (b ∷ u)) h)
-
-image-small : (t : Text) (l : List Text) → Bytes t → texts t ≡ some l → Each Small l
-image-small t l h e = texts-small (drop 1 t) l (texts-inside t l e .1) (all-drop isByte 1 t (small-of t h))
+use Rattle.packing.proofs.Smalls.{isByte, Small, small-of, bytes-of, read-small, lines-small, image-small}
 
 -- RECORDS: those that are sound fit their lines
 
