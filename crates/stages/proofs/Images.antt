@@ -20,6 +20,12 @@ use Rattle.stages.proofs.Bools.{clash, some-same, either, and-left, and
 abbrev pub Bytes : Text → Type 0
 Bytes t = (i : ℕ) → getD t i 0 < 256
 
+pub bytes-take : (n : ℕ) (t : Text) → Bytes t → Bytes (take n t)
+bytes-take zero t b i = omega arith
+bytes-take (suc n) [] b i = omega arith
+bytes-take (suc n) (c ∷ t) b zero = b 0
+bytes-take (suc n) (c ∷ t) b (suc i) = bytes-take n t (λ j. b (suc j)) i
+
 -- texts that an image may hold: none has a zero byte
 abbrev pub Fine : List Text → Type 0
 Fine [] = Unit {0}
