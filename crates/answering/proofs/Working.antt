@@ -15,14 +15,13 @@ use Rattle.stages.specs.Images.{isName, isSome, held, image, variables}
 use Rattle.stages.specs.Syntax.{Word}
 use Rattle.stages.specs.Line.{Around, expandWords}
 use Rattle.stages.specs.Call.{Given, over}
-use Rattle.stages.proofs.Images.{Bytes}
+use Rattle.stages.proofs.Images.{Bytes, bytes-take}
 use Rattle.stages.proofs.Tables.{vars-of, table-canonical}
 use Rattle.stages.proofs.Outcomes.{SafeAt, early, refusesAt, givesAt}
 use Rattle.stages.proofs.SafeLines.{Ready}
 use Rattle.stages.proofs.Answers.{over-front, expanded-safe}
 use Rattle.lines.specs.Answers.{lineOutcome, LineReady, IsLine, LineSays}
 use Rattle.lines.specs.Answers as line-answers
-use Rattle.lines.proofs.Determined.{bytes-take}
 use Rattle.lines.specs.declared.LineExpanded.{LineExpanded}
 use Rattle.lines.specs.declared.LineExpanded.the-variants as line
 use Rattle.checking.specs.Calls.{answerOf, roomOf, worked}

@@ -12,7 +12,7 @@ use Rattle.modes.specs.Modes.{modeOf, formOf}
 use Rattle.braces.specs.Shows.{Shows, Name, nameOf}
 use Rattle.braces.specs.declared.Item.{Item}
 use Rattle.braces.specs.declared.Item.the-variants.{Fault, Stop, Byte, Paren, Quote, Value, Count, Inner, Sum}
-use Rattle.braces.proofs.Showing.{part-length}
+use Rattle.texts.proofs.Parts.{part-length}
 
 abbrev itemBack : ℕ → items.Item → Item
 itemBack at (fault e) = Fault e

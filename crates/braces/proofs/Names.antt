@@ -17,7 +17,8 @@ use Rattle.stages.specs.Items.{wrong, braced, named, behindName, behindColon, b
 use Rattle.texts.specs.Classes.{Runs}
 use Rattle.texts.specs.declared.Class.the-variants.{NameByte}
 use Rattle.braces.specs.Shows.{Behind, isAt, counted}
-use Rattle.braces.proofs.Showing.{wrong-byte, part-length}
+use Rattle.texts.proofs.Parts.{part-length}
+use Rattle.braces.proofs.Showing.{wrong-byte}
 
 -- Behind `${name:`.
 

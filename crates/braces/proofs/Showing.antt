@@ -65,9 +65,6 @@ pub wrong-byte : (n b : ℕ) (t u : Text) {e : ℕ} → wrong n (b ∷ u) ≡ fa
 unfolding wrong
 wrong-byte n b t u h = h
 
-pub part-length : (s : Text) (from to : ℕ) → from ≤ to → to ≤ length s → length (part s from to) ≡ to - from
-part-length s from to a b = simp (length-take, length-drop) (omega arith)
-
 -- A byte at a place.
 
 pub at-none : (b : ℕ) (t : Text) (i : ℕ) → length t ≤ i → false ≡ isAt b (drop i t)

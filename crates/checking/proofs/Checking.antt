@@ -2,7 +2,7 @@
 use Prim.Native.Nat.{ℕ, zero, suc, _+_, _≤_, _<_}
 use native.Mathlib.Omega.{arith}
 use mathlib.Core.Path.{_≡_, refl, sym, ap, _∙_, subst}
-use mathlib.Core.Bool.{Bool, true, false, _&&_}
+use mathlib.Core.Bool.{Bool, true, false, _&&_, and-false}
 use mathlib.Core.List.{List, [], _∷_, _++_}
 use mathlib.Core.Option.{Option, none, some}
 use lib.Dec.{leb, eqb·zero-suc}
@@ -17,7 +17,7 @@ use Rattle.stages.specs.Read.{readLine}
 use Rattle.stages.specs.Line.{Around, Fields, outFits, wordFields, expandWords, expandLine}
 use Rattle.stages.specs.Call.{Given, orRefused, expanded}
 use Rattle.stages.proofs.Bools.{no, apart, and-right}
-use Rattle.stages.proofs.Tables.{vars-of, variables-are, homes-of, homes-are, paths-of, paths-are}
+use Rattle.stages.proofs.Tables.{none-of, vars-of, variables-are, homes-of, homes-are, paths-of, paths-are}
 use Rattle.stages.proofs.Safe.{NoZero}
 use Rattle.stages.proofs.SafeLines.{no-zero}
 use Rattle.reading.specs.Says.{verdictOf}
@@ -28,10 +28,6 @@ use Rattle.checking.specs.Checks.{roomIn, among, Tabled, Passed, Stopped
 use Rattle.checking.specs.declared.Job.{Job}
 use Rattle.checking.specs.declared.Checked.{Checked}
 use Rattle.checking.specs.declared.Checked.the-variants.{Fine, Refused}
-
-none-of : {A : Type 0} (o : Option A) → isSome o ≡ false → o ≡ none
-none-of none e = refl
-none-of (some a) e = absurd (no (sym e))
 
 -- a line that 6 refuses
 zero-in : (t : Text) → isIn 0 t ≡ true → NoZero t → ⊥
@@ -128,10 +124,6 @@ module _ (job : Job) (g : Given) (t : Tabled g) where
 
 abbrev capped : ℕ → ℕ
 capped out = pick (leb out imageLimit) out imageLimit
-
-and-false : (b : Bool) → (b && false) ≡ false
-and-false true = refl
-and-false false = refl
 
 capped-by : (n out : ℕ) (x y : Bool) → leb out imageLimit ≡ x → leb n imageLimit ≡ y → (leb n out && y) ≡ (leb n (pick x out imageLimit) && y)
 capped-by n out true y d e = refl

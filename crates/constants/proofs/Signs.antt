@@ -18,7 +18,7 @@ use Rattle.stages.specs.Outcome.{Outcome, refused, done, choose}
 use Rattle.stages.specs.Constants.{inBase, behindZero, constant, number, ranged, valued, minusOf}
 use Rattle.stages.proofs.Bools.{between-true}
 use Rattle.numbers.specs.Answers.{ofSign}
-use Rattle.numbers.proofs.Ranges.{overflow}
+use Rattle.numbers.proofs.Ranges.{overflow, sign-mag}
 use Rattle.constants.specs.Answers.{within}
 use Rattle.constants.proofs.Digits.{under, over-it}
 
@@ -87,11 +87,6 @@ other-first limit (b ∷ t) n z (inr h) = rw (ne-eqb b 48 z, over-it 49 b 57 h)
 
 -- a constant with its sign: one that passed 2^63 is out of range with either
 
-far : (below : Bool) (n : ℕ) → 2 ^ 63 < n → 2 ^ 63 ≤ mag (ofSign below n)
-far true zero h = omega arith
-far true (suc n) h = omega arith
-far false n h = omega arith
-
 module _ (below : Bool) where
   pub sign-refused : (o : Option ℕ) (e : ℕ) → refused e ≡ within (2 ^ 63) o → refused e ≡ number (ofSign below) o
   unfolding number within
@@ -103,7 +98,7 @@ module _ (below : Bool) where
       go false q =
           let w : _≡_ {A = Outcome ℕ} (refused e) (refused numbers.overflow) = rw (q, within) at h in
           let s : e ≡ numbers.overflow = cc in
-          rw s (overflow (ofSign below n) (far below n (leb-false n (2 ^ 63) q)))
+          rw s (overflow (ofSign below n) (sign-mag below n (leb-false n (2 ^ 63) q)))
 
   pub sign-given : (o : Option ℕ) (n : ℕ) → done n ≡ within (2 ^ 63) o → ranged (ofSign below n) ≡ number (ofSign below) o
   unfolding number within

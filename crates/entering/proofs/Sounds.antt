@@ -49,13 +49,13 @@ bare-none : (two : Bool) → Bare two []
 bare-none true = tt
 bare-none false = refl
 
-none-texts : (two : Bool) → textsBy two [] ≡ []
+pub none-texts : (two : Bool) → textsBy two [] ≡ []
 none-texts true = refl
 none-texts false = refl
 
-none-small : (two : Bool) → 1 ≤ limitBy two
-none-small true = omega arith
-none-small false = omega arith
+pub limit-some : (two : Bool) → 1 ≤ limitBy two
+limit-some true = omega arith
+limit-some false = omega arith
 
 pub sound-none : (kind : Kind) → Sound kind []
 unfolding rising imageLength recordBytes
@@ -64,7 +64,7 @@ sound-none kind = record {
   passes = refl;
   rises = refl;
   bare = bare-none (inTwos kind);
-  small = rw (none-texts (inTwos kind)) (none-small (inTwos kind));
+  small = rw (none-texts (inTwos kind)) (limit-some (inTwos kind));
 }
 
 -- keys alone

@@ -14,9 +14,11 @@ use Rattle.stages.specs.Units.{cell, N, Row, bytes}
 use Rattle.stages.specs.Pattern.{Element, signs, elements, hasClass, pattern}
 use Rattle.stages.specs.Paths.{chosen, active, pathsFor}
 use Rattle.stages.proofs.Images.{recordBytes-append}
+use Rattle.stages.proofs.Outcomes.{done-same, never}
 use Rattle.texts.specs.Rows.{rowOf, signsOf}
 use Rattle.signs.specs.Kept.{withoutEmpty, kept, Dropped}
-use Rattle.signs.proofs.Keeping.{kept-fits, kept-signs, row-of-bytes}
+use Rattle.texts.proofs.Rows.{rowOf-rowBytes}
+use Rattle.signs.proofs.Keeping.{kept-fits, kept-signs}
 use Rattle.paths.specs.Chosen.{textsFrom, Walks, pathElements, Shows, nothing, path, NextSays}
 use Rattle.paths.specs.declared.Next.{Next}
 use Rattle.paths.specs.declared.Next.the-variants.{Path, Nothing}
@@ -26,7 +28,7 @@ use Rattle.fields.specs.Fields.{fieldTexts, Listed}
 use Rattle.fields.specs.declared.Written.{Written}
 use Rattle.fields.specs.declared.Written.the-variants.{Len, Class, NoRoom}
 use Rattle.fields.proofs.Placing.{placed-none}
-use Rattle.fields.proofs.Filling.{Filled, filled-start, filled-length, filled-then, Given, Lacks, says-len, says-class, says-full, says-filled, done-same, apart}
+use Rattle.fields.proofs.Filling.{Filled, filled-start, filled-length, filled-then, Given, Lacks, says-len, says-class, says-full, says-filled}
 
 -- `put_paths`
 
@@ -99,7 +101,7 @@ module _ {p t : Text} {used : ℕ} {old : Text} {at n : ℕ} {out : Text} (g : C
           noRoom all refl (omega (arith, d .short, k, c, b, g .filled .long, filled-length (g .filled)))
 
       pub choosing-class : r ≡ Class → ⊥
-      choosing-class e = apart (says-class s e)
+      choosing-class e = never (says-class s e)
 
 -- `put_paths_or_own`: the field's units are its pattern
 
@@ -165,7 +167,7 @@ module _ (paths : List Text) (r : Row) (p : List Element) {used : ℕ} {old afte
         noRoom (d .texts) (ap done (paths-some paths r p e (d .texts) (done-same (d .gives)) (some-bytes (d .texts) (omega (arith, d .short))))) (d .short)
 
     pub paths-class : w ≡ Class → ⊥
-    paths-class l = apart (says-class s l)
+    paths-class l = never (says-class s l)
 
 -- `put_field`: N vanishes first, which neither patterns nor a field's bytes see
 
@@ -177,7 +179,7 @@ bytes-without (N ∷ r) = bytes-without r
 
 bytes-kept : (t : Text) → bytes (rowOf (kept t)) ≡ bytes (rowOf t)
 unfolding kept
-bytes-kept t = ap bytes (row-of-bytes (withoutEmpty (rowOf t))) ∙ bytes-without (rowOf t)
+bytes-kept t = ap bytes (rowOf-rowBytes (withoutEmpty (rowOf t))) ∙ bytes-without (rowOf t)
 
 paths-bytes : (paths : List Text) (p : List Element) (r s : Row) → bytes r ≡ bytes s → pathsFor paths r p ≡ pathsFor paths s p
 unfolding pathsFor

@@ -8,11 +8,12 @@ use Rattle.stages.specs.Numbers.{bracketClass, outputRoom}
 use Rattle.stages.specs.Bytes.{Text}
 use Rattle.stages.specs.Outcome.{Outcome, refused}
 use Rattle.stages.specs.Images.{written}
+use Rattle.stages.proofs.Outcomes.{done-same, never}
 use Rattle.fields.specs.Answers.{writtenOutcome, placed, Says}
 use Rattle.fields.specs.declared.Written.{Written}
 use Rattle.fields.specs.declared.Written.the-variants.{Len, Class, NoRoom}
 use Rattle.fields.proofs.Placing.{says-answers}
-use Rattle.fields.proofs.Filling.{Given, says-len, done-same, apart}
+use Rattle.fields.proofs.Filling.{Given, says-len}
 
 other-number : _≡_ {A = Outcome ℕ} (refused bracketClass) (refused outputRoom) → ⊥
 other-number e = let n : bracketClass ≡ outputRoom = cc in omega arith
@@ -20,12 +21,12 @@ other-number e = let n : bracketClass ≡ outputRoom = cc in omega arith
 -- one outcome is that of one answer
 written-one : (r s : Written) → writtenOutcome r ≡ writtenOutcome s → r ≡ s
 written-one (Len n) (Len m) e = ap Len (done-same e)
-written-one (Len n) Class e = absurd (apart e)
-written-one (Len n) NoRoom e = absurd (apart e)
-written-one Class (Len m) e = absurd (apart (sym e))
+written-one (Len n) Class e = absurd (never e)
+written-one (Len n) NoRoom e = absurd (never e)
+written-one Class (Len m) e = absurd (never (sym e))
 written-one Class Class e = refl
 written-one Class NoRoom e = absurd (other-number e)
-written-one NoRoom (Len m) e = absurd (apart (sym e))
+written-one NoRoom (Len m) e = absurd (never (sym e))
 written-one NoRoom Class e = absurd (other-number (sym e))
 written-one NoRoom NoRoom e = refl
 

@@ -79,9 +79,3 @@ module _ {o : Outcome (List Text)} {used : ℕ} {old left : Text} {r : Written} 
 
 pub says-filled : {o : Outcome (List Text)} {used : ℕ} {old : Text} {l : List Text} {n : ℕ} {out : Text} → o ≡ done l → Filled used old l n out → Says o used old out (Len n)
 says-filled {o} {used} {old} {l} {n} e f = len {n = n} l e (f .long) (f .room) (f .is)
-
-pub done-same : {A : Type 0} {a b : A} → done a ≡ done b → a ≡ b
-done-same e = cc
-
-pub apart : {A : Type 0} {a : A} {k : ℕ} → done a ≡ refused k → ⊥
-apart e = let z : _≡_ {A = ℕ} 0 1 = cc in omega arith

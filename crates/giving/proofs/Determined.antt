@@ -56,7 +56,7 @@ going-on-determined a next have r s = one-answer
 
 -- A text that is expanded.
 
-have-is : (room : ℕ) (vars : Text) (have : ℕ) → Holds room vars have → have ≡ imageLength (flat (held (take have vars)))
+pub have-is : (room : ℕ) (vars : Text) (have : ℕ) → Holds room vars have → have ≡ imageLength (flat (held (take have vars)))
 have-is room vars have w = sym (length-take-le have vars (w .inside)) ∙ table-length isName (take have vars) (vars-held room vars have w)
 
 module _ (room used : ℕ) (made : Made) (area vars area′ vars′ : Text) where

@@ -62,11 +62,7 @@ pub adds-marked : (used : ℕ) (area : Text) (a : Added) {k m : Mark} → k ≡ 
     → Adds used (done (marked m u)) area a
 adds-marked used area a {k} {m} e {t} {u} f h = adds-same used area a (ap (λ (j : Mark). done (marked j t)) e ∙ ap (λ (s : Text). done (marked m s)) f) h
 
--- a text that was written at the front
-pub puts-front : {text entry exit : Text} {n : ℕ} → Puts text entry exit n → take n exit ≡ text
-unfolding over
-puts-front {text} {entry} {exit} {n} p = ap (take n) (p .leaves) ∙ take-at text (drop (length text) entry) n (sym (p .counts))
-
+-- a text that was written at the front ends within the buffer
 pub puts-inside : {text entry exit : Text} {n : ℕ} → Puts text entry exit n → n ≤ length exit
 unfolding over
 puts-inside {text} {entry} {exit} {n} p = omega (arith, p .counts, ap length (p .leaves), length-append text (drop (length text) entry))

@@ -21,7 +21,7 @@ use Rattle.modes.specs.declared.Mode.the-variants as mode
 use Rattle.modes.specs.declared.Sort as code-sort
 use Rattle.modes.specs.declared.Sort.the-variants as sort-of
 use Rattle.braces.specs.Shows.{isAt}
-use Rattle.braces.proofs.Showing.{part-length}
+use Rattle.texts.proofs.Parts.{part-length}
 
 -- Behind a backslash.
 

@@ -12,24 +12,16 @@ use Rattle.stages.specs.Outcome.{Placed}
 use Rattle.stages.specs.Images.{Pairs, isName, held, flat, image, imageLength}
 use Rattle.stages.specs.Line.{Fields}
 use Rattle.stages.specs.Call.{over}
-use Rattle.stages.proofs.Images.{Bytes}
+use Rattle.stages.proofs.Images.{Bytes, bytes-take}
 use Rattle.stages.proofs.Tables.{vars-of, table-length, table-canonical}
+use Rattle.giving.proofs.Determined.{have-is}
 use Rattle.giving.specs.Answers.{Holds}
 use Rattle.lines.specs.Answers.{IsLine, LineSays}
 use Rattle.lines.specs.declared.LineExpanded.{LineExpanded}
 use Rattle.lines.specs.declared.LineExpanded.the-variants.{Done, Refused}
 
 -- a front of bytes is bytes
-pub bytes-take : (n : ℕ) (t : Text) → Bytes t → Bytes (take n t)
-bytes-take zero t b i = omega arith
-bytes-take (suc n) [] b i = omega arith
-bytes-take (suc n) (c ∷ t) b zero = b 0
-bytes-take (suc n) (c ∷ t) b (suc i) = bytes-take n t (λ j. b (suc j)) i
-
 -- the length of the variables' image is that of what it holds
-have-is : (room : ℕ) (vars : Text) (have : ℕ) → Holds room vars have → have ≡ imageLength (flat (held (take have vars)))
-have-is room vars have h = sym (length-take-le have vars (h .inside)) ∙ table-length isName (take have vars) (vars-of (take have vars) (h .formed))
-
 -- what an acceptance leaves
 abbrev pub Same : LineExpanded → Text → Text → Text → Text → Type 0
 Same (Refused n place) vars vars' out out' = Unit {0}

@@ -212,7 +212,7 @@ signs (negsuc a) (pos b) true false e f = refl
 signs (negsuc a) (negsuc b) true true e f = refl
 signs (negsuc a) (negsuc b) true false e f = absurd (no-flag f)
 
-sign-mag : (s : Bool) (m : ℕ) → 2 ^ 63 < m → 2 ^ 63 ≤ mag (ofSign s m)
+pub sign-mag : (s : Bool) (m : ℕ) → 2 ^ 63 < m → 2 ^ 63 ≤ mag (ofSign s m)
 sign-mag true zero h = omega arith
 sign-mag true (suc m) h = omega arith
 sign-mag false m h = omega arith

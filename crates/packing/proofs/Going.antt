@@ -15,6 +15,7 @@ use Rattle.stages.specs.Call.{over}
 use Rattle.stages.specs.Program.{longerLine, linesOf}
 use Rattle.stages.proofs.Bools.{either}
 use Rattle.stages.proofs.Images.{length-image, pairs-image, held-image, texts-image, heldTexts-image, Fine}
+use Rattle.entering.proofs.Sounds.{none-texts, limit-some}
 use Rattle.tables.specs.Kinds.{inTwos}
 use Rattle.tables.specs.declared.Kind.{Kind}
 use Rattle.stores.proofs.Callers.{fills-none, over-length}
@@ -104,23 +105,15 @@ unfolding over image
 over-set l [] = refl
 over-set l (b ∷ t) = refl
 
-no-texts : (two : Bool) → textsBy two [] ≡ []
-no-texts true = refl
-no-texts false = refl
-
-pub limit-some : (two : Bool) → 1 ≤ limitBy two
-limit-some true = omega arith
-limit-some false = omega arith
-
 pub going-starts : (kind : Kind) (text old : Text) → limitBy (inTwos kind) ≤ length old → Going kind text (set old 0 1) (set old 0 1) 1 0 1
 unfolding imageLength recordBytes
 going-starts kind text old h = record {
   records = [];
   stands = record {
     sound = sound-none kind;
-    long = rw (no-texts (inTwos kind)) refl;
+    long = rw (none-texts (inTwos kind)) refl;
     room = rw (length-set old 0 1) h;
-    is = rw (no-texts (inTwos kind)) (fills-none old (omega (arith, h, limit-some (inTwos kind))) .is ∙ sym (over-set [] old));
+    is = rw (none-texts (inTwos kind)) (fills-none old (omega (arith, h, limit-some (inTwos kind))) .is ∙ sym (over-set [] old));
   };
   is = refl;
   within = omega arith;

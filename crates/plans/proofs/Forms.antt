@@ -17,6 +17,7 @@ use Rattle.stages.specs.Units.{Mark, L, expanded}
 use Rattle.stages.specs.Expand.{Made, given, assigned, cutBy, missing, parameter}
 use Rattle.stages.specs.Expand as stage
 use Rattle.stages.proofs.Bools.{either, no}
+use Rattle.texts.proofs.Parts.{part-length}
 use Rattle.tables.specs.Places as places
 use Rattle.tables.specs.declared.Found.{Found}
 use Rattle.plans.specs.Plans.{planOf, missingIn, wants, operandMark, settled, finished}
@@ -25,9 +26,6 @@ use Rattle.plans.specs.declared.Plan.{Plan}
 use Rattle.plans.specs.declared.Plan.the-variants.{Gives, Nothing, Demands, Uses, Assigns, Cuts}
 
 -- "missing", by where the value was found
-
-pub part-length : (t : Text) (from to : ℕ) → from ≤ to → to ≤ length t → length (part t from to) ≡ to - from
-part-length t from to a b = simp (length-take, length-drop) (omega arith)
 
 missing-part : (u : Text) (c : Bool) (from to : ℕ) → length u ≡ to - from → from ≤ to → (c && eqb from to) ≡ stage.absent c (some u)
 unfolding stage.absent

@@ -14,14 +14,10 @@ use Rattle.stages.specs.Images.{fieldsOf, heldTexts, isSome}
 use Rattle.stages.specs.Quote.{quotedLine}
 use Rattle.stages.specs.Call.{orRefused, quotedIn, quoting, quoter}
 use Rattle.stages.proofs.Bools.{no, and-both}
-use Rattle.stages.proofs.Tables.{fields-of, fields-are}
+use Rattle.stages.proofs.Tables.{none-of, fields-of, fields-are}
 use Rattle.texts.specs.Putting.{Puts}
 use Rattle.quoting.specs.Answers.{quotingOf}
 use Rattle.quoting.specs.declared.Quoted.the-variants.{Len, Malformed, NoRoom}
-
-pub none-of : {A : Type 0} (o : Option A) → isSome o ≡ false → o ≡ none
-none-of none e = refl
-none-of (some a) e = absurd (no (sym e))
 
 pub fields-here : (t : Text) → isSome (fieldsOf t) ≡ true → fieldsOf t ≡ some (heldTexts t)
 fields-here t e = fields-are t (fields-of t e)

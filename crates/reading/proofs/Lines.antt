@@ -17,7 +17,7 @@ use Rattle.stages.proofs.Texts.{span-more, span-stop}
 use Rattle.stages.proofs.Words.{words-none, words-blank, words-operator, words-word, FirstWord, first-word}
 use Rattle.texts.specs.Classes.{Runs}
 use Rattle.texts.specs.declared.Class.the-variants.{Blank}
-use Rattle.braces.proofs.Showing.{part-length}
+use Rattle.texts.proofs.Parts.{part-length}
 use Rattle.reading.specs.Says.{ReadTo, ReadSays, blanksEnd, NextAt, NextNone, NextSays, WordTo, WordSays, verdict}
 use Rattle.reading.specs.declared.Reading.{Reading}
 use Rattle.reading.specs.declared.Reading.the-variants as reading

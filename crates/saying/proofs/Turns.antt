@@ -9,6 +9,7 @@ use Rattle.stages.specs.Call.{Answer, normaliser}
 use Rattle.stages.specs.Program.{Variables, linesOf, givenLine, said, saidOf}
 use Rattle.stages.proofs.Answers.{over-front}
 use Rattle.stages.proofs.Program.{cutLine, normaliser-cut}
+use Rattle.texts.proofs.Filling.{puts-front}
 use Rattle.texts.specs.Putting.{Puts}
 use Rattle.cutting.proofs.Callers.{InBlocks, joined, blocks-lines}
 use Rattle.saying.specs.Says.{answerTo, Says}
@@ -23,10 +24,6 @@ pub data Wrote (homes paths : Text) : Text → ℕ → List Text → Text → Ty
   wrote : {vars next old left : Text} {used : ℕ} {l : Text} {ls : List Text} {t : Text} (r : Said) → Says (answerTo homes paths (cutLine l) vars used) old left next r
       → Wrote homes paths next (r .used) ls t → Wrote homes paths vars used (l ∷ ls) (take (r .len) left ++ t)
 
--- what stands at the front of the buffer is what was put there
-puts-front : (t old left : Text) (n : ℕ) → Puts t old left n → take n left ≡ t
-puts-front t old left n p = ap (λ (k : ℕ). take k left) (p .counts) ∙ ap (take (length t)) (p .leaves) ∙ over-front t old
-
 module _ (homes paths : Text) where
   -- the bytes that are kept of a line are answered as the line is
   kept-answer : (l vars : Text) (used : ℕ) → answerTo homes paths (cutLine l) vars used ≡ normaliser (givenLine homes paths l (variablesOf vars used))
@@ -39,7 +36,7 @@ module _ (homes paths : Text) where
   turns-said {vars} {used} (wrote {next = next} {old = old} {left = left} {l = l} {ls = ls} {t = t} r s w) =
       let n = kept-answer l vars used in
       let a = normaliser (givenLine homes paths l (variablesOf vars used)) in
-      ap (λ (x : Text). x ++ t) (puts-front (said (answerTo homes paths (cutLine l) vars used)) old left (r .len) (s .words) ∙ ap said n)
+      ap (λ (x : Text). x ++ t) (puts-front (s .words) ∙ ap said n)
       ∙ ap (λ (x : Text). said a ++ x)
       (turns-said w ∙ ap (λ (b : Text). saidOf homes paths (variablesOf b (r .used)) ls) (s .variables ∙ ap (λ (x : Answer). x .vars) n)
       ∙ ap (λ (u : ℕ). saidOf homes paths (variablesOf (a .vars) u) ls) (s .usedLength ∙ ap (λ (x : Answer). x .used) n))

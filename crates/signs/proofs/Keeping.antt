@@ -13,6 +13,7 @@ use Rattle.stages.specs.Outcome.{refused, done, pick}
 use Rattle.stages.specs.Bytes.{Text}
 use Rattle.stages.specs.Units.{L, E, Q, cell, N, Row}
 use Rattle.stages.specs.Pattern.{signs, hasClass, elements, pattern}
+use Rattle.texts.proofs.Rows.{rowOf-rowBytes}
 use Rattle.texts.specs.Rows.{rowBytes, rowOf, unitOf, signsOf}
 use Rattle.sets.proofs.Units.{two-on}
 use Rattle.signs.specs.Kept.{isMark, withoutEmpty, kept, Dropped}
@@ -137,17 +138,9 @@ kept-signs (b ∷ m ∷ t) =
     go false false true e f g h = rw (g refl, h)
     go false false false e f g h = h
 
--- the bytes of a row stand for that row
-pub row-of-bytes : (r : Row) → rowOf (rowBytes r) ≡ r
-unfolding rowOf rowBytes unitOf
-row-of-bytes [] = refl
-row-of-bytes (cell L b ∷ r) = ap (λ (s : Row). cell L b ∷ s) (row-of-bytes r)
-row-of-bytes (cell E b ∷ r) = ap (λ (s : Row). cell E b ∷ s) (row-of-bytes r)
-row-of-bytes (cell Q b ∷ r) = ap (λ (s : Row). cell Q b ∷ s) (row-of-bytes r)
-row-of-bytes (N ∷ r) = ap (λ (s : Row). N ∷ s) (row-of-bytes r)
-
+-- the signs of a row that stands in bytes
 pub row-signs : (r : Row) → signsOf (kept (rowBytes r)) ≡ signs r
-row-signs r = kept-signs (rowBytes r) ∙ ap signs (row-of-bytes r)
+row-signs r = kept-signs (rowBytes r) ∙ ap signs (rowOf-rowBytes r)
 
 -- what a caller has who drops the N of a row and lends its front
 module _ {entry exit : Text} {count : ℕ} (d : Dropped entry exit count) where
@@ -164,7 +157,7 @@ module _ {entry exit : Text} {count : ℕ} (d : Dropped entry exit count) where
 
 -- the same where the row stood in the bytes
 pub dropped-row : (r : Row) {exit : Text} {count : ℕ} → Dropped (rowBytes r) exit count → signsOf (take count exit) ≡ signs r
-dropped-row r d = dropped-signs d ∙ ap signs (row-of-bytes r)
+dropped-row r d = dropped-signs d ∙ ap signs (rowOf-rowBytes r)
 
 -- the pattern that a row makes, by the answer for 19
 pub pattern-refused : (path : Bool) (r : Row) → hasClass path 0 (signs r) ≡ true → pattern path r ≡ refused bracketClass

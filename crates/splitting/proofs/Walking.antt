@@ -16,6 +16,7 @@ use Rattle.stages.specs.Pattern.{Element, pattern}
 use Rattle.stages.specs.Split.{dropWhite, dropHard, otherRun, fieldsFrom, split}
 use Rattle.stages.specs.Paths.{pathsFor, named}
 use Rattle.stages.proofs.Images.{recordBytes-append}
+use Rattle.stages.proofs.Outcomes.{done-same, never}
 use Rattle.texts.specs.Rows.{rowOf}
 use Rattle.delimiters.specs.Places.{ahead, goesOn, Reaches}
 use Rattle.fields.specs.Answers.{Says, class, noRoom}
@@ -23,7 +24,7 @@ use Rattle.fields.specs.Fields.{fieldTexts}
 use Rattle.fields.specs.declared.Written.{Written}
 use Rattle.fields.specs.declared.Written.the-variants.{Len, Class, NoRoom}
 use Rattle.splitting.proofs.Runs.{Run, run-further, run-end, walk-end, walk-step, step-falls}
-use Rattle.fields.proofs.Filling.{Filled, filled-start, filled-then, Given, Lacks, says-len, says-class, says-full, says-filled, done-same, apart}
+use Rattle.fields.proofs.Filling.{Filled, filled-start, filled-then, Given, Lacks, says-len, says-class, says-full, says-filled}
 
 -- the first field decides, then the others
 
@@ -37,7 +38,7 @@ module _ (paths : List Text) (r : Row) (rs : List Row) where
 
       go : (o : Outcome (List Element)) → pattern true r ≡ o → named paths (r ∷ rs) ≡ refused k
       go (refused n) q = rw q (rw q at e)
-      go (done p) q = absurd (apart (sym (no p q) ∙ e))
+      go (done p) q = absurd (never (sym (no p q) ∙ e))
 
   named-done : (a : List Text) → fieldTexts paths r ≡ done a → named paths (r ∷ rs) ≡ (named paths rs >>= λ l. done (a ++ l))
   unfolding named fieldTexts
@@ -47,7 +48,7 @@ module _ (paths : List Text) (r : Row) (rs : List Row) where
       same p q = done-same (rw q at e)
 
       no : (n : ℕ) → pattern true r ≡ refused n → ⊥
-      no n q = let f : refused n ≡ done a = rw q at e in apart (sym f)
+      no n q = let f : refused n ≡ done a = rw q at e in never (sym f)
 
       go : (o : Outcome (List Element)) → pattern true r ≡ o → named paths (r ∷ rs) ≡ (named paths rs >>= λ l. done (a ++ l))
       go (refused n) q = absurd (no n q)

@@ -16,7 +16,7 @@ use Rattle.stages.specs.Images.{Pairs, flat, image, imageLength, variabl
 use Rattle.stages.specs.Line.{Fields}
 use Rattle.stages.specs.Quote.{quotedLine}
 use Rattle.stages.specs.Call.{Given, Answer, over, orRefused, expanded, cleared, answered, expander, quotedIn, normaliser, quoting, quoter}
-use Rattle.stages.proofs.Images.{Bytes, Fine, length-image, heldTexts-image}
+use Rattle.stages.proofs.Images.{Bytes, bytes-take, Fine, length-image, heldTexts-image}
 use Rattle.stages.proofs.Tables.{table-canonical, vars-of, variables-are, homes-of, homes-are, paths-of, paths-are, fields-held, fields-image, fields-are, texts-held-fine}
 use Rattle.stages.proofs.Answers.{over-front, FieldsImage, QuotedLine, expander-fits, normaliser-fits}
 use Rattle.stages.proofs.RoundTrip.{quoted-image, quoted-expands}
@@ -53,12 +53,6 @@ unchanged h t = record {
   vars = h .vars;
   work = cleared (h .work);
 }
-
-bytes-take : (n : ℕ) (t : Text) → Bytes t → Bytes (take n t)
-bytes-take zero t b i = omega arith
-bytes-take (suc n) [] b i = omega arith
-bytes-take (suc n) (c ∷ t) b zero = b 0
-bytes-take (suc n) (c ∷ t) b (suc i) = bytes-take n t (λ j. b (suc j)) i
 
 -- a buffer's own front, put over it, leaves it as it was
 over-own : (n : ℕ) (t : Text) → n ≤ length t → over (take n t) t ≡ t

@@ -18,6 +18,13 @@ pub each-append : {A : Type 0} (P : A → Type 0) (l m : List A) → Each P l �
 each-append P [] m h k = k
 each-append P (a ∷ l) m h k = (h .0, each-append P l m (h .1) k)
 
+-- an outcome has one result, and a result is no refusal
+pub done-same : {A : Type 0} {a b : A} → done a ≡ done b → a ≡ b
+done-same e = cc
+
+pub never : {A : Type 0} {a : A} {k : ℕ} → done a ≡ refused k → ⊥
+never e = let z : _≡_ {A = ℕ} 0 1 = cc in omega arith
+
 -- what a step makes of answers that P holds of, it holds of the whole recursion
 module _ {A R : Type 0} (size : A → ℕ) (stuck : R) (step : (A → R) → A → R) (P : A → R → Type 0)
     (h : (a : A) (rec : A → R) → ((b : A) → size b < size a → P b (rec b)) → P a (step rec a)) where

@@ -24,6 +24,7 @@ use Rattle.stages.specs.Arith.{growStep, growSize, grow, whole, tree, is
 use Rattle.stages.proofs.Bools.{or-right, and-both}
 use Rattle.stages.proofs.Texts.{all-append, span-join, span-more, start-name-byte}
 use Rattle.stages.proofs.Outcomes.{Safe, refuses, gives, safe-bind, safe-weaker, safe-choose, safe-where, by-fix}
+use Rattle.stages.proofs.Arith.{digit-name-byte}
 
 -- refused with a number, or done, whatever with
 abbrev Numbered : {A : Type 0} → Outcome A → Type 0
@@ -108,10 +109,6 @@ run-short : (b : ℕ) (t : Text) → isNameByte b ≡ true → length (span isNa
 run-short b t e =
     let l : length (span isNameByte t .0 ++ span isNameByte t .1) ≡ length t = ap length (span-join isNameByte t) in
     rw (span-more isNameByte b t e) (omega (arith, simp length-append at l))
-
-digit-name-byte : (b : ℕ) → isDigit b ≡ true → isNameByte b ≡ true
-unfolding isNameByte
-digit-name-byte b e = or-right (isNameStart b) e
 
 pub token-safe : (t : Text) → Safe (Lexes t) (token t)
 unfolding token

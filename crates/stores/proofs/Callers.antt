@@ -21,18 +21,13 @@ use Rattle.stages.proofs.Bools.{and-left, and-right}
 use Rattle.stages.proofs.Images.{length-image, written-append}
 use Rattle.stages.proofs.Tables.{Vars}
 use Rattle.stages.proofs.Stores.{held-stored, vars-stored, lookup-stored, lookup-other}
+use Rattle.stages.proofs.Outcomes.{done-same, never}
 use Rattle.stores.specs.Answers.{putOutcome, storedOutcome, textLimit, recordIn, imageIn, Writes}
 use Rattle.stores.specs.declared.Put.{Put}
 use Rattle.stores.specs.declared.Put.the-variants.{Len, NoRoom}
 use Rattle.stores.specs.declared.Stored.{Stored}
 use Rattle.stores.specs.declared.Stored.the-variants.{Used, Full}
 use Rattle.stores.proofs.StoredImages.{store-by, image-by}
-
-done-same : {m n : ℕ} → done m ≡ done n → m ≡ n
-done-same e = cc
-
-apart : {A : Type 0} {a : A} {k : ℕ} → done a ≡ refused k → ⊥
-apart e = let z : _≡_ {A = ℕ} 0 1 = cc in omega arith
 
 -- bytes that were written, where the answer is a length: they are the stage's
 pub record Wrote (o : Outcome Text) (old left : Text) (n : ℕ) : Type 0 where
@@ -43,11 +38,11 @@ pub record Wrote (o : Outcome Text) (old left : Text) (n : ℕ) : Type 0 where
 
 pub wrote : (o : Outcome Text) (old left : Text) (n : ℕ) → Writes o old left (done n) → Wrote o old left n
 wrote (done t) old left n w = record { new = t; gives = refl; long = done-same (w .answers); leaves = w .leaves }
-wrote (refused k) old left n w = absurd (apart (w .answers))
+wrote (refused k) old left n w = absurd (never (w .answers))
 
 -- and where it is a number: nothing was written
 pub unwritten : (o : Outcome Text) (old left : Text) (k : ℕ) → Writes o old left (refused k) → (o ≡ refused k) × (left ≡ old)
-unwritten (done t) old left k w = absurd (apart (sym (w .answers)))
+unwritten (done t) old left k w = absurd (never (sym (w .answers)))
 unwritten (refused j) old left k w = (refusal (w .answers), w .leaves)
   where
     refusal : _≡_ {A = Outcome ℕ} (refused k) (refused j) → _≡_ {A = Outcome Text} (refused j) (refused k)
@@ -68,8 +63,8 @@ module _ (room : ℕ) (t : Text) where
 
       go : (a : Bool) → leb (length t) textLimit ≡ a → (b : Bool) → leb (length (framed t)) room ≡ b → (framed t ≡ new) × (length t ≤ textLimit) × (length t + 2 ≤ room)
       go true p true q = (same (rw (p, q) at e), leb-true (length t) textLimit p, small q)
-      go true p false q = absurd (apart (sym (rw (p, q) at e)))
-      go false p b q = absurd (apart (sym (rw p at e)))
+      go true p false q = absurd (never (sym (rw (p, q) at e)))
+      go false p b q = absurd (never (sym (rw p at e)))
 
   pub record-refused : (k : ℕ) → recordIn room t ≡ refused k → length t ≤ textLimit → room < length t + 2
   unfolding recordIn
@@ -79,7 +74,7 @@ module _ (room : ℕ) (t : Text) where
       large q = omega (arith, leb-false (length (framed t)) room q)
 
       go : (b : Bool) → leb (length (framed t)) room ≡ b → room < length t + 2
-      go true q = absurd (apart (rw (le-leb (length t) textLimit h, q) at e))
+      go true q = absurd (never (rw (le-leb (length t) textLimit h, q) at e))
       go false q = large q
 
 module _ (t out left : Text) (r : Put) (w : Writes (recordIn (length out) t) out left (putOutcome r)) where
@@ -200,7 +195,7 @@ module _ (cap : ℕ) (x t : Text) (v : Pairs) (old left : Text) (r : Stored) (w 
 
       go : (b : Bool) → (leb bytes cap && leb bytes imageLimit) ≡ b → Grown cap x t v old left n
       go true d = grown d (same (sym (image-by x t v cap true d) ∙ told .gives))
-      go false d = absurd (apart (sym (told .gives) ∙ image-by x t v cap false d))
+      go false d = absurd (never (sym (told .gives) ∙ image-by x t v cap false d))
 
   pub store-full : r ≡ Full → (store cap x t v ≡ refused variableRoom) × (left ≡ old)
   store-full e = go (leb bytes cap && leb bytes imageLimit) refl
@@ -209,7 +204,7 @@ module _ (cap : ℕ) (x t : Text) (v : Pairs) (old left : Text) (r : Stored) (w 
       told = unwritten (imageIn cap x t v) old left variableRoom (rw e at w)
 
       go : (b : Bool) → (leb bytes cap && leb bytes imageLimit) ≡ b → (store cap x t v ≡ refused variableRoom) × (left ≡ old)
-      go true d = absurd (apart (sym (image-by x t v cap true d) ∙ told .0))
+      go true d = absurd (never (sym (image-by x t v cap true d) ∙ told .0))
       go false d = (store-by x t v cap false d, told .1)
 
 -- the variables behind a store: the first n bytes that are left

@@ -6,6 +6,7 @@ use lib.ListN.{length, take}
 use Rattle.stages.specs.Bytes.{Text}
 use Rattle.stages.specs.Outcome.{Outcome, refused, done}
 use Rattle.stages.specs.Images.{held}
+use Rattle.stages.proofs.Outcomes.{done-same, never}
 use Rattle.stores.specs.Answers.{putOutcome, storedOutcome, recordIn, imageIn, Writes}
 use Rattle.stores.specs.declared.Put.{Put}
 use Rattle.stores.specs.declared.Put.the-variants.{Len, NoRoom}
@@ -16,23 +17,17 @@ use Rattle.stores.specs.declared.Stored.the-variants.{Used, Full}
 pub writes-once : {o : Outcome Text} {old left left′ : Text} {a a′ : Outcome ℕ} → Writes o old left a → Writes o old left′ a′ → (a ≡ a′) × (left ≡ left′)
 writes-once w w′ = (w .answers ∙ sym (w′ .answers), w .leaves ∙ sym (w′ .leaves))
 
-done-same : {m n : ℕ} → done m ≡ done n → m ≡ n
-done-same e = cc
-
-apart : {n k : ℕ} → done n ≡ refused k → ⊥
-apart e = let z : _≡_ {A = ℕ} 0 1 = cc in omega arith
-
 -- one outcome is that of one answer
 put-one : (r s : Put) → putOutcome r ≡ putOutcome s → r ≡ s
 put-one (Len n) (Len m) e = ap Len (done-same e)
-put-one (Len n) NoRoom e = absurd (apart e)
-put-one NoRoom (Len m) e = absurd (apart (sym e))
+put-one (Len n) NoRoom e = absurd (never e)
+put-one NoRoom (Len m) e = absurd (never (sym e))
 put-one NoRoom NoRoom e = refl
 
 stored-one : (r s : Stored) → storedOutcome r ≡ storedOutcome s → r ≡ s
 stored-one (Used n) (Used m) e = ap Used (done-same e)
-stored-one (Used n) Full e = absurd (apart e)
-stored-one Full (Used m) e = absurd (apart (sym e))
+stored-one (Used n) Full e = absurd (never e)
+stored-one Full (Used m) e = absurd (never (sym e))
 stored-one Full Full e = refl
 
 pub put-record-determined : (text out left left′ : Text) (r s : Put) → Writes (recordIn (length out) text) out left (putOutcome r)

@@ -14,6 +14,7 @@ use Rattle.stages.specs.Arith.{Lexed, stop, num, name, op, opens, shuts, token,
 use Rattle.stages.specs.Arith.{operand, expression, shut, whole, enclosed, sign, operandAt, growStep, grow, evaluate, withVariables}
 use Rattle.stages.proofs.Bools.{no}
 use Rattle.stages.proofs.Arith.{grow-eq}
+use Rattle.stages.proofs.Outcomes.{done-same}
 use Rattle.numbers.specs.Answers.{opOf}
 use Rattle.numbers.specs.declared.Op.{Op}
 use Rattle.numbers.specs.declared.Op.the-variants.{Add, Sub}
@@ -23,7 +24,7 @@ use Rattle.tokens.specs.declared.Token.{Token}
 use Rattle.tokens.specs.declared.Token.the-variants as code
 use Rattle.sums.specs.declared.climb.Climbed.{Climbed}
 use Rattle.sums.specs.declared.climb.Climbed.the-variants as climbed
-use Rattle.sums.proofs.Trees.{never, done-same, bound, negated-refused, negated-done, name-is, constant-is}
+use Rattle.sums.proofs.Trees.{never, bound, negated-refused, negated-done, name-is, constant-is}
 
 -- An enum's answer, once its case is known.
 

@@ -14,13 +14,11 @@ use Rattle.stages.specs.Constants.{ranged, nameNumber}
 use Rattle.stages.specs.Arith.{Op, stop, num, name, op, opens, shuts, Lexed, token, level, Tree, constantOf, nameOf, negated, binary}
 use Rattle.stages.specs.Arith.{Grown, further, expression, furtherAt, growStep, grow, apply, Evaluated, withVariables, evaluate}
 use Rattle.stages.proofs.Arith.{Lexes, lex-more, token-left, Leaves, some-left, expression-left, grow-left, grow-eq}
+use Rattle.stages.proofs.Outcomes.{done-same}
 
 -- a refusal is no result
 pub never : {A : Type 0} {e : ℕ} {a : A} → refused e ≡ done a → ⊥
 never q = let z : _≡_ {A = ℕ} 0 1 = cc in omega arith
-
-pub done-same : {A : Type 0} {a b : A} → done a ≡ done b → a ≡ b
-done-same q = cc
 
 -- what is bound to a result was worked out
 pub record Bound {A B : Type 0} (r : Outcome A) (f : A → Outcome B) (b : B) : Type 0 where

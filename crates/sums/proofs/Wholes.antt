@@ -9,11 +9,12 @@ use Rattle.stages.specs.Outcome.{Outcome, refused, done, _>>=_}
 use Rattle.stages.specs.Images.{Pairs}
 use Rattle.stages.specs.Constants.{signed}
 use Rattle.stages.specs.Arith.{Lexed, stop, num, name, op, opens, shuts, token, Tree, Grown, expression, grow, whole, tree, evaluate, Evaluated, arithmeticOf}
+use Rattle.stages.proofs.Outcomes.{done-same}
 use Rattle.numbers.specs.Answers.{numbered}
 use Rattle.numbers.specs.declared.Number.{Number}
 use Rattle.numbers.specs.declared.Number.the-variants as number
 use Rattle.sums.specs.Climbs.{Fails, Comes, Errs, Results, Answers, Finishes, comesTo}
-use Rattle.sums.proofs.Trees.{never, done-same, bound, Keeps, evaluate-keeps}
+use Rattle.sums.proofs.Trees.{never, bound, Keeps, evaluate-keeps}
 
 pub answers-shown : (v : Pairs) (counts : Bool) (o : Outcome Tree) {r s : Number} → Answers v counts o r → r ≡ s → Answers v counts o s
 answers-shown v counts o h e = subst (Answers v counts o) e h

@@ -2,7 +2,7 @@
 use Prim.Native.Nat.{ℕ, _+_, _≤_, _<_}
 use native.Mathlib.Omega.{arith}
 use mathlib.Core.Path.{_≡_, refl, sym, _∙_}
-use mathlib.Core.Bool.{Bool, true, false, _&&_}
+use mathlib.Core.Bool.{Bool, true, false, _&&_, and-false}
 use mathlib.Core.List.{List, [], _∷_}
 use mathlib.Core.Option.{Option, none, some}
 use lib.ListN.{length, drop, getD}
@@ -70,10 +70,6 @@ rising-from p (a ∷ l) = rw (rising-from a l)
 abbrev orderedAfter : (Text → Bool) → Text → Option Pairs → Bool
 orderedAfter f p none = false
 orderedAfter f p (some v) = allTexts f (keys v) && risingFrom p (keys v)
-
-and-false : (x : Bool) → (x && false) ≡ false
-and-false true = refl
-and-false false = refl
 
 four : (x y u w : Bool) → ((x && u) && (y && w)) ≡ ((x && y) && (u && w))
 four false y u w = refl

@@ -17,6 +17,11 @@ use Rattle.texts.proofs.Determined.{one-answer}
 pub puts-once : {t old left left′ : Text} {r s : ℕ} → Puts t old left r → Puts t old left′ s → (r ≡ s) × (left ≡ left′)
 puts-once p q = (one-answer (p .counts) (q .counts), one-answer (p .leaves) (q .leaves))
 
+-- what was put stands at the front
+pub puts-front : {t old left : Text} {n : ℕ} → Puts t old left n → take n left ≡ t
+unfolding over
+puts-front {t} {old} {left} {n} p = ap (take n) (p .leaves) ∙ take-at t (drop (length t) old) n (sym (p .counts))
+
 -- `rest` is still to be written of the whole; `used` bytes stand at the front of a buffer that held `old`
 pub record Filling (whole rest old out : Text) (used : ℕ) : Type 0 where
   pub front : Text

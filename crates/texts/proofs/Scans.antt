@@ -47,9 +47,6 @@ part-more t a e h k =
 pub span-stop : (f : ℕ → Bool) (b : ℕ) (t : Text) → f b ≡ false → span f (b ∷ t) ≡ ([], b ∷ t)
 span-stop f b t e = stage.span-stop f (b ∷ t) e
 
-pub span-go : (f : ℕ → Bool) (b : ℕ) (t : Text) → f b ≡ true → span f (b ∷ t) ≡ longer b (span f t)
-span-go f b t e = stage.span-more f b t e
-
 pub record Running (class : Class) (t : Text) (at i : ℕ) : Type 0 where
   pub onward : at ≤ i
   pub within : i ≤ length t
@@ -64,7 +61,7 @@ module _ (class : Class) (t : Text) (at : ℕ) where
     span-stops h e = rw (drop-cons t i 0) (span-stop (inClass class) (getD t i 0) (drop (suc i) t) e)
 
     span-goes : i < length t → inClass class (getD t i 0) ≡ true → span (inClass class) (drop i t) ≡ longer (getD t i 0) (span (inClass class) (drop (i + 1) t))
-    span-goes h e = rw (drop-cons t i 0, add-one i) (span-go (inClass class) (getD t i 0) (drop (suc i) t) e)
+    span-goes h e = rw (drop-cons t i 0, add-one i) (stage.span-more (inClass class) (getD t i 0) (drop (suc i) t) e)
 
     span-ends : length t ≤ i → span (inClass class) (drop i t) ≡ ([], drop i t)
     unfolding span

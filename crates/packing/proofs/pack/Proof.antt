@@ -6,9 +6,10 @@ use mathlib.Core.Path.{_≡_, refl}
 use lib.ListN.{length, length-set}
 use Rattle.texts.proofs.Parts.{part-length}
 use Rattle.tables.specs.Kinds.{inTwos}
-use Rattle.packing.proofs.Going.{Going, stands-small, stands-table, stands-length, limit-some, going-starts, going-ends, going-end, going-bad, going-more, packs-from}
+use Rattle.packing.proofs.Going.{Going, stands-small, stands-table, stands-length, going-starts, going-ends, going-end, going-bad, going-more, packs-from}
 use Rattle.packing.proofs.pack.Statement.{statement}
 use Rattle.packing.proofs.pack.Tie as tie
+use Rattle.entering.proofs.Sounds.{limit-some}
 
 abbrev Inv-loop : tie.InvT-loop
 Inv-loop kind text image₀ work₀ used₀ at₀ line₀ image work used at line = Going kind text image₀ image used at line × (length work ≡ length work₀)
