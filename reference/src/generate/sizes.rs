@@ -56,7 +56,7 @@ fn line(random: &mut Random) -> Vec<u8> {
 /// A value of a length about the limit, and lines that make rows of it.
 fn row(random: &mut Random, lent: &mut Lent) {
     let length = random.between(limits::ROW - 2, limits::ROW + 1);
-    let fill = *random.pick(b"xxx :1");
+    let fill = *random.pick(&[b'x', b'x', b'x', b' ', b':', b'1']);
     let mut table = Table::from([(b"e".to_vec(), vec![]), (b"v".to_vec(), vec![fill; length])]);
     lent.line = random.text(&[
         "$v", "\"$v\"", "a$v", "$v$e", "$v''", "$v\"\"", "$v\\a", "a ${u-$v}", "${u-\"$v\"}", "${u=$v}$u",
