@@ -1,19 +1,19 @@
 // Runs one case. Its buffers are cut to the case's sizes and filled as it says, the job is called, and every byte of every buffer is held against
 // the case's answer.
-use cases::laying::OUT_FILL;
-use cases::laying::cut_to_bytes;
-use cases::laying::cut_to_size;
-use cases::laying::hold_buffers;
-use cases::laying::hold_word;
-use cases::laying::lay;
-use cases::laying::lay_buffers;
-use cases::laying::lay_given;
-use cases::laying::lay_word;
-use cases::telling::Told;
-use cases::telling::hold_bytes;
-use cases::words;
-use cases::words::number;
-use cases::words::word;
+use crate::laying::OUT_FILL;
+use crate::laying::cut_to_bytes;
+use crate::laying::cut_to_size;
+use crate::laying::hold_buffers;
+use crate::laying::hold_word;
+use crate::laying::lay;
+use crate::laying::lay_buffers;
+use crate::laying::lay_given;
+use crate::laying::lay_word;
+use crate::telling::Told;
+use crate::telling::hold_bytes;
+use crate::words;
+use crate::words::number;
+use crate::words::word;
 use drunquill::QuoteAnswer;
 use handing::Answer;
 

@@ -1,12 +1,16 @@
 // Runs the cases of standard input, or of the file that its first argument names, through Drunquill's three jobs: a case to a line, as
 // tests/vectors/README.md has them. Tells each case that differs, and at the end how many were run and how many differ.
+mod blocks;
 mod calls;
+mod kinds;
+mod laying;
+mod telling;
+mod words;
 
-use cases::Job;
-use cases::telling;
-use cases::telling::Told;
-use cases::words::ROOM;
+use kinds::Job;
 use std::num::wrapping_add_u64;
+use telling::Told;
+use words::ROOM;
 ghost use mathlib.Core.Path.{_≡_};
 ghost use lib.ListN.{length};
 
@@ -38,7 +42,7 @@ fn try_case(
     work: &mut [u8],
     out: &mut [u8],
 ) -> Told {
-    let job = cases::job_of(case);
+    let job = kinds::job_of(case);
     match job {
         Job::Line { is_normaliser } => calls::try_line(
             is_normaliser,
@@ -93,19 +97,19 @@ fn run_cases(fd: i32, block: &mut [u8]) {
     let mut cases: u64 = 0;
     let mut differ: u64 = 0;
     let mut turns = u64::MAX;
-    let mut have = cases::blocks::read_behind(fd, block, 0);
+    let mut have = blocks::read_behind(fd, block, 0);
     while have > 0 {
         if turns == 0 {
             return;
         }
         turns -= 1;
-        let end = cases::blocks::line_end(block, have);
+        let end = blocks::line_end(block, have);
         cases = wrapping_add_u64(cases, 1);
         if differs(cases, &block[..end]) {
             differ = wrapping_add_u64(differ, 1);
         }
-        let left = cases::blocks::drop_line(block, have, end);
-        have = cases::blocks::read_behind(fd, block, left);
+        let left = blocks::drop_line(block, have, end);
+        have = blocks::read_behind(fd, block, left);
     }
     telling::say_sum(cases, differ);
 }

@@ -4,8 +4,8 @@ use mathlib.Core.Path.{sym}
 use native.Mathlib.Omega.{arith}
 use lib.Seq.{length-take-le}
 use borrow.Author.Needs.{needs}
-use Rattle.cases.proofs.blocks.line_end.Statement.{statement}
-use Rattle.cases.proofs.blocks.line_end.Tie as tie
+use Rattle.replay.proofs.blocks.line_end.Statement.{statement}
+use Rattle.replay.proofs.blocks.line_end.Tie as tie
 
 abbrev Inv-loop : tie.InvT-loop
 Inv-loop block have i₀ i = i ≤ have

@@ -4,8 +4,8 @@ use mathlib.Core.Path.{_≡_, refl}
 use native.Mathlib.Omega.{arith}
 use lib.ListN.{length, length-set}
 use borrow.Author.Needs.{needs}
-use Rattle.cases.proofs.laying.lay.Statement.{statement}
-use Rattle.cases.proofs.laying.lay.Tie as tie
+use Rattle.replay.proofs.laying.lay.Statement.{statement}
+use Rattle.replay.proofs.laying.lay.Tie as tie
 
 abbrev Inv-loop : tie.InvT-loop
 Inv-loop area₀ bytes fill i₀ area i = (i ≤ length area₀) × (length area ≡ length area₀)

@@ -1,21 +1,24 @@
--- The place goes on from `from` and stays in the line. Assumes nothing.
+-- Each turn reads a byte of the area. Assumes nothing.
 use Prim.Native.Nat.{_-_, _≤_}
 use lib.ListN.{length}
 use borrow.Author.Needs.{needs}
-use Rattle.cases.proofs.words.word_end.Statement.{statement}
-use Rattle.cases.proofs.words.word_end.Tie as tie
+use Rattle.replay.proofs.telling.first_difference.Statement.{statement}
+use Rattle.replay.proofs.telling.first_difference.Tie as tie
 
 abbrev Inv-loop : tie.InvT-loop
-Inv-loop line from i₀ i = (from ≤ i) × (i ≤ length line)
+Inv-loop area after before fill i₀ i = i ≤ length area
 
 abbrev μ-loop : tie.MeasureT-loop
-μ-loop line from i₀ i = length line - i
+μ-loop area after before fill i₀ i = length area - i
 
 loop-holds : tie.Need-loop-holds Inv-loop μ-loop
 loop-holds c = search needs
 
 shared-slice-read-if1 : tie.Need-shared-slice-read-if1 Inv-loop μ-loop
 shared-slice-read-if1 c = search needs
+
+wanted-at-requires : tie.Need-wanted-at-requires Inv-loop μ-loop
+wanted-at-requires c κs = search needs
 
 returns : tie.Need-returns Inv-loop μ-loop
 returns c = search needs
@@ -32,14 +35,15 @@ loop-again c = search needs
 returns-2 : tie.Need-returns-2 Inv-loop μ-loop
 returns-2 c = search needs
 
-pub word-end-spec : {M : Type 1} → statement M
-word-end-spec =
+pub first-difference-spec : {M : Type 1} → statement M
+first-difference-spec =
     tie.close
     (tie.spec
     Inv-loop
     μ-loop
     loop-holds
     shared-slice-read-if1
+    wanted-at-requires
     returns
     add-i
     loop-less

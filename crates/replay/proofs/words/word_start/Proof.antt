@@ -1,27 +1,27 @@
--- Each turn reads a byte of the word. Assumes nothing.
+-- The place stays in the line. Assumes nothing.
 use Prim.Native.Nat.{_-_, _≤_}
 use lib.ListN.{length}
 use borrow.Author.Needs.{needs}
-use Rattle.cases.proofs.words.all_in.Statement.{statement}
-use Rattle.cases.proofs.words.all_in.Tie as tie
+use Rattle.replay.proofs.words.word_start.Statement.{statement}
+use Rattle.replay.proofs.words.word_start.Tie as tie
 
 abbrev Inv-loop : tie.InvT-loop
-Inv-loop word set i₀ i = i ≤ length word
+Inv-loop line n left₀ i₀ left i = i ≤ length line
 
 abbrev μ-loop : tie.MeasureT-loop
-μ-loop word set i₀ i = length word - i
+μ-loop line n left₀ i₀ left i = length line - i
 
 loop-holds : tie.Need-loop-holds Inv-loop μ-loop
 loop-holds c = search needs
 
-shared-slice-read-is-in : tie.Need-shared-slice-read-is-in Inv-loop μ-loop
-shared-slice-read-is-in c = search needs
-
-is-in-requires : tie.Need-is-in-requires Inv-loop μ-loop
-is-in-requires c κs = search needs
-
 returns : tie.Need-returns Inv-loop μ-loop
 returns c = search needs
+
+shared-slice-read-if2 : tie.Need-shared-slice-read-if2 Inv-loop μ-loop
+shared-slice-read-if2 c = search needs
+
+sub-left : tie.Need-sub-left Inv-loop μ-loop
+sub-left c = search needs
 
 add-i : tie.Need-add-i Inv-loop μ-loop
 add-i c = search needs
@@ -35,16 +35,16 @@ loop-again c = search needs
 returns-2 : tie.Need-returns-2 Inv-loop μ-loop
 returns-2 c = search needs
 
-pub all-in-spec : {M : Type 1} → statement M
-all-in-spec =
+pub word-start-spec : {M : Type 1} → statement M
+word-start-spec =
     tie.close
     (tie.spec
     Inv-loop
     μ-loop
     loop-holds
-    shared-slice-read-is-in
-    is-in-requires
     returns
+    shared-slice-read-if2
+    sub-left
     add-i
     loop-less
     loop-again

@@ -2,8 +2,8 @@
 use Prim.Native.Nat.{_-_, _≤_}
 use lib.ListN.{length}
 use borrow.Author.Needs.{needs}
-use Rattle.cases.proofs.words.number.Statement.{statement}
-use Rattle.cases.proofs.words.number.Tie as tie
+use Rattle.replay.proofs.words.number.Statement.{statement}
+use Rattle.replay.proofs.words.number.Tie as tie
 
 abbrev Inv-loop : tie.InvT-loop
 Inv-loop word n₀ i₀ n i = i ≤ length word

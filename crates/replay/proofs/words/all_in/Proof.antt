@@ -1,24 +1,24 @@
--- Each turn reads a byte of the area. Assumes nothing.
+-- Each turn reads a byte of the word. Assumes nothing.
 use Prim.Native.Nat.{_-_, _≤_}
 use lib.ListN.{length}
 use borrow.Author.Needs.{needs}
-use Rattle.cases.proofs.telling.first_difference.Statement.{statement}
-use Rattle.cases.proofs.telling.first_difference.Tie as tie
+use Rattle.replay.proofs.words.all_in.Statement.{statement}
+use Rattle.replay.proofs.words.all_in.Tie as tie
 
 abbrev Inv-loop : tie.InvT-loop
-Inv-loop area after before fill i₀ i = i ≤ length area
+Inv-loop word set i₀ i = i ≤ length word
 
 abbrev μ-loop : tie.MeasureT-loop
-μ-loop area after before fill i₀ i = length area - i
+μ-loop word set i₀ i = length word - i
 
 loop-holds : tie.Need-loop-holds Inv-loop μ-loop
 loop-holds c = search needs
 
-shared-slice-read-if1 : tie.Need-shared-slice-read-if1 Inv-loop μ-loop
-shared-slice-read-if1 c = search needs
+shared-slice-read-is-in : tie.Need-shared-slice-read-is-in Inv-loop μ-loop
+shared-slice-read-is-in c = search needs
 
-wanted-at-requires : tie.Need-wanted-at-requires Inv-loop μ-loop
-wanted-at-requires c κs = search needs
+is-in-requires : tie.Need-is-in-requires Inv-loop μ-loop
+is-in-requires c κs = search needs
 
 returns : tie.Need-returns Inv-loop μ-loop
 returns c = search needs
@@ -35,15 +35,15 @@ loop-again c = search needs
 returns-2 : tie.Need-returns-2 Inv-loop μ-loop
 returns-2 c = search needs
 
-pub first-difference-spec : {M : Type 1} → statement M
-first-difference-spec =
+pub all-in-spec : {M : Type 1} → statement M
+all-in-spec =
     tie.close
     (tie.spec
     Inv-loop
     μ-loop
     loop-holds
-    shared-slice-read-if1
-    wanted-at-requires
+    shared-slice-read-is-in
+    is-in-requires
     returns
     add-i
     loop-less

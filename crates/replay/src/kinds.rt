@@ -1,9 +1,5 @@
-// The cases of the tests, as tests/vectors/README.md has them, as far as no job is called: which job a case asks for, its words, its buffers, and what
-// is told of a difference.
-pub mod blocks;
-pub mod laying;
-pub mod telling;
-pub mod words;
+// Which job a case asks for, if it is a case at all.
+use crate::words;
 
 // What a case asks for, if it is one.
 pub enum Job {

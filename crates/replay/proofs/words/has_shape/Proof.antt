@@ -2,8 +2,8 @@
 use Prim.Native.Nat.{_-_, _≤_}
 use lib.ListN.{length}
 use borrow.Author.Needs.{needs}
-use Rattle.cases.proofs.words.has_shape.Statement.{statement}
-use Rattle.cases.proofs.words.has_shape.Tie as tie
+use Rattle.replay.proofs.words.has_shape.Statement.{statement}
+use Rattle.replay.proofs.words.has_shape.Tie as tie
 
 abbrev Inv-loop : tie.InvT-loop
 Inv-loop line kinds i₀ i = i ≤ length kinds

@@ -3,8 +3,8 @@ use mathlib.Core.Path.{sym}
 use native.Mathlib.Omega.{arith}
 use lib.Seq.{length-take-le}
 use borrow.Author.Needs.{needs}
-use Rattle.cases.proofs.laying.cut.Statement.{statement}
-use Rattle.cases.proofs.laying.cut.Tie as tie
+use Rattle.replay.proofs.laying.cut.Statement.{statement}
+use Rattle.replay.proofs.laying.cut.Tie as tie
 
 returns : tie.Need-returns
 returns c = (omega arith, sym (length-take-le _ _ (omega arith)))
