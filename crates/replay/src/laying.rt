@@ -22,9 +22,14 @@ const WORK_ZERO: u8 = 0;
 
 // Writes the bytes of a word to the front of an area, and the fill behind them.
 pub fn lay(area: &mut [u8], bytes: &[u8], fill: u8) {
+    let front = cut(byte_count(bytes), area);
     let mut i: usize = 0;
-    while i < area.len() {
+    while i < front {
         area[i] = byte_at(bytes, i, fill);
+        i += 1;
+    }
+    while i < area.len() {
+        area[i] = fill;
         i += 1;
     }
 }

@@ -1,5 +1,6 @@
 // What a call gave is held against what the case says, and each difference is told, all those of a case on one line.
 use crate::words::byte_at;
+use crate::words::byte_count;
 use libc::STDOUT_FILENO;
 
 // The line of a case, and whether a difference was told of it.
@@ -69,11 +70,20 @@ fn wanted_at(after: &[u8], before: &[u8], fill: u8, i: usize) -> u8 {
     byte_at(after, i, byte_at(before, i, fill))
 }
 
-// The place of the first byte that is not the wanted one, or the area's end.
+// The place of the first byte that is not the wanted one, or the area's end. From where both words have ended the fill is wanted.
 fn first_difference(area: &[u8], after: &[u8], before: &[u8], fill: u8) -> usize {
     let mut i: usize = 0;
     while i < area.len() {
+        if i >= byte_count(after) && i >= byte_count(before) {
+            break;
+        }
         if area[i] != wanted_at(after, before, fill, i) {
+            return i;
+        }
+        i += 1;
+    }
+    while i < area.len() {
+        if area[i] != fill {
             return i;
         }
         i += 1;
