@@ -102,22 +102,13 @@ fn removal_at(text: &[u8], at: usize, depth: usize, to: usize, prefix: bool) -> 
     requires { ⌜ (at + 2 ≤ to) × (to < length (now text)) × (0 < depth) ⌝ }
     ensures { λ r. ⌜ Shows (now (text .entry)) at depth r (removal (part (now (text .entry)) (at + 2) to) (removalForm «prefix») (getD (now (text .entry)) to 0) (to - at) (drop (to + 1) (now (text .entry)))) ⌝ }
 {
-    let sign = text[to];
-    if is_at(text, to + 1, sign) {
-        return Item::Inner {
-            from: at + 2,
-            to: to,
-            form: removal_form(prefix, true),
-            mode: Mode::Bare,
-            next: to + 2,
-        };
-    }
+    let doubled = is_at(text, to + 1, text[to]);
     Item::Inner {
         from: at + 2,
         to: to,
-        form: removal_form(prefix, false),
+        form: removal_form(prefix, doubled),
         mode: Mode::Bare,
-        next: to + 1,
+        next: if doubled { to + 2 } else { to + 1 },
     }
 }
 

@@ -1,4 +1,4 @@
--- `items::braces::braced_at` meets its contract: the depth first, then the byte behind. Assumes nothing.
+-- `braces::braced_at` meets its contract: the depth first, then the byte behind. Assumes nothing.
 use mathlib.Core.Path.{_≡_, refl, sym, ap, _∙_}
 use native.Mathlib.Omega.{arith}
 use Rattle.modes.specs.Modes.{modeOf}

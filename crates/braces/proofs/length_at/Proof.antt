@@ -1,4 +1,4 @@
--- `items::braces::length_at` meets its contract: the byte behind decides. Assumes nothing.
+-- `braces::length_at` meets its contract: the byte behind decides. Assumes nothing.
 use mathlib.Core.Path.{_≡_, refl, sym, ap, _∙_}
 use native.Mathlib.Omega.{arith}
 use Rattle.braces.proofs.Showing.{same-item}

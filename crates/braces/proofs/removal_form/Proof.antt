@@ -1,4 +1,4 @@
--- `items::braces::removal_form` meets its contract: the sign decides. Assumes nothing.
+-- `braces::removal_form` meets its contract: the sign decides. Assumes nothing.
 use Rattle.braces.proofs.removal_form.Statement.{statement}
 use Rattle.braces.proofs.removal_form.Tie as tie
 
