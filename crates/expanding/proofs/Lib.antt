@@ -1,2 +1,4 @@
+pub mod Directories
+pub mod Foreign
 pub mod Logins
 pub mod Wording

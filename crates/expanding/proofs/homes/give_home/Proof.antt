@@ -1,5 +1,5 @@
 -- The login is empty or not.
-use Rattle.expanding.proofs.Wording.{empty-login, some-login, home-same}
+use Rattle.expanding.proofs.Directories.{empty-login, some-login, home-same}
 use Rattle.stages.specs.Images.{held}
 use borrow.Author.Needs.{needs}
 use Rattle.expanding.proofs.homes.give_home.Statement.{statement}

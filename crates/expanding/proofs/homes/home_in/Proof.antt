@@ -1,5 +1,5 @@
 -- What the look-up finds.
-use Rattle.expanding.proofs.Wording.{found-at, found-none, home-added}
+use Rattle.expanding.proofs.Directories.{found-at, found-none, home-added}
 use Rattle.stages.specs.Images.{lookup, held}
 use borrow.Author.Needs.{needs}
 use native.Mathlib.Omega.{arith}

@@ -1,6 +1,6 @@
 -- By the bytes, one after the other.
 use Prim.Native.Nat.{_<_}
-use Rattle.expanding.proofs.Wording.{at-end, other-byte, opens, opens-none, ends-line, ends-slash, ends-blank}
+use Rattle.expanding.proofs.Directories.{at-end, other-byte, opens, opens-none, ends-line, ends-slash, ends-blank}
 use borrow.Author.Needs.{needs}
 use lib.ListN.{length}
 use mathlib.Core.Path.{sym, _∙_}
