@@ -18,11 +18,11 @@ use Rattle.stages.specs.Call.{over}
 use Rattle.stages.proofs.Bools.{either}
 use Rattle.stages.proofs.Images.{written-append, length-image}
 use Rattle.stores.specs.Answers.{recordIn, storedOutcome, Writes}
-use Rattle.stores.specs.Splice.{spliced, within}
+use Rattle.stores.specs.Splice.{spliced, placed, within}
 use Rattle.stores.specs.declared.Stored.{Stored}
 use Rattle.stores.specs.declared.Stored.the-variants as stored
 use Rattle.stores.proofs.Writing.{writes-done, writes-refused}
-use Rattle.stores.proofs.Splices.{within-fits, within-full, spliced-length, put-placed, splice-is, placed}
+use Rattle.stores.proofs.Splices.{within-fits, within-full, spliced-length, put-placed, splice-is}
 use Rattle.stores.proofs.StoredImages.{drop-take}
 use Rattle.stores.proofs.Callers.{Wrote, wrote, unwritten}
 use Rattle.adding.specs.Added.{withText, Gap, Free, free, taken, adding, Adds}

@@ -1,9 +1,9 @@
 -- A job on its two copies: the variables' image stands in one, the output's room is lent of the other. Assumes nothing.
-use Prim.Native.Nat.{ℕ, zero, suc, _+_, _≤_}
+use Prim.Native.Nat.{ℕ, _≤_}
 use native.Mathlib.Omega.{arith}
 use mathlib.Core.Path.{_≡_, refl, sym, ap, _∙_, subst}
 use mathlib.Core.Bool.{Bool, true, false}
-use mathlib.Core.List.{List, [], _∷_, _++_}
+use mathlib.Core.List.{List, _++_}
 use lib.Dec.{leb}
 use lib.ListN.{length, take, drop, length-append, length-drop}
 use lib.Seq.{length-take-le, take-at, take-append-le}
@@ -19,7 +19,8 @@ use Rattle.stages.proofs.Images.{Bytes, bytes-take}
 use Rattle.stages.proofs.Tables.{vars-of, table-canonical}
 use Rattle.stages.proofs.Outcomes.{SafeAt, early, refusesAt, givesAt}
 use Rattle.stages.proofs.SafeLines.{Ready}
-use Rattle.stages.proofs.Answers.{over-front, expanded-safe}
+use Rattle.stages.proofs.Answers.{expanded-safe}
+use Rattle.stages.proofs.Rooms.{over-front}
 use Rattle.lines.specs.Answers.{lineOutcome, LineReady, IsLine, LineSays}
 use Rattle.lines.specs.Answers as line-answers
 use Rattle.lines.specs.declared.LineExpanded.{LineExpanded}

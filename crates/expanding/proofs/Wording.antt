@@ -18,6 +18,7 @@ use Rattle.stages.specs.Read.{parts}
 use Rattle.stages.specs.Units.{L, Q, N, Row, marked, fit}
 use Rattle.stages.specs.Expand.{expand, onto, directory, housed, homed, tilde, rowOf, wordRow}
 use Rattle.stages.proofs.Bools.{no}
+use Rattle.stages.proofs.Rooms.{fit-ok}
 use Rattle.rows.specs.Stands.{Stands}
 use Rattle.modes.specs.declared.Mode.{Mode}
 use Rattle.modes.specs.declared.Mode.the-variants.{Word}
@@ -28,7 +29,7 @@ use Rattle.expanding.specs.declared.homes.Login.{Login as CodeLogin}
 use Rattle.expanding.specs.declared.homes.Home.{Home}
 use Rattle.giving.specs.declared.answers.Expanded.{Expanded}
 use Rattle.giving.specs.declared.answers.Expanded.the-variants as answer
-use Rattle.giving.proofs.Fitting.{by-fit, fit-ok}
+use Rattle.giving.proofs.Fitting.{by-fit}
 use Rattle.giving.proofs.Holding.{says-known, answers-known}
 use Rattle.giving.proofs.Standing.{stands-nest, stands-inside}
 use Rattle.expanding.proofs.Logins.{Login, read-login, no-login-read, tilde-behind, tilde-homed, no-tilde-end, no-tilde}

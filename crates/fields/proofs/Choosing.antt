@@ -23,7 +23,8 @@ use Rattle.paths.specs.Chosen.{textsFrom, Walks, pathElements, Shows, nothing, 
 use Rattle.paths.specs.declared.Next.{Next}
 use Rattle.paths.specs.declared.Next.the-variants.{Path, Nothing}
 use Rattle.paths.proofs.Walking.{walks-first}
-use Rattle.fields.specs.Answers.{placed, Says, class, noRoom}
+use Rattle.stores.specs.Splice.{placed}
+use Rattle.fields.specs.Answers.{Says, class, noRoom}
 use Rattle.fields.specs.Fields.{fieldTexts, Listed}
 use Rattle.fields.specs.declared.Written.{Written}
 use Rattle.fields.specs.declared.Written.the-variants.{Len, Class, NoRoom}

@@ -2,13 +2,14 @@
 -- a refusal nothing is said of the bytes, since no caller keeps them. Assumes nothing.
 use Prim.Native.Nat.{ℕ, _+_, _≤_, _<_}
 use mathlib.Core.Path.{_≡_}
-use mathlib.Core.List.{List, _++_}
+use mathlib.Core.List.{List}
 use lib.Dec.{leb}
-use lib.ListN.{length, take, drop}
+use lib.ListN.{length}
 use Rattle.stages.specs.Numbers.{bracketClass, outputRoom}
 use Rattle.stages.specs.Bytes.{Text}
 use Rattle.stages.specs.Outcome.{Outcome, refused, done, _>>=_, pick}
 use Rattle.stages.specs.Images.{written, recordBytes}
+use Rattle.stores.specs.Splice.{placed}
 use Rattle.fields.specs.declared.Written.{Written}
 use Rattle.fields.specs.declared.Written.the-variants.{Len, Class, NoRoom}
 
@@ -21,10 +22,6 @@ writtenOutcome NoRoom = refused outputRoom
 -- the new length of an output with so much room, where the texts that a stage gives come behind its first `used` bytes
 unfoldable pub lengthWith : ℕ → ℕ → Outcome (List Text) → Outcome ℕ
 lengthWith room used o = o >>= λ l. pick (leb (used + recordBytes l) room) (done (used + recordBytes l)) (refused outputRoom)
-
--- a text stands at a place; all other bytes are the old ones
-unfoldable pub placed : ℕ → Text → Text → Text
-placed at t old = take at old ++ (t ++ drop (at + length t) old)
 
 -- what an answer says of the stage and of the bytes
 pub data Says (o : Outcome (List Text)) (used : ℕ) (old left : Text) : Written → Type 0 where

@@ -1,6 +1,6 @@
 -- What the contracts determine: two outcomes for one row or one text are the same answer, with the same row in the area and the same image of variables.
 -- Open are the bytes of the area behind the row, those of the variables' buffer behind the image, and both after a refusal. Assumes nothing.
-use Prim.Native.Nat.{ℕ, _*_, _-_}
+use Prim.Native.Nat.{ℕ, _*_}
 use native.Mathlib.Omega.{arith}
 use mathlib.Core.Path.{_≡_, sym, ap, _∙_}
 use lib.ListN.{length, take, length-drop}
@@ -14,6 +14,7 @@ use Rattle.stages.specs.Units.{Row}
 use Rattle.stages.specs.Expand.{Made}
 use Rattle.stages.proofs.Images.{Bytes}
 use Rattle.stages.proofs.Tables.{table-length, table-canonical}
+use Rattle.stages.proofs.Rooms.{fit-ok}
 use Rattle.texts.specs.Rows.{rowBytes}
 use Rattle.giving.specs.Answers.{goingOn, Holds, IsRow, Ends, Answers, Says, Finishes}
 use Rattle.giving.specs.declared.answers.Expanded.{Expanded}
@@ -24,7 +25,6 @@ use Rattle.texts.proofs.Determined.{one-answer}
 use Rattle.giving.specs.Added.{Adds, Fitting, measured}
 use Rattle.giving.specs.declared.Added.{Added}
 use Rattle.giving.specs.declared.Added.the-variants as added
-use Rattle.giving.proofs.Fitting.{fit-ok}
 
 -- A row that is added.
 

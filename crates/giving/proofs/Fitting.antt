@@ -1,32 +1,24 @@
 -- Room for a row, and rows that fill a front. Assumes nothing.
-use Prim.Native.Nat.{ℕ, suc, _+_, _-_, _≤_, _<_}
+use Prim.Native.Nat.{ℕ, suc, _+_, _≤_, _<_}
 use native.Mathlib.Omega.{arith}
-use mathlib.Core.Path.{_≡_, refl, sym, ap, _∙_, subst}
+use mathlib.Core.Path.{_≡_, refl, ap, _∙_, subst}
 use mathlib.Core.List.{[], _∷_}
 use borrow.Author.Tests.{le-leb, lt-leb}
 use lib.Dec.{leb}
-use lib.ListN.{length, take, drop, length-append}
-use lib.Seq.{take-at}
+use lib.ListN.{length, drop, length-append}
 use Rattle.stages.specs.Numbers.{rowLimit, tooManyUnits}
 use Rattle.stages.specs.Bytes.{Text}
 use Rattle.stages.specs.Outcome.{Outcome, refused, done}
 use Rattle.stages.specs.Units.{Mark, Row, marked, fit}
 use Rattle.stages.specs.Call.{over}
 use Rattle.stages.proofs.Bools.{either}
+use Rattle.stages.proofs.Rooms.{fit-full}
 use Rattle.texts.specs.Rows.{rowBytes}
 use Rattle.rows.specs.Stands.{fronted}
 use Rattle.giving.specs.Added.{Adds, Fitting, measured, admitted}
 use Rattle.giving.specs.declared.Added.{Added}
 use Rattle.giving.specs.declared.Added.the-variants as added
 use Rattle.texts.specs.Putting.{Puts}
-
-pub fit-ok : (n k : ℕ) → n + k ≤ rowLimit → fit n k ≡ done (n + k)
-unfolding fit
-fit-ok n k h = rw (le-leb (n + k) rowLimit h, fit)
-
-pub fit-full : (n k : ℕ) → rowLimit < n + k → fit n k ≡ refused tooManyUnits
-unfolding fit
-fit-full n k h = rw (lt-leb (n + k) rowLimit h, fit)
 
 -- what holds where there is room and where there is none
 pub by-fit : (P : Outcome ℕ → Type 0) (n k : ℕ) → P (done (n + k)) → P (refused tooManyUnits) → P (fit n k)

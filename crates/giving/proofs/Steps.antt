@@ -14,8 +14,9 @@ use Rattle.stages.specs.Arith.{arithmeticOf}
 use Rattle.stages.specs.Expand.{Made, value, parameter, onto, adding, expand}
 use Rattle.giving.specs.Steps.{beside, placed, quoted, summed, followed}
 use Rattle.giving.specs.Added.{measured}
-use Rattle.giving.proofs.Fitting.{by-fit, fit-ok}
+use Rattle.giving.proofs.Fitting.{by-fit}
 use Rattle.stages.specs.Numbers.{rowLimit}
+use Rattle.stages.proofs.Rooms.{fit-ok}
 
 pub onto-none : (o : Made) → o ≡ onto [] o
 onto-none (refused e) = refl

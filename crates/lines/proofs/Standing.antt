@@ -19,7 +19,7 @@ use Rattle.stages.proofs.Words.{FirstWord}
 use Rattle.reading.specs.Says.{NextAt, NextNone}
 use Rattle.reading.proofs.Lines.{good-left}
 use Rattle.giving.specs.Answers.{Holds}
-use Rattle.fields.specs.Answers.{placed}
+use Rattle.stores.specs.Splice.{placed}
 use Rattle.lines.specs.Answers.{among, wordOutcome, lineOutcome, WordReady, IsFields, WordOf, WordSays, LineReady, LineSays}
 use Rattle.lines.specs.declared.WordExpanded.{WordExpanded}
 use Rattle.lines.specs.declared.WordExpanded.the-variants as word

@@ -21,7 +21,8 @@ use Rattle.texts.proofs.Rows.{rowOf-rowBytes, length-rowBytes}
 use Rattle.giving.specs.Answers.{IsRow, Answers as RowOf, Says as Expands}
 use Rattle.giving.specs.declared.answers.Expanded.{Expanded}
 use Rattle.giving.specs.declared.answers.Expanded.the-variants as expanded
-use Rattle.fields.specs.Answers.{placed, Says, len, class, noRoom, Puts}
+use Rattle.stores.specs.Splice.{placed}
+use Rattle.fields.specs.Answers.{Says, len, class, noRoom, Puts}
 use Rattle.fields.specs.declared.Written.{Written}
 use Rattle.fields.specs.declared.Written.the-variants.{Len, Class, NoRoom}
 use Rattle.lines.specs.Answers.{among, wordOutcome, WordReady, WordOf, WordSays}

@@ -14,7 +14,7 @@ use Rattle.stages.specs.Line.{Around, Fields, wordFields, outFits, expandWords}
 use Rattle.stages.specs.Call.{over}
 use Rattle.modes.specs.declared.Mode.the-variants as mode
 use Rattle.giving.specs.Answers.{Holds, Ready, Ends}
-use Rattle.fields.specs.Answers.{placed}
+use Rattle.stores.specs.Splice.{placed}
 use Rattle.lines.specs.declared.WordExpanded.{WordExpanded}
 use Rattle.lines.specs.declared.WordExpanded.the-variants as word
 use Rattle.lines.specs.declared.LineExpanded.{LineExpanded}

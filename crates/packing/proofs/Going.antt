@@ -15,10 +15,11 @@ use Rattle.stages.specs.Call.{over}
 use Rattle.stages.specs.Program.{longerLine, linesOf}
 use Rattle.stages.proofs.Bools.{either}
 use Rattle.stages.proofs.Images.{length-image, pairs-image, held-image, texts-image, heldTexts-image, Fine}
+use Rattle.stages.proofs.Rooms.{over-length}
 use Rattle.entering.proofs.Sounds.{none-texts, limit-some}
 use Rattle.tables.specs.Kinds.{inTwos}
 use Rattle.tables.specs.declared.Kind.{Kind}
-use Rattle.stores.proofs.Callers.{fills-none, over-length}
+use Rattle.stores.proofs.Callers.{fills-none}
 use Rattle.escapes.specs.Escapes.{upTo}
 use Rattle.entering.specs.Records.{alone, textsBy, recordsBy, limitBy, TableBy}
 use Rattle.entering.specs.Entries.{entryOf, Step, stop, go, entered, Enters, takes, stops}

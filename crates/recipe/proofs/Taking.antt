@@ -5,7 +5,7 @@ use mathlib.Core.Path.{_≡_, sym, ap, _∙_}
 use mathlib.Core.List.{[], _∷_, _++_}
 use lib.ListN.{length, take}
 use Rattle.stages.specs.Bytes.{Text}
-use Rattle.stages.proofs.Answers.{over-length}
+use Rattle.stages.proofs.Rooms.{over-length}
 use Rattle.cutting.specs.Lines.{lineKept, keptOf, came, keptIn, nextIn, Takes}
 use Rattle.cutting.specs.declared.Taken.{Taken}
 use Rattle.cutting.specs.declared.Taken.the-variants.{Ended, Open}

@@ -15,7 +15,8 @@ use Rattle.stages.specs.Call.{Given, over, expanded, answered, quotedIn, normal
 use Rattle.stages.specs.Call as stage
 use Rattle.stages.specs.Program.{givenLine, said}
 use Rattle.stages.proofs.Bools.{either}
-use Rattle.stages.proofs.Answers.{over-front, normaliser-fits}
+use Rattle.stages.proofs.Answers.{normaliser-fits}
+use Rattle.stages.proofs.Rooms.{over-front}
 use Rattle.io.proofs.Counting.{counts}
 use Rattle.io.specs.Counts.{Counts}
 use Rattle.texts.specs.Putting.{Puts}

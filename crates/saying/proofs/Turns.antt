@@ -3,14 +3,12 @@
 use Prim.Native.Nat.{ℕ}
 use mathlib.Core.Path.{_≡_, refl, sym, ap, _∙_}
 use mathlib.Core.List.{List, [], _∷_, _++_}
-use lib.ListN.{length, take}
+use lib.ListN.{take}
 use Rattle.stages.specs.Bytes.{Text}
 use Rattle.stages.specs.Call.{Answer, normaliser}
 use Rattle.stages.specs.Program.{Variables, linesOf, givenLine, said, saidOf}
-use Rattle.stages.proofs.Answers.{over-front}
 use Rattle.stages.proofs.Program.{cutLine, normaliser-cut}
 use Rattle.texts.proofs.Filling.{puts-front}
-use Rattle.texts.specs.Putting.{Puts}
 use Rattle.cutting.proofs.Callers.{InBlocks, joined, blocks-lines}
 use Rattle.saying.specs.Says.{answerTo, Says}
 use Rattle.saying.specs.declared.Said.{Said}

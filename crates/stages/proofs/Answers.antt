@@ -7,8 +7,8 @@ use mathlib.Core.Bool.{Bool, true, false, _&&_}
 use mathlib.Core.List.{List}
 use mathlib.Core.Option.{Option, none, some}
 use lib.Dec.{leb}
-use lib.ListN.{length, take, drop, replicate, length-append, length-drop, length-replicate}
-use lib.Seq.{take-at, drop-at, length-take-le}
+use lib.ListN.{length, take, drop, replicate, length-replicate}
+use lib.Seq.{length-take-le}
 use borrow.Author.Tests.{leb-true}
 use Rattle.stages.specs.Numbers.{accepted, workTooSmall, badVariables, badHomes, badPaths, zeroByte, unended, outputRoom, badFields, workLeast, lineLimit, imageLimit}
 use Rattle.stages.specs.Bytes.{Text}
@@ -18,26 +18,12 @@ use Rattle.stages.specs.Line.{Fields}
 use Rattle.stages.specs.Quote.{quotedLine}
 use Rattle.stages.specs.Call.{Given, Answer, over, orRefused, expanded, cleared, answered, expander, quotedIn, normaliser, Quoting, quoting, quoter}
 use Rattle.stages.proofs.Bools.{and-left, and-right, between-bounds}
+use Rattle.stages.proofs.Rooms.{over-front, over-behind, over-length}
 use Rattle.stages.proofs.Images.{Fine, length-image, held-image, heldTexts-image}
 use Rattle.stages.proofs.Tables.{Table, table-of, table-fine, table-length, table-image, variables-are, Paths, paths-held, texts-held-fine, fields-image, fields-are}
 use Rattle.stages.proofs.Outcomes.{isEarly, SafeAt, early, refusesAt, givesAt, safe-then, safe-require}
 use Rattle.stages.proofs.SafeRows.{Kept}
 use Rattle.stages.proofs.SafeLines.{Ready, line-safe}
-
--- buffers
-
-module _ (t buffer : Text) where
-  pub over-front : take (length t) (over t buffer) ≡ t
-  unfolding over
-  over-front = take-at t (drop (length t) buffer) (length t) refl
-
-  pub over-behind : drop (length t) (over t buffer) ≡ drop (length t) buffer
-  unfolding over
-  over-behind = drop-at t (drop (length t) buffer) (length t) refl
-
-  pub over-length : length t ≤ length buffer → length (over t buffer) ≡ length buffer
-  unfolding over
-  over-length h = simp (length-append, length-drop) (omega arith)
 
 -- what an answer is
 

@@ -1,10 +1,9 @@
 -- Demand 3 over the calls: an accepted line's fields, written as a quoted line, come back from any other call, which changes no variable, and quote to the same
 -- bytes. The calls do nothing but what the stages do, and a well-formed table is the image of what it holds. Assumes nothing.
-use Prim.Native.Nat.{ℕ, zero, suc, _≤_}
+use Prim.Native.Nat.{ℕ, zero, _≤_}
 use native.Mathlib.Omega.{arith}
 use mathlib.Core.Path.{_≡_, sym, ap, _∙_}
 use mathlib.Core.Bool.{true}
-use mathlib.Core.List.{[], _∷_}
 use mathlib.Core.Option.{some}
 use lib.ListN.{length, take, take-append-drop}
 use lib.Seq.{length-take-le}
@@ -18,8 +17,9 @@ use Rattle.stages.specs.Quote.{quotedLine}
 use Rattle.stages.specs.Call.{Given, Answer, over, orRefused, expanded, cleared, answered, expander, quotedIn, normaliser, quoting, quoter}
 use Rattle.stages.proofs.Images.{Bytes, bytes-take, Fine, length-image, heldTexts-image}
 use Rattle.stages.proofs.Tables.{table-canonical, vars-of, variables-are, homes-of, homes-are, paths-of, paths-are, fields-held, fields-image, fields-are, texts-held-fine}
-use Rattle.stages.proofs.Answers.{over-front, FieldsImage, QuotedLine, expander-fits, normaliser-fits}
+use Rattle.stages.proofs.Answers.{FieldsImage, QuotedLine, expander-fits, normaliser-fits}
 use Rattle.stages.proofs.RoundTrip.{quoted-image, quoted-expands}
+use Rattle.stages.proofs.Rooms.{over-front}
 
 -- a call whose tables are well formed and whose work area is large enough; the variables' buffer holds bytes, which is known of a slice
 pub record WellFormed (h : Given) : Type 0 where

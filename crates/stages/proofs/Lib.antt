@@ -1,5 +1,6 @@
 pub mod Recipes
 pub mod Bools
+pub mod Rooms
 pub mod Texts
 pub mod Images
 pub mod Tables

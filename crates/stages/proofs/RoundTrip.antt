@@ -14,7 +14,7 @@ use Rattle.stages.specs.Outcome.{done, doneAt, pick}
 use Rattle.stages.specs.Images.{Pairs, lookup, recordBytes, imageLength}
 use Rattle.stages.specs.Syntax.{Parts, Word}
 use Rattle.stages.specs.Read.{readLine}
-use Rattle.stages.specs.Units.{L, Q, cell, N, Row, fit, bytes}
+use Rattle.stages.specs.Units.{L, Q, cell, N, Row, bytes}
 use Rattle.stages.specs.Expand.{expand, tilde, rowOf, wordRow}
 use Rattle.stages.specs.Split.{dropWhite, dropHard, otherRun, fieldsStep, fieldsFrom, split, ifsOr, fieldsOfRow}
 use Rattle.stages.specs.Pattern.{signs, elements, hasClass, pattern}
@@ -24,6 +24,7 @@ use Rattle.stages.specs.Line.{Around, Fields, wordFields, expandWords, e
 use Rattle.stages.proofs.Bools.{and-left, and-right, and-both}
 use Rattle.stages.proofs.Texts.{all-append}
 use Rattle.stages.proofs.Images.{Fine}
+use Rattle.stages.proofs.Rooms.{fit-ok}
 use Rattle.stages.proofs.Split.{fields-from}
 use Rattle.stages.proofs.Quoted.{by-quotes, runs, fieldParts, fieldWords, quoted-reads}
 
@@ -36,10 +37,6 @@ rows (b ∷ t) = pick (eqb b 39) ([], cell Q b ∷ N ∷ rows t .0 ++ rows t .1)
 
 abbrev fieldRow : Text → Row
 fieldRow t = N ∷ rows t .0 ++ rows t .1
-
-fit-ok : (n k : ℕ) → n + k ≤ rowLimit → fit n k ≡ done (n + k)
-unfolding fit
-fit-ok n k h = rw (le-leb (n + k) rowLimit h, fit)
 
 -- a field's parts expand to its row, behind n units
 module _ (room : ℕ) (v : Pairs) where

@@ -22,6 +22,7 @@ use Rattle.stages.proofs.Images.{length-image, written-append}
 use Rattle.stages.proofs.Tables.{Vars}
 use Rattle.stages.proofs.Stores.{held-stored, vars-stored, lookup-stored, lookup-other}
 use Rattle.stages.proofs.Outcomes.{done-same, never}
+use Rattle.stages.proofs.Rooms.{over-length}
 use Rattle.stores.specs.Answers.{putOutcome, storedOutcome, textLimit, recordIn, imageIn, Writes}
 use Rattle.stores.specs.declared.Put.{Put}
 use Rattle.stores.specs.declared.Put.the-variants.{Len, NoRoom}
@@ -105,10 +106,6 @@ fills-none (b ∷ t) h = record { long = refl; small = h; is = refl }
 image-snoc : (l : List Text) (t : Text) → image (l ++ (t ∷ [])) ≡ image l ++ framed t
 unfolding image written
 image-snoc l t = ap (λ (x : Text). 1 ∷ x) (written-append l (t ∷ []) ∙ rw (append-nil t))
-
-pub over-length : (t old : Text) → length t ≤ length old → length (over t old) ≡ length old
-unfolding over
-over-length t old h = simp (length-append, length-drop) (omega arith)
 
 -- an image that is handed over by one copy
 pub copied-over : (t part old left : Text) → part ≡ t → left ≡ part ++ drop (length part) old → left ≡ over t old

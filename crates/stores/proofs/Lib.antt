@@ -1,4 +1,5 @@
 pub mod Writing
+pub mod Placed
 pub mod Splices
 pub mod Determined
 pub mod StoredImages

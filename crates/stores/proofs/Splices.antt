@@ -17,7 +17,8 @@ use Rattle.stages.specs.Images.{framed}
 use Rattle.stages.specs.Call.{over}
 use Rattle.stages.proofs.Bools.{same-tests}
 use Rattle.stores.specs.Answers.{textLimit, recordIn, leftBy, Writes}
-use Rattle.stores.specs.Splice.{spliced, within, roomFor}
+use Rattle.stores.specs.Splice.{spliced, placed, within, roomFor}
+use Rattle.stores.proofs.Placed.{placed-length}
 use Rattle.stores.proofs.Writing.{writes-done, writes-refused, record-fits}
 
 pub within-fits : (cap : ℕ) (t : Text) → length t ≤ cap → within cap t ≡ done t
@@ -48,14 +49,6 @@ has-room r n v room e k = leb-true (n + v + 4) room (sym e ∙ not-false r k)
 pub lacks-room : (r : Bool) (n v room : ℕ) → r ≡ roomFor n v room → not r ≡ true → room < n + v + 4
 unfolding roomFor
 lacks-room r n v room e k = leb-false (n + v + 4) room (sym e ∙ not-true r k)
-
--- bytes put at a place of an area
-unfoldable pub placed : ℕ → Text → Text → Text
-placed p w x = take p x ++ (w ++ drop (p + length w) x)
-
-pub placed-length : (p : ℕ) (w x : Text) → p + length w ≤ length x → length (placed p w x) ≡ length x
-unfolding placed
-placed-length p w x h = simp (length-append, length-drop, length-take-le p x (omega arith)) (omega arith)
 
 -- a record that is put into the part behind p, which is then given back
 pub put-placed : (p : ℕ) (t x ys : Text) {r : Outcome ℕ} → length t ≤ textLimit → p + (length t + 2) ≤ length x

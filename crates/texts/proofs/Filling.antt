@@ -9,7 +9,7 @@ use lib.Seq.{take-at, drop-at, drop-drop, drop-cons, set-at, take-all, drop-leng
 use borrow.Rule.Slice.PartMut.{putMid, midOf}
 use Rattle.stages.specs.Bytes.{Text}
 use Rattle.stages.specs.Call.{over}
-use Rattle.stages.proofs.Answers.{over-length}
+use Rattle.stages.proofs.Rooms.{over-length}
 use Rattle.texts.specs.Putting.{Puts}
 use Rattle.texts.proofs.Determined.{one-answer}
 

@@ -1,5 +1,5 @@
 -- The ways of what holds a text: a quote, an operand that is used or not, an arithmetic text. Assumes nothing.
-use Prim.Native.Nat.{ℕ, _+_, _-_, _*_, _≤_, _<_}
+use Prim.Native.Nat.{ℕ, _+_, _*_, _≤_, _<_}
 use native.Mathlib.Omega.{arith}
 use mathlib.Core.Path.{_≡_, refl, sym, ap, _∙_, subst}
 use mathlib.Core.Bool.{true, false}
@@ -21,6 +21,7 @@ use Rattle.stages.proofs.Outcomes.{Safe, gives, safe-done}
 use Rattle.stages.proofs.SafeSums.{arithmetic-safe}
 use Rattle.stages.proofs.Safe.{NoZero, SafeParts, parts-safe}
 use Rattle.stages.proofs.SafeRows.{Kept, bytes-safe, expand-safe}
+use Rattle.stages.proofs.Rooms.{fit-ok, fit-full}
 use Rattle.texts.specs.Rows.{rowBytes, rowOf}
 use Rattle.texts.proofs.Rows.{rowOf-rowBytes}
 use Rattle.rows.specs.Stands.{Stands}
@@ -41,7 +42,6 @@ use Rattle.giving.specs.declared.Added.the-variants as added
 use Rattle.giving.specs.declared.answers.Expanded.{Expanded}
 use Rattle.giving.specs.declared.answers.Expanded.the-variants as answer
 use Rattle.plans.specs.declared.Plan.{Plan}
-use Rattle.giving.proofs.Fitting.{fit-ok, fit-full}
 use Rattle.plans.proofs.Forms.{unused-operand, used-operand}
 use Rattle.giving.proofs.Steps.{placed-refused, beside-refused}
 use Rattle.giving.proofs.Holding.{says-known, answers-known, fitting-row, vars-held}
