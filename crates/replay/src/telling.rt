@@ -70,20 +70,26 @@ fn wanted_at(after: &[u8], before: &[u8], fill: u8, i: usize) -> u8 {
     byte_at(after, i, byte_at(before, i, fill))
 }
 
+// The place of the first byte from `from` on that is not the fill, or the area's end.
+fn behind_fill(area: &[u8], from: usize, fill: u8) -> usize {
+    let mut i = from;
+    while i < area.len() {
+        if area[i] != fill {
+            return i;
+        }
+        i += 1;
+    }
+    i
+}
+
 // The place of the first byte that is not the wanted one, or the area's end. From where both words have ended the fill is wanted.
 fn first_difference(area: &[u8], after: &[u8], before: &[u8], fill: u8) -> usize {
     let mut i: usize = 0;
     while i < area.len() {
         if i >= byte_count(after) && i >= byte_count(before) {
-            break;
+            return behind_fill(area, i, fill);
         }
         if area[i] != wanted_at(after, before, fill, i) {
-            return i;
-        }
-        i += 1;
-    }
-    while i < area.len() {
-        if area[i] != fill {
             return i;
         }
         i += 1;

@@ -1,0 +1,49 @@
+-- Each turn writes a byte of the area, whose length stays. Assumes nothing.
+use Prim.Native.Nat.{_-_, _≤_}
+use mathlib.Core.Path.{_≡_, refl}
+use native.Mathlib.Omega.{arith}
+use lib.ListN.{length, length-set}
+use borrow.Author.Needs.{needs}
+use Rattle.replay.proofs.laying.fill_with.Statement.{statement}
+use Rattle.replay.proofs.laying.fill_with.Tie as tie
+
+abbrev Inv-loop : tie.InvT-loop
+Inv-loop area₀ fill i₀ area i = (i ≤ length area₀) × (length area ≡ length area₀)
+
+abbrev μ-loop : tie.MeasureT-loop
+μ-loop area₀ fill i₀ area i = length area₀ - i
+
+loop-holds : tie.Need-loop-holds Inv-loop μ-loop
+loop-holds c = (omega arith, refl)
+
+slice-write-area : tie.Need-slice-write-area Inv-loop μ-loop
+slice-write-area c = search needs
+
+add-i : tie.Need-add-i Inv-loop μ-loop
+add-i c = search needs
+
+loop-less : tie.Need-loop-less Inv-loop μ-loop
+loop-less c = search needs
+
+loop-again : tie.Need-loop-again Inv-loop μ-loop
+loop-again c = (omega arith, simp length-set (omega arith))
+
+same-length : tie.Need-same-length Inv-loop μ-loop
+same-length c = omega arith
+
+returns : tie.Need-returns Inv-loop μ-loop
+returns c = search needs
+
+pub fill-with-spec : {M : Type 1} → statement M
+fill-with-spec =
+    tie.close
+    (tie.spec
+    Inv-loop
+    μ-loop
+    loop-holds
+    slice-write-area
+    add-i
+    loop-less
+    loop-again
+    same-length
+    returns)
