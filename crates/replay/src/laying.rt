@@ -20,21 +20,10 @@ const WORK_JUNK: u8 = 0xc3;
 
 const WORK_ZERO: u8 = 0;
 
-// Sets every byte of an area to the fill.
-fn fill_with(area: &mut [u8], fill: u8) {
-    let mut i: usize = 0;
-    while i < area.len() {
-        area[i] = fill;
-        i += 1;
-    }
-}
-
 // Writes the bytes of a word to the front of an area, and the fill behind them.
 pub fn lay(area: &mut [u8], bytes: &[u8], fill: u8) {
-    fill_with(area, fill);
-    let front = cut(byte_count(bytes), area);
     let mut i: usize = 0;
-    while i < front {
+    while i < area.len() {
         area[i] = byte_at(bytes, i, fill);
         i += 1;
     }

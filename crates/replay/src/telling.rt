@@ -1,6 +1,5 @@
 // What a call gave is held against what the case says, and each difference is told, all those of a case on one line.
 use crate::words::byte_at;
-use crate::words::byte_count;
 use libc::STDOUT_FILENO;
 
 // The line of a case, and whether a difference was told of it.
@@ -70,25 +69,10 @@ fn wanted_at(after: &[u8], before: &[u8], fill: u8, i: usize) -> u8 {
     byte_at(after, i, byte_at(before, i, fill))
 }
 
-// The place of the first byte from `from` on that is not the fill, or the area's end.
-fn behind_fill(area: &[u8], from: usize, fill: u8) -> usize {
-    let mut i = from;
-    while i < area.len() {
-        if area[i] != fill {
-            return i;
-        }
-        i += 1;
-    }
-    i
-}
-
-// The place of the first byte that is not the wanted one, or the area's end. From where both words have ended the fill is wanted.
+// The place of the first byte that is not the wanted one, or the area's end.
 fn first_difference(area: &[u8], after: &[u8], before: &[u8], fill: u8) -> usize {
     let mut i: usize = 0;
     while i < area.len() {
-        if i >= byte_count(after) && i >= byte_count(before) {
-            return behind_fill(area, i, fill);
-        }
         if area[i] != wanted_at(after, before, fill, i) {
             return i;
         }

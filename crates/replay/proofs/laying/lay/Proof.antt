@@ -1,6 +1,6 @@
--- Each turn writes a byte of the area, whose length stays: those of the word, as many as have room. Assumes nothing.
+-- Each turn writes a byte of the area, whose length stays. Assumes nothing.
 use Prim.Native.Nat.{_-_, _≤_}
-use mathlib.Core.Path.{_≡_}
+use mathlib.Core.Path.{_≡_, refl}
 use native.Mathlib.Omega.{arith}
 use lib.ListN.{length, length-set}
 use borrow.Author.Needs.{needs}
@@ -8,22 +8,13 @@ use Rattle.replay.proofs.laying.lay.Statement.{statement}
 use Rattle.replay.proofs.laying.lay.Tie as tie
 
 abbrev Inv-loop : tie.InvT-loop
-Inv-loop area₀ bytes fill front i₀ area i = (i ≤ length area₀) × (front ≤ length area₀) × (length area ≡ length area₀)
+Inv-loop area₀ bytes fill i₀ area i = (i ≤ length area₀) × (length area ≡ length area₀)
 
 abbrev μ-loop : tie.MeasureT-loop
-μ-loop area₀ bytes fill front i₀ area i = length area₀ - i
-
-fill-with-requires : tie.Need-fill-with-requires Inv-loop μ-loop
-fill-with-requires c κs = search needs
-
-byte-count-requires : tie.Need-byte-count-requires Inv-loop μ-loop
-byte-count-requires c κs = search needs
-
-cut-requires : tie.Need-cut-requires Inv-loop μ-loop
-cut-requires c κs = search needs
+μ-loop area₀ bytes fill i₀ area i = length area₀ - i
 
 loop-holds : tie.Need-loop-holds Inv-loop μ-loop
-loop-holds c = (omega arith, omega arith, omega arith)
+loop-holds c = (omega arith, refl)
 
 byte-at-requires : tie.Need-byte-at-requires Inv-loop μ-loop
 byte-at-requires c κs = search needs
@@ -38,7 +29,7 @@ loop-less : tie.Need-loop-less Inv-loop μ-loop
 loop-less c = search needs
 
 loop-again : tie.Need-loop-again Inv-loop μ-loop
-loop-again c = (omega arith, omega arith, simp length-set (omega arith))
+loop-again c = (omega arith, simp length-set (omega arith))
 
 same-length : tie.Need-same-length Inv-loop μ-loop
 same-length c = omega arith
@@ -52,9 +43,6 @@ lay-spec =
     (tie.spec
     Inv-loop
     μ-loop
-    fill-with-requires
-    byte-count-requires
-    cut-requires
     loop-holds
     byte-at-requires
     slice-write-area

@@ -14,26 +14,14 @@ abbrev μ-loop : tie.MeasureT-loop
 loop-holds : tie.Need-loop-holds Inv-loop μ-loop
 loop-holds c = search needs
 
-byte-count-requires : tie.Need-byte-count-requires Inv-loop μ-loop
-byte-count-requires c κs = search needs
-
-byte-count-requires-2 : tie.Need-byte-count-requires-2 Inv-loop μ-loop
-byte-count-requires-2 c κs = search needs
-
-behind-fill-requires : tie.Need-behind-fill-requires Inv-loop μ-loop
-behind-fill-requires c κs = search needs
-
-returns : tie.Need-returns Inv-loop μ-loop
-returns c = search needs
-
-shared-slice-read-if3 : tie.Need-shared-slice-read-if3 Inv-loop μ-loop
-shared-slice-read-if3 c = search needs
+shared-slice-read-if1 : tie.Need-shared-slice-read-if1 Inv-loop μ-loop
+shared-slice-read-if1 c = search needs
 
 wanted-at-requires : tie.Need-wanted-at-requires Inv-loop μ-loop
 wanted-at-requires c κs = search needs
 
-returns-2 : tie.Need-returns-2 Inv-loop μ-loop
-returns-2 c = search needs
+returns : tie.Need-returns Inv-loop μ-loop
+returns c = search needs
 
 add-i : tie.Need-add-i Inv-loop μ-loop
 add-i c = search needs
@@ -44,8 +32,8 @@ loop-less c = search needs
 loop-again : tie.Need-loop-again Inv-loop μ-loop
 loop-again c = search needs
 
-returns-3 : tie.Need-returns-3 Inv-loop μ-loop
-returns-3 c = search needs
+returns-2 : tie.Need-returns-2 Inv-loop μ-loop
+returns-2 c = search needs
 
 pub first-difference-spec : {M : Type 1} → statement M
 first-difference-spec =
@@ -54,14 +42,10 @@ first-difference-spec =
     Inv-loop
     μ-loop
     loop-holds
-    byte-count-requires
-    byte-count-requires-2
-    behind-fill-requires
-    returns
-    shared-slice-read-if3
+    shared-slice-read-if1
     wanted-at-requires
-    returns-2
+    returns
     add-i
     loop-less
     loop-again
-    returns-3)
+    returns-2)
