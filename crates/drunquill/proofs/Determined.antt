@@ -1,12 +1,12 @@
 -- The contracts of the three jobs determine every value of the answer and every byte of every lent buffer: two outcomes that a contract allows for one
--- call are equal. Assumes nothing.
+-- call are equal.
 use Prim.Native.Nat.{ℕ}
 use mathlib.Core.Path.{_≡_, sym, ap, _∙_}
 use Rattle.stages.specs.Bytes.{Text}
 use Rattle.stages.specs.Call as stage
-use Rattle.handing.specs.Hands.{Gives}
-use Rattle.handing.specs.declared.Answer.{Answer}
-use Rattle.answering.proofs.Determined.{gives-determined}
+use Rattle.call_deliver.specs.Hands.{Gives}
+use Rattle.call_deliver.specs.declared.Answer.{Answer}
+use Rattle.call_run.proofs.Determined.{gives-determined}
 use Rattle.drunquill.specs.Hands.{Quotes}
 use Rattle.drunquill.specs.declared.QuoteAnswer.{QuoteAnswer}
 

@@ -1,11 +1,11 @@
--- The quoter's answer, case by case. Assumes nothing.
+-- The quoter's answer, case by case.
 use mathlib.Core.Path.{_≡_, refl, subst}
 use Rattle.stages.specs.Numbers.{accepted, outputRoom, badFields}
 use Rattle.stages.specs.Bytes.{Text}
 use Rattle.stages.specs.Call.{Quoting}
-use Rattle.quoting.specs.Answers.{quotingOf}
-use Rattle.quoting.specs.declared.Quoted.{Quoted}
-use Rattle.quoting.specs.declared.Quoted.the-variants.{Len, Malformed, NoRoom}
+use Rattle.quote.specs.Answers.{quotingOf}
+use Rattle.quote.specs.declared.Quoted.{Quoted}
+use Rattle.quote.specs.declared.Quoted.the-variants.{Len, Malformed, NoRoom}
 use Rattle.drunquill.specs.Hands.{Quotes}
 use Rattle.drunquill.specs.declared.QuoteAnswer.{QuoteAnswer}
 

@@ -1,4 +1,4 @@
--- What the quoter answers, and what the lent output holds then, by document 01's stages: every value and every byte. Assumes nothing.
+-- What the quoter answers, and what the lent output holds then, by document 01's stages: every value and every byte.
 use mathlib.Core.Path.{_≡_}
 use Rattle.stages.specs.Bytes.{Text}
 use Rattle.stages.specs.Call as stage

@@ -1,12 +1,12 @@
 // Drunquill's three jobs. Each takes any bytes in any buffers and answers by document 01's numbers. Inside, a line is worked on in copies of the
 // variables and the output, which are handed over at the end, so that a refusal has touched neither.
-use checking::Job;
-use checking::refusals;
-use handing::Answer;
-use quoting::Quoted;
+use call_check::Job;
+use call_check::refusals;
+use call_deliver::Answer;
+use quote::Quoted;
 ghost use Rattle.stages.specs.Call.{expander, normaliser, quoter};
-ghost use Rattle.checking.specs.Calls.{given};
-ghost use Rattle.handing.specs.Hands.{Gives};
+ghost use Rattle.call_check.specs.Calls.{given};
+ghost use Rattle.call_deliver.specs.Hands.{Gives};
 ghost use Rattle.drunquill.specs.Hands.{Quotes};
 
 // The quoter's answer: "The quoter has neither variables nor work area."
@@ -29,7 +29,7 @@ pub fn expand(
 ) -> Answer
     ensures { λ r. ⌜ Gives (expander (given (now (line .entry)) (now (vars .entry)) used (now (homes .entry)) (now (paths .entry)) (now (work .entry)) (now (out .entry)))) r (now (vars .exit)) (now (work .exit)) (now (out .exit)) ⌝ }
 {
-    answering::answer_call(Job::Expander, line, vars, used, homes, paths, work, out)
+    call_run::answer_call(Job::Expander, line, vars, used, homes, paths, work, out)
 }
 
 // The normaliser: the line's fields as a quoted line to `out`, all else as in the expander.
@@ -44,14 +44,14 @@ pub fn normalise(
 ) -> Answer
     ensures { λ r. ⌜ Gives (normaliser (given (now (line .entry)) (now (vars .entry)) used (now (homes .entry)) (now (paths .entry)) (now (work .entry)) (now (out .entry)))) r (now (vars .exit)) (now (work .exit)) (now (out .exit)) ⌝ }
 {
-    answering::answer_call(Job::Normaliser, line, vars, used, homes, paths, work, out)
+    call_run::answer_call(Job::Normaliser, line, vars, used, homes, paths, work, out)
 }
 
 // The quoter: an image of fields as a quoted line to `out`, whose bytes behind the line stay; on refusal all of them do.
 pub fn quote(fields: &[u8], out: &mut [u8]) -> QuoteAnswer
     ensures { λ r. ⌜ Quotes (quoter (now (fields .entry)) (now (out .entry))) r (now (out .exit)) ⌝ }
 {
-    let quoted = quoting::quote_fields(fields, out);
+    let quoted = quote::quote_fields(fields, out);
     match quoted {
         Quoted::Len(n) => QuoteAnswer {
             number: refusals::ACCEPTED,

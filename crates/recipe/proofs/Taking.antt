@@ -1,4 +1,4 @@
--- What the loop over a block learns from the cut of a line: what is kept fits, and the place goes forward within the block. Assumes nothing.
+-- What the loop over a block learns from the cut of a line: what is kept fits, and the place goes forward within the block.
 use Prim.Native.Nat.{ℕ, zero, suc, _≤_, _<_}
 use native.Mathlib.Omega.{arith}
 use mathlib.Core.Path.{_≡_, sym, ap, _∙_}
@@ -6,10 +6,10 @@ use mathlib.Core.List.{[], _∷_, _++_}
 use lib.ListN.{length, take}
 use Rattle.stages.specs.Bytes.{Text}
 use Rattle.stages.proofs.Rooms.{over-length}
-use Rattle.cutting.specs.Lines.{lineKept, keptOf, came, keptIn, nextIn, Takes}
-use Rattle.cutting.specs.declared.Taken.{Taken}
-use Rattle.cutting.specs.declared.Taken.the-variants.{Ended, Open}
-use Rattle.cutting.proofs.Callers.{next-turn}
+use Rattle.recipe_cut.specs.Lines.{lineKept, keptOf, came, keptIn, nextIn, Takes}
+use Rattle.recipe_cut.specs.declared.Taken.{Taken}
+use Rattle.recipe_cut.specs.declared.Taken.the-variants.{Ended, Open}
+use Rattle.recipe_cut.proofs.Callers.{next-turn}
 use Rattle.recipe.specs.Keeps.{Keeps}
 
 -- a block, a line's buffer and the variables', on the way through the block

@@ -1,7 +1,7 @@
 // Lines to answers. What is read comes in blocks, which crate `cutting` cuts into lines; each line's answer is written before the next one is worked out.
-use cutting::Taken;
 use libc::STDIN_FILENO;
 use libc::STDOUT_FILENO;
+use recipe_cut::Taken;
 ghost use mathlib.Core.Path.{_≡_};
 ghost use lib.ListN.{length};
 ghost use Rattle.recipe.specs.Keeps.{Keeps};
@@ -34,7 +34,7 @@ fn answer_line(line: &[u8], vars: &mut [u8], used: usize, homes: &[u8], paths: &
     let mut work = io::large_buffer();
     let mut out = out_room();
     let mut said = said_room();
-    let told = saying::say(
+    let told = recipe_answer::say(
         line,
         vars,
         used,
@@ -71,7 +71,7 @@ fn answer_block(
     let mut so_far = carried;
     let mut at = 0;
     while so_far.goes_on && at < block.len() {
-        let taken = cutting::take_in(line, so_far.kept, block, at);
+        let taken = recipe_cut::take_in(line, so_far.kept, block, at);
         match taken {
             Taken::Open(kept) => {
                 return Carried {
@@ -105,7 +105,7 @@ fn answer_last(
         os::fail(b"standard input");
         return;
     }
-    if cutting::is_last_line(&line[..kept]) {
+    if recipe_cut::is_last_line(&line[..kept]) {
         answer_line(&line[..kept], vars, carried.used, homes, paths);
     }
 }

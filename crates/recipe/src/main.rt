@@ -5,7 +5,7 @@ mod answering;
 ghost use mathlib.Core.Path.{_≡_};
 ghost use lib.ListN.{length};
 use answering::Carried;
-use loading::Loaded;
+use recipe_load::Loaded;
 
 // "Variables carry over; they and the output get 8,192 bytes."
 const VARIABLES_ROOM: usize = 8192;
@@ -47,13 +47,13 @@ fn answer_with(vars: &mut [u8], used: usize, homes: &[u8], paths: &[u8]) {
 fn run(vars: &mut [u8], homes: &mut [u8], paths: &mut [u8])
     requires { ⌜ (8193 ≡ length (now vars)) × (8193 ≡ length (now homes)) × (32769 ≡ length (now paths)) ⌝ }
 {
-    let Loaded::Length(used) = loading::load(b"vars.tab", vars) else {
+    let Loaded::Length(used) = recipe_load::load(b"vars.tab", vars) else {
         return;
     };
-    let Loaded::Length(h) = loading::load(b"homes.tab", homes) else {
+    let Loaded::Length(h) = recipe_load::load(b"homes.tab", homes) else {
         return;
     };
-    let Loaded::Length(p) = loading::load(b"paths.tab", paths) else {
+    let Loaded::Length(p) = recipe_load::load(b"paths.tab", paths) else {
         return;
     };
     answer_with(&mut vars[..VARIABLES_ROOM], used, &homes[..h], &paths[..p]);

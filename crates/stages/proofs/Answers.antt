@@ -1,5 +1,5 @@
 -- Every call's answer is well formed, whatever is given: a refusal has a number of the table and leaves the buffers alone; an acceptance leaves
--- well-formed images within their room. Assumes nothing.
+-- well-formed images within their room.
 use Prim.Native.Nat.{ℕ, _-_, _≤_}
 use native.Mathlib.Omega.{arith}
 use mathlib.Core.Path.{_≡_, refl, ap, _∙_}

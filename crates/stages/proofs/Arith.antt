@@ -1,4 +1,4 @@
--- Laws of the arithmetic reader: it goes on by itself, at what is shorter, and is never stuck. Assumes nothing.
+-- Laws of the arithmetic reader: it goes on by itself, at what is shorter, and is never stuck.
 use Prim.Native.Nat.{ℕ, zero, suc, _≤_, _<_}
 use Prim.Native.Char.{code}
 use native.Mathlib.Omega.{arith}

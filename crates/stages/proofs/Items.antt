@@ -1,5 +1,5 @@
 -- Laws of items: a fault's number is from 7 to 12, a text ends only where its mode lets it end, names are names, and bytes are bytes of the text but
--- for a literal `$` or backslash. Assumes nothing.
+-- for a literal `$` or backslash.
 use Prim.Native.Nat.{ℕ, zero, suc, _+_}
 use Prim.Native.Char.{code}
 use mathlib.Core.Path.{_≡_, refl}

@@ -1,4 +1,4 @@
--- What the laws on whole calls share: what holds of every element, of an outcome, and of a recursion on what is shorter. Assumes nothing.
+-- What the laws on whole calls share: what holds of every element, of an outcome, and of a recursion on what is shorter.
 use Prim.Native.Nat.{ℕ, _<_, _≤_, _-_}
 use native.Mathlib.Omega.{arith}
 use mathlib.Core.Path.{_≡_, refl}

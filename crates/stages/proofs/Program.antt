@@ -1,4 +1,4 @@
--- Laws of the program: of a line only 2,049 bytes can matter, and lines are cut from what is read so that joining them gives it back. Assumes nothing.
+-- Laws of the program: of a line only 2,049 bytes can matter, and lines are cut from what is read so that joining them gives it back.
 use Prim.Native.Nat.{ℕ, suc, _≤_, _<_}
 use Prim.Native.Char.{code}
 use native.Mathlib.Omega.{arith}

@@ -1,6 +1,6 @@
 -- Demand 3 over the stages, its reading: a quoted line is read as one word for each field, whatever its length, and two lists have one quoted line only if
 -- they are the same list. By induction on a field's bytes, its quotes told apart. The byte 39
--- is `'`, 92 a backslash, 32 a blank. Assumes nothing.
+-- is `'`, 92 a backslash, 32 a blank.
 use Prim.Native.Nat.{ℕ, suc, _+_, _-_}
 use native.Mathlib.Omega.{arith}
 use mathlib.Core.Path.{_≡_, refl, sym, ap, _∙_}

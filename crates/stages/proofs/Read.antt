@@ -1,6 +1,6 @@
 -- Laws of `parts`. It is defined by recursion on what is shorter, with an escape that would answer number 0: each call is on something shorter and
 -- every number is from 7 to 12, so the escape is never taken, and `parts` unfolds by its own equation. From it come one equation with places for
--- each item, and what stood behind a part that is read. Assumes nothing.
+-- each item, and what stood behind a part that is read.
 use Prim.Native.Nat.{ℕ, zero, suc, _+_, _-_, _≤_, _<_}
 use native.Mathlib.Omega.{arith}
 use mathlib.Core.Path.{_≡_, refl, sym, ap, _∙_}

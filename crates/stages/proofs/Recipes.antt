@@ -1,4 +1,4 @@
--- Document 01, "Spoiled recipes": C1 to C12 by one statement over one table, and the edges beside them. Every row computes. Assumes nothing.
+-- Document 01, "Spoiled recipes": C1 to C12 by one statement over one table, and the edges beside them. Every row computes.
 use Prim.Native.Nat.{ℕ, zero, suc, _+_}
 use Prim.Native.String.{String}
 use mathlib.Core.Path.{_≡_, refl}

@@ -1,5 +1,5 @@
 -- Demand 3 over the stages, its expansion: a quoted line of at most 2,048 bytes expands under any tables to exactly its fields and changes no variable. Each
--- word's row has only quoted bytes and empty marks: no more units than the field has bytes in the line, nothing to split at, nothing active. Assumes nothing.
+-- word's row has only quoted bytes and empty marks: no more units than the field has bytes in the line, nothing to split at, nothing active.
 use Prim.Native.Nat.{ℕ, suc, _+_, _≤_}
 use native.Mathlib.Omega.{arith}
 use mathlib.Core.Path.{_≡_, refl, ap, _∙_}

@@ -1,4 +1,4 @@
--- A line without a zero byte is read as parts without one, whose names are names. Assumes nothing.
+-- A line without a zero byte is read as parts without one, whose names are names.
 use Prim.Native.Nat.{ℕ, suc, _-_, _≤_, _<_}
 use native.Mathlib.Omega.{arith}
 use mathlib.Core.Path.{_≡_, refl}

@@ -1,4 +1,4 @@
--- A line is read and expanded safely: its words stand within it, its fields fit the output, its variables their room. Assumes nothing.
+-- A line is read and expanded safely: its words stand within it, its fields fit the output, its variables their room.
 use Prim.Native.Nat.{ℕ, zero, suc, _+_, _-_, _≤_, _<_}
 use Prim.Native.Char.{code}
 use native.Mathlib.Omega.{arith}

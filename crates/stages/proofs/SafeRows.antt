@@ -1,5 +1,5 @@
 -- What expansion gives is safe where the parts, the variables and the homes are: rows and fields without a zero byte, and variables that are still a
--- table within its room. Each refusal has its number. Assumes nothing.
+-- table within its room. Each refusal has its number.
 use Prim.Native.Nat.{ℕ, _+_, _≤_}
 use Prim.Native.Char.{code}
 use mathlib.Core.Path.{_≡_, refl}

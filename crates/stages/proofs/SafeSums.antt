@@ -1,5 +1,5 @@
 -- Arithmetic refuses only with numbers of document 01, since its reader calls itself only on what is shorter; its result is a text without a zero
--- byte, and it keeps the variables. Assumes nothing.
+-- byte, and it keeps the variables.
 use Prim.Native.Nat.{ℕ, zero, suc, _+_, _-_, _/_, _%_, _≤_, _<_}
 use Prim.Native.Char.{code}
 use native.Mathlib.Omega.{arith}

@@ -1,5 +1,5 @@
 -- Laws of splitting: the walk over fields is never stuck, since a field and its delimiters leave a shorter row, and the units of the fields are
--- units of the row. Assumes nothing.
+-- units of the row.
 use Prim.Native.Nat.{suc, _≤_, _<_}
 use native.Mathlib.Omega.{arith}
 use mathlib.Core.Path.{_≡_, refl, ap, _∙_}

@@ -1,4 +1,4 @@
--- Laws of `words`: like `parts` it never takes its escape, and unfolds by its own equations; and the words of a line from a place on. Assumes nothing.
+-- Laws of `words`: like `parts` it never takes its escape, and unfolds by its own equations; and the words of a line from a place on.
 use Prim.Native.Nat.{ℕ, suc, _+_, _-_, _≤_, _<_}
 use Prim.Native.Char.{code}
 use native.Mathlib.Omega.{arith}

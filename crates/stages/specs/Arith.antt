@@ -1,4 +1,4 @@
--- Document 01, "Arithmetic": tokens, the tree that a text is read as, and what it comes to. Assumes nothing.
+-- Document 01, "Arithmetic": tokens, the tree that a text is read as, and what it comes to.
 use Prim.Native.Nat.{ℕ, zero, suc, _+_}
 use Prim.Native.Char.{code}
 use mathlib.Core.Bool.{Bool, true, false, _&&_, _||_, not}

@@ -1,4 +1,4 @@
--- Document 01, "What a call gives back": the three jobs, from all that is given to all that comes back. Assumes nothing.
+-- Document 01, "What a call gives back": the three jobs, from all that is given to all that comes back.
 use Prim.Native.Nat.{ℕ, zero, suc, _+_}
 use mathlib.Core.Bool.{Bool, true, false, _&&_}
 use mathlib.Core.List.{List, [], _∷_, _++_}

@@ -1,4 +1,4 @@
--- Document 01, "Units and expansion": parts to rows, the tilde, the forms of a parameter. Assumes nothing.
+-- Document 01, "Units and expansion": parts to rows, the tilde, the forms of a parameter.
 use Prim.Native.Nat.{ℕ, zero, suc, _+_}
 use Prim.Native.Char.{code}
 use mathlib.Core.Bool.{Bool, true, false, _&&_}

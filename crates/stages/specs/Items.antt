@@ -1,4 +1,4 @@
--- Document 01, "Reading a line": what stands at the head of a text. Every rule of reading is here, and nothing here recurs. Assumes nothing.
+-- Document 01, "Reading a line": what stands at the head of a text. Every rule of reading is here, and nothing here recurs.
 use Prim.Native.Nat.{ℕ, zero, suc, _+_, _-_}
 use Prim.Native.Char.{code}
 use mathlib.Core.Bool.{Bool, true, false, _&&_, _||_, not}

@@ -1,4 +1,4 @@
--- Document 01: a whole line to its fields, from its length on. Assumes nothing.
+-- Document 01: a whole line to its fields, from its length on.
 use Prim.Native.Nat.{ℕ, zero, suc, _+_}
 use mathlib.Core.Bool.{Bool, true, false, _&&_, not}
 use mathlib.Core.List.{List, [], _∷_, _++_}

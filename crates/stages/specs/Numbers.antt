@@ -1,4 +1,4 @@
--- Document 01, the table of numbers: each refusal's number and each limit under one name. Assumes nothing.
+-- Document 01, the table of numbers: each refusal's number and each limit under one name.
 use Prim.Native.Nat.{ℕ}
 
 -- The refusals, in the order of the table; 0 is an acceptance.

@@ -1,4 +1,4 @@
--- What a stage answers: a result or the number that refuses it; with a place, for a whole line. Assumes nothing.
+-- What a stage answers: a result or the number that refuses it; with a place, for a whole line.
 use Prim.Native.Nat.{ℕ}
 use mathlib.Core.Bool.{Bool, true, false}
 use mathlib.Core.List.{List, [], _∷_}

@@ -1,4 +1,4 @@
--- Document 01, "Patterns": what a pattern's units are read as, and which texts it matches. Assumes nothing.
+-- Document 01, "Patterns": what a pattern's units are read as, and which texts it matches.
 use Prim.Native.Nat.{ℕ, zero, suc, _+_}
 use Prim.Native.Char.{code}
 use mathlib.Core.Bool.{Bool, true, false, _&&_, _||_, not, xor}

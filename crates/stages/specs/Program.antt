@@ -1,4 +1,4 @@
--- Document 01, "The program": what it writes for what it reads. Assumes nothing.
+-- Document 01, "The program": what it writes for what it reads.
 use Prim.Native.Nat.{ℕ, zero, suc, _+_, _-_}
 use Prim.Native.Char.{code}
 use mathlib.Core.Bool.{Bool, true, false}

@@ -1,4 +1,4 @@
--- Document 01, "The quoted line". Assumes nothing.
+-- Document 01, "The quoted line".
 use Prim.Native.Nat.{ℕ}
 use Prim.Native.Char.{code}
 use mathlib.Core.Bool.{Bool, true, false}

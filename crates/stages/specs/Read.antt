@@ -1,4 +1,4 @@
--- Document 01, "Reading a line": a text's parts, item by item, and the words of a line. Assumes nothing.
+-- Document 01, "Reading a line": a text's parts, item by item, and the words of a line.
 use Prim.Native.Nat.{ℕ, zero, suc, _+_, _-_}
 use Prim.Native.Char.{code}
 use mathlib.Core.Bool.{Bool, true, false, _||_}

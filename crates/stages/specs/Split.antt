@@ -1,4 +1,4 @@
--- Document 01, "Splitting": a row to the rows of its fields. Assumes nothing.
+-- Document 01, "Splitting": a row to the rows of its fields.
 use Prim.Native.Nat.{ℕ, zero, suc, _+_}
 use mathlib.Core.Bool.{Bool, true, false}
 use mathlib.Core.List.{List, [], _∷_}

@@ -1,4 +1,4 @@
--- Document 01, "Reading a line": what a word is read as. Assumes nothing.
+-- Document 01, "Reading a line": what a word is read as.
 use Prim.Native.Nat.{ℕ}
 use mathlib.Core.Bool.{Bool}
 use mathlib.Core.List.{List}

@@ -1,4 +1,4 @@
--- Document 01, "Units and expansion": rows of units, and the shortest decimal text. Assumes nothing.
+-- Document 01, "Units and expansion": rows of units, and the shortest decimal text.
 use Prim.Native.Nat.{ℕ, zero, suc, _+_, _/_, _%_}
 use Prim.Native.Char.{code}
 use mathlib.Core.Bool.{Bool, true, false}

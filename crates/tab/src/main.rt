@@ -4,15 +4,15 @@ ghost use mathlib.Core.Path.{_≡_};
 ghost use Prim.Native.Nat.{_*_, _≤_};
 ghost use lib.ListN.{length};
 ghost use Rattle.stages.specs.Numbers.{pathsLimit};
-ghost use Rattle.tables.specs.Kinds.{inTwos};
-ghost use Rattle.entering.specs.Records.{limitBy};
-use escapes::Fault;
+ghost use Rattle.table.specs.Kinds.{inTwos};
+ghost use Rattle.tab_enter.specs.Records.{limitBy};
 use libc::STDERR_FILENO;
 use libc::STDIN_FILENO;
 use libc::STDOUT_FILENO;
-use packing::Packed;
-use tables::Kind;
-use tabling::Shown;
+use tab_escape::Fault;
+use tab_pack::Packed;
+use tab_show::Shown;
+use table::Kind;
 
 // The longest image, and a byte more to see that one is longer.
 fn image_room() -> [u8; 32769]
@@ -65,7 +65,7 @@ fn show_input(kind: Kind, image: &mut [u8], out: &mut [u8])
     if !was_read(n, image.len()) {
         return;
     }
-    let shown = tabling::show(kind, &image[..n], out);
+    let shown = tab_show::show(kind, &image[..n], out);
     match shown {
         Shown::Len(m) => write_out(out, m),
         Shown::Malformed => say(b"tab: no image of this kind, or one that is too long\n"),
@@ -112,7 +112,7 @@ fn pack_input(kind: Kind, text: &mut [u8], image: &mut [u8], work: &mut [u8])
         say(b"tab: a text of more than 131,075 bytes\n");
         return;
     }
-    let packed = packing::pack(kind, &text[..n], image, work);
+    let packed = tab_pack::pack(kind, &text[..n], image, work);
     match packed {
         Packed::Len(m) => write_out(image, m),
         Packed::Bad { line, fault } => {
@@ -139,15 +139,15 @@ fn usage() {
 }
 
 fn pack_named(word: &[u8]) {
-    if texts::same(word, b"vars") {
+    if text::same(word, b"vars") {
         pack(Kind::Variables);
         return;
     }
-    if texts::same(word, b"homes") {
+    if text::same(word, b"homes") {
         pack(Kind::Homes);
         return;
     }
-    if texts::same(word, b"paths") {
+    if text::same(word, b"paths") {
         pack(Kind::Paths);
         return;
     }
@@ -155,15 +155,15 @@ fn pack_named(word: &[u8]) {
 }
 
 fn show_named(word: &[u8]) {
-    if texts::same(word, b"vars") {
+    if text::same(word, b"vars") {
         show(Kind::Variables);
         return;
     }
-    if texts::same(word, b"homes") {
+    if text::same(word, b"homes") {
         show(Kind::Homes);
         return;
     }
-    if texts::same(word, b"paths") {
+    if text::same(word, b"paths") {
         show(Kind::Paths);
         return;
     }
@@ -179,11 +179,11 @@ fn main() {
         usage();
         return;
     }
-    if texts::same(&job[..n], b"show") {
+    if text::same(&job[..n], b"show") {
         show_named(&word[..m]);
         return;
     }
-    if texts::same(&job[..n], b"pack") {
+    if text::same(&job[..n], b"pack") {
         pack_named(&word[..m]);
         return;
     }

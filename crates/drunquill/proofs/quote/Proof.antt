@@ -1,6 +1,6 @@
--- The values are those of the quoter's answer, case by case. Assumes nothing.
-use Rattle.quoting.specs.declared.Quoted.the-variants.{Len, Malformed, NoRoom}
-use Rattle.handing.proofs.Handing.{quoted-as}
+-- The values are those of the quoter's answer, case by case.
+use Rattle.quote.specs.declared.Quoted.the-variants.{Len, Malformed, NoRoom}
+use Rattle.call_deliver.proofs.Handing.{quoted-as}
 use Rattle.drunquill.proofs.Quoting.{quotes}
 use borrow.Author.Needs.{needs}
 use Rattle.drunquill.proofs.quote.Statement.{statement}

@@ -1,10 +1,10 @@
--- `recipe::run` is safe: each table lies within its buffer, so the parts that are lent are there. Assumes nothing.
+-- `recipe::run` is safe: each table lies within its buffer, so the parts that are lent are there.
 use native.Mathlib.Omega.{arith}
 use mathlib.Core.Path.{sym}
 use lib.ListN.{length}
 use lib.Seq.{length-take-le}
 use borrow.Author.Needs.{needs}
-use Rattle.loading.proofs.Reading.{loads-inside}
+use Rattle.recipe_load.proofs.Reading.{loads-inside}
 use Rattle.recipe.proofs.run.Statement.{statement}
 use Rattle.recipe.proofs.run.Tie as tie
 

@@ -1,4 +1,4 @@
--- `tab::write_out` is safe: what it writes is a part of the buffer. Assumes nothing.
+-- `tab::write_out` is safe: what it writes is a part of the buffer.
 use mathlib.Core.Path.{sym}
 use lib.Seq.{length-take-le}
 use borrow.Author.Needs.{needs}

@@ -1,4 +1,4 @@
--- `recipe::answering::answer_block` is safe and ends: each line that is cut off ends further on in the block, and what is kept of a line fits its buffer. Assumes nothing.
+-- `recipe::answering::answer_block` is safe and ends: each line that is cut off ends further on in the block, and what is kept of a line fits its buffer.
 use borrow.Author.Needs.{needs}
 use native.Mathlib.Omega.{arith}
 use Prim.Native.Nat.{_-_}

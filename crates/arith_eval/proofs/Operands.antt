@@ -1,0 +1,228 @@
+-- Laws of operands: for each way through the functions on one operand, what their callees' answers say of their own.
+use Prim.Native.Nat.{ℕ, suc, _-_, _≤_}
+use native.Mathlib.Omega.{arith}
+use mathlib.Core.Path.{_≡_, refl, sym, ap, _∙_, subst}
+use mathlib.Core.Bool.{Bool, true, false}
+use lib.IntN.{ℤ, pos, negℤ}
+use lib.ListN.{drop}
+use Rattle.stages.specs.Numbers.{tooDeep, arithmeticSyntax}
+use Rattle.stages.specs.Bytes.{Text, part}
+use Rattle.stages.specs.Outcome.{Outcome, refused, done, _>>=_}
+use Rattle.stages.specs.Images.{Pairs, lookup}
+use Rattle.stages.specs.Constants.{ranged, nameNumber}
+use Rattle.stages.specs.Arith.{Lexed, stop, num, name, op, opens, shuts, token, Tree, constantOf, nameOf, negated, Grown, grown}
+use Rattle.stages.specs.Arith.{operand, expression, shut, whole, enclosed, sign, operandAt, growStep, grow, evaluate, withVariables}
+use Rattle.stages.proofs.Bools.{no}
+use Rattle.stages.proofs.Arith.{grow-eq}
+use Rattle.stages.proofs.Outcomes.{done-same}
+use Rattle.arith_int.specs.Answers.{opOf}
+use Rattle.arith_int.specs.declared.Op.{Op}
+use Rattle.arith_int.specs.declared.Op.the-variants.{Add, Sub}
+use Rattle.arith_token.specs.Tokens.{lexed, TokenAt}
+use Rattle.arith_eval.specs.Climbs.{climbing, Names, Turned, Closes, Fails, Comes, Says, Worth}
+use Rattle.arith_token.specs.declared.Token.{Token}
+use Rattle.arith_token.specs.declared.Token.the-variants as code
+use Rattle.arith_eval.specs.declared.climb.Climbed.{Climbed}
+use Rattle.arith_eval.specs.declared.climb.Climbed.the-variants as climbed
+use Rattle.arith_eval.proofs.Trees.{never, bound, negated-refused, negated-done, name-is, constant-is}
+
+-- An enum's answer, once its case is known.
+
+pub token-shown : {text : Text} {at : ℕ} {r s : Token} → TokenAt text at r → r ≡ s → TokenAt text at s
+token-shown {text} {at} h e = subst (TokenAt text at) e h
+
+pub says-shown : (text : Text) (at : ℕ) (v : Pairs) (counts : Bool) (o : Grown) {r s : Climbed} → Says text at v counts o r → r ≡ s → Says text at v counts o s
+says-shown text at v counts o h e = subst (Says text at v counts o) e h
+
+-- What stands behind a value, by its token.
+
+pub closes-by : (text : Text) (at : ℕ) (k : Token) → TokenAt text at k → (l : Tree) → (token (drop at text) >>= λ s. shut l s) ≡ (lexed text k >>= λ s. shut l s)
+closes-by text at k t l = ap (λ (o : Lexed). o >>= λ s. shut l s) (t .is)
+
+pub ends-by : (text : Text) (at : ℕ) (k : Token) → TokenAt text at k → (l : Tree) → (token (drop at text) >>= λ s. whole l s) ≡ (lexed text k >>= λ s. whole l s)
+ends-by text at k t l = ap (λ (o : Lexed). o >>= λ s. whole l s) (t .is)
+
+-- Refusals.
+
+module _ (v : Pairs) (counts : Bool) where
+  -- of reading
+  pub fault : {o : Grown} {e : ℕ} → o ≡ refused e → Fails v counts o e
+  fault q = record { reads = λ c. q; works = λ p h. absurd (never (sym q ∙ h)) }
+
+  -- of working out, where it counts
+  pub work-fault : {o : Grown} {e : ℕ} → counts ≡ true → ((p : Tree × Text) → o ≡ done p → evaluate v (p .0) ≡ refused e) → Fails v counts o e
+  work-fault c w = record { reads = λ f. absurd (no (sym f ∙ c)); works = w }
+
+  pub fails-same : {o q : Grown} {e : ℕ} → o ≡ q → Fails v counts q e → Fails v counts o e
+  fails-same s f = record { reads = λ c. s ∙ f .reads c; works = λ p h. f .works p (sym s ∙ h) }
+
+  -- of what a text begins with
+  pub fails-first : (f : Tree × Text → Grown) {o : Grown} {e : ℕ} → Fails v counts o e
+      → ((q p : Tree × Text) → f q ≡ done p → evaluate v (q .0) ≡ refused e → evaluate v (p .0) ≡ refused e) → Fails v counts (o >>= f) e
+  fails-first f {o} {e} w on = record {
+    reads = λ c. ap (λ (r : Grown). r >>= f) (w .reads c);
+    works = λ p h. let b = bound o f p h in on (b .from) p (b .then-is) (w .works (b .from) (b .first));
+  }
+
+-- an operator that is no sign
+pub no-sign : (v : Pairs) (counts : Bool) (d : ℕ) (t : Text) (o k : Op) → o ≡ k → sign grow (opOf k) d t ≡ refused arithmeticSyntax
+    → Fails v counts (sign grow (opOf o) d t) arithmeticSyntax
+no-sign v counts d t o k e q = fault v counts (ap (λ (x : Op). sign grow (opOf x) d t) e ∙ q)
+
+-- a parenthesis that is shut holds its tree
+shut-tree : (o : Lexed) (l : Tree) (p : Tree × Text) → (o >>= λ s. shut l s) ≡ done p → p .0 ≡ l
+unfolding shut
+shut-tree (refused e) l p h = absurd (never h)
+shut-tree (done (stop, u)) l p h = absurd (never h)
+shut-tree (done (num z, u)) l p h = absurd (never h)
+shut-tree (done (name x, u)) l p h = absurd (never h)
+shut-tree (done (op o, u)) l p h = absurd (never h)
+shut-tree (done (opens, u)) l p h = absurd (never h)
+shut-tree (done (shuts, u)) l p h = ap (λ (x : Tree × Text). x .0) (sym (done-same h))
+
+module _ (text : Text) (v : Pairs) (counts : Bool) where
+  pub says-same : (at next : ℕ) (o q : Grown) (r : Climbed) → o ≡ q → at ≤ next → Says text next v counts q r → Says text at v counts o r
+  says-same at next o q (climbed.Refused e) s l f = fails-same v counts s f
+  says-same at next o q (climbed.Value z n) s l c =
+      let a = c .onward in record { tree = c .tree; is = s ∙ c .is; worth = c .worth; onward = omega arith; within = c .within }
+
+  -- An operand, by its token.
+  module _ (at d : ℕ) where
+    abbrev here : Grown
+    here = grow (operand, d, drop at text)
+
+    by-token : (k : Token) → TokenAt text at k → here ≡ (lexed text k >>= λ p. operandAt grow d p)
+    unfolding growStep
+    by-token k t = grow-eq (operand, d, drop at text) ∙ ap (λ (o : Lexed). o >>= λ p. operandAt grow d p) (t .is)
+
+    pub operand-refused : (e : ℕ) → TokenAt text at (code.Refused e) → Fails v counts here e
+    operand-refused e t = fault v counts (by-token (code.Refused e) t)
+
+    pub operand-none : TokenAt text at code.Stop → Fails v counts here arithmeticSyntax
+    unfolding operandAt
+    operand-none t = fault v counts (by-token code.Stop t)
+
+    pub operand-shut : (next : ℕ) → TokenAt text at (code.Shuts next) → Fails v counts here arithmeticSyntax
+    unfolding operandAt
+    operand-shut next t = fault v counts (by-token (code.Shuts next) t)
+
+    pub operand-number : (z : ℤ) (next : ℕ) → TokenAt text at (code.Number z next) → Comes text (suc at) v counts here z next
+    unfolding operandAt
+    operand-number z next t = record {
+      tree = constantOf z;
+      is = by-token (code.Number z next) t;
+      worth = λ c. constant-is v z;
+      onward = t .ends .onward;
+      within = t .ends .within;
+    }
+
+    pub operand-sign : (o : Op) (next : ℕ) (r : Climbed) → TokenAt text at (code.Op o next) → Says text next v counts (sign grow (opOf o) d (drop next text)) r → Says text at v counts here r
+    unfolding operandAt
+    operand-sign o next r t h = let l = t .ends .onward in says-same at next here _ r (by-token (code.Op o next) t) (omega arith) h
+
+    pub operand-opens : (next : ℕ) (r : Climbed) → TokenAt text at (code.Opens next) → Says text next v counts (enclosed grow d (drop next text)) r → Says text at v counts here r
+    unfolding operandAt
+    operand-opens next r t h = let l = t .ends .onward in says-same at next here _ r (by-token (code.Opens next) t) (omega arith) h
+
+    module _ (from to : ℕ) (t : TokenAt text at (code.Name from to)) where
+      name-here : here ≡ done (nameOf (part text from to), drop to text)
+      unfolding operandAt
+      name-here = by-token (code.Name from to) t
+
+      value-comes : (z : ℤ) → (counts ≡ true → evaluate v (nameOf (part text from to)) ≡ done (z, v)) → Comes text (suc at) v counts here z to
+      value-comes z w = record { tree = nameOf (part text from to); is = name-here; worth = w; onward = t .ends .behind .onward; within = t .ends .behind .within }
+
+      outcome-says : counts ≡ true → (o : Outcome ℤ) → nameNumber (lookup (part text from to) v) ≡ o → Says text at v counts here (climbing o to)
+      outcome-says c (refused e) q =
+          work-fault v counts c λ p h.
+          ap (λ (x : Tree × Text). evaluate v (x .0)) (done-same (sym h ∙ name-here)) ∙ name-is v (part text from to) ∙ ap (withVariables v) q
+      outcome-says c (done z) q = value-comes z (λ _. name-is v (part text from to) ∙ ap (withVariables v) q)
+
+    pub operand-name : (from to : ℕ) (r : Climbed) → TokenAt text at (code.Name from to) → (b : Bool) → counts ≡ b → Names text from to v b r → Says text at v counts here r
+    operand-name from to r t true c h = subst (Says text at v counts here) (sym h) (outcome-says from to t c (nameNumber (lookup (part text from to) v)) refl)
+    operand-name from to r t false c h = subst (Says text at v counts here) (sym h) (value-comes from to t (pos 0) (λ k. absurd (no (sym c ∙ k))))
+
+  -- A sign and its operand.
+  module _ (at d : ℕ) (o : Op) where
+    abbrev sign-here : Grown
+    sign-here = sign grow (opOf o) d (drop at text)
+
+    pub plus-deep : o ≡ Add → d ≡ 0 → Fails v counts sign-here tooDeep
+    unfolding sign
+    plus-deep e z = fault v counts (rw (e, z))
+
+    pub minus-deep : o ≡ Sub → d ≡ 0 → Fails v counts sign-here tooDeep
+    unfolding sign
+    minus-deep e z = fault v counts (rw (e, z))
+
+    less : (d ≡ 0 → ⊥) → d ≡ suc (d - 1)
+    less n = omega arith
+
+    pub plus-says : (r : Climbed) → o ≡ Add → (d ≡ 0 → ⊥) → Says text at v counts (grow (operand, d - 1, drop at text)) r → Says text at v counts sign-here r
+    unfolding sign
+    plus-says r e n h = says-same at at sign-here _ r (ap (λ (i : ℕ). sign grow (opOf o) i (drop at text)) (less n) ∙ rw e) (omega arith) h
+
+    minus-is : o ≡ Sub → (d ≡ 0 → ⊥) → sign-here ≡ grown negated (grow (operand, d - 1, drop at text))
+    unfolding sign
+    minus-is e n = ap (λ (i : ℕ). sign grow (opOf o) i (drop at text)) (less n) ∙ rw e
+
+    pub minus-fails : (e : ℕ) → o ≡ Sub → (d ≡ 0 → ⊥) → Fails v counts (grow (operand, d - 1, drop at text)) e → Fails v counts sign-here e
+    minus-fails e s n f =
+        fails-same v counts (minus-is s n)
+        (fails-first v counts (λ p. done (negated (p .0), p .1)) f λ q p h b.
+        ap (λ (x : Tree × Text). evaluate v (x .0)) (sym (done-same h)) ∙ negated-refused v (q .0) e b)
+
+    module _ (s : o ≡ Sub) (n : d ≡ 0 → ⊥) (z : ℤ) (next : ℕ) (c : Comes text (suc at) v counts (grow (operand, d - 1, drop at text)) z next) where
+      minus-here : sign-here ≡ done (negated (c .tree), drop next text)
+      minus-here = minus-is s n ∙ ap (grown negated) (c .is)
+
+      minus-comes : (y : ℤ) → Worth v counts (negated (c .tree)) y → Comes text (suc at) v counts sign-here y next
+      minus-comes y w = record { tree = negated (c .tree); is = minus-here; worth = w; onward = c .onward; within = c .within }
+
+      minus-outcome : counts ≡ true → (u : Outcome ℤ) → ranged (negℤ z) ≡ u → Says text at v counts sign-here (climbing u next)
+      minus-outcome k (refused e) q =
+          work-fault v counts k λ p h.
+          ap (λ (x : Tree × Text). evaluate v (x .0)) (done-same (sym h ∙ minus-here)) ∙ negated-done v (c .tree) z (c .worth k) ∙ ap (withVariables v) q
+      minus-outcome k (done y) q = minus-comes y (λ _. negated-done v (c .tree) z (c .worth k) ∙ ap (withVariables v) q)
+
+      pub minus-says : (r : Climbed) (b : Bool) → counts ≡ b → Turned z next b r → Says text at v counts sign-here r
+      minus-says r true k h = subst (Says text at v counts sign-here) (sym h) (minus-outcome k (ranged (negℤ z)) refl)
+      minus-says r false k h = subst (Says text at v counts sign-here) (sym h) (minus-comes z (λ t. absurd (no (sym k ∙ t))))
+
+  -- Parentheses.
+  module _ (at d : ℕ) where
+    abbrev enclosed-here : Grown
+    enclosed-here = enclosed grow d (drop at text)
+
+    pub enclosed-deep : d ≡ 0 → Fails v counts enclosed-here tooDeep
+    unfolding enclosed
+    enclosed-deep z = fault v counts (rw z)
+
+    inside : Grown
+    inside = expression grow (d - 1) 1 (drop at text)
+
+    close : Tree × Text → Grown
+    close q = token (q .1) >>= λ s. shut (q .0) s
+
+    enclosed-is : (d ≡ 0 → ⊥) → enclosed-here ≡ (inside >>= close)
+    unfolding enclosed inside close
+    enclosed-is n = let e : d ≡ suc (d - 1) = omega arith in ap (λ (i : ℕ). enclosed grow i (drop at text)) e
+
+    pub enclosed-fails : (e : ℕ) → (d ≡ 0 → ⊥) → Fails v counts (expression grow (d - 1) 1 (drop at text)) e → Fails v counts enclosed-here e
+    unfolding inside close
+    enclosed-fails e n f = fails-same v counts (enclosed-is n) (fails-first v counts close f λ q p h b. rw (shut-tree (token (q .1)) (q .0) p h) b)
+
+    pub enclosed-says : (z : ℤ) (next : ℕ) (r : Climbed) → (d ≡ 0 → ⊥) → Comes text (suc at) v counts (expression grow (d - 1) 1 (drop at text)) z next → Closes text next z r
+        → Says text at v counts enclosed-here r
+    unfolding inside close
+    enclosed-says z next (climbed.Refused e) n c h = fault v counts (enclosed-is n ∙ ap (λ (o : Grown). o >>= close) (c .is) ∙ h (c .tree))
+    enclosed-says z next (climbed.Value y k) n c h =
+        let a = c .onward in
+        let b = h .1 .onward in
+        record {
+          tree = c .tree;
+          is = enclosed-is n ∙ ap (λ (o : Grown). o >>= close) (c .is) ∙ h .2 (c .tree);
+          worth = λ t. c .worth t ∙ ap (λ (x : ℤ). done (x, v)) (sym (h .0));
+          onward = omega arith;
+          within = h .1 .within;
+        }

@@ -1,0 +1,76 @@
+-- Each member's measure is by what is left of the text: a call stands further on, or at the same place with a smaller last summand.
+use Prim.Native.Nat.{ℕ, _<_, _+_, _*_, _-_}
+use lib.ListN.{length}
+use denote.Ref.{now}
+use borrow.Fn.Kinds.{In}
+use borrow.Fn.PlainCycle.{Measures, is, falls, and}
+use Rattle.arith_eval.proofs.climb.enclosed.Reads as enclosed
+use Rattle.arith_eval.proofs.climb.enclosed.Kinds as enclosed-kinds
+use Rattle.arith_eval.proofs.climb.expression.Reads as expression
+use Rattle.arith_eval.proofs.climb.expression.Kinds as expression-kinds
+use Rattle.arith_eval.proofs.climb.further.Reads as further
+use Rattle.arith_eval.proofs.climb.further.Kinds as further-kinds
+use Rattle.arith_eval.proofs.climb.operand.Reads as operand
+use Rattle.arith_eval.proofs.climb.operand.Kinds as operand-kinds
+use Rattle.arith_eval.proofs.climb.operator.Reads as operator
+use Rattle.arith_eval.proofs.climb.operator.Kinds as operator-kinds
+use Rattle.arith_eval.proofs.climb.signed.Reads as signed
+use Rattle.arith_eval.proofs.climb.signed.Kinds as signed-kinds
+
+abbrev pub μ-enclosed : Measures 2 enclosed-kinds.ps ℕ
+μ-enclosed κs a = 3 * (length (now (a .0)) - a .1 .0) + 2
+
+abbrev pub μ-expression : Measures 2 expression-kinds.ps ℕ
+μ-expression κs a = 3 * (length (now (a .0)) - a .1 .0) + 1
+
+abbrev pub μ-further : Measures 2 further-kinds.ps ℕ
+μ-further κs a = 3 * (length (now (a .0)) - a .1 .0) + 1
+
+abbrev pub μ-operand : Measures 2 operand-kinds.ps ℕ
+μ-operand κs a = 3 * (length (now (a .0)) - a .1 .0)
+
+abbrev pub μ-operator : Measures 2 operator-kinds.ps ℕ
+μ-operator κs a = 3 * (length (now (a .0)) - a .1 .0)
+
+abbrev pub μ-signed : Measures 2 signed-kinds.ps ℕ
+μ-signed κs a = 3 * (length (now (a .0)) - a .1 .0) + 1
+
+abbrev pub enclosed-at : ℕ → In 2 enclosed-kinds.ps
+enclosed-at t = and 2 enclosed-kinds.ps (is 2 enclosed-kinds.ps μ-enclosed t) enclosed.Pre
+
+abbrev pub enclosed-below : ℕ → In 2 enclosed-kinds.ps
+enclosed-below t =
+    and 2 enclosed-kinds.ps (falls 2 enclosed-kinds.ps _<_ μ-enclosed t) enclosed.Pre
+
+abbrev pub expression-at : ℕ → In 2 expression-kinds.ps
+expression-at t =
+    and 2 expression-kinds.ps (is 2 expression-kinds.ps μ-expression t) expression.Pre
+
+abbrev pub expression-below : ℕ → In 2 expression-kinds.ps
+expression-below t =
+    and 2 expression-kinds.ps (falls 2 expression-kinds.ps _<_ μ-expression t) expression.Pre
+
+abbrev pub further-at : ℕ → In 2 further-kinds.ps
+further-at t = and 2 further-kinds.ps (is 2 further-kinds.ps μ-further t) further.Pre
+
+abbrev pub further-below : ℕ → In 2 further-kinds.ps
+further-below t = and 2 further-kinds.ps (falls 2 further-kinds.ps _<_ μ-further t) further.Pre
+
+abbrev pub operand-at : ℕ → In 2 operand-kinds.ps
+operand-at t = and 2 operand-kinds.ps (is 2 operand-kinds.ps μ-operand t) operand.Pre
+
+abbrev pub operand-below : ℕ → In 2 operand-kinds.ps
+operand-below t = and 2 operand-kinds.ps (falls 2 operand-kinds.ps _<_ μ-operand t) operand.Pre
+
+abbrev pub operator-at : ℕ → In 2 operator-kinds.ps
+operator-at t = and 2 operator-kinds.ps (is 2 operator-kinds.ps μ-operator t) operator.Pre
+
+abbrev pub operator-below : ℕ → In 2 operator-kinds.ps
+operator-below t =
+    and 2 operator-kinds.ps (falls 2 operator-kinds.ps _<_ μ-operator t) operator.Pre
+
+abbrev pub signed-at : ℕ → In 2 signed-kinds.ps
+signed-at t = and 2 signed-kinds.ps (is 2 signed-kinds.ps μ-signed t) signed.Pre
+
+abbrev pub signed-below : ℕ → In 2 signed-kinds.ps
+signed-below t = and 2 signed-kinds.ps (falls 2 signed-kinds.ps _<_ μ-signed t) signed.Pre

@@ -1,0 +1,88 @@
+-- `sums::climb::closed` meets its contract: only a `)` closes, by the token behind the value.
+use Rattle.stages.specs.Arith.{shut}
+use Rattle.arith_int.proofs.Ranges.{held}
+use Rattle.arith_eval.proofs.Operands.{token-shown, closes-by}
+use borrow.Author.Needs.{needs}
+use Rattle.arith_eval.proofs.climb.closed.Statement.{statement}
+use Rattle.arith_eval.proofs.climb.closed.Tie as tie
+
+token-at-requires : tie.Need-token-at-requires
+token-at-requires c κs = search needs
+
+enum-known-token : tie.Need-enum-known-token
+enum-known-token c = search needs
+
+enum-known-token-2 : tie.Need-enum-known-token-2
+enum-known-token-2 c = search needs
+
+enum-told : tie.Need-enum-told
+enum-told c = search needs
+
+enum-told-2 : tie.Need-enum-told-2
+enum-told-2 c = search needs
+
+enum-told-3 : tie.Need-enum-told-3
+enum-told-3 c = search needs
+
+enum-told-4 : tie.Need-enum-told-4
+enum-told-4 c = search needs
+
+enum-told-5 : tie.Need-enum-told-5
+enum-told-5 c = search needs
+
+returns : tie.Need-returns
+unfolding shut
+returns c =
+    let s = c .before .before .before .before .before in λ l. closes-by (s .args .text .now) (s .args .at) _ (token-shown (c .before .before .before .token-at .ensures) (c .before .token .given .1)) l
+
+returns-2 : tie.Need-returns-2
+unfolding shut
+returns-2 c =
+    let s = c .before .before .before .before .before in
+    let t = token-shown (c .before .before .before .token-at .ensures) (c .before .token2 .given .1) in
+    (held (s .args .value) (s .fits .value), t .ends, λ l. closes-by (s .args .text .now) (s .args .at) _ t l)
+
+returns-3 : tie.Need-returns-3
+unfolding shut
+returns-3 c =
+    let s = c .before .before .before .before in λ l. closes-by (s .args .text .now) (s .args .at) _ (token-shown (c .before .before .token-at .ensures) (c .enum-told .given .1)) l
+
+returns-4 : tie.Need-returns-4
+unfolding shut
+returns-4 c =
+    let s = c .before .before .before .before in λ l. closes-by (s .args .text .now) (s .args .at) _ (token-shown (c .before .before .token-at .ensures) (c .enum-told2 .given .1)) l
+
+returns-5 : tie.Need-returns-5
+unfolding shut
+returns-5 c =
+    let s = c .before .before .before .before in λ l. closes-by (s .args .text .now) (s .args .at) _ (token-shown (c .before .before .token-at .ensures) (c .enum-told3 .given .1)) l
+
+returns-6 : tie.Need-returns-6
+unfolding shut
+returns-6 c =
+    let s = c .before .before .before .before in λ l. closes-by (s .args .text .now) (s .args .at) _ (token-shown (c .before .before .token-at .ensures) (c .enum-told4 .given .1)) l
+
+returns-7 : tie.Need-returns-7
+unfolding shut
+returns-7 c =
+    let s = c .before .before .before .before in λ l. closes-by (s .args .text .now) (s .args .at) _ (token-shown (c .before .before .token-at .ensures) (c .enum-told5 .given .1)) l
+
+pub closed-spec : {M : Type 1} → statement M
+closed-spec =
+    tie.close
+    (tie.spec
+    token-at-requires
+    enum-known-token
+    enum-known-token-2
+    enum-told
+    enum-told-2
+    enum-told-3
+    enum-told-4
+    enum-told-5
+    returns
+    returns-2
+    returns-3
+    returns-4
+    returns-5
+    returns-6
+    returns-7)

@@ -1,0 +1,33 @@
+-- What the answers of this crate say in document 01's terms: the number that a case refuses with, or the value that it gives.
+use Prim.Native.Nat.{ℕ}
+use mathlib.Core.Bool.{Bool, true, false}
+use lib.IntN.{ℤ, pos}
+use Rattle.stages.specs.Outcome.{Outcome, refused, done}
+use Rattle.stages.specs.Constants.{minusOf}
+use Rattle.stages.specs.Arith as arith
+use Rattle.arith_int.specs.declared.Number.{Number}
+use Rattle.arith_int.specs.declared.Number.the-variants as number
+use Rattle.arith_int.specs.declared.Op.{Op}
+use Rattle.arith_int.specs.declared.Op.the-variants.{Mul, Div, Rem, Add, Sub, Lt, Le, Gt, Ge, Eq, Ne}
+
+abbrev pub numbered : Number → Outcome ℤ
+numbered (number.Value z) = done z
+numbered (number.Refused e) = refused e
+
+-- the number at this distance from zero, below it or not
+abbrev pub ofSign : Bool → ℕ → ℤ
+ofSign true n = minusOf n
+ofSign false n = pos n
+
+abbrev pub opOf : Op → arith.Op
+opOf Mul = arith.mul
+opOf Div = arith.div
+opOf Rem = arith.rem
+opOf Add = arith.add
+opOf Sub = arith.sub
+opOf Lt = arith.lt
+opOf Le = arith.le
+opOf Gt = arith.gt
+opOf Ge = arith.ge
+opOf Eq = arith.eq
+opOf Ne = arith.ne

@@ -1,0 +1,186 @@
+-- Laws of tokens: what the byte at a place tells of the token there, and what a `=` behind it tells.
+use Prim.Native.Nat.{ℕ, suc, _+_, _-_, _≤_, _<_}
+use Prim.Native.Char.{code}
+use native.Mathlib.Omega.{arith}
+use native.Mathlib.Numerals.{add-one}
+use mathlib.Core.Path.{_≡_, refl, sym, ap, _∙_, subst}
+use mathlib.Core.Bool.{true, false}
+use mathlib.Core.List.{[], _∷_, _++_}
+use lib.Dec.{eqb}
+use lib.IntN.{ℤ, pos}
+use lib.ListN.{length, drop, getD, length-take, drop-of-length-le}
+use lib.Seq.{drop-cons}
+use borrow.Author.Tests.{ne-eqb}
+use Rattle.stages.specs.Numbers.{arithmeticSyntax}
+use Rattle.stages.specs.Bytes.{Text, part, all, span, isBlank, isDigit, isNameStart, isNameByte}
+use Rattle.stages.specs.Outcome.{Outcome, refused, done, _>>=_, choose}
+use Rattle.stages.specs.Constants.{number, constant}
+use Rattle.stages.specs.Arith.{num, name, token, level}
+use Rattle.stages.specs.Arith as arith-stage
+use Rattle.stages.proofs.Bools.{and-left, and-right}
+use Rattle.stages.proofs.Texts.{Stops, span-join, span-all, span-stops, span-more, start-name-byte}
+use Rattle.stages.proofs.Arith.{digit-name-byte}
+use Rattle.text.specs.Classes.{Runs}
+use Rattle.text.specs.declared.Class.the-variants.{Blank, NameByte}
+use Rattle.arith_int.specs.Answers.{opOf}
+use Rattle.arith_int.specs.declared.Op.{Op}
+use Rattle.arith_int.specs.declared.Op.the-variants.{Mul, Div, Rem, Add, Sub, Lt, Le, Gt, Ge, Eq, Ne}
+use Rattle.arith_int.specs.declared.Number.{Number}
+use Rattle.arith_token.specs.Tokens.{levelOf, lexed, Behind, Ends, TokenAt, Pairs, Symbol}
+use Rattle.arith_token.specs.declared.Token.{Token}
+use Rattle.arith_token.specs.declared.Token.the-variants as code
+
+pub level-is : (o : Op) → levelOf o ≡ level (opOf o)
+unfolding level
+level-is Mul = refl
+level-is Div = refl
+level-is Rem = refl
+level-is Add = refl
+level-is Sub = refl
+level-is Lt = refl
+level-is Le = refl
+level-is Gt = refl
+level-is Ge = refl
+level-is Eq = refl
+level-is Ne = refl
+
+pub level-small : (o : Op) → levelOf o ≤ 4
+level-small Mul = omega arith
+level-small Div = omega arith
+level-small Rem = omega arith
+level-small Add = omega arith
+level-small Sub = omega arith
+level-small Lt = omega arith
+level-small Le = omega arith
+level-small Gt = omega arith
+level-small Ge = omega arith
+level-small Eq = omega arith
+level-small Ne = omega arith
+
+-- the first byte decides
+
+none-fits : (b : ℕ) (u : Text) → isBlank b ≡ false → isDigit b ≡ false → isNameStart b ≡ false → eqb b 40 ≡ false → eqb b 41 ≡ false → eqb b 42 ≡ false → eqb b 47 ≡ false
+    → eqb b 37 ≡ false → eqb b 43 ≡ false → eqb b 45 ≡ false → eqb b 60 ≡ false → eqb b 62 ≡ false → eqb b 61 ≡ false → eqb b 33 ≡ false
+    → token (b ∷ u) ≡ refused arithmeticSyntax
+unfolding token choose
+none-fits b u x y z e1 e2 e3 e4 e5 e6 e7 e8 e9 e10 e11 = rw (x, y, z, e1, e2, e3, e4, e5, e6, e7, e8, e9, e10, e11)
+
+constant-first : (b : ℕ) (u : Text) → isBlank b ≡ false → isDigit b ≡ true → (x y : Text) → span isNameByte (b ∷ u) ≡ (x, y)
+    → token (b ∷ u) ≡ (number pos (constant x) >>= λ z. done (num z, y))
+unfolding token choose
+constant-first b u e f x y s = rw (e, f, s)
+
+name-first : (b : ℕ) (u : Text) → isBlank b ≡ false → isDigit b ≡ false → isNameStart b ≡ true → (x y : Text) → span isNameByte (b ∷ u) ≡ (x, y)
+    → token (b ∷ u) ≡ done (name x, y)
+unfolding token choose
+name-first b u e f g x y s = rw (e, f, g, s)
+
+-- the byte at a place, and what is behind it
+pub here : (text : Text) (at : ℕ) → at < length text → drop at text ≡ getD text at 0 ∷ drop (at + 1) text
+here text at h = drop-cons text at 0 h ∙ ap (λ (i : ℕ). getD text at 0 ∷ drop i text) (sym (add-one at))
+
+pub next-place : (text : Text) (at : ℕ) → at < length text → Behind text at (at + 1)
+next-place text at h = record { onward = omega arith; within = omega arith }
+
+-- a token that its first byte decides
+pub single : (text : Text) (at b : ℕ) (r : Token) → Symbol text at → getD text at 0 ≡ b → token (b ∷ drop (at + 1) text) ≡ lexed text r → Ends text at r → TokenAt text at r
+single text at b r s e t w = record { is = ap token (here text at (s .within) ∙ ap (λ (x : ℕ). x ∷ drop (at + 1) text) e) ∙ t; ends = w }
+
+-- a byte that begins no token
+pub no-token : (text : Text) (at : ℕ) → Symbol text at → (getD text at 0 ≡ 40 → ⊥) → (getD text at 0 ≡ 41 → ⊥) → (getD text at 0 ≡ 42 → ⊥) → (getD text at 0 ≡ 47 → ⊥)
+    → (getD text at 0 ≡ 37 → ⊥) → (getD text at 0 ≡ 43 → ⊥) → (getD text at 0 ≡ 45 → ⊥) → (getD text at 0 ≡ 60 → ⊥) → (getD text at 0 ≡ 62 → ⊥)
+    → (getD text at 0 ≡ 61 → ⊥) → (getD text at 0 ≡ 33 → ⊥) → TokenAt text at (code.Refused arithmeticSyntax)
+no-token text at s e1 e2 e3 e4 e5 e6 e7 e8 e9 e10 e11 = record {
+  is = ap token (here text at (s .within)) ∙ go (getD text at 0) (s .bare) (s .digit) (s .start) e1 e2 e3 e4 e5 e6 e7 e8 e9 e10 e11;
+  ends = tt;
+}
+  where
+    go : (b : ℕ) → isBlank b ≡ false → isDigit b ≡ false → isNameStart b ≡ false → (b ≡ 40 → ⊥) → (b ≡ 41 → ⊥) → (b ≡ 42 → ⊥) → (b ≡ 47 → ⊥) → (b ≡ 37 → ⊥)
+        → (b ≡ 43 → ⊥) → (b ≡ 45 → ⊥) → (b ≡ 60 → ⊥) → (b ≡ 62 → ⊥) → (b ≡ 61 → ⊥) → (b ≡ 33 → ⊥) → token (b ∷ drop (at + 1) text) ≡ refused arithmeticSyntax
+    go b x y z e1 e2 e3 e4 e5 e6 e7 e8 e9 e10 e11 = none-fits b (drop (at + 1) text) x y z (ne-eqb b 40 e1) (ne-eqb b 41 e2) (ne-eqb b 42 e3) (ne-eqb b 47 e4) (ne-eqb b 37 e5)
+        (ne-eqb b 43 e6) (ne-eqb b 45 e7) (ne-eqb b 60 e8) (ne-eqb b 62 e9) (ne-eqb b 61 e10) (ne-eqb b 33 e11)
+
+-- with `=` behind it, or alone
+module _ (text : Text) (at : ℕ) (alone : Token) (both : Op) where
+  pub with-equals : at + 1 < length text → getD text (at + 1) 0 ≡ 61 → Pairs text at alone both (code.Op both (at + 2))
+  unfolding arith-stage.paired
+  with-equals h e = record {
+    is = let p : at + 1 + 1 ≡ at + 2 = omega arith in rw (here text (at + 1) h, e, p);
+    ends = record { onward = omega arith; within = omega arith };
+  }
+
+  pub without-equals : at + 1 < length text → (getD text (at + 1) 0 ≡ 61 → ⊥) → Ends text at alone → Pairs text at alone both alone
+  unfolding arith-stage.paired
+  without-equals h n w = record { is = rw (here text (at + 1) h, ne-eqb (getD text (at + 1) 0) 61 n, arith-stage.paired); ends = w }
+
+  pub at-the-end : length text ≤ at + 1 → Ends text at alone → Pairs text at alone both alone
+  unfolding arith-stage.paired
+  at-the-end h w = record { is = rw (drop-of-length-le text h); ends = w }
+
+-- blanks in front are passed
+token-blanks : (t u : Text) → all isBlank t ≡ true → token (t ++ u) ≡ token u
+unfolding token choose
+token-blanks [] u e = refl
+token-blanks (b ∷ t) u e = rw (and-left (isBlank b) (all isBlank t) e) (token-blanks t u (and-right (isBlank b) (all isBlank t) e))
+
+module _ (text : Text) (at i : ℕ) (r : Runs text at Blank i) where
+  pub past-blanks : token (drop at text) ≡ token (drop i text)
+  past-blanks =
+      ap token (sym (span-join isBlank (drop at text))) ∙ token-blanks (span isBlank (drop at text) .0) (span isBlank (drop at text) .1) (span-all isBlank (drop at text))
+      ∙ ap (λ (p : Text × Text). token (p .1)) (r .is)
+
+  -- a token behind them is the token
+  pub behind-blanks : (k : Token) → TokenAt text i k → TokenAt text at k
+  behind-blanks k t = record { is = past-blanks ∙ t .is; ends = wider k (t .ends) }
+    where
+      further-on : (next : ℕ) → Behind text i next → Behind text at next
+      further-on next b = let a = b .onward in let o = r .onward in record { onward = omega arith; within = b .within }
+
+      wider : (k : Token) → Ends text i k → Ends text at k
+      wider (code.Refused e) w = tt
+      wider code.Stop w = tt
+      wider (code.Number z next) w = further-on next w
+      wider (code.Name from to) w = record { behind = further-on to (w .behind); rising = w .rising }
+      wider (code.Op o next) w = further-on next w
+      wider (code.Opens next) w = further-on next w
+      wider (code.Shuts next) w = further-on next w
+
+  pub nothing-left : i ≡ length text → TokenAt text at code.Stop
+  unfolding token
+  nothing-left e = let h : length text ≤ i = omega arith in record { is = past-blanks ∙ ap token (drop-of-length-le text h); ends = tt }
+
+  -- the byte behind them is none
+  pub not-blank : i < length text → isBlank (getD text i 0) ≡ false
+  not-blank h =
+      let s : Stops isBlank (drop i text) = subst (λ (p : Text × Text). Stops isBlank (p .1)) (r .is) (span-stops isBlank (drop at text)) in
+      subst (Stops isBlank) (here text i h) s
+
+-- a run of name bytes: a constant, or a name
+module _ (text : Text) (at to : ℕ) (h : at < length text) (r : Runs text at NameByte to) where
+  run : span isNameByte (getD text at 0 ∷ drop (at + 1) text) ≡ (part text at to, drop to text)
+  run = ap (span isNameByte) (sym (here text at h)) ∙ r .is
+
+  run-behind : isNameByte (getD text at 0) ≡ true → Behind text at to
+  run-behind e = record { onward = grows (ap (λ (p : Text × Text). length (p .0)) (sym (span-more isNameByte (getD text at 0) (drop (at + 1) text) e) ∙ run)); within = r .within }
+    where
+      grows : suc (length (span isNameByte (drop (at + 1) text) .0)) ≡ length (part text at to) → at < to
+      grows q = omega (arith, length-take (to - at) (drop at text))
+
+  module _ (bare : isBlank (getD text at 0) ≡ false) where
+    constant-token : isDigit (getD text at 0) ≡ true → token (drop at text) ≡ (number pos (constant (part text at to)) >>= λ z. done (num z, drop to text))
+    constant-token e = ap token (here text at h) ∙ constant-first (getD text at 0) (drop (at + 1) text) bare e (part text at to) (drop to text) run
+
+    pub name-at : isDigit (getD text at 0) ≡ false → isNameStart (getD text at 0) ≡ true → TokenAt text at (code.Name at to)
+    name-at e f = record {
+      is = ap token (here text at h) ∙ name-first (getD text at 0) (drop (at + 1) text) bare e f (part text at to) (drop to text) run;
+      ends = record { behind = run-behind (start-name-byte (getD text at 0) f); rising = r .onward };
+    }
+
+    pub bad-constant : isDigit (getD text at 0) ≡ true → (e : ℕ) → refused e ≡ number pos (constant (part text at to)) → TokenAt text at (code.Refused e)
+    bad-constant d e q = record { is = constant-token d ∙ ap (λ (o : Outcome ℤ). o >>= λ z. done (num z, drop to text)) (sym q); ends = tt }
+
+    pub good-constant : isDigit (getD text at 0) ≡ true → (z : ℤ) → done z ≡ number pos (constant (part text at to)) → TokenAt text at (code.Number z to)
+    good-constant d z q = record {
+      is = constant-token d ∙ ap (λ (o : Outcome ℤ). o >>= λ z. done (num z, drop to text)) (sym q);
+      ends = run-behind (digit-name-byte (getD text at 0) d);
+    }

@@ -1,0 +1,79 @@
+-- What the code's tokens say of the stage's: the token, and with places what is behind it.
+use Prim.Native.Nat.{ℕ, _+_, _≤_, _<_}
+use mathlib.Core.Path.{_≡_}
+use mathlib.Core.Bool.{true, false}
+use mathlib.Core.List.{[]}
+use lib.ListN.{length, getD, drop}
+use Rattle.stages.specs.Bytes.{Text, part, isBlank, isDigit, isNameStart}
+use Rattle.stages.specs.Outcome.{refused, done}
+use Rattle.stages.specs.Arith.{Lexed, stop, num, name, op, opens, shuts, token, paired}
+use Rattle.arith_int.specs.Answers.{opOf}
+use Rattle.arith_int.specs.declared.Op.{Op}
+use Rattle.arith_int.specs.declared.Op.the-variants.{Mul, Div, Rem, Add, Sub, Lt, Le, Gt, Ge, Eq, Ne}
+use Rattle.arith_token.specs.declared.Token.{Token}
+use Rattle.arith_token.specs.declared.Token.the-variants as code
+
+-- an operator's level, by the code's operators
+abbrev pub levelOf : Op → ℕ
+levelOf Mul = 4
+levelOf Div = 4
+levelOf Rem = 4
+levelOf Add = 3
+levelOf Sub = 3
+levelOf Lt = 2
+levelOf Le = 2
+levelOf Gt = 2
+levelOf Ge = 2
+levelOf Eq = 1
+levelOf Ne = 1
+
+-- the stage's token, with what is behind it
+abbrev pub lexed : Text → Token → Lexed
+lexed text (code.Refused e) = refused e
+lexed text code.Stop = done (stop, [])
+lexed text (code.Number z next) = done (num z, drop next text)
+lexed text (code.Name from to) = done (name (part text from to), drop to text)
+lexed text (code.Op o next) = done (op (opOf o), drop next text)
+lexed text (code.Opens next) = done (opens, drop next text)
+lexed text (code.Shuts next) = done (shuts, drop next text)
+
+-- a place behind another, in the text
+pub record Behind (text : Text) (at next : ℕ) : Type 0 where
+  pub onward : at < next
+  pub within : next ≤ length text
+
+-- the places of a name
+pub record Named (text : Text) (at from to : ℕ) : Type 0 where
+  pub behind : Behind text at to
+  pub rising : from ≤ to
+
+abbrev pub Ends : Text → ℕ → Token → Type 0
+Ends text at (code.Refused e) = Unit {0}
+Ends text at code.Stop = Unit {0}
+Ends text at (code.Number z next) = Behind text at next
+Ends text at (code.Name from to) = Named text at from to
+Ends text at (code.Op o next) = Behind text at next
+Ends text at (code.Opens next) = Behind text at next
+Ends text at (code.Shuts next) = Behind text at next
+
+-- the token at a place is the stage's, and its places lie in the text
+pub record TokenAt (text : Text) (at : ℕ) (r : Token) : Type 0 where
+  pub is : token (drop at text) ≡ lexed text r
+  pub ends : Ends text at r
+
+-- one operator with `=` behind its first byte, or the token alone
+pub record Pairs (text : Text) (at : ℕ) (alone : Token) (both : Op) (r : Token) : Type 0 where
+  pub is : lexed text r ≡ paired (lexed text alone) (op (opOf both)) (drop (at + 1) text)
+  pub ends : Ends text at r
+
+-- what stands at a place: a constant's first digit; a byte that begins neither a constant nor a name
+pub record Digit (text : Text) (at : ℕ) : Type 0 where
+  pub within : at < length text
+  pub bare : isBlank (getD text at 0) ≡ false
+  pub is : isDigit (getD text at 0) ≡ true
+
+pub record Symbol (text : Text) (at : ℕ) : Type 0 where
+  pub within : at < length text
+  pub bare : isBlank (getD text at 0) ≡ false
+  pub digit : isDigit (getD text at 0) ≡ false
+  pub start : isNameStart (getD text at 0) ≡ false

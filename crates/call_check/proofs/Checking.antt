@@ -1,0 +1,194 @@
+-- The order of the checks: each refusal is the stage's where those before it are passed.
+use Prim.Native.Nat.{ℕ, zero, suc, _+_, _≤_, _<_}
+use native.Mathlib.Omega.{arith}
+use mathlib.Core.Path.{_≡_, refl, sym, ap, _∙_, subst}
+use mathlib.Core.Bool.{Bool, true, false, _&&_, and-false}
+use mathlib.Core.List.{List, [], _∷_, _++_}
+use mathlib.Core.Option.{Option, none, some}
+use lib.Dec.{leb, eqb·zero-suc}
+use lib.ListN.{length, take}
+use borrow.Author.Tests.{le-leb, lt-leb, leb-true, leb-false}
+use Rattle.stages.specs.Numbers.{workTooSmall, badVariables, badHomes, badPaths, lineTooLong, zeroByte, outputRoom, workLeast, lineLimit, imageLimit}
+use Rattle.stages.specs.Bytes.{Text, isIn, all, notZero}
+use Rattle.stages.specs.Outcome.{Outcome, refused, done, Placed, refusedAt, doneAt, at, _then_, require, pick}
+use Rattle.stages.specs.Images.{Pairs, isSome, held, variables, homes, pathsOf, recordBytes}
+use Rattle.stages.specs.Syntax.{Word}
+use Rattle.stages.specs.Read.{readLine}
+use Rattle.stages.specs.Line.{Around, Fields, outFits, wordFields, expandWords, expandLine}
+use Rattle.stages.specs.Call.{Given, orRefused, expanded}
+use Rattle.stages.proofs.Bools.{no, apart, and-right}
+use Rattle.stages.proofs.Tables.{none-of, vars-of, variables-are, homes-of, homes-are, paths-of, paths-are}
+use Rattle.stages.proofs.Safe.{NoZero}
+use Rattle.stages.proofs.SafeLines.{no-zero}
+use Rattle.read_line.specs.Says.{verdictOf}
+use Rattle.read_line.specs.declared.LineRead.{LineRead}
+use Rattle.read_line.proofs.Lines.{Accepted}
+use Rattle.call_check.specs.Calls.{roomOf, worked}
+use Rattle.call_check.specs.Checks.{roomIn, among, Tabled, Passed, Stopped, Checks}
+use Rattle.call_check.specs.declared.Job.{Job}
+use Rattle.call_check.specs.declared.Checked.{Checked}
+use Rattle.call_check.specs.declared.Checked.the-variants.{Fine, Refused}
+
+-- a line that 6 refuses
+zero-in : (t : Text) → isIn 0 t ≡ true → NoZero t → ⊥
+zero-in [] e z = no e
+zero-in (zero ∷ t) e z = no z
+zero-in (suc b ∷ t) e z = zero-in t (rw (eqb·zero-suc b) at e) (and-right (notZero (suc b)) (all notZero t) z)
+
+-- what is refused is not read
+refused-read : {A : Type 0} {w : Placed A} {n place : ℕ} {a : A} → w ≡ refusedAt n place → w ≡ doneAt a → ⊥
+refused-read h e = let z : _≡_ {A = ℕ} 0 1 = cc in omega arith
+
+-- 1 to 4
+
+module _ (job : Job) (g : Given) where
+  pub work-small : length (g .work) < workLeast → Stopped job g workTooSmall 0
+  unfolding expanded
+  work-small h = record { is = rw (lt-leb workLeast (length (g .work)) h); early = λ p. omega (arith, h, p .tables .area) }
+
+  module _ (a : workLeast ≤ length (g .work)) where
+    pub used-beyond : length (g .vars) < g .used → Stopped job g badVariables 0
+    unfolding expanded
+    used-beyond h =
+        record {
+          is = rw (le-leb workLeast (length (g .work)) a, lt-leb (g .used) (length (g .vars)) h);
+          early = λ p. omega (arith, h, p .tables .inside);
+        }
+
+    module _ (i : g .used ≤ length (g .vars)) where
+      pub variables-bad : isSome (variables (take (g .used) (g .vars))) ≡ false → Stopped job g badVariables 0
+      unfolding expanded orRefused
+      variables-bad h =
+          record {
+            is = rw (le-leb workLeast (length (g .work)) a, le-leb (g .used) (length (g .vars)) i, none-of (variables (take (g .used) (g .vars))) h);
+            early = λ p. apart h (p .tables .formed);
+          }
+
+      module _ (v : isSome (variables (take (g .used) (g .vars))) ≡ true) where
+        pub homes-bad : isSome (homes (g .homes)) ≡ false → Stopped job g badHomes 0
+        unfolding expanded orRefused
+        homes-bad h =
+            record {
+              is = rw (le-leb workLeast (length (g .work)) a, le-leb (g .used) (length (g .vars)) i, variables-are _ (vars-of _ v), none-of (homes (g .homes)) h);
+              early = λ p. apart h (p .tables .housed);
+            }
+
+        module _ (w : isSome (homes (g .homes)) ≡ true) where
+          pub paths-bad : isSome (pathsOf (g .paths)) ≡ false → Stopped job g badPaths 0
+          unfolding expanded orRefused
+          paths-bad h =
+              record {
+                is = rw (le-leb workLeast (length (g .work)) a, le-leb (g .used) (length (g .vars)) i, variables-are _ (vars-of _ v), homes-are _ (homes-of _ w), none-of (pathsOf (g .paths)) h);
+                early = λ p. apart h (p .tables .listed);
+              }
+
+-- 5 and 6, reading, the empty image
+
+module _ (job : Job) (g : Given) (t : Tabled g) where
+  abbrev v : Pairs
+  v = held (take (g .used) (g .vars))
+
+  abbrev out : ℕ
+  out = roomOf job (length (g .out))
+
+  tables-passed : expanded g out ≡ expandLine (among g out) (g .line) v
+  unfolding expanded orRefused
+  tables-passed =
+      rw (le-leb workLeast (length (g .work)) (t .area), le-leb (g .used) (length (g .vars)) (t .inside), variables-are _ (vars-of _ (t .formed)), homes-are _ (homes-of _ (t .housed)), paths-are _ (paths-of _ (t .listed)))
+
+  pub line-long : lineLimit < length (g .line) → Stopped job g lineTooLong 0
+  unfolding expandLine
+  line-long h = record { is = tables-passed ∙ rw (lt-leb (length (g .line)) lineLimit h); early = λ p. omega (arith, h, p .short) }
+
+  module _ (l : length (g .line) ≤ lineLimit) where
+    pub line-zero : isIn 0 (g .line) ≡ true → Stopped job g zeroByte 0
+    unfolding expandLine
+    line-zero h = record { is = tables-passed ∙ rw (le-leb (length (g .line)) lineLimit l, h); early = λ p. zero-in (g .line) h (p .clean) }
+
+    module _ (z : isIn 0 (g .line) ≡ false) where
+      pub line-refused : (n place : ℕ) → readLine (g .line) ≡ refusedAt n place → Stopped job g n place
+      unfolding expandLine
+      line-refused n place h =
+          record { is = tables-passed ∙ rw (le-leb (length (g .line)) lineLimit l, z, h); early = λ p. refused-read h (p .read) }
+
+      module _ (ws : List Word) (r : readLine (g .line) ≡ doneAt ws) where
+        line-no-room : outFits (among g out) 1 ≡ false → expanded g out ≡ refusedAt outputRoom 0
+        unfolding expandLine
+        line-no-room h = tables-passed ∙ rw (le-leb (length (g .line)) lineLimit l, z, r, h)
+
+        line-passed : outFits (among g out) 1 ≡ true → expanded g out ≡ expandWords (among g out) ws 1 v
+        unfolding expandLine
+        line-passed h = tables-passed ∙ rw (le-leb (length (g .line)) lineLimit l, z, r, h)
+
+-- an output of more than 8,192 bytes is as good as one of 8,192
+
+abbrev capped : ℕ → ℕ
+capped out = pick (leb out imageLimit) out imageLimit
+
+capped-by : (n out : ℕ) (x y : Bool) → leb out imageLimit ≡ x → leb n imageLimit ≡ y → (leb n out && y) ≡ (leb n (pick x out imageLimit) && y)
+capped-by n out true y d e = refl
+capped-by n out false true d e = rw (e, le-leb n out (omega (arith, leb-false out imageLimit d, leb-true n imageLimit e)))
+capped-by n out false false d e = and-false (leb n out) ∙ sym (and-false (leb n imageLimit))
+
+module _ (g : Given) (out : ℕ) where
+  fits-capped : (n : ℕ) → outFits (among g out) n ≡ outFits (among g (capped out)) n
+  unfolding outFits
+  fits-capped n = capped-by n out (leb out imageLimit) (leb n imageLimit) refl refl
+
+  -- the fields of a word in front of those behind it, if they fit
+  abbrev joined : ℕ → Fields → Placed (Fields × Pairs) → Bool → Placed (Fields × Pairs)
+  joined place l o fits = require fits outputRoom place then λ _. o then λ s. doneAt (l ++ s .0, s .1)
+
+  -- a word's fields, and the words behind it
+  abbrev behind : Word → List Word → ℕ → Around → Fields × Pairs → Placed (Fields × Pairs)
+  behind w ws n a r = joined (w .place) (r .0) (expandWords a ws (n + recordBytes (r .0)) (r .1)) (outFits a (n + recordBytes (r .0)))
+
+  behind-capped : (w : Word) (ws : List Word) (n : ℕ) → ((m : ℕ) (v : Pairs) → expandWords (among g out) ws m v ≡ expandWords (among g (capped out)) ws m v)
+      → (o : Outcome (Fields × Pairs)) → (at (w .place) o then behind w ws n (among g out)) ≡ (at (w .place) o then behind w ws n (among g (capped out)))
+  behind-capped w ws n ih (refused k) = refl
+  behind-capped w ws n ih (done r) =
+      ap (joined (w .place) (r .0) (expandWords (among g out) ws (n + recordBytes (r .0)) (r .1))) (fits-capped (n + recordBytes (r .0)))
+      ∙ ap (λ (o : Placed (Fields × Pairs)). joined (w .place) (r .0) o (outFits (among g (capped out)) (n + recordBytes (r .0)))) (ih (n + recordBytes (r .0)) (r .1))
+
+  words-capped : (ws : List Word) (n : ℕ) (v : Pairs) → expandWords (among g out) ws n v ≡ expandWords (among g (capped out)) ws n v
+  unfolding expandWords wordFields
+  words-capped [] n v = refl
+  words-capped (w ∷ ws) n v = behind-capped w ws n (words-capped ws) (wordFields (among g out) (w .parts) v)
+
+-- what is left by the job
+
+module _ (job : Job) (g : Given) (t : Tabled g) (l : length (g .line) ≤ lineLimit) (z : isIn 0 (g .line) ≡ false) (a : Accepted (g .line)) where
+  pub room-none : roomIn job (length (g .out)) ≡ 0 → Stopped job g outputRoom 0
+  unfolding outFits
+  room-none h = record {
+    is = line-no-room job g t l z (a .all) (a .is) (fits-capped g (roomOf job (length (g .out))) 1 ∙ rw h);
+    early = λ p. omega (arith, h, p .byte);
+  }
+
+  pub room-some : (roomIn job (length (g .out)) ≡ 0 → ⊥) → Passed job g
+  unfolding outFits
+  room-some h =
+      let b : 1 ≤ roomIn job (length (g .out)) = omega (arith, h) in
+      record {
+        tables = t;
+        short = l;
+        clean = no-zero (g .line) (rw z);
+        words = a .all;
+        read = a .is;
+        byte = b;
+        is = line-passed job g t l z (a .all) (a .is) (fits-capped g (roomOf job (length (g .out))) 1 ∙ rw (le-leb 1 (capped (roomOf job (length (g .out)))) b)) ∙ words-capped g (roomOf job (length (g .out))) (a .all) 1 (held (take (g .used) (g .vars)));
+      }
+
+-- an answer once it is known
+
+pub refuses : (job : Job) (g : Given) {r : Checked} {n place : ℕ} → r ≡ Refused n place → Stopped job g n place → Checks job g r
+refuses job g e h = subst (λ (x : Checked). Checks job g x) (sym e) h
+
+pub read-as : {w : Placed (Unit {0})} {r s : LineRead} → w ≡ verdictOf r → r ≡ s → w ≡ verdictOf s
+read-as h e = h ∙ ap verdictOf e
+
+pub check-passed : (job : Job) (g : Given) {r : Checked} → Checks job g r → r ≡ Fine → Passed job g
+check-passed job g h e = subst (λ (x : Checked). Checks job g x) e h
+
+pub check-refused : (job : Job) (g : Given) {r : Checked} {n place : ℕ} → Checks job g r → r ≡ Refused n place → worked job g ≡ refusedAt n place
+check-refused job g {n = n} {place = place} h e = let s : Stopped job g n place = subst (λ (x : Checked). Checks job g x) e h in s .is

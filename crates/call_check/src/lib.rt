@@ -1,0 +1,113 @@
+// What is looked at before the first word is expanded: "Order: 1 to 6 as numbered; then the whole line is read", then room for the empty fields image.
+pub mod refusals;
+
+use read_line::LineRead;
+use table::Kind;
+ghost use mathlib.Core.Path.{_≡_};
+ghost use lib.ListN.{length};
+ghost use Rattle.call_check.specs.Calls.{given};
+ghost use Rattle.call_check.specs.Checks.{roomIn, Tabled, Checks};
+
+// The two jobs that take a line: one gives the fields' image, the other the fields as a quoted line.
+pub enum Job {
+    Expander,
+    Normaliser,
+}
+
+// What the checks answer: the words may be expanded, or the number and the place that refuse the call.
+pub enum Checked {
+    Fine,
+    Refused { number: u8, place: usize },
+}
+
+// The expander's output room: "longer than the output or 8,192"; "In the normaliser the expander's output room is 8,192."
+pub fn room(job: Job, out: usize) -> usize
+    ensures { λ r. ⌜ r ≡ roomIn job out ⌝ }
+{
+    match job {
+        Job::Normaliser => refusals::IMAGE_LIMIT,
+        Job::Expander => {
+            if out <= refusals::IMAGE_LIMIT {
+                out
+            } else {
+                refusals::IMAGE_LIMIT
+            }
+        }
+    }
+}
+
+// A refusal whose place is 0.
+fn refuse(number: u8) -> Checked
+    ensures { λ r. ⌜ r ≡ Checked.Refused number 0 ⌝ }
+{
+    Checked::Refused {
+        number: number,
+        place: 0,
+    }
+}
+
+// The line is read, and the empty fields image has its byte.
+fn check_line(
+    job: Job,
+    line: &[u8],
+    vars: &[u8],
+    used: usize,
+    homes: &[u8],
+    paths: &[u8],
+    work: &[u8],
+    out: &[u8],
+) -> Checked
+    requires { ⌜ Tabled (given (now line) (now vars) used (now homes) (now paths) (now work) (now out)) ⌝ }
+    ensures { λ r. ⌜ Checks job (given (now (line .entry)) (now (vars .entry)) used (now (homes .entry)) (now (paths .entry)) (now (work .entry)) (now (out .entry))) r ⌝ }
+{
+    if refusals::LINE_LIMIT < line.len() {
+        return refuse(refusals::REFUSED_LENGTH);
+    }
+    if text::is_in(0, line) {
+        return refuse(refusals::REFUSED_ZERO);
+    }
+    let read = read_line::read_line(line);
+    match read {
+        LineRead::Refused { number, place } => Checked::Refused {
+            number: number,
+            place: place,
+        },
+        LineRead::Read => {
+            if room(job, out.len()) == 0 {
+                return refuse(refusals::REFUSED_OUTPUT);
+            }
+            Checked::Fine
+        }
+    }
+}
+
+// All that is checked before the first word, in document 01's order.
+pub fn check(
+    job: Job,
+    line: &[u8],
+    vars: &[u8],
+    used: usize,
+    homes: &[u8],
+    paths: &[u8],
+    work: &[u8],
+    out: &[u8],
+) -> Checked
+    ensures { λ r. ⌜ Checks job (given (now (line .entry)) (now (vars .entry)) used (now (homes .entry)) (now (paths .entry)) (now (work .entry)) (now (out .entry))) r ⌝ }
+{
+    if work.len() < refusals::WORK_LEAST {
+        return refuse(refusals::REFUSED_WORK);
+    }
+    if vars.len() < used {
+        return refuse(refusals::REFUSED_VARIABLES);
+    }
+    if !table::well_formed(Kind::Variables, &vars[..used]) {
+        return refuse(refusals::REFUSED_VARIABLES);
+    }
+    if !table::well_formed(Kind::Homes, homes) {
+        return refuse(refusals::REFUSED_HOMES);
+    }
+    if !table::well_formed(Kind::Paths, paths) {
+        return refuse(refusals::REFUSED_PATHS);
+    }
+    check_line(job, line, vars, used, homes, paths, work, out)
+}

@@ -1,0 +1,31 @@
+-- The answer is the stage's, and the work area is cleared whatever it is.
+use Prim.Native.Nat.{ℕ}
+use mathlib.Core.Path.{ap, _∙_}
+use lib.ListN.{replicate}
+use Rattle.call_run.proofs.Answering.{gives-cleared}
+use borrow.Author.Needs.{needs}
+use Rattle.call_run.proofs.answer_call.Statement.{statement}
+use Rattle.call_run.proofs.answer_call.Tie as tie
+
+from-checks-requires : tie.Need-from-checks-requires
+from-checks-requires c κs = search needs
+
+fill-zero-requires : tie.Need-fill-zero-requires
+fill-zero-requires c κs = search needs
+
+same-length : tie.Need-same-length
+same-length c = search needs
+
+same-length-2 : tie.Need-same-length-2
+same-length-2 c = search needs
+
+same-length-3 : tie.Need-same-length-3
+same-length-3 c = search needs
+
+returns : tie.Need-returns
+returns c =
+    let a = c .before .before .before .before .before .before .before .before .before .before .from-checks in
+    gives-cleared (c .before .before .before .before .before .before .before .before .before .before .before .before .before .before .before .before .before .before .before .before .args .job) _ (a .ensures) (c .before .before .fill-zero .ensures ∙ ap (λ (n : ℕ). replicate n 0) (a .kept .1 .1 .1 .1 .1 .1 .0))
+
+pub answer-call-spec : {M : Type 1} → statement M
+answer-call-spec = tie.close (tie.spec from-checks-requires fill-zero-requires same-length same-length-2 same-length-3 returns)

@@ -1,0 +1,80 @@
+// The three jobs under C's calling convention: include/drunquill.h declares them for C. Each lent buffer comes as a pointer and a length, and a job's
+// answer goes out as a struct that C lays out the same way.
+ghost use Rattle.stages.specs.Call.{expander, normaliser, quoter};
+ghost use Rattle.call_check.specs.Calls.{given};
+ghost use Rattle.drunquill_c.specs.Hands.{Gives, Quotes};
+
+// "The answer is a number, a place, the output length and the variables' used length."
+#[repr(C)]
+pub struct Answer {
+    pub number: u8,
+    pub place: usize,
+    pub out_len: usize,
+    pub used_len: usize,
+}
+
+// The quoter's answer: "The quoter has neither variables nor work area."
+#[repr(C)]
+pub struct QuoteAnswer {
+    pub number: u8,
+    pub place: usize,
+    pub out_len: usize,
+}
+
+// The expander: the line's fields, an image, to `out`. The variables are an image in the first `used` bytes of their buffer, and may change. On refusal
+// the variables and the output hold their old bytes; the work area is zero throughout after every call.
+#[no_mangle]
+pub extern "C" fn drunquill_expand(
+    line: &[u8],
+    vars: &mut [u8],
+    used: usize,
+    homes: &[u8],
+    paths: &[u8],
+    work: &mut [u8],
+    out: &mut [u8],
+) -> Answer
+    ensures { λ r. ⌜ Gives (expander (given (now (line .entry)) (now (vars .entry)) used (now (homes .entry)) (now (paths .entry)) (now (work .entry)) (now (out .entry)))) r (now (vars .exit)) (now (work .exit)) (now (out .exit)) ⌝ }
+{
+    let expanded = drunquill::expand(line, vars, used, homes, paths, work, out);
+    Answer {
+        number: expanded.number,
+        place: expanded.place,
+        out_len: expanded.out_len,
+        used_len: expanded.used_len,
+    }
+}
+
+// The normaliser: the line's fields as a quoted line to `out`, all else as in the expander.
+#[no_mangle]
+pub extern "C" fn drunquill_normalise(
+    line: &[u8],
+    vars: &mut [u8],
+    used: usize,
+    homes: &[u8],
+    paths: &[u8],
+    work: &mut [u8],
+    out: &mut [u8],
+) -> Answer
+    ensures { λ r. ⌜ Gives (normaliser (given (now (line .entry)) (now (vars .entry)) used (now (homes .entry)) (now (paths .entry)) (now (work .entry)) (now (out .entry)))) r (now (vars .exit)) (now (work .exit)) (now (out .exit)) ⌝ }
+{
+    let normalised = drunquill::normalise(line, vars, used, homes, paths, work, out);
+    Answer {
+        number: normalised.number,
+        place: normalised.place,
+        out_len: normalised.out_len,
+        used_len: normalised.used_len,
+    }
+}
+
+// The quoter: an image of fields as a quoted line to `out`, whose bytes behind the line stay; on refusal all of them do.
+#[no_mangle]
+pub extern "C" fn drunquill_quote(fields: &[u8], out: &mut [u8]) -> QuoteAnswer
+    ensures { λ r. ⌜ Quotes (quoter (now (fields .entry)) (now (out .entry))) r (now (out .exit)) ⌝ }
+{
+    let quoted = drunquill::quote(fields, out);
+    QuoteAnswer {
+        number: quoted.number,
+        place: quoted.place,
+        out_len: quoted.len,
+    }
+}

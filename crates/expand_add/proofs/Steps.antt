@@ -1,0 +1,117 @@
+-- A text's row is what its first part gives, and behind it the row of the others: one equation for each part.
+use Prim.Native.Nat.{ℕ, suc, _+_, _≤_}
+use native.Mathlib.Omega.{arith}
+use mathlib.Core.Path.{_≡_, refl, sym, ap, _∙_}
+use mathlib.Core.Bool.{Bool}
+use mathlib.Core.List.{[], _∷_, _++_, append-assoc}
+use lib.ListN.{length}
+use Rattle.stages.specs.Bytes.{Text}
+use Rattle.stages.specs.Outcome.{Outcome, refused, done, _>>=_}
+use Rattle.stages.specs.Images.{Pairs}
+use Rattle.stages.specs.Syntax.{Form, Parts, lit, quo, par, len, ari}
+use Rattle.stages.specs.Units.{Mark, Q, cell, N, Row, marked, bytes, expanded, litMark, decimal}
+use Rattle.stages.specs.Arith.{arithmeticOf}
+use Rattle.stages.specs.Expand.{Made, value, parameter, onto, adding, expand}
+use Rattle.expand_add.specs.Steps.{beside, placed, quoted, summed, followed}
+use Rattle.expand_add.specs.Added.{measured}
+use Rattle.expand_add.proofs.Fitting.{by-fit}
+use Rattle.stages.specs.Numbers.{rowLimit}
+use Rattle.stages.proofs.Rooms.{fit-ok}
+
+pub onto-none : (o : Made) → o ≡ onto [] o
+onto-none (refused e) = refl
+onto-none (done r) = refl
+
+pub onto-onto : (r s : Row) (o : Made) → onto r (onto s o) ≡ onto (r ++ s) o
+onto-onto r s (refused e) = refl
+onto-onto r s (done p) = ap (λ (t : Row). done (t, p .1)) (sym (append-assoc r s (p .0)))
+
+module _ (room : ℕ) (p : Parts) (m : Mark) (n : ℕ) where
+  placed-followed : (made : Made) → (made >>= λ r. adding n (r .0) λ i. expand room p m i (r .1)) ≡ followed room p m n (placed n made)
+  unfolding followed placed
+  placed-followed (refused e) = refl
+  placed-followed (done r) =
+      by-fit
+      (λ (o : Outcome ℕ). (o >>= λ i. onto (r .0) (expand room p m i (r .1))) ≡ ((o >>= λ i. done r) >>= λ s. onto (s .0) (expand room p m (n + length (s .0)) (s .1))))
+      n (length (r .0)) refl refl
+
+  pub expand-lit : (q : Bool) (b : ℕ) (v : Pairs) → expand room (lit q b p) m n v ≡ followed room p m n (placed n (done (cell (litMark q m) b ∷ [], v)))
+  unfolding expand
+  expand-lit q b v = placed-followed (done (cell (litMark q m) b ∷ [], v))
+
+  pub expand-par : (x : Text) (f : Form) (q : Parts) (v : Pairs)
+      → expand room (par x f q p) m n v ≡ followed room p m n (placed n (parameter room (λ k w. expand room q k 0 w) x f m v))
+  unfolding expand
+  expand-par x f q v = placed-followed (parameter room (λ k w. expand room q k 0 w) x f m v)
+
+  pub expand-len : (x : Text) (v : Pairs) → expand room (len x p) m n v ≡ followed room p m n (placed n (done (marked (expanded m) (decimal (length (value v x))), v)))
+  unfolding expand
+  expand-len x v = placed-followed (done (marked (expanded m) (decimal (length (value v x))), v))
+
+  quote-inside : (o : Made)
+      → onto (N ∷ []) (o >>= λ r. onto (r .0) (expand room p m (n + 1 + length (r .0)) (r .1)))
+      ≡ (onto (N ∷ []) o >>= λ r. onto (r .0) (expand room p m (n + length (r .0)) (r .1)))
+  quote-inside (refused e) = refl
+  quote-inside (done r) =
+      let e : n + 1 + length (r .0) ≡ n + suc (length (r .0)) = omega arith in
+      onto-onto (N ∷ []) (r .0) (expand room p m (n + 1 + length (r .0)) (r .1)) ∙ ap (λ (k : ℕ). onto (N ∷ r .0) (expand room p m k (r .1))) e
+
+  pub expand-quo : (q : Parts) (v : Pairs) → expand room (quo q p) m n v ≡ followed room p m n (quoted room q n v)
+  unfolding expand followed quoted
+  expand-quo q v =
+      by-fit
+      (λ (o : Outcome ℕ).
+      (o >>= λ i. onto (N ∷ []) (expand room q Q i v >>= λ r. onto (r .0) (expand room p m (i + length (r .0)) (r .1))))
+      ≡ ((o >>= λ i. onto (N ∷ []) (expand room q Q i v)) >>= λ r. onto (r .0) (expand room p m (n + length (r .0)) (r .1))))
+      n 1 (quote-inside (expand room q Q (n + 1) v)) refl
+
+  abbrev numbered : Text × Pairs → Row × Pairs
+  unfolding marked
+  numbered s = (marked (expanded m) (s .0), s .1)
+
+  number-bind : (o : Outcome (Text × Pairs))
+      → (o >>= λ s. adding n (marked (expanded m) (s .0)) λ i. expand room p m i (s .1))
+      ≡ ((o >>= λ s. done (numbered s)) >>= λ r. adding n (r .0) λ i. expand room p m i (r .1))
+  unfolding marked
+  number-bind (refused e) = refl
+  number-bind (done s) = refl
+
+  sum-bind : (o : Made)
+      → (o >>= λ r. arithmeticOf (r .1) (bytes (r .0)) >>= λ s. adding n (marked (expanded m) (s .0)) λ i. expand room p m i (s .1))
+      ≡ ((o >>= λ r. summed m r) >>= λ r. adding n (r .0) λ i. expand room p m i (r .1))
+  unfolding summed marked
+  sum-bind (refused e) = refl
+  sum-bind (done r) = number-bind (arithmeticOf (r .1) (bytes (r .0)))
+
+  pub expand-ari : (q : Parts) (v : Pairs) → expand room (ari q p) m n v ≡ followed room p m n (placed n (expand room q Q 0 v >>= λ r. summed m r))
+  unfolding expand
+  expand-ari q v = sum-bind (expand room q Q 0 v) ∙ placed-followed (expand room q Q 0 v >>= λ r. summed m r)
+
+  pub followed-refused : (own : Made) (e : ℕ) → own ≡ refused e → followed room p m n own ≡ refused e
+  unfolding followed
+  followed-refused own e h = rw h
+
+  pub followed-row : (own : Made) (row : Row) (v : Pairs) (count : ℕ) → own ≡ done (row, v) → length row ≡ count → followed room p m n own ≡ onto row (expand room p m (n + count) v)
+  unfolding followed
+  followed-row own row v count h c = rw (h, c)
+
+-- A row that is worked out and then placed.
+
+pub placed-refused : (n : ℕ) (made : Made) (e : ℕ) → made ≡ refused e → placed n made ≡ refused e
+unfolding placed
+placed-refused n made e h = rw h
+
+pub placed-fits : (n : ℕ) (made : Made) (row : Row) (v : Pairs) → made ≡ done (row, v) → n + length row ≤ rowLimit → placed n made ≡ done (row, v)
+unfolding placed
+placed-fits n made row v h l = rw (h, fit-ok n (length row) l)
+
+beside-placed : (n : ℕ) (v : Pairs) (o : Outcome Row) → placed n (beside v o) ≡ beside v (measured n o)
+unfolding placed measured
+beside-placed n v (refused e) = refl
+beside-placed n v (done r) = by-fit (λ (o : Outcome ℕ). _≡_ {A = Made} (_>>=_ {B = Row × Pairs} o (λ i. done (r, v))) (beside v (o >>= λ i. done r))) n (length r) refl refl
+
+pub beside-refused : (n : ℕ) (v : Pairs) (o : Outcome Row) (e : ℕ) → measured n o ≡ refused e → placed n (beside v o) ≡ refused e
+beside-refused n v o e h = beside-placed n v o ∙ ap (beside v) h
+
+pub beside-done : (v : Pairs) (o : Outcome Row) (row : Row) → o ≡ done row → beside v o ≡ done (row, v)
+beside-done v o row h = rw h

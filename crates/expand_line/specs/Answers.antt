@@ -1,0 +1,85 @@
+-- What a word and a line give: by cases on the code's answer, an equation with the stage, and what stands in the lent bytes then.
+use Prim.Native.Nat.{ℕ, _+_, _≤_}
+use mathlib.Core.Path.{_≡_}
+use mathlib.Core.Bool.{true}
+use mathlib.Core.List.{List}
+use lib.ListN.{length, take}
+use Rattle.stages.specs.Numbers.{depthLimit, workLeast, imageLimit, outputRoom}
+use Rattle.stages.specs.Bytes.{Text, all, notZero}
+use Rattle.stages.specs.Outcome.{Outcome, refused, done, _>>=_, Placed, refusedAt, doneAt, _then_, pick}
+use Rattle.stages.specs.Images.{Pairs, held, heldTexts, isSome, homes, pathsOf, written, image, recordBytes}
+use Rattle.stages.specs.Syntax.{Parts, Word}
+use Rattle.stages.specs.Read.{Taken, readLine}
+use Rattle.stages.specs.Line.{Around, Fields, wordFields, outFits, expandWords}
+use Rattle.stages.specs.Call.{over}
+use Rattle.read_mode.specs.declared.Mode.the-variants as mode
+use Rattle.expand_add.specs.Answers.{Holds, Ready, Ends}
+use Rattle.table_store.specs.Splice.{placed}
+use Rattle.expand_line.specs.declared.WordExpanded.{WordExpanded}
+use Rattle.expand_line.specs.declared.WordExpanded.the-variants as word
+use Rattle.expand_line.specs.declared.LineExpanded.{LineExpanded}
+use Rattle.expand_line.specs.declared.LineExpanded.the-variants as line
+
+-- what a line is expanded among
+abbrev pub among : ℕ → Text → Text → ℕ → Around
+among room houses paths out = record { room = room; out = out; homes = held houses; paths = heldTexts paths }
+
+-- a word's fields behind an image of n bytes, and the variables behind its stores: 21 if there is no room for them
+unfoldable pub wordOutcome : Around → Parts → ℕ → Pairs → Outcome (Fields × Pairs)
+wordOutcome a p n v = wordFields a p v >>= λ r. pick (outFits a (n + recordBytes (r .0))) (done r) (refused outputRoom)
+
+-- a line's fields, once it is read
+abbrev pub lineOutcome : Around → Text → Pairs → Placed (Fields × Pairs)
+lineOutcome a t v = readLine t then λ ws. expandWords a ws 1 v
+
+-- the word at a place is read, and there is room for its row; the tables are well formed, and `used` bytes of the output are
+pub record WordReady (text : Text) (at : ℕ) (vars : Text) (have room : ℕ) (houses paths work out : Text) (used : ℕ) : Type 0 where
+  pub ready : Ready text at mode.Word depthLimit 0 (length work)
+  pub holds : Holds room vars have
+  pub housed : isSome (homes houses) ≡ true
+  pub listed : isSome (pathsOf paths) ≡ true
+  pub low : used ≤ length out
+  pub few : length out ≤ imageLimit
+
+-- a word's fields are written, and behind it stands `rest`
+pub record IsFields (a : Around) (made : Outcome (Fields × Pairs)) (rest text : Text) (at used : ℕ) (vars old out : Text) (len next have : ℕ) : Type 0 where
+  pub fields : Fields
+  pub is : made ≡ done (fields, held (take have vars))
+  pub long : len ≡ used + recordBytes fields
+  pub fits : len ≤ length old
+  pub stands : out ≡ placed used (written fields) old
+  pub holds : Holds (a .room) vars have
+  pub ends : Ends text at next rest
+
+abbrev pub WordOf : Around → Outcome (Fields × Pairs) → Text → Text → ℕ → ℕ → Text → Text → Text → WordExpanded → Type 0
+WordOf a made rest text at used vars old out (word.Refused e) = made ≡ refused e
+WordOf a made rest text at used vars old out (word.Fields len next have) = IsFields a made rest text at used vars old out len next have
+
+-- the answer of a word, whatever it is read as
+pub record WordSays (a : Around) (o : Taken) (text : Text) (at used : ℕ) (v : Pairs) (vars old out : Text) (r : WordExpanded) : Type 0 where
+  pub says : (p : Parts × Text) → o ≡ done p → WordOf a (wordOutcome a (p .0) used v) (p .1) text at used vars old out r
+
+-- the line is read and no byte of it is zero; the tables are well formed; the empty fields image has room
+pub record LineReady (text vars : Text) (have room : ℕ) (houses paths work out : Text) : Type 0 where
+  pub words : List Word
+  pub read : readLine text ≡ doneAt words
+  pub clean : all notZero text ≡ true
+  pub holds : Holds room vars have
+  pub housed : isSome (homes houses) ≡ true
+  pub listed : isSome (pathsOf paths) ≡ true
+  pub area : workLeast ≤ length work
+  pub byte : 1 ≤ length out
+  pub few : length out ≤ imageLimit
+
+-- the fields' image stands at the front of the output, and the variables' image in its bytes
+pub record IsLine (room : ℕ) (o : Placed (Fields × Pairs)) (vars old out : Text) (len have : ℕ) : Type 0 where
+  pub fields : Fields
+  pub is : o ≡ doneAt (fields, held (take have vars))
+  pub long : len ≡ length (image fields)
+  pub fits : len ≤ length old
+  pub stands : out ≡ over (image fields) old
+  pub holds : Holds room vars have
+
+abbrev pub LineSays : ℕ → Placed (Fields × Pairs) → Text → Text → Text → LineExpanded → Type 0
+LineSays room o vars old out (line.Refused n place) = o ≡ refusedAt n place
+LineSays room o vars old out (line.Done len have) = IsLine room o vars old out len have

@@ -1,0 +1,50 @@
+-- An operand's row where it stands, for what is done with it.
+use Prim.Native.Nat.{ℕ, _*_, _≤_}
+use mathlib.Core.Path.{_≡_}
+use mathlib.Core.Bool.{Bool, true, false}
+use lib.ListN.{length, take}
+use Rattle.stages.specs.Bytes.{Text, all, notZero}
+use Rattle.stages.specs.Outcome.{Outcome, done, _>>=_, refused, pick}
+use Rattle.stages.specs.Images.{Pairs, isName, held}
+use Rattle.stages.specs.Units.{Mark, Row, marked, bytes, expanded}
+use Rattle.stages.specs.Pattern.{pattern}
+use Rattle.stages.specs.Removal.{removed}
+use Rattle.stages.specs.Arith.{arithmeticOf}
+use Rattle.stages.specs.Expand.{value, store}
+use Rattle.stages.specs.Numbers.{imageLimit, variableRoom}
+use Rattle.table_store.specs.declared.Stored.{Stored}
+use Rattle.table_store.specs.declared.Stored.the-variants.{Used, Full}
+use Rattle.expand_add.specs.Answers.{Holds}
+use lib.Dec.{leb}
+use Rattle.text.specs.Rows.{rowBytes, rowOf}
+
+-- the row of so many units at the front of the area
+abbrev pub rowAt : Text → ℕ → Row
+unfolding rowOf
+rowAt area units = rowOf (take (2 * units) area)
+
+-- such a row stands there, none of its bytes is zero, and the name is one: it may be stored
+pub record Operand (name area : Text) (units : ℕ) : Type 0 where
+  pub inside : 2 * units ≤ length area
+  pub is : rowBytes (rowOf (take (2 * units) area)) ≡ take (2 * units) area
+  pub clean : all notZero (bytes (rowOf (take (2 * units) area))) ≡ true
+  pub named : isName name ≡ true
+
+-- what a removal leaves of the value, as units
+unfoldable pub leftBy : Bool → Bool → Text → Mark → Row → Pairs → Outcome Row
+unfolding pattern removed marked value
+leftBy isSuffix long x m row v = pattern false row >>= λ es. done (marked (expanded m) (removed isSuffix long es (value v x)))
+
+-- the number of an arithmetic text, as units
+unfoldable pub sumOf : Mark → Row → Pairs → Outcome Row
+unfolding arithmeticOf bytes marked
+sumOf m row v = arithmeticOf v (bytes row) >>= λ s. done (marked (expanded m) (s .0))
+
+-- "longer than its buffer or 8,192": the lesser of the two
+abbrev pub capOf : ℕ → ℕ
+capOf room = pick (leb room imageLimit) room imageLimit
+
+-- the value is stored as the stage stores it, or refused
+abbrev pub StoresIn : ℕ → Text → Text → Pairs → Text → Stored → Type 0
+StoresIn room x t v vars Full = store room x t v ≡ refused variableRoom
+StoresIn room x t v vars (Used left) = (store room x t v ≡ done (held (take left vars))) × Holds room vars left

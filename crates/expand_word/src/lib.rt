@@ -1,0 +1,110 @@
+// Expands a word of the line into a row of units at the front of a lent area. The text is read as it is expanded: what stands at a place is
+// answered by the classifier of `items`, and an operand is expanded by the same function on the inner text.
+ghost use lib.ListN.{length, take, drop};
+ghost use Rattle.stages.specs.Numbers.{depthLimit};
+ghost use Rattle.stages.specs.Images.{held};
+ghost use Rattle.stages.specs.Syntax.{word};
+ghost use Rattle.stages.specs.Read.{parts};
+ghost use Rattle.stages.specs.Expand.{wordRow};
+ghost use Rattle.table.specs.Places.{Table};
+ghost use Rattle.expand_add.specs.Answers.{Holds, Ready, Says};
+ghost use Rattle.expand_word.specs.Tildes.{Opens};
+use expand_add::answers::Expanded;
+use homes::Home;
+use homes::Login;
+use read_mode::Mode;
+use row::Mark;
+
+mod homes;
+
+// A word with a `~` at `at`, whose login ends at `to`.
+fn expand_home(
+    line: &[u8],
+    at: usize,
+    to: usize,
+    vars: &mut [u8],
+    have: usize,
+    room: usize,
+    homes: &[u8],
+    work: &mut [u8],
+) -> Expanded
+    requires { ⌜ Opens (now line) at to × Ready (now line) at Mode.Word depthLimit 0 (length (now work)) × Holds room (now vars) have × Table (now homes) ⌝ }
+    ensures { λ r. ⌜ Says room (now (line .entry)) at 0 (λ t. wordRow room (held (now (homes .entry))) t (held (take have (now (vars .entry))))) (parts word depthLimit (drop at (now (line .entry)))) (now (work .exit)) (now (vars .exit)) r ⌝ }
+{
+    let start = at + 1;
+    let home = homes::give_home(&line[start..to], &vars[..have], homes, work);
+    match home {
+        Home::Refused(e) => Expanded::Refused(e),
+        Home::Nothing => expand_text::expand_text(
+            line,
+            at,
+            Mode::Word,
+            read_line::DEPTH,
+            Mark::L,
+            0,
+            vars,
+            have,
+            room,
+            work,
+        ),
+        Home::Units(units) => {
+            let front = 2 * units;
+            let got = expand_text::expand_text(
+                line,
+                to,
+                Mode::Word,
+                read_line::DEPTH,
+                Mark::L,
+                units,
+                vars,
+                have,
+                room,
+                &mut work[front..],
+            );
+            match got {
+                Expanded::Refused(e) => Expanded::Refused(e),
+                Expanded::Row {
+                    units: more,
+                    next,
+                    have: left,
+                } => Expanded::Row {
+                    units: units + more,
+                    next: next,
+                    have: left,
+                },
+            }
+        }
+    }
+}
+
+// Expands the word of the line whose first byte is at `at`, and that has been read. Its row stands at the front of work, which is not read and of which
+// the rest is left open; the variables, an image in the first `have` bytes, are measured against `room`, and are left open if the word is refused.
+pub fn expand_word(
+    line: &[u8],
+    at: usize,
+    vars: &mut [u8],
+    have: usize,
+    room: usize,
+    homes: &[u8],
+    work: &mut [u8],
+) -> Expanded
+    requires { ⌜ Ready (now line) at Mode.Word depthLimit 0 (length (now work)) × Holds room (now vars) have × Table (now homes) ⌝ }
+    ensures { λ r. ⌜ Says room (now (line .entry)) at 0 (λ t. wordRow room (held (now (homes .entry))) t (held (take have (now (vars .entry))))) (parts word depthLimit (drop at (now (line .entry)))) (now (work .exit)) (now (vars .exit)) r ⌝ }
+{
+    let login = homes::login_at(line, at);
+    match login {
+        Login::Nothing => expand_text::expand_text(
+            line,
+            at,
+            Mode::Word,
+            read_line::DEPTH,
+            Mark::L,
+            0,
+            vars,
+            have,
+            room,
+            work,
+        ),
+        Login::To(to) => expand_home(line, at, to, vars, have, room, homes, work),
+    }
+}

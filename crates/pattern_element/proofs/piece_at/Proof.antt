@@ -1,0 +1,59 @@
+-- The active byte at the place decides, tried in the order of the definition.
+use mathlib.Core.Path.{sym, _∙_}
+use Rattle.pattern_element.proofs.Searches.{piece-star, piece-one, piece-bracket, piece-byte}
+use borrow.Author.Needs.{needs}
+use Rattle.pattern_element.proofs.piece_at.Statement.{statement}
+use Rattle.pattern_element.proofs.piece_at.Tie as tie
+
+is-live-requires : tie.Need-is-live-requires
+is-live-requires c κs = search needs
+
+returns : tie.Need-returns
+returns c =
+    let a = c .before .before .before .args in
+    piece-star (a .path) (a .pattern .now) (a .at) (c .before .before .before .pre) (sym (c .before .is-live .ensures) ∙ c .if1 .taken)
+
+is-live-requires-2 : tie.Need-is-live-requires-2
+is-live-requires-2 c κs = search needs
+
+returns-2 : tie.Need-returns-2
+returns-2 c =
+    let a = c .before .before .before .before .before .args in
+    piece-one (a .path) (a .pattern .now) (a .at) (c .before .before .before .before .before .pre) (sym (c .before .before .before .is-live .ensures) ∙ c .before .before .if1 .left) (sym (c .before .is-live2 .ensures) ∙ c .if2 .taken)
+
+is-live-requires-3 : tie.Need-is-live-requires-3
+is-live-requires-3 c κs = search needs
+
+add-bracket-at : tie.Need-add-bracket-at
+add-bracket-at c = search needs
+
+bracket-at-requires : tie.Need-bracket-at-requires
+bracket-at-requires c κs = search needs
+
+returns-3 : tie.Need-returns-3
+returns-3 c =
+    let a = c .before .before .before .before .before .before .before .before .args in
+    c .bracket-at .ensures ∙ piece-bracket (a .path) (a .pattern .now) (a .at) (c .before .before .before .before .before .before .before .before .pre) (sym (c .before .before .before .before .before .before .is-live .ensures) ∙ c .before .before .before .before .before .if1 .left) (sym (c .before .before .before .before .is-live2 .ensures) ∙ c .before .before .before .if2 .left) (sym (c .before .before .is-live3 .ensures) ∙ c .before .if3 .taken)
+
+shared-slice-read-t9 : tie.Need-shared-slice-read-t9
+shared-slice-read-t9 c = search needs
+
+returns-4 : tie.Need-returns-4
+returns-4 c =
+    let a = c .before .before .before .before .before .before .before .before .args in
+    piece-byte (a .path) (a .pattern .now) (a .at) (c .before .before .before .before .before .before .before .before .pre) (sym (c .before .before .before .before .before .before .is-live .ensures) ∙ c .before .before .before .before .before .if1 .left) (sym (c .before .before .before .before .is-live2 .ensures) ∙ c .before .before .before .if2 .left) (sym (c .before .before .is-live3 .ensures) ∙ c .before .if3 .left)
+
+pub piece-at-spec : {M : Type 1} → statement M
+piece-at-spec =
+    tie.close
+    (tie.spec
+    is-live-requires
+    returns
+    is-live-requires-2
+    returns-2
+    is-live-requires-3
+    add-bracket-at
+    bracket-at-requires
+    returns-3
+    shared-slice-read-t9
+    returns-4)

@@ -1,0 +1,82 @@
+-- None of the cuts before the i-th matches: the first that does is the first from there on.
+use Prim.Native.Nat.{suc, _≤_, _-_}
+use mathlib.Core.Path.{_≡_, refl, sym, _∙_}
+use native.Mathlib.Omega.{arith}
+use lib.ListN.{length}
+use Rattle.pattern_remove.proofs.Cutting.{cutFrom, cut-here, cut-on, cut-none, cut-within, cuts-at}
+use Rattle.pattern_remove.proofs.cut_place.Statement.{statement}
+use Rattle.pattern_remove.proofs.cut_place.Tie as tie
+
+abbrev Inv-loop : tie.InvT-loop
+Inv-loop value pattern suffix down n i₀ i =
+    (n ≡ length value) × (i ≤ suc n) × (cutFrom suffix down pattern value 0 ≡ cutFrom suffix down pattern value i)
+
+abbrev μ-loop : tie.MeasureT-loop
+μ-loop value pattern suffix down n i₀ i = suc n - i
+
+loop-holds : tie.Need-loop-holds Inv-loop μ-loop
+loop-holds c = (refl, omega arith, refl)
+
+cut-at-requires : tie.Need-cut-at-requires Inv-loop μ-loop
+cut-at-requires c κs = omega arith
+
+drops-match-requires : tie.Need-drops-match-requires Inv-loop μ-loop
+drops-match-requires c κs =
+    let a = c .before .before .before .before .before .args in
+    let l = c .before .before .loop in
+    cut-within (a .suffix) (a .down) (a .pattern .now) (a .value .now) (l .i) (c .before .loop-test .taken) (c .cut-at .ensures)
+
+returns : tie.Need-returns Inv-loop μ-loop
+returns c =
+    let a = c .before .before .before .before .before .before .before .args in
+    let l = c .before .before .before .before .loop in
+    cuts-at (a .suffix) (a .down) (a .pattern .now) (a .value .now)
+    (cut-here (a .suffix) (a .down) (a .pattern .now) (a .value .now) (l .i) (c .before .before .before .loop-test .taken) (c .before .before .cut-at .ensures) (sym (c .before .drops-match .ensures) ∙ c .if1 .taken) ∙ sym (l .inv .2))
+    (cut-within (a .suffix) (a .down) (a .pattern .now) (a .value .now) (l .i) (c .before .before .before .loop-test .taken) (c .before .before .cut-at .ensures))
+
+add-i : tie.Need-add-i Inv-loop μ-loop
+add-i c = omega arith
+
+loop-less : tie.Need-loop-less Inv-loop μ-loop
+loop-less c = omega arith
+
+loop-again : tie.Need-loop-again Inv-loop μ-loop
+loop-again c =
+    let a = c .before .before .before .before .before .before .before .args in
+    let l = c .before .before .before .before .loop in (
+      refl,
+      omega arith,
+      l .inv .2 ∙ cut-on (a .suffix) (a .down) (a .pattern .now) (a .value .now) (l .i) (c .before .before .before .loop-test .taken) (c .before .before .cut-at .ensures) (sym (c .before .drops-match .ensures) ∙ c .if1 .left),
+    )
+
+returns-2 : tie.Need-returns-2 Inv-loop μ-loop
+returns-2 c =
+    let a = c .before .before .before .before .before .args in
+    let l = c .before .before .loop in
+    cuts-at (a .suffix) (a .down) (a .pattern .now) (a .value .now)
+    (sym (l .inv .2 ∙ cut-none (a .suffix) (a .down) (a .pattern .now) (a .value .now) (l .i) (c .before .loop-test .left) ∙ rw (c .if2 .taken)))
+    (omega arith)
+
+returns-3 : tie.Need-returns-3 Inv-loop μ-loop
+returns-3 c =
+    let a = c .before .before .before .before .before .args in
+    let l = c .before .before .loop in
+    cuts-at (a .suffix) (a .down) (a .pattern .now) (a .value .now)
+    (sym (l .inv .2 ∙ cut-none (a .suffix) (a .down) (a .pattern .now) (a .value .now) (l .i) (c .before .loop-test .left) ∙ rw (c .if2 .left)))
+    (omega arith)
+
+pub cut-place-spec : {M : Type 1} → statement M
+cut-place-spec =
+    tie.close
+    (tie.spec
+    Inv-loop
+    μ-loop
+    loop-holds
+    cut-at-requires
+    drops-match-requires
+    returns
+    add-i
+    loop-less
+    loop-again
+    returns-2
+    returns-3)

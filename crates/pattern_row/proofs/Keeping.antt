@@ -1,0 +1,169 @@
+-- The pass that drops N units, unit by unit, and what patterns see of what it keeps.
+use Prim.Native.Nat.{ℕ, _+_, _-_, _≤_, _<_}
+use mathlib.Core.Path.{_≡_, refl, sym, _∙_, ap}
+use mathlib.Core.Bool.{Bool, true, false, _||_}
+use mathlib.Core.List.{[], _∷_, _++_, append-assoc, append-nil}
+use native.Mathlib.Omega.{arith}
+use lib.Dec.{eqb}
+use lib.ListN.{length, take, drop, getD, set, length-append, length-drop}
+use lib.Seq.{getD-append-add, getD-drop, set-at, take-at}
+use borrow.Author.Tests.{eqb-true}
+use Rattle.stages.specs.Numbers.{bracketClass}
+use Rattle.stages.specs.Outcome.{refused, done, pick}
+use Rattle.stages.specs.Bytes.{Text}
+use Rattle.stages.specs.Units.{L, E, Q, cell, N, Row}
+use Rattle.stages.specs.Pattern.{signs, hasClass, elements, pattern}
+use Rattle.text.proofs.Rows.{rowOf-rowBytes}
+use Rattle.text.specs.Rows.{rowBytes, rowOf, unitOf, signsOf}
+use Rattle.pattern_set.proofs.Units.{two-on}
+use Rattle.pattern_row.specs.Kept.{isMark, withoutEmpty, kept, Dropped}
+
+-- the first unit of a row stays if its mark is that of a byte
+kept-first : (b m : ℕ) (t : Text) → kept (b ∷ m ∷ t) ≡ pick (isMark m) (b ∷ m ∷ kept t) (kept t)
+unfolding kept withoutEmpty rowBytes rowOf unitOf
+kept-first b m t = go (eqb m 1) (eqb m 2) (eqb m 3) (λ e. eqb-true m 1 e) (λ e. eqb-true m 2 e) (λ e. eqb-true m 3 e)
+  where
+    go : (x y z : Bool) → (x ≡ true → m ≡ 1) → (y ≡ true → m ≡ 2) → (z ≡ true → m ≡ 3)
+        → rowBytes (withoutEmpty (pick x (cell L b) (pick y (cell E b) (pick z (cell Q b) N)) ∷ rowOf t)) ≡ pick (x || (y || z)) (b ∷ m ∷ kept t) (kept t)
+    go true y z e f g = ap (λ (n : ℕ). b ∷ n ∷ kept t) (sym (e refl))
+    go false true z e f g = ap (λ (n : ℕ). b ∷ n ∷ kept t) (sym (f refl))
+    go false false true e f g = ap (λ (n : ℕ). b ∷ n ∷ kept t) (sym (g refl))
+    go false false false e f g = refl
+
+kept-few : (t : Text) → length t ≤ 1 → kept t ≡ []
+unfolding kept withoutEmpty rowBytes rowOf
+kept-few [] h = refl
+kept-few (b ∷ []) h = refl
+kept-few (b ∷ m ∷ t) h = absurd (omega arith)
+
+-- The walk: what is kept so far stands at the front of the row, and behind it stands what stood there.
+pub record Going (entry row : Text) (at to : ℕ) : Type 0 where
+  pub front : Text
+  pub whole : kept entry ≡ front ++ kept (drop at entry)
+  pub stands : row ≡ front ++ drop to entry
+  pub sized : length front ≡ to
+  pub order : to ≤ at
+  pub within : at ≤ length entry
+
+pub going-start : (entry : Text) → Going entry entry 0 0
+going-start entry = record { front = []; whole = refl; stands = refl; sized = refl; order = omega arith; within = omega arith }
+
+module _ {entry row : Text} {at to : ℕ} (g : Going entry row at to) where
+  pub going-length : length row ≡ length entry
+  going-length =
+      let s = g .sized in
+      let o = g .order in
+      let w = g .within in
+      ap length (g .stands) ∙ simp (length-append, length-drop) (omega arith)
+
+  -- what is not passed yet is as it was
+  unread : (j : ℕ) → to ≤ j → getD row j 0 ≡ getD entry j 0
+  unread j h =
+      let e : length (g .front) + (j - to) ≡ j = omega (arith, g .sized) in
+      let f : to + (j - to) ≡ j = omega arith in
+      ap (λ (l : Text). getD l j 0) (g .stands) ∙ ap (λ (n : ℕ). getD (g .front ++ drop to entry) n 0) (sym e)
+      ∙ getD-append-add (g .front) (drop to entry) (j - to) 0 ∙ getD-drop to entry (j - to) 0 ∙ ap (λ (n : ℕ). getD entry n 0) f
+
+  module _ (h : at + 1 < length entry) where
+    here : kept (drop at entry) ≡ pick (isMark (getD row (at + 1) 0)) (getD row at 0 ∷ getD row (at + 1) 0 ∷ kept (drop (at + 2) entry)) (kept (drop (at + 2) entry))
+    here =
+        let o = g .order in
+        ap kept (two-on entry at h) ∙ kept-first (getD entry at 0) (getD entry (at + 1) 0) (drop (at + 2) entry)
+        ∙ rw (unread at (g .order), unread (at + 1) (omega arith))
+
+    pub going-skip : isMark (getD row (at + 1) 0) ≡ false → Going entry row (at + 2) to
+    going-skip n = record {
+      front = g .front;
+      whole = g .whole ∙ ap (λ (l : Text). g .front ++ l) (here ∙ ap (λ (b : Bool). pick b (getD row at 0 ∷ getD row (at + 1) 0 ∷ kept (drop (at + 2) entry)) (kept (drop (at + 2) entry))) n);
+      stands = g .stands;
+      sized = g .sized;
+      order = let o = g .order in omega arith;
+      within = omega arith;
+    }
+
+    -- two stores behind the front
+    stored : (b m : ℕ) → set (set row to b) (to + 1) m ≡ (g .front ++ b ∷ m ∷ []) ++ drop (to + 2) entry
+    stored b m =
+        let o = g .order in
+        let s = g .sized in
+        let d = drop (to + 2) entry in
+        let first : set row to b ≡ (g .front ++ b ∷ []) ++ getD entry (to + 1) 0 ∷ d =
+        ap (λ (l : Text). set l to b) (g .stands ∙ ap (λ (l : Text). g .front ++ l) (two-on entry to (omega arith)))
+        ∙ set-at (g .front) (getD entry to 0) (getD entry (to + 1) 0 ∷ d) b to s ∙ simp append-assoc in
+        ap (λ (l : Text). set l (to + 1) m) first
+        ∙ set-at (g .front ++ b ∷ []) (getD entry (to + 1) 0) d m (to + 1) (simp length-append (omega arith)) ∙ simp append-assoc
+
+    pub going-keep : isMark (getD row (at + 1) 0) ≡ true → Going entry (set (set row to (getD row at 0)) (to + 1) (getD row (at + 1) 0)) (at + 2) (to + 2)
+    going-keep y = record {
+      front = g .front ++ getD row at 0 ∷ getD row (at + 1) 0 ∷ [];
+      whole = g .whole
+          ∙ ap (λ (l : Text). g .front ++ l) (here ∙ ap (λ (b : Bool). pick b (getD row at 0 ∷ getD row (at + 1) 0 ∷ kept (drop (at + 2) entry)) (kept (drop (at + 2) entry))) y)
+          ∙ simp append-assoc;
+      stands = stored (getD row at 0) (getD row (at + 1) 0);
+      sized = let s = g .sized in simp length-append (omega arith);
+      order = let o = g .order in omega arith;
+      within = omega arith;
+    }
+
+  pub going-end : length entry ≤ at + 1 → Dropped entry row to
+  going-end h =
+      let all : kept entry ≡ g .front = g .whole ∙ ap (λ (l : Text). g .front ++ l) (kept-few (drop at entry) (simp length-drop (omega arith))) ∙ append-nil (g .front) in
+      record {
+        stands = g .stands ∙ ap (λ (n : ℕ). g .front ++ drop n entry) (sym (g .sized)) ∙ ap (λ (l : Text). l ++ drop (length l) entry) (sym all);
+        counts = sym (g .sized) ∙ ap length (sym all);
+      }
+
+-- what is kept is no longer than the row
+pub kept-fits : (t : Text) → length (kept t) ≤ length t
+kept-fits [] = rw (kept-few [] (omega arith)) (omega arith)
+kept-fits (b ∷ []) = rw (kept-few (b ∷ []) (omega arith)) (omega arith)
+kept-fits (b ∷ m ∷ t) = go (isMark m) refl (kept-fits t)
+  where
+    go : (x : Bool) → isMark m ≡ x → length (kept t) ≤ length t → length (kept (b ∷ m ∷ t)) ≤ length (b ∷ m ∷ t)
+    go true e h = rw (kept-first b m t, e) (omega arith)
+    go false e h = rw (kept-first b m t, e) (omega arith)
+
+-- patterns see in it what they see in the row
+pub kept-signs : (t : Text) → signsOf (kept t) ≡ signs (rowOf t)
+unfolding signsOf signs rowOf
+kept-signs [] = ap signsOf (kept-few [] (omega arith))
+kept-signs (b ∷ []) = ap signsOf (kept-few (b ∷ []) (omega arith))
+kept-signs (b ∷ m ∷ t) =
+    ap signsOf (kept-first b m t) ∙ go (eqb m 1) (eqb m 2) (eqb m 3) (λ e. eqb-true m 1 e) (λ e. eqb-true m 2 e) (λ e. eqb-true m 3 e) (kept-signs t)
+  where
+    go : (x y z : Bool) → (x ≡ true → m ≡ 1) → (y ≡ true → m ≡ 2) → (z ≡ true → m ≡ 3) → signsOf (kept t) ≡ signs (rowOf t)
+        → signsOf (pick (x || (y || z)) (b ∷ m ∷ kept t) (kept t)) ≡ signs (pick x (cell L b) (pick y (cell E b) (pick z (cell Q b) N)) ∷ rowOf t)
+    go true y z e f g h = rw (e refl, h)
+    go false true z e f g h = rw (f refl, h)
+    go false false true e f g h = rw (g refl, h)
+    go false false false e f g h = h
+
+-- the signs of a row that stands in bytes
+pub row-signs : (r : Row) → signsOf (kept (rowBytes r)) ≡ signs r
+row-signs r = kept-signs (rowBytes r) ∙ ap signs (rowOf-rowBytes r)
+
+-- what a caller has who drops the N of a row and lends its front
+module _ {entry exit : Text} {count : ℕ} (d : Dropped entry exit count) where
+  pub dropped-front : take count exit ≡ kept entry
+  dropped-front = ap (λ (t : Text). take count t) (d .stands) ∙ take-at (kept entry) (drop (length (kept entry)) entry) count (sym (d .counts))
+
+  pub dropped-fits : count ≤ length exit
+  dropped-fits =
+      let n = d .counts in
+      omega (arith, ap length (d .stands) ∙ length-append (kept entry) (drop (length (kept entry)) entry))
+
+  pub dropped-signs : signsOf (take count exit) ≡ signs (rowOf entry)
+  dropped-signs = ap signsOf dropped-front ∙ kept-signs entry
+
+-- the same where the row stood in the bytes
+pub dropped-row : (r : Row) {exit : Text} {count : ℕ} → Dropped (rowBytes r) exit count → signsOf (take count exit) ≡ signs r
+dropped-row r d = dropped-signs d ∙ ap signs (rowOf-rowBytes r)
+
+-- the pattern that a row makes, by the answer for 19
+pub pattern-refused : (path : Bool) (r : Row) → hasClass path 0 (signs r) ≡ true → pattern path r ≡ refused bracketClass
+unfolding pattern
+pattern-refused path r y = rw (y, pattern)
+
+pub pattern-done : (path : Bool) (r : Row) → hasClass path 0 (signs r) ≡ false → pattern path r ≡ done (elements path 0 (signs r))
+unfolding pattern
+pattern-done path r n = rw (n, pattern)

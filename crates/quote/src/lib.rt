@@ -1,0 +1,200 @@
+// The quoter: a fields image becomes one line, each field in single quotes. The line is counted first, so that nothing is written unless all of it has
+// room; then it is written once. Counting and writing have a function for each stage of the quoted line: a byte, a field's bytes, a field, the fields
+// behind the first, the line. The way of one field is known to `field_length` and `put_field` alone.
+ghost use mathlib.Core.Path.{_≡_};
+ghost use Prim.Native.Nat.{_≤_};
+ghost use lib.ListN.{length};
+ghost use Rattle.stages.specs.Numbers.{imageLimit};
+ghost use mathlib.Core.Option.{some};
+ghost use Rattle.stages.specs.Images.{fieldsOf, heldTexts};
+ghost use Rattle.stages.specs.Quote.{quotedBytes, quotedField, blanked, quotedLine};
+ghost use Rattle.stages.specs.Call.{quoter};
+ghost use Rattle.text.specs.Putting.{Puts};
+ghost use Rattle.quote.specs.Answers.{quotingOf};
+ghost use Rattle.quote.specs.Rests.{quotedByte, textsFrom, Rest};
+use table::Kind;
+use table::Piece;
+
+// What the quoter answers.
+pub enum Quoted {
+    // The bytes of the line that was written.
+    Len(usize),
+    // No image of fields, or one that is too long.
+    Malformed,
+    // The line is longer than a line may be, or than the buffer.
+    NoRoom,
+}
+
+// "Above 2,048 bytes or the buffer is 21."
+const LINE_LIMIT: usize = 2048;
+
+const QUOTE: u8 = b'\'';
+
+const BACKSLASH: u8 = b'\\';
+
+const BLANK: u8 = b' ';
+
+// How many bytes a byte of a field takes.
+fn byte_length(b: u8) -> usize
+    ensures { λ r. ⌜ r ≡ length (quotedByte b) ⌝ }
+{
+    if b == QUOTE { 4 } else { 1 }
+}
+
+// How many bytes a field takes between its quotes.
+fn bytes_length(field: &[u8]) -> usize
+    requires { ⌜ length (now field) ≤ imageLimit ⌝ }
+    ensures { λ r. ⌜ r ≡ length (quotedBytes (now (field .entry))) ⌝ }
+{
+    let mut n: usize = 0;
+    let mut i: usize = 0;
+    while i < field.len() {
+        n += byte_length(field[i]);
+        i += 1;
+    }
+    n
+}
+
+// How many bytes a field takes.
+fn field_length(field: &[u8]) -> usize
+    requires { ⌜ length (now field) ≤ imageLimit ⌝ }
+    ensures { λ r. ⌜ r ≡ length (quotedField (now (field .entry))) ⌝ }
+{
+    bytes_length(field) + 2
+}
+
+// How many bytes the fields from a place of the image on take, a blank in front of each.
+fn blanked_length(fields: &[u8], from: usize) -> usize
+    requires { ⌜ Rest (now fields) from ⌝ }
+    ensures { λ r. ⌜ r ≡ length (blanked (textsFrom (now (fields .entry)) from)) ⌝ }
+{
+    let mut n: usize = 0;
+    let mut at = from;
+    loop {
+        let piece = table::text_at(fields, at);
+        match piece {
+            Piece::End => return n,
+            Piece::Bad => return n,
+            Piece::At(end) => {
+                let start = at + 2;
+                n += 1 + field_length(&fields[start..end]);
+                at = end;
+            }
+        }
+    }
+}
+
+// How many bytes the line of an image of fields takes.
+fn line_length(fields: &[u8]) -> usize
+    requires { ⌜ fieldsOf (now fields) ≡ some (heldTexts (now fields)) ⌝ }
+    ensures { λ r. ⌜ r ≡ length (quotedLine (heldTexts (now (fields .entry)))) ⌝ }
+{
+    let first = table::text_at(fields, 1);
+    match first {
+        Piece::End => 0,
+        Piece::Bad => 0,
+        Piece::At(end) => field_length(&fields[3..end]) + blanked_length(fields, end),
+    }
+}
+
+// Writes a byte of a field: `'` as `'\''`, any other as itself.
+fn put_byte(b: u8, out: &mut [u8]) -> usize
+    requires { ⌜ length (quotedByte b) ≤ length (now out) ⌝ }
+    ensures { λ r. ⌜ Puts (quotedByte b) (now (out .entry)) (now (out .exit)) r ⌝ }
+{
+    out[0] = b;
+    if b != QUOTE {
+        return 1;
+    }
+    out[1] = BACKSLASH;
+    out[2] = QUOTE;
+    out[3] = QUOTE;
+    4
+}
+
+// Writes what stands between the quotes of a field.
+fn put_bytes(field: &[u8], out: &mut [u8]) -> usize
+    requires { ⌜ length (quotedBytes (now field)) ≤ length (now out) ⌝ }
+    ensures { λ r. ⌜ Puts (quotedBytes (now (field .entry))) (now (out .entry)) (now (out .exit)) r ⌝ }
+{
+    let mut used: usize = 0;
+    let mut i: usize = 0;
+    while i < field.len() {
+        let n = put_byte(field[i], &mut out[used..]);
+        used += n;
+        i += 1;
+    }
+    used
+}
+
+// Writes a field.
+fn put_field(field: &[u8], out: &mut [u8]) -> usize
+    requires { ⌜ length (quotedField (now field)) ≤ length (now out) ⌝ }
+    ensures { λ r. ⌜ Puts (quotedField (now (field .entry))) (now (out .entry)) (now (out .exit)) r ⌝ }
+{
+    out[0] = QUOTE;
+    let n = put_bytes(field, &mut out[1..]);
+    out[n + 1] = QUOTE;
+    n + 2
+}
+
+// Writes the fields from a place of the image on, a blank in front of each.
+fn put_blanked(fields: &[u8], from: usize, out: &mut [u8]) -> usize
+    requires { ⌜ Rest (now fields) from ⌝ }
+    requires { ⌜ length (blanked (textsFrom (now fields) from)) ≤ length (now out) ⌝ }
+    ensures { λ r. ⌜ Puts (blanked (textsFrom (now (fields .entry)) from)) (now (out .entry)) (now (out .exit)) r ⌝ }
+{
+    let mut used: usize = 0;
+    let mut at = from;
+    loop {
+        let piece = table::text_at(fields, at);
+        match piece {
+            Piece::End => return used,
+            Piece::Bad => return used,
+            Piece::At(end) => {
+                out[used] = BLANK;
+                let next = used + 1;
+                let start = at + 2;
+                let n = put_field(&fields[start..end], &mut out[next..]);
+                used = next + n;
+                at = end;
+            }
+        }
+    }
+}
+
+// Writes the line of an image of fields.
+fn put_line(fields: &[u8], out: &mut [u8]) -> usize
+    requires { ⌜ fieldsOf (now fields) ≡ some (heldTexts (now fields)) ⌝ }
+    requires { ⌜ length (quotedLine (heldTexts (now fields))) ≤ length (now out) ⌝ }
+    ensures { λ r. ⌜ Puts (quotedLine (heldTexts (now (fields .entry)))) (now (out .entry)) (now (out .exit)) r ⌝ }
+{
+    let first = table::text_at(fields, 1);
+    match first {
+        Piece::End => 0,
+        Piece::Bad => 0,
+        Piece::At(end) => {
+            let used = put_field(&fields[3..end], out);
+            let n = put_blanked(fields, end, &mut out[used..]);
+            used + n
+        }
+    }
+}
+
+// Turns an image of fields into its quoted line at the front of the buffer; the bytes behind the line stay. What is no such image is told first, then a
+// line without room; both leave every byte of the buffer as it was.
+pub fn quote_fields(fields: &[u8], out: &mut [u8]) -> Quoted
+    ensures { λ r. ⌜ quotingOf r (now (out .exit)) ≡ quoter (now (fields .entry)) (now (out .entry)) ⌝ }
+{
+    if !table::well_formed(Kind::Fields, fields) {
+        return Quoted::Malformed;
+    }
+    let n = line_length(fields);
+    if LINE_LIMIT < n {
+        return Quoted::NoRoom;
+    }
+    if out.len() < n {
+        return Quoted::NoRoom;
+    }
+    Quoted::Len(put_line(fields, out))
+}

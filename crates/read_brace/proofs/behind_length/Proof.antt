@@ -1,0 +1,42 @@
+-- `braces::behind_length` meets its contract: the byte behind decides.
+use Prim.Native.Nat.{suc, _+_, _-_}
+use mathlib.Core.Path.{refl}
+use native.Mathlib.Omega.{arith}
+use Rattle.stages.specs.Bytes.{part}
+use Rattle.read_brace.proofs.Showing.{shows-count}
+use Rattle.read_brace.proofs.Names.{length-end, length-close, length-wrong}
+use borrow.Author.Needs.{needs}
+use Rattle.read_brace.proofs.behind_length.Statement.{statement}
+use Rattle.read_brace.proofs.behind_length.Tie as tie
+
+returns : tie.Need-returns
+returns c =
+    let a = c .before .before .args in
+    length-end (a .text .now) (part (a .text .now) (a .at + 3) (a .to)) (a .to - a .at) (a .to) (c .if1 .taken)
+
+shared-slice-read-b : tie.Need-shared-slice-read-b
+shared-slice-read-b c = search needs
+
+wrong-byte-requires : tie.Need-wrong-byte-requires
+wrong-byte-requires c κs = search needs
+
+returns-2 : tie.Need-returns-2
+returns-2 c =
+    let a = c .before .before .before .before .before .args in
+    length-wrong (a .text .now) (part (a .text .now) (a .at + 3) (a .to)) (a .to - a .at) (a .to) (omega (arith, c .before .before .before .if1 .left)) (c .before .if2 .taken) (c .wrong-byte .ensures)
+
+add-t6 : tie.Need-add-t6
+add-t6 c = search needs
+
+add-t11 : tie.Need-add-t11
+add-t11 c = search needs
+
+returns-3 : tie.Need-returns-3
+returns-3 c =
+    let a = c .before .before .before .before .args in
+    shows-count (a .text .now) (a .at) (a .depth) (a .to + 1) (a .to - a .at) (omega (arith, c .before .before .before .before .pre .0)) (omega (arith, c .before .before .if1 .left)) (a .at + 3) (a .to) (c .before .before .before .before .pre .0) (c .before .before .before .before .pre .1) refl (length-close (a .text .now) (part (a .text .now) (a .at + 3) (a .to)) (a .to - a .at) (a .to) (omega (arith, c .before .before .if1 .left)) (c .if2 .left))
+
+pub behind-length-spec : {M : Type 1} → statement M
+behind-length-spec =
+    tie.close
+    (tie.spec returns shared-slice-read-b wrong-byte-requires returns-2 add-t6 add-t11 returns-3)

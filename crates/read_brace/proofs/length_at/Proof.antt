@@ -1,0 +1,63 @@
+-- `braces::length_at` meets its contract: the byte behind decides.
+use mathlib.Core.Path.{_≡_, refl, sym, ap, _∙_}
+use native.Mathlib.Omega.{arith}
+use Rattle.read_brace.proofs.Showing.{same-item}
+use Rattle.read_brace.proofs.Names.{counted-end, counted-name, counted-wrong}
+use borrow.Author.Needs.{needs}
+use Rattle.read_brace.proofs.length_at.Statement.{statement}
+use Rattle.read_brace.proofs.length_at.Tie as tie
+
+add-if1 : tie.Need-add-if1
+add-if1 c = search needs
+
+returns : tie.Need-returns
+returns c =
+    let a = c .before .before .args in
+    counted-end (a .text .now) (a .at) (c .if1 .taken)
+
+add-b : tie.Need-add-b
+add-b c = search needs
+
+shared-slice-read-b : tie.Need-shared-slice-read-b
+shared-slice-read-b c = search needs
+
+in-class-requires : tie.Need-in-class-requires
+in-class-requires c κs = search needs
+
+add-run-end : tie.Need-add-run-end
+add-run-end c = search needs
+
+run-end-requires : tie.Need-run-end-requires
+run-end-requires c κs = search needs
+
+behind-length-requires : tie.Need-behind-length-requires
+behind-length-requires c κs = search needs
+
+returns-2 : tie.Need-returns-2
+returns-2 c =
+    let a = c .before .before .before .before .before .before .before .args in
+    same-item (a .text .now) (a .at) (a .depth) (c .behind-length .result) (counted-name (a .text .now) (a .at) (omega (arith, c .before .before .before .before .before .if1 .left)) (sym (c .before .before .before .in-class .ensures) ∙ c .before .before .if2 .taken) _ (c .before .run-end .ensures)) (c .behind-length .ensures)
+
+wrong-byte-requires : tie.Need-wrong-byte-requires
+wrong-byte-requires c κs = search needs
+
+returns-3 : tie.Need-returns-3
+returns-3 c =
+    let a = c .before .before .before .before .before .before .args in
+    counted-wrong (a .text .now) (a .at) (omega (arith, c .before .before .before .before .if1 .left)) (sym (c .before .before .in-class .ensures) ∙ c .before .if2 .left) (c .wrong-byte .ensures)
+
+pub length-at-spec : {M : Type 1} → statement M
+length-at-spec =
+    tie.close
+    (tie.spec
+    add-if1
+    returns
+    add-b
+    shared-slice-read-b
+    in-class-requires
+    add-run-end
+    run-end-requires
+    behind-length-requires
+    returns-2
+    wrong-byte-requires
+    returns-3)

@@ -1,0 +1,73 @@
+-- `reading::read_line` meets its contract: the words read so far stand in front of those from here on. A word has a byte, so what is left falls.
+use Prim.Native.Nat.{_-_}
+use native.Mathlib.Omega.{arith}
+use lib.ListN.{length}
+use Rattle.read_line.proofs.Lines.{next-shown, word-shown, Walks, walks-start, walks-read, walks-fault, walks-next}
+use borrow.Author.Needs.{needs}
+use Rattle.read_line.proofs.read_line.Statement.{statement}
+use Rattle.read_line.proofs.read_line.Tie as tie
+
+abbrev Inv-loop : tie.InvT-loop
+Inv-loop line at₀ at = Walks line at
+
+abbrev μ-loop : tie.MeasureT-loop
+μ-loop line at₀ at = length line - at
+
+loop-holds : tie.Need-loop-holds Inv-loop μ-loop
+loop-holds c = walks-start _
+
+next-word-requires : tie.Need-next-word-requires Inv-loop μ-loop
+next-word-requires c κs = c .loop .inv .within
+
+enum-told : tie.Need-enum-told Inv-loop μ-loop
+enum-told c = search needs
+
+returns : tie.Need-returns Inv-loop μ-loop
+returns c =
+    walks-read _ _ (c .before .before .before .loop .inv) (next-shown _ _ (c .before .before .next-word .ensures) (c .enum-told .given .1))
+
+enum-known-word : tie.Need-enum-known-word Inv-loop μ-loop
+enum-known-word c = search needs
+
+read-word-requires : tie.Need-read-word-requires Inv-loop μ-loop
+read-word-requires c κs =
+    let p = (next-shown _ _ (c .before .before .before .next-word .ensures) (c .before .word .given .1)) in
+    (p .within, p .starts)
+
+enum-known-got : tie.Need-enum-known-got Inv-loop μ-loop
+enum-known-got c = search needs
+
+returns-2 : tie.Need-returns-2 Inv-loop μ-loop
+returns-2 c =
+    walks-fault _ _ (c .before .before .before .before .before .before .before .before .loop .inv) (next-shown _ _ (c .before .before .before .before .before .before .before .next-word .ensures) (c .before .before .before .before .before .word .given .1)) (word-shown _ _ (c .before .before .before .read-word .ensures) (c .before .got .given .1))
+
+enum-known-got-2 : tie.Need-enum-known-got-2 Inv-loop μ-loop
+enum-known-got-2 c = search needs
+
+loop-less : tie.Need-loop-less Inv-loop μ-loop
+loop-less c =
+    let p = (next-shown _ _ (c .before .before .before .before .before .before .before .next-word .ensures) (c .before .before .before .before .before .word .given .1)) in
+    let w = (word-shown _ _ (c .before .before .before .read-word .ensures) (c .before .got2 .given .1)) in
+    omega (arith, p .onward, w .onward, w .within)
+
+loop-again : tie.Need-loop-again Inv-loop μ-loop
+loop-again c =
+    walks-next _ _ (c .before .before .before .before .before .before .before .before .loop .inv) (next-shown _ _ (c .before .before .before .before .before .before .before .next-word .ensures) (c .before .before .before .before .before .word .given .1)) (word-shown _ _ (c .before .before .before .read-word .ensures) (c .before .got2 .given .1))
+
+pub read-line-spec : {M : Type 1} → statement M
+read-line-spec =
+    tie.close
+    (tie.spec
+    Inv-loop
+    μ-loop
+    loop-holds
+    next-word-requires
+    enum-told
+    returns
+    enum-known-word
+    read-word-requires
+    enum-known-got
+    returns-2
+    enum-known-got-2
+    loop-less
+    loop-again)

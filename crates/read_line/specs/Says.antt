@@ -1,0 +1,91 @@
+-- What the reader's answers say of the stages'.
+use Prim.Native.Nat.{ℕ, _+_, _≤_, _<_}
+use mathlib.Core.Path.{_≡_}
+use mathlib.Core.Bool.{Bool, false}
+use mathlib.Core.List.{[], _∷_}
+use lib.ListN.{length, drop, getD}
+use Rattle.stages.specs.Bytes.{Text, span, isBlank}
+use Rattle.stages.specs.Outcome.{refused, done, Placed, refusedAt, doneAt, _then_}
+use Rattle.stages.specs.Syntax.{Parts, Word}
+use Rattle.stages.specs.Read.{Taken, Words, put, parts, words}
+use Rattle.read_mode.specs.Modes.{modeOf, openIn}
+use Rattle.read_mode.specs.declared.Mode.{Mode}
+use Rattle.read_brace.specs.Shows.{Behind}
+use Rattle.read_line.specs.declared.Reading.{Reading}
+use Rattle.read_line.specs.declared.Reading.the-variants as reading
+use Rattle.read_line.specs.declared.Step.{Step}
+use Rattle.read_line.specs.declared.Step.the-variants as step
+use Rattle.read_line.specs.declared.NextWord.{NextWord}
+use Rattle.read_line.specs.declared.NextWord.the-variants as next-word
+use Rattle.read_line.specs.declared.LineRead.{LineRead}
+use Rattle.read_line.specs.declared.LineRead.the-variants as line-read
+
+-- a text is read from `at` on: its parts, and the place behind it
+pub record ReadTo (text : Text) (at : ℕ) (o : Taken) (next : ℕ) : Type 0 where
+  pub tree : Parts
+  pub is : o ≡ done (tree, drop next text)
+  pub onward : at ≤ next
+  pub within : next ≤ length text
+
+abbrev pub ReadSays : Text → ℕ → Taken → Reading → Type 0
+ReadSays text at o (reading.Fault e) = o ≡ refused e
+ReadSays text at o (reading.End next) = ReadTo text at o next
+
+-- one item is read: a part, and what is read behind it in the mode m
+pub record ReadMore (text : Text) (at depth : ℕ) (o : Taken) (next : ℕ) (m : Mode) : Type 0 where
+  pub before : Parts → Parts
+  pub is : o ≡ put before (parts (modeOf m) depth (drop next text))
+  pub place : Behind text at next
+  pub few : openIn m ≤ next
+
+abbrev pub ReadTurn : Text → ℕ → ℕ → Taken → Step → Type 0
+ReadTurn text at depth o (step.Fault e) = o ≡ refused e
+ReadTurn text at depth o (step.End next) = ReadTo text at o next
+ReadTurn text at depth o (step.Next next m) = ReadMore text at depth o next m
+
+-- an inner text that is read: the outer one goes on behind it
+abbrev pub onward : Mode → Reading → Step
+onward m (reading.Fault e) = step.Fault e
+onward m (reading.End next) = step.Next next m
+
+-- the place behind the blanks from `at` on
+unfoldable pub blanksEnd : Text → ℕ → ℕ
+unfolding span isBlank
+blanksEnd line at = at + length (span isBlank (drop at line) .0)
+
+-- the next word begins at `place`
+pub record NextAt (line : Text) (at place : ℕ) : Type 0 where
+  pub is : place ≡ blanksEnd line at
+  pub onward : at ≤ place
+  pub within : place < length line
+  pub starts : isBlank (getD line place 0) ≡ false
+  pub same : words (at, drop at line) ≡ words (place, drop place line)
+
+-- there is no further word
+pub record NextNone (line : Text) (at : ℕ) : Type 0 where
+  pub is : blanksEnd line at ≡ length line
+  pub none : words (at, drop at line) ≡ doneAt []
+
+abbrev pub NextSays : Text → ℕ → NextWord → Type 0
+NextSays line at (next-word.At place) = NextAt line at place
+NextSays line at next-word.Nothing = NextNone line at
+
+-- the word at `place` is read, and the words behind it begin at `next`
+pub record WordTo (line : Text) (place next : ℕ) : Type 0 where
+  pub first : Word
+  pub is : words (place, drop place line) ≡ (words (next, drop next line) then λ ws. doneAt (first ∷ ws))
+  pub onward : place < next
+  pub within : next ≤ length line
+
+abbrev pub WordSays : Text → ℕ → Reading → Type 0
+WordSays line place (reading.Fault e) = words (place, drop place line) ≡ refusedAt e place
+WordSays line place (reading.End next) = WordTo line place next
+
+-- whether a line is accepted, or its first fault's number and place
+abbrev pub verdict : Words → Placed (Unit {0})
+verdict (refusedAt n place) = refusedAt n place
+verdict (doneAt ws) = doneAt tt
+
+abbrev pub verdictOf : LineRead → Placed (Unit {0})
+verdictOf line-read.Read = doneAt tt
+verdictOf (line-read.Refused n place) = refusedAt n place

@@ -1,0 +1,124 @@
+-- The contracts determine every answer: two outcomes that a contract allows for one input are equal. A mode, a form and a sort are what the stage's
+-- are taken back to.
+use Prim.Native.Nat.{ℕ}
+use native.Mathlib.Omega.{arith}
+use mathlib.Core.Path.{_≡_, refl, sym, ap, _∙_}
+use mathlib.Core.Bool.{Bool, true, false}
+use mathlib.Core.List.{[], _∷_}
+use Rattle.stages.specs.Syntax.{word, bare, single, double, operand, arith as sums, plain, minus, equals, query, plus, suffix, prefix}
+use Rattle.stages.specs.Syntax as syntax
+use Rattle.stages.specs.Items.{ended, quotable, notServed, wrong, fault, signForm, closerLength}
+use Rattle.stages.specs.Items as items
+use Rattle.text.proofs.Determined.{one-answer}
+use Rattle.read_mode.specs.Modes.{modeOf, formOf, sortOf, Carries, Sorted, Operands, endsLine}
+use Rattle.read_mode.specs.declared.Mode.{Mode}
+use Rattle.read_mode.specs.declared.Mode.the-variants.{Word, Bare, Single, Double, Operand, Arith}
+use Rattle.read_mode.specs.declared.Form.{Form}
+use Rattle.read_mode.specs.declared.Form.the-variants.{Minus, Equals, Query, Plus, Suffix, Prefix}
+use Rattle.read_mode.specs.declared.Sort.{Sort}
+use Rattle.read_mode.specs.declared.Sort.the-variants.{Backquote, Closes, Operator, Quotes, Quotes2, Backslash, Dollar, Bad, Opening, Closing, Literal}
+
+-- what a function takes back is determined by what it is taken from
+pub taken-back : {A B : Type 0} (f : A → B) (g : B → A) → ((a : A) → a ≡ g (f a)) → (r s : A) → f r ≡ f s → r ≡ s
+taken-back f g h r s e = h r ∙ ap g e ∙ sym (h s)
+
+abbrev pub modeBack : syntax.Mode → Mode
+modeBack word = Word
+modeBack bare = Bare
+modeBack single = Single
+modeBack double = Double
+modeBack operand = Operand
+modeBack (sums n) = Arith n
+
+pub mode-back : (m : Mode) → m ≡ modeBack (modeOf m)
+mode-back Word = refl
+mode-back Bare = refl
+mode-back Single = refl
+mode-back Double = refl
+mode-back Operand = refl
+mode-back (Arith n) = refl
+
+pub mode-determined : (r s : Mode) → modeOf r ≡ modeOf s → r ≡ s
+mode-determined r s e = taken-back modeOf modeBack mode-back r s e
+
+abbrev pub formBack : syntax.Form → Form
+formBack plain = Minus false
+formBack (minus c) = Minus c
+formBack (equals c) = Equals c
+formBack (query c) = Query c
+formBack (plus c) = Plus c
+formBack (suffix d) = Suffix d
+formBack (prefix d) = Prefix d
+
+pub form-back : (f : Form) → f ≡ formBack (formOf f)
+form-back (Minus c) = refl
+form-back (Equals c) = refl
+form-back (Query c) = refl
+form-back (Plus c) = refl
+form-back (Suffix d) = refl
+form-back (Prefix d) = refl
+
+pub form-determined : (r s : Form) → formOf r ≡ formOf s → r ≡ s
+form-determined r s e = taken-back formOf formBack form-back r s e
+
+-- a sort with what it carries
+abbrev parensOf : syntax.Mode → ℕ
+parensOf word = 0
+parensOf bare = 0
+parensOf single = 0
+parensOf double = 0
+parensOf operand = 0
+parensOf (sums n) = n
+
+abbrev sortBack : syntax.Mode → items.Sort → Sort
+sortBack m items.backquote = Backquote
+sortBack m items.closes = Closes (closerLength m)
+sortBack m items.operator = Operator
+sortBack m items.quotes = Quotes
+sortBack m items.quotes2 = Quotes2
+sortBack m items.backslash = Backslash
+sortBack m items.dollar = Dollar
+sortBack m items.bad = Bad
+sortBack m items.opening = Opening (parensOf m)
+sortBack m items.closing = Closing (parensOf m)
+sortBack m items.literal = Literal
+
+sort-back : (m : syntax.Mode) (r : Sort) → Carries r m → r ≡ sortBack m (sortOf r)
+sort-back m Backquote c = refl
+sort-back m (Closes k) c = ap Closes (sym (c .0))
+sort-back m Operator c = refl
+sort-back m Quotes c = refl
+sort-back m Quotes2 c = refl
+sort-back m Backslash c = refl
+sort-back m Dollar c = refl
+sort-back m Bad c = refl
+sort-back m (Opening n) c = ap (λ (x : syntax.Mode). Opening (parensOf x)) (sym c)
+sort-back m (Closing n) c = ap (λ (x : syntax.Mode). Closing (parensOf x)) (sym c)
+sort-back m Literal c = refl
+
+pub sort-at-determined : (m : syntax.Mode) (b : ℕ) (r s : Sort) → Sorted m b r → Sorted m b s → r ≡ s
+sort-at-determined m b r s p q = sort-back m r (p .carries) ∙ ap (sortBack m) (p .is ∙ sym (q .is)) ∙ sym (sort-back m s (q .carries))
+
+pub is-quotable-determined : (m : syntax.Mode) (b : ℕ) (r s : Bool) → r ≡ quotable m b → s ≡ quotable m b → r ≡ s
+is-quotable-determined m b r s = one-answer
+
+pub is-not-served-determined : (m : syntax.Mode) (b : ℕ) (r s : Bool) → r ≡ notServed m b → s ≡ notServed m b → r ≡ s
+is-not-served-determined m b r s = one-answer
+
+pub operand-mode-determined : (m : syntax.Mode) (r s : Mode) → Operands m r → Operands m s → r ≡ s
+operand-mode-determined m r s p q = mode-determined r s (one-answer (p .is) (q .is))
+
+ends-back : (r s : Bool) → endsLine r ≡ endsLine s → r ≡ s
+ends-back true true e = refl
+ends-back true false e = absurd (let z : _≡_ {A = ℕ} 0 1 = cc in omega arith)
+ends-back false true e = absurd (let z : _≡_ {A = ℕ} 0 1 = cc in omega arith)
+ends-back false false e = refl
+
+pub may-end-determined : (m : syntax.Mode) (r s : Bool) → ended m ≡ endsLine r → ended m ≡ endsLine s → r ≡ s
+may-end-determined m r s p q = ends-back r s (sym p ∙ q)
+
+pub wrong-byte-determined : (n b r s : ℕ) → wrong n (b ∷ []) ≡ fault r → wrong n (b ∷ []) ≡ fault s → r ≡ s
+wrong-byte-determined n b r s p q = cc
+
+pub sign-form-determined : (b : ℕ) (colon : Bool) (r s : Form) → formOf r ≡ signForm b colon → formOf s ≡ signForm b colon → r ≡ s
+sign-form-determined b colon r s p q = form-determined r s (one-answer p q)

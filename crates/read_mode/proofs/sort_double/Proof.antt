@@ -1,0 +1,29 @@
+-- `modes::sort_double` meets its contract: each test decides as in the stage.
+use mathlib.Core.Path.{_≡_, refl, sym, _∙_}
+use borrow.Author.Tests.{eq-eqb, ne-eqb}
+use Rattle.stages.specs.Syntax.{double}
+use Rattle.stages.specs.Items.{sort, closerLength}
+use Rattle.read_mode.specs.Modes.{plainSort}
+use borrow.Author.Needs.{needs}
+use Rattle.read_mode.proofs.sort_double.Statement.{statement}
+use Rattle.read_mode.proofs.sort_double.Tie as tie
+
+returns : tie.Need-returns
+unfolding sort plainSort closerLength
+returns c = record { is = rw (eq-eqb _ _ (c .if1 .taken)); carries = tt }
+
+returns-2 : tie.Need-returns-2
+unfolding sort plainSort closerLength
+returns-2 c =
+    record { is = rw (ne-eqb _ _ (c .before .if1 .left), eq-eqb _ _ (c .if2 .taken)); carries = (refl, search needs) }
+
+sort-plain-requires : tie.Need-sort-plain-requires
+sort-plain-requires c κs = search needs
+
+returns-3 : tie.Need-returns-3
+unfolding sort plainSort closerLength
+returns-3 c =
+    record { is = rw (ne-eqb _ _ (c .before .before .if1 .left), ne-eqb _ _ (c .before .if2 .left)) (c .sort-plain .ensures .is); carries = c .sort-plain .ensures .carries double }
+
+pub sort-double-spec : {M : Type 1} → statement M
+sort-double-spec = tie.close (tie.spec returns returns-2 sort-plain-requires returns-3)

@@ -1,0 +1,99 @@
+-- The code's modes, forms and sorts as the stages'.
+use Prim.Native.Nat.{ℕ, _≤_}
+use Prim.Native.Char.{code}
+use mathlib.Core.Path.{_≡_}
+use mathlib.Core.Bool.{Bool, true, false}
+use lib.Dec.{eqb}
+use Rattle.stages.specs.Numbers.{unended}
+use Rattle.stages.specs.Outcome.{pick}
+use Rattle.stages.specs.Syntax.{word, bare, single, double, operand, arith}
+use Rattle.stages.specs.Syntax as syntax
+use Rattle.stages.specs.Items.{Item, fault, stop, operandMode, closerLength, sort}
+use Rattle.stages.specs.Items as items
+use Rattle.read_mode.specs.declared.Mode.{Mode}
+use Rattle.read_mode.specs.declared.Mode.the-variants.{Word, Bare, Single, Double, Operand, Arith}
+use Rattle.read_mode.specs.declared.Form.{Form}
+use Rattle.read_mode.specs.declared.Form.the-variants.{Minus, Equals, Query, Plus, Suffix, Prefix}
+use Rattle.read_mode.specs.declared.Sort.{Sort}
+use Rattle.read_mode.specs.declared.Sort.the-variants.{Backquote, Closes, Operator, Quotes, Quotes2, Backslash, Dollar, Bad, Opening, Closing, Literal}
+
+abbrev pub modeOf : Mode → syntax.Mode
+modeOf Word = word
+modeOf Bare = bare
+modeOf Single = single
+modeOf Double = double
+modeOf Operand = operand
+modeOf (Arith n) = arith n
+
+-- the open parentheses of a mode
+abbrev pub openIn : Mode → ℕ
+openIn Word = 0
+openIn Bare = 0
+openIn Single = 0
+openIn Double = 0
+openIn Operand = 0
+openIn (Arith n) = n
+
+abbrev pub formOf : Form → syntax.Form
+formOf (Minus colon) = syntax.minus colon
+formOf (Equals colon) = syntax.equals colon
+formOf (Query colon) = syntax.query colon
+formOf (Plus colon) = syntax.plus colon
+formOf (Suffix doubled) = syntax.suffix doubled
+formOf (Prefix doubled) = syntax.prefix doubled
+
+abbrev pub sortOf : Sort → items.Sort
+sortOf Backquote = items.backquote
+sortOf (Closes k) = items.closes
+sortOf Operator = items.operator
+sortOf Quotes = items.quotes
+sortOf Quotes2 = items.quotes2
+sortOf Backslash = items.backslash
+sortOf Dollar = items.dollar
+sortOf Bad = items.bad
+sortOf (Opening n) = items.opening
+sortOf (Closing n) = items.closing
+sortOf Literal = items.literal
+
+-- what a sort carries is the mode's: how many bytes close its text, how many parentheses are open in it
+abbrev pub Carries : Sort → syntax.Mode → Type 0
+Carries Backquote m = Unit {0}
+Carries (Closes k) m = (closerLength m ≡ k) × (k ≤ 1)
+Carries Operator m = Unit {0}
+Carries Quotes m = Unit {0}
+Carries Quotes2 m = Unit {0}
+Carries Backslash m = Unit {0}
+Carries Dollar m = Unit {0}
+Carries Bad m = Unit {0}
+Carries (Opening n) m = m ≡ arith n
+Carries (Closing n) m = m ≡ arith n
+Carries Literal m = Unit {0}
+
+-- the code's sort of a byte is the stage's
+pub record Sorted (m : syntax.Mode) (b : ℕ) (r : Sort) : Type 0 where
+  pub is : sortOf r ≡ sort m b
+  pub carries : Carries r m
+
+-- the same for a sort that is shared by modes
+pub record Shared (s : items.Sort) (r : Sort) : Type 0 where
+  pub is : sortOf r ≡ s
+  pub carries : (m : syntax.Mode) → Carries r m
+
+-- the last tests of the modes in which a backslash and a `$` count ..
+unfoldable pub plainSort : ℕ → items.Sort
+plainSort b = pick (eqb b (code "\\")) items.backslash (pick (eqb b (code "$")) items.dollar items.literal)
+
+-- .. and of those in which quotes open
+unfoldable pub quotesSort : ℕ → items.Sort
+unfolding plainSort
+quotesSort b = pick (eqb b (code "'")) items.quotes (pick (eqb b (code "\"")) items.quotes2 (plainSort b))
+
+-- how an operand is read
+pub record Operands (m : syntax.Mode) (r : Mode) : Type 0 where
+  pub is : modeOf r ≡ operandMode m
+  pub closed : openIn r ≡ 0
+
+-- the item at the line's end
+abbrev pub endsLine : Bool → Item
+endsLine true = stop 0
+endsLine false = fault unended

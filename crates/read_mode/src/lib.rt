@@ -1,0 +1,289 @@
+// What a byte is where it stands. A mode says where a text stands: in a word of the line, in an operand, in quotes, in arithmetic. Each function
+// answers one question about a byte in a mode; none looks at a second byte.
+ghost use mathlib.Core.Path.{_≡_};
+ghost use mathlib.Core.Bool.{_||_};
+ghost use mathlib.Core.List.{[], _∷_};
+ghost use Rattle.stages.specs.Bytes.{isDigit, isIn, text};
+ghost use Rattle.stages.specs.Syntax.{word, bare, single, double, operand, arith};
+ghost use Rattle.stages.specs.Items.{quotable, notServed, operandMode, ended, wrong, fault, signForm};
+ghost use Rattle.read_mode.specs.Modes.{modeOf, formOf, Operands, Sorted, Shared, quotesSort, plainSort, endsLine};
+
+// The numbers of document 01 that reading gives.
+pub const REFUSED_UNENDED: u8 = 7;
+
+pub const REFUSED_OPERATOR: u8 = 8;
+
+pub const REFUSED_SUBSTITUTION: u8 = 9;
+
+pub const REFUSED_UNSERVED: u8 = 10;
+
+pub const REFUSED_SYNTAX: u8 = 11;
+
+pub const REFUSED_DEPTH: u8 = 12;
+
+// Where a text stands.
+pub enum Mode {
+    // a word of the line
+    Word,
+    // an operand read as bare text
+    Bare,
+    // '...'
+    Single,
+    // "..."
+    Double,
+    // an operand read as double-quoted text
+    Operand,
+    // arithmetic, with so many open parentheses
+    Arith(usize),
+}
+
+// What stands behind the name in `${name`: whether a colon stands before `-=?+`, or whether a removal's sign is doubled.
+pub enum Form {
+    Minus(bool),
+    Equals(bool),
+    Query(bool),
+    Plus(bool),
+    Suffix(bool),
+    Prefix(bool),
+}
+
+// What a byte is where it stands.
+pub enum Sort {
+    Backquote,
+    // ends the text, which takes so many bytes
+    Closes(usize),
+    Operator,
+    Quotes,
+    Quotes2,
+    Backslash,
+    Dollar,
+    Bad,
+    // a parenthesis of an arithmetic text, and how many are open before it
+    Opening(usize),
+    Closing(usize),
+    Literal,
+}
+
+// A backslash, a `$`, or a byte that stands for itself.
+fn sort_plain(b: u8) -> Sort
+    ensures { λ r. ⌜ Shared (plainSort b) r ⌝ }
+{
+    if b == b'\\' {
+        return Sort::Backslash;
+    }
+    if b == b'$' {
+        return Sort::Dollar;
+    }
+    Sort::Literal
+}
+
+// The same where quotes open.
+fn sort_quotes(b: u8) -> Sort
+    ensures { λ r. ⌜ Shared (quotesSort b) r ⌝ }
+{
+    if b == b'\'' {
+        return Sort::Quotes;
+    }
+    if b == b'"' {
+        return Sort::Quotes2;
+    }
+    sort_plain(b)
+}
+
+fn sort_word(b: u8) -> Sort
+    ensures { λ r. ⌜ Sorted word b r ⌝ }
+{
+    if b == b'`' {
+        return Sort::Backquote;
+    }
+    if text::in_class(text::Class::Blank, b) {
+        return Sort::Closes(0);
+    }
+    if text::in_class(text::Class::Operator, b) {
+        return Sort::Operator;
+    }
+    sort_quotes(b)
+}
+
+fn sort_bare(b: u8) -> Sort
+    ensures { λ r. ⌜ Sorted bare b r ⌝ }
+{
+    if b == b'`' {
+        return Sort::Backquote;
+    }
+    if b == b'}' {
+        return Sort::Closes(1);
+    }
+    sort_quotes(b)
+}
+
+fn sort_single(b: u8) -> Sort
+    ensures { λ r. ⌜ Sorted single b r ⌝ }
+{
+    if b == b'\'' {
+        return Sort::Closes(1);
+    }
+    Sort::Literal
+}
+
+fn sort_double(b: u8) -> Sort
+    ensures { λ r. ⌜ Sorted double b r ⌝ }
+{
+    if b == b'`' {
+        return Sort::Backquote;
+    }
+    if b == b'"' {
+        return Sort::Closes(1);
+    }
+    sort_plain(b)
+}
+
+fn sort_operand(b: u8) -> Sort
+    ensures { λ r. ⌜ Sorted operand b r ⌝ }
+{
+    if b == b'`' {
+        return Sort::Backquote;
+    }
+    if b == b'}' {
+        return Sort::Closes(1);
+    }
+    if b == b'"' {
+        return Sort::Bad;
+    }
+    sort_plain(b)
+}
+
+fn sort_arith(parens: usize, b: u8) -> Sort
+    ensures { λ r. ⌜ Sorted (arith parens) b r ⌝ }
+{
+    if b == b'`' {
+        return Sort::Backquote;
+    }
+    if text::is_in(b, b"'\"\\") {
+        return Sort::Bad;
+    }
+    if b == b'(' {
+        return Sort::Opening(parens);
+    }
+    if b == b')' {
+        return Sort::Closing(parens);
+    }
+    if b == b'$' {
+        return Sort::Dollar;
+    }
+    Sort::Literal
+}
+
+// What is the byte in this mode?
+pub fn sort_at(mode: Mode, b: u8) -> Sort
+    ensures { λ r. ⌜ Sorted (modeOf mode) b r ⌝ }
+{
+    match mode {
+        Mode::Word => sort_word(b),
+        Mode::Bare => sort_bare(b),
+        Mode::Single => sort_single(b),
+        Mode::Double => sort_double(b),
+        Mode::Operand => sort_operand(b),
+        Mode::Arith(parens) => sort_arith(parens, b),
+    }
+}
+
+// Does a backslash quote the byte?
+pub fn is_quotable(mode: Mode, b: u8) -> bool
+    ensures { λ r. ⌜ r ≡ quotable (modeOf mode) b ⌝ }
+{
+    match mode {
+        Mode::Word => true,
+        Mode::Bare => true,
+        Mode::Single => false,
+        Mode::Double => text::is_in(b, b"$`\"\\"),
+        Mode::Operand => text::is_in(b, b"$`\"\\}"),
+        Mode::Arith(_) => false,
+    }
+}
+
+fn is_unserved(b: u8) -> bool
+    ensures { λ r. ⌜ r ≡ (isDigit b || isIn b (text "@*#?-$!")) ⌝ }
+{
+    if text::in_class(text::Class::Digit, b) {
+        return true;
+    }
+    text::is_in(b, b"@*#?-$!")
+}
+
+fn is_unserved_bare(b: u8) -> bool
+    ensures { λ r. ⌜ r ≡ (isDigit b || isIn b (text "@*#?-$!'")) ⌝ }
+{
+    if text::in_class(text::Class::Digit, b) {
+        return true;
+    }
+    text::is_in(b, b"@*#?-$!'")
+}
+
+// Is a `$` before the byte a parameter that is not served?
+pub fn is_not_served(mode: Mode, b: u8) -> bool
+    ensures { λ r. ⌜ r ≡ notServed (modeOf mode) b ⌝ }
+{
+    match mode {
+        Mode::Word => is_unserved_bare(b),
+        Mode::Bare => is_unserved_bare(b),
+        Mode::Single => false,
+        Mode::Double => is_unserved(b),
+        Mode::Operand => is_unserved(b),
+        Mode::Arith(_) => is_unserved(b),
+    }
+}
+
+// How is an operand of `-=?+` read?
+pub fn operand_mode(mode: Mode) -> Mode
+    ensures { λ r. ⌜ Operands (modeOf mode) r ⌝ }
+{
+    match mode {
+        Mode::Word => Mode::Bare,
+        Mode::Bare => Mode::Bare,
+        Mode::Single => Mode::Bare,
+        Mode::Double => Mode::Operand,
+        Mode::Operand => Mode::Operand,
+        Mode::Arith(_) => Mode::Operand,
+    }
+}
+
+// May the line end here? Only in a word.
+pub fn may_end(mode: Mode) -> bool
+    ensures { λ r. ⌜ ended (modeOf mode) ≡ endsLine r ⌝ }
+{
+    match mode {
+        Mode::Word => true,
+        Mode::Bare => false,
+        Mode::Single => false,
+        Mode::Double => false,
+        Mode::Operand => false,
+        Mode::Arith(_) => false,
+    }
+}
+
+// The number of a byte that does not fit: that of a backquote, else the one given.
+pub fn wrong_byte(number: u8, b: u8) -> u8
+    ensures { λ r. ⌜ wrong number (b ∷ []) ≡ fault r ⌝ }
+{
+    if b == b'`' {
+        return REFUSED_SUBSTITUTION;
+    }
+    number
+}
+
+// The form of one of `-=?+`.
+pub fn sign_form(b: u8, colon: bool) -> Form
+    ensures { λ r. ⌜ formOf r ≡ signForm b colon ⌝ }
+{
+    if b == b'-' {
+        return Form::Minus(colon);
+    }
+    if b == b'=' {
+        return Form::Equals(colon);
+    }
+    if b == b'?' {
+        return Form::Query(colon);
+    }
+    Form::Plus(colon)
+}

@@ -1,0 +1,124 @@
+// The program's lines. What it reads comes in blocks and is cut at each newline into a lent line buffer, of which only as many bytes are kept as can
+// matter; what it writes for a line is its answer in words.
+ghost use mathlib.Core.Path.{_≡_};
+ghost use mathlib.Core.List.{_++_};
+ghost use mathlib.Core.Logic.{_⊎_};
+ghost use Prim.Native.Nat.{_+_, _≤_};
+ghost use lib.ListN.{length, take};
+ghost use Rattle.text.specs.Putting.{Puts};
+ghost use Rattle.recipe_cut.specs.Lines.{lineKept, keptOf, hasLine, LineEnd, Takes};
+ghost use Rattle.recipe_cut.specs.Said.{saidBy, okText, noText, answerRoom};
+
+// What came of a line.
+pub enum Taken {
+    // It ended: how many bytes of it are kept, and the place behind its newline.
+    Ended { kept: usize, next: usize },
+    // The block ran out first: how many bytes of it are kept so far.
+    Open(usize),
+}
+
+// One byte more than a line may have: what is longer is refused, whatever comes behind.
+const LINE_KEPT: usize = 2049;
+
+const NEWLINE: u8 = b'\n';
+
+const BLANK: u8 = b' ';
+
+// The number of an acceptance.
+const ACCEPTED: u8 = 0;
+
+// The lesser of two numbers.
+fn least(a: usize, b: usize) -> usize
+    ensures { λ r. ⌜ (r ≤ a) × (r ≤ b) × ((r ≡ a) ⊎ (r ≡ b)) ⌝ }
+{
+    if a < b { a } else { b }
+}
+
+// The place of the next newline, or the block's end.
+fn line_end(block: &[u8], from: usize) -> usize
+    requires { ⌜ from ≤ length (now block) ⌝ }
+    ensures { λ r. ⌜ LineEnd (now (block .entry)) from r ⌝ }
+{
+    let mut i = from;
+    while i < block.len() {
+        if block[i] == NEWLINE {
+            return i;
+        }
+        i += 1;
+    }
+    i
+}
+
+// Puts bytes of a line behind those that are kept of it, as many as can matter.
+fn keep(line: &mut [u8], kept: usize, bytes: &[u8]) -> usize
+    requires { ⌜ (kept ≤ lineKept) × (lineKept ≤ length (now line)) ⌝ }
+    ensures { λ r. ⌜ Puts (keptOf (take kept (now (line .entry)) ++ now (bytes .entry))) (now (line .entry)) (now (line .exit)) r ⌝ }
+{
+    let n = least(bytes.len(), LINE_KEPT - kept);
+    text_copy::copy_in(&bytes[..n], &mut line[kept..]);
+    kept + n
+}
+
+// Takes what stands of a line in the block from a place on, behind the bytes that are kept of it.
+pub fn take_in(line: &mut [u8], kept: usize, block: &[u8], from: usize) -> Taken
+    requires { ⌜ (kept ≤ lineKept) × (lineKept ≤ length (now line)) × (from ≤ length (now block)) ⌝ }
+    ensures { λ r. ⌜ Takes (now (line .entry)) kept (now (block .entry)) from (now (line .exit)) r ⌝ }
+{
+    let end = line_end(block, from);
+    let n = keep(line, kept, &block[from..end]);
+    if end < block.len() {
+        Taken::Ended {
+            kept: n,
+            next: end + 1,
+        }
+    } else {
+        Taken::Open(n)
+    }
+}
+
+// Do the bytes behind the last newline make a line?
+pub fn is_last_line(line: &[u8]) -> bool
+    ensures { λ r. ⌜ r ≡ hasLine (now (line .entry)) ⌝ }
+{
+    line.len() != 0
+}
+
+// Writes `ok `, the quoted line and a newline.
+fn put_ok(line: &[u8], out: &mut [u8]) -> usize
+    requires { ⌜ length (now line) + 4 ≤ length (now out) ⌝ }
+    ensures { λ r. ⌜ Puts (okText (now (line .entry))) (now (out .entry)) (now (out .exit)) r ⌝ }
+{
+    text_copy::copy_in(b"ok ", out);
+    text_copy::copy_in(line, &mut out[3..]);
+    let end = line.len() + 3;
+    out[end] = NEWLINE;
+    end + 1
+}
+
+// Writes `no `, the number, a blank, the place and a newline.
+fn put_no(number: u8, place: usize, out: &mut [u8]) -> usize
+    requires { ⌜ answerRoom ≤ length (now out) ⌝ }
+    ensures { λ r. ⌜ Puts (noText number place) (now (out .entry)) (now (out .exit)) r ⌝ }
+{
+    text_copy::copy_in(b"no ", out);
+    let a = text_decimal::put_decimal(&mut out[3..], number as u64);
+    let blank = a + 3;
+    out[blank] = BLANK;
+    let start = blank + 1;
+    let b = text_decimal::put_decimal(&mut out[start..], place as u64);
+    let end = start + b;
+    out[end] = NEWLINE;
+    end + 1
+}
+
+// Writes what the program says of an answer, the quoted line given for an acceptance; returns its length. The bytes behind it stay.
+pub fn put_answer(number: u8, place: usize, line: &[u8], out: &mut [u8]) -> usize
+    requires { ⌜ length (now line) + answerRoom ≤ length (now out) ⌝ }
+    ensures { λ r. ⌜ Puts (saidBy number place (now (line .entry))) (now (out .entry)) (now (out .exit)) r ⌝ }
+{
+    if number == ACCEPTED {
+        put_ok(line, out)
+    } else {
+        put_no(number, place, out)
+    }
+}

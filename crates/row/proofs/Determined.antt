@@ -1,0 +1,43 @@
+-- The contracts determine every answer and every byte: two outcomes that a contract allows for one input are equal.
+use Prim.Native.Nat.{ℕ}
+use mathlib.Core.Path.{_≡_, refl, _∙_, sym}
+use mathlib.Core.Bool.{Bool}
+use mathlib.Core.List.{_∷_, []}
+use Rattle.stages.specs.Bytes.{Text}
+use Rattle.stages.specs.Units as units
+use Rattle.text.specs.Rows.{markByte, rowBytes}
+use Rattle.text.proofs.Determined.{one-answer}
+use Rattle.row.specs.Marks.{markOf}
+use Rattle.row.specs.Stands.{fronted, Stripped}
+use Rattle.row.specs.declared.Mark.{Mark}
+use Rattle.row.specs.declared.Mark.the-variants.{L, E, Q}
+
+-- a mark is what it stands for
+mark-back : units.Mark → Mark
+mark-back units.L = L
+mark-back units.E = E
+mark-back units.Q = Q
+
+back-of : (m : Mark) → mark-back (markOf m) ≡ m
+unfolding mark-back
+back-of L = refl
+back-of E = refl
+back-of Q = refl
+
+one-mark : {m : units.Mark} (r s : Mark) → markOf r ≡ m → markOf s ≡ m → r ≡ s
+one-mark r s p q = sym (back-of r) ∙ rw (p, ← q) (back-of s)
+
+pub mark-byte-determined : (m : Mark) (r s : ℕ) → r ≡ markByte (markOf m) → s ≡ markByte (markOf m) → r ≡ s
+mark-byte-determined m r s = one-answer
+
+pub expanded-mark-determined : (m r s : Mark) → markOf r ≡ units.expanded (markOf m) → markOf s ≡ units.expanded (markOf m) → r ≡ s
+expanded-mark-determined m r s = one-mark r s
+
+pub literal-mark-determined : (q : Bool) (m r s : Mark) → markOf r ≡ units.litMark q (markOf m) → markOf s ≡ units.litMark q (markOf m) → r ≡ s
+literal-mark-determined q m r s = one-mark r s
+
+pub put-determined : (row : units.Row) (area r s : Text) → r ≡ fronted (rowBytes row) area → s ≡ fronted (rowBytes row) area → r ≡ s
+put-determined row area r s = one-answer
+
+pub strip-marks-determined : (row l k : Text) (r s : ℕ) → Stripped row l r → Stripped row k s → (l ≡ k) × (r ≡ s)
+strip-marks-determined row l k r s p q = (one-answer (p .leaves) (q .leaves), one-answer (p .counts) (q .counts))

@@ -1,0 +1,104 @@
+// Rows of units in lent bytes. A unit is two bytes, its byte and behind it its mark; the empty mark N is two zeros.
+ghost use mathlib.Core.Path.{_≡_};
+ghost use mathlib.Core.List.{_∷_, []};
+ghost use Prim.Native.Nat.{_*_, _≤_};
+ghost use lib.ListN.{length};
+ghost use Rattle.stages.specs.Units.{cell, N, marked, bytes, expanded, litMark};
+ghost use Rattle.text.specs.Rows.{markByte, rowBytes};
+ghost use Rattle.row.specs.Marks.{markOf};
+ghost use Rattle.row.specs.Stands.{fronted, isMark, Stripped};
+
+// How a unit came to be: a literal byte, one from an expansion in bare text, a quoted one.
+pub enum Mark {
+    L,
+    E,
+    Q,
+}
+
+// The byte that stands for a mark.
+pub fn mark_byte(mark: Mark) -> u8
+    ensures { λ r. ⌜ r ≡ markByte (markOf mark) ⌝ }
+{
+    match mark {
+        Mark::L => 1,
+        Mark::E => 2,
+        Mark::Q => 3,
+    }
+}
+
+// The mark of what is expanded where literal bytes have this mark.
+pub fn expanded_mark(mark: Mark) -> Mark
+    ensures { λ r. ⌜ markOf r ≡ expanded (markOf mark) ⌝ }
+{
+    match mark {
+        Mark::L => Mark::E,
+        Mark::E => Mark::E,
+        Mark::Q => Mark::Q,
+    }
+}
+
+// The mark of a byte that a backslash quotes, or not, where literal bytes have this mark.
+pub fn literal_mark(quoted: bool, mark: Mark) -> Mark
+    ensures { λ r. ⌜ markOf r ≡ litMark quoted (markOf mark) ⌝ }
+{
+    if quoted { Mark::Q } else { mark }
+}
+
+// Puts one unit at the front.
+pub fn put_unit(area: &mut [u8], b: u8, mark: Mark)
+    requires { ⌜ 2 ≤ length (now area) ⌝ }
+    ensures { λ _. ⌜ now (area .exit) ≡ fronted (rowBytes (cell (markOf mark) b ∷ [])) (now (area .entry)) ⌝ }
+{
+    area[0] = b;
+    area[1] = mark_byte(mark);
+}
+
+// Puts the empty mark at the front.
+pub fn put_empty(area: &mut [u8])
+    requires { ⌜ 2 ≤ length (now area) ⌝ }
+    ensures { λ _. ⌜ now (area .exit) ≡ fronted (rowBytes (N ∷ [])) (now (area .entry)) ⌝ }
+{
+    area[0] = 0;
+    area[1] = 0;
+}
+
+// Puts the bytes of a text at the front, each with the mark.
+pub fn put_marked(text: &[u8], mark: Mark, area: &mut [u8])
+    requires { ⌜ 2 * length (now text) ≤ length (now area) ⌝ }
+    ensures { λ _. ⌜ now (area .exit) ≡ fronted (rowBytes (marked (markOf mark) (now (text .entry)))) (now (area .entry)) ⌝ }
+{
+    let m = mark_byte(mark);
+    let mut i = 0;
+    while i < text.len() {
+        area[2 * i] = text[i];
+        area[2 * i + 1] = m;
+        i += 1;
+    }
+}
+
+// Leaves the bytes of a row at its front, N vanished and the marks gone, and answers how many they are. An odd last byte counts for nothing.
+pub fn strip_marks(row: &mut [u8]) -> usize
+    ensures { λ r. ⌜ Stripped (now (row .entry)) (now (row .exit)) r ⌝ }
+{
+    let mut kept = 0;
+    let mut i = 0;
+    while row.len() - i > 1 {
+        let mark = row[i + 1];
+        if is_mark(mark) {
+            row[kept] = row[i];
+            kept += 1;
+        }
+        i += 2;
+    }
+    kept
+}
+
+// Whether a byte stands for a mark.
+fn is_mark(b: u8) -> bool
+    ensures { λ r. ⌜ r ≡ isMark b ⌝ }
+{
+    if b == 0 {
+        return false;
+    }
+    b < 4
+}

@@ -1,9 +1,0 @@
--- The marks of the code as document 01's. Assumes nothing.
-use Rattle.stages.specs.Units as units
-use Rattle.rows.specs.declared.Mark.{Mark}
-use Rattle.rows.specs.declared.Mark.the-variants.{L, E, Q}
-
-abbrev pub markOf : Mark → units.Mark
-markOf L = units.L
-markOf E = units.E
-markOf Q = units.Q

@@ -1,0 +1,180 @@
+-- Places in a row, on plain lists: what a place shows of the units ahead of it, and the places behind the delimiters that a walk drops.
+use Prim.Native.Nat.{ℕ, suc, _+_, _-_, _*_, _≤_, _<_}
+use native.Mathlib.Omega.{arith}
+use mathlib.Core.Path.{_≡_, refl, sym, ap, _∙_}
+use mathlib.Core.Bool.{Bool, true, false}
+use mathlib.Core.List.{[], _∷_}
+use lib.Dec.{eqb, ltb}
+use lib.ListN.{length, drop, getD, length-drop}
+use lib.Seq.{drop-cons}
+use borrow.Author.Tests.{ltb-true, ltb-false, ne-eqb}
+use Rattle.stages.specs.Bytes.{Text, isIn, isBlank}
+use Rattle.stages.specs.Outcome.{pick}
+use Rattle.stages.specs.Units.{L, E, Q, Cell, cell, N, Row}
+use Rattle.stages.specs.Split.{Delimiter, white, hard, other, delimiter, dropWhite, dropHard}
+use Rattle.text.specs.Rows.{unitOf, rowOf}
+use Rattle.split_delimiter.specs.Places.{ahead, first, isOther, goesOn, Reaches}
+
+-- a place
+
+short : (t : Text) → length t ≤ 1 → rowOf t ≡ []
+unfolding rowOf
+short [] l = refl
+short (a ∷ []) l = refl
+short (a ∷ b ∷ t) l = absurd (omega arith)
+
+module _ (row : Text) (at : ℕ) where
+  pub none-ahead : length row - at ≤ 1 → ahead row at ≡ []
+  none-ahead l = short (drop at row) (simp length-drop l)
+
+  pub unit-ahead : 1 < length row - at → ahead row at ≡ unitOf (getD row at 0) (getD row (at + 1) 0) ∷ ahead row (at + 2)
+  unfolding rowOf
+  unit-ahead l =
+      let e : suc at ≡ at + 1 = omega arith in
+      let f : suc (at + 1) ≡ at + 2 = omega arith in
+      rw (drop-cons row at 0 (omega arith), e, drop-cons row (at + 1) 0 (omega arith), f)
+
+  -- either no unit is ahead, or one and those behind it
+  pub by-place : (P : Row → Type 0) → (length row - at ≤ 1 → P []) → (1 < length row - at → (c : Cell) → P (c ∷ ahead row (at + 2))) → P (ahead row at)
+  by-place P f g = go (ltb 1 (length row - at)) refl
+    where
+      go : (x : Bool) → ltb 1 (length row - at) ≡ x → P (ahead row at)
+      go true e = let l : 1 < length row - at = ltb-true 1 (length row - at) e in rw (unit-ahead l) (g l (unitOf (getD row at 0) (getD row (at + 1) 0)))
+      go false e = let l : length row - at ≤ 1 = ltb-false 1 (length row - at) e in rw (none-ahead l) (f l)
+
+-- `delimiter_at`
+
+marked-other : (ifs : Text) (b : ℕ) (x z : Bool) → other ≡ delimiter ifs (pick x (cell L b) (pick false (cell E b) (pick z (cell Q b) N)))
+unfolding delimiter
+marked-other ifs b true z = refl
+marked-other ifs b false true = refl
+marked-other ifs b false false = refl
+
+module _ (ifs row : Text) (at : ℕ) where
+  pub place-none : length row - at ≤ 1 → other ≡ first ifs (ahead row at)
+  unfolding first
+  place-none l = rw (none-ahead row at l)
+
+  module _ (l : 1 < length row - at) where
+    pub place-other : (getD row (at + 1) 0 ≡ 2 → ⊥) → other ≡ first ifs (ahead row at)
+    unfolding first unitOf
+    place-other n = rw (unit-ahead row at l, ne-eqb (getD row (at + 1) 0) 2 n) (marked-other ifs (getD row at 0) (eqb (getD row (at + 1) 0) 1) (eqb (getD row (at + 1) 0) 3))
+
+    module _ (m : getD row (at + 1) 0 ≡ 2) where
+      first-is : first ifs (ahead row at) ≡ delimiter ifs (cell E (getD row at 0))
+      unfolding first unitOf
+      first-is = rw (unit-ahead row at l, m)
+
+      pub place-outside : isIn (getD row at 0) ifs ≡ false → other ≡ first ifs (ahead row at)
+      unfolding delimiter
+      place-outside e = sym (first-is ∙ rw (e, delimiter))
+
+      pub place-white : isIn (getD row at 0) ifs ≡ true → isBlank (getD row at 0) ≡ true → white ≡ first ifs (ahead row at)
+      unfolding delimiter
+      place-white e f = sym (first-is ∙ rw (e, f, delimiter))
+
+      pub place-hard : isIn (getD row at 0) ifs ≡ true → isBlank (getD row at 0) ≡ false → hard ≡ first ifs (ahead row at)
+      unfolding delimiter
+      place-hard e f = sym (first-is ∙ rw (e, f, delimiter))
+
+  -- `goes_on`
+
+  pub goes-none : length row - at ≤ 1 → false ≡ goesOn ifs (ahead row at)
+  unfolding goesOn
+  goes-none l = rw (none-ahead row at l)
+
+  pub goes-unit : (d : Delimiter) → 1 < length row - at → d ≡ first ifs (ahead row at) → isOther d ≡ goesOn ifs (ahead row at)
+  unfolding goesOn first
+  goes-unit d l e =
+      let f : d ≡ delimiter ifs (unitOf (getD row at 0) (getD row (at + 1) 0)) = e ∙ rw (unit-ahead row at l) in
+      rw (unit-ahead row at l) (ap isOther f)
+
+-- `skip_white` and `behind_field`
+
+clash-white : other ≡ white → ⊥
+clash-white e = let z : _≡_ {A = ℕ} 0 1 = cc in omega arith
+
+clash-hard : other ≡ hard → ⊥
+clash-hard e = let z : _≡_ {A = ℕ} 0 1 = cc in omega arith
+
+module _ (ifs : Text) where
+  white-stops-hard : (r : Row) → first ifs r ≡ hard → dropWhite ifs r ≡ r
+  unfolding first dropWhite
+  white-stops-hard [] e = refl
+  white-stops-hard (c ∷ r) e = rw (e, dropWhite)
+
+  white-stops-other : (r : Row) → first ifs r ≡ other → dropWhite ifs r ≡ r
+  unfolding first dropWhite
+  white-stops-other [] e = refl
+  white-stops-other (c ∷ r) e = rw (e, dropWhite)
+
+  hard-stops-white : (r : Row) → first ifs r ≡ white → dropHard ifs r ≡ r
+  unfolding first dropHard
+  hard-stops-white [] e = refl
+  hard-stops-white (c ∷ r) e = rw (e, dropHard)
+
+  hard-stops-other : (r : Row) → first ifs r ≡ other → dropHard ifs r ≡ r
+  unfolding first dropHard
+  hard-stops-other [] e = refl
+  hard-stops-other (c ∷ r) e = rw (e, dropHard)
+
+  module _ (row : Text) (at : ℕ) where
+    white-more : first ifs (ahead row at) ≡ white → (at + 2 ≤ length row) × (dropWhite ifs (ahead row at) ≡ dropWhite ifs (ahead row (at + 2)))
+    unfolding first dropWhite
+    white-more e =
+        by-place row at (λ (r : Row). first ifs r ≡ white → (at + 2 ≤ length row) × (dropWhite ifs r ≡ dropWhite ifs (ahead row (at + 2))))
+        (λ l e. absurd (clash-white e))
+        (λ l c e. (omega arith, rw (e, dropWhite)))
+        e
+
+    hard-more : first ifs (ahead row at) ≡ hard → (at + 2 ≤ length row) × (dropHard ifs (ahead row at) ≡ dropWhite ifs (ahead row (at + 2)))
+    unfolding first dropHard
+    hard-more e =
+        by-place row at (λ (r : Row). first ifs r ≡ hard → (at + 2 ≤ length row) × (dropHard ifs r ≡ dropWhite ifs (ahead row (at + 2))))
+        (λ l e. absurd (clash-hard e))
+        (λ l c e. (omega arith, rw (e, dropHard)))
+        e
+
+  -- white units are passed from `at` to `to`
+  pub record Skipping (row : Text) (at to : ℕ) : Type 0 where
+    pub passed : ℕ
+    pub far : to ≡ at + 2 * passed
+    pub within : to ≤ length row
+    pub same : dropWhite ifs (ahead row at) ≡ dropWhite ifs (ahead row to)
+
+  pub skip-start : (row : Text) (at : ℕ) → at ≤ length row → Skipping row at at
+  skip-start row at l = record { passed = 0; far = omega arith; within = l; same = refl }
+
+  module _ {row : Text} {at to : ℕ} (s : Skipping row at to) where
+    pub skip-fits : first ifs (ahead row to) ≡ white → to + 2 ≤ length row
+    skip-fits e = white-more row to e .0
+
+    pub skip-on : first ifs (ahead row to) ≡ white → Skipping row at (to + 2)
+    skip-on e = record { passed = suc (s .passed); far = omega (arith, s .far); within = white-more row to e .0; same = s .same ∙ white-more row to e .1 }
+
+    reached : dropWhite ifs (ahead row to) ≡ ahead row to → Reaches row at to (dropWhite ifs (ahead row at))
+    reached e = record { passed = s .passed; far = s .far; within = s .within; units = sym (s .same ∙ e) }
+
+    pub skip-hard : first ifs (ahead row to) ≡ hard → Reaches row at to (dropWhite ifs (ahead row at))
+    skip-hard e = reached (white-stops-hard (ahead row to) e)
+
+    pub skip-other : first ifs (ahead row to) ≡ other → Reaches row at to (dropWhite ifs (ahead row at))
+    skip-other e = reached (white-stops-other (ahead row to) e)
+
+  module _ {row : Text} {at to : ℕ} {r : Row} (h : Reaches row at to r) where
+    pub behind-white : first ifs (ahead row to) ≡ white → Reaches row at to (dropHard ifs r)
+    behind-white e = record { passed = h .passed; far = h .far; within = h .within; units = sym (ap (dropHard ifs) (sym (h .units)) ∙ hard-stops-white (ahead row to) e) }
+
+    pub behind-other : first ifs (ahead row to) ≡ other → Reaches row at to (dropHard ifs r)
+    behind-other e = record { passed = h .passed; far = h .far; within = h .within; units = sym (ap (dropHard ifs) (sym (h .units)) ∙ hard-stops-other (ahead row to) e) }
+
+    pub behind-fits : first ifs (ahead row to) ≡ hard → to + 2 ≤ length row
+    behind-fits e = hard-more row to e .0
+
+    pub behind-hard : first ifs (ahead row to) ≡ hard → {next : ℕ} → Reaches row (to + 2) next (dropWhite ifs (ahead row (to + 2))) → Reaches row at next (dropHard ifs r)
+    behind-hard e k = record {
+      passed = suc (h .passed + k .passed);
+      far = omega (arith, h .far, k .far);
+      within = k .within;
+      units = k .units ∙ sym (ap (dropHard ifs) (sym (h .units)) ∙ hard-more row to e .1);
+    }

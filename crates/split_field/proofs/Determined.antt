@@ -1,0 +1,43 @@
+-- What the contract of `put_field` allows for one input is one answer, and where it accepts, one output. Its exceptions: after a refusal the
+-- bytes of the output from `used` on, and the spent field in every case.
+use Prim.Native.Nat.{ℕ}
+use native.Mathlib.Omega.{arith}
+use mathlib.Core.Path.{_≡_, refl, sym, ap, _∙_}
+use mathlib.Core.List.{List}
+use Rattle.stages.specs.Numbers.{bracketClass, outputRoom}
+use Rattle.stages.specs.Bytes.{Text}
+use Rattle.stages.specs.Outcome.{Outcome, refused}
+use Rattle.stages.specs.Images.{written}
+use Rattle.stages.proofs.Outcomes.{done-same, never}
+use Rattle.table_store.specs.Splice.{placed}
+use Rattle.split_field.specs.Answers.{writtenOutcome, Says}
+use Rattle.split_field.specs.declared.Written.{Written}
+use Rattle.split_field.specs.declared.Written.the-variants.{Len, Class, NoRoom}
+use Rattle.split_field.proofs.Placing.{says-answers}
+use Rattle.split_field.proofs.Filling.{Given, says-len}
+
+other-number : _≡_ {A = Outcome ℕ} (refused bracketClass) (refused outputRoom) → ⊥
+other-number e = let n : bracketClass ≡ outputRoom = cc in omega arith
+
+-- one outcome is that of one answer
+written-one : (r s : Written) → writtenOutcome r ≡ writtenOutcome s → r ≡ s
+written-one (Len n) (Len m) e = ap Len (done-same e)
+written-one (Len n) Class e = absurd (never e)
+written-one (Len n) NoRoom e = absurd (never e)
+written-one Class (Len m) e = absurd (never (sym e))
+written-one Class Class e = refl
+written-one Class NoRoom e = absurd (other-number e)
+written-one NoRoom (Len m) e = absurd (never (sym e))
+written-one NoRoom Class e = absurd (other-number (sym e))
+written-one NoRoom NoRoom e = refl
+
+module _ {o : Outcome (List Text)} {used : ℕ} {old left left′ : Text} {r s : Written} (p : Says o used old left r) (q : Says o used old left′ s) where
+  pub put-field-determined : r ≡ s
+  put-field-determined = written-one r s (says-answers p ∙ sym (says-answers q))
+
+  -- every byte of the output where it is accepted
+  pub put-field-output : {n : ℕ} → r ≡ Len n → left ≡ left′
+  put-field-output {n} e =
+      let a : Given o used old left n = says-len p e in
+      let b : Given o used old left′ n = says-len q (sym put-field-determined ∙ e) in
+      a .filled .is ∙ ap (λ (l : List Text). placed used (written l) old) (done-same (sym (a .gives) ∙ b .gives)) ∙ sym (b .filled .is)

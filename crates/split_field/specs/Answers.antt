@@ -1,0 +1,34 @@
+-- What the writers answer, and every byte that they leave: the records of a stage's texts stand behind what was used, all else is as it was. After
+-- a refusal nothing is said of the bytes, since no caller keeps them.
+use Prim.Native.Nat.{ℕ, _+_, _≤_, _<_}
+use mathlib.Core.Path.{_≡_}
+use mathlib.Core.List.{List}
+use lib.Dec.{leb}
+use lib.ListN.{length}
+use Rattle.stages.specs.Numbers.{bracketClass, outputRoom}
+use Rattle.stages.specs.Bytes.{Text}
+use Rattle.stages.specs.Outcome.{Outcome, refused, done, _>>=_, pick}
+use Rattle.stages.specs.Images.{written, recordBytes}
+use Rattle.table_store.specs.Splice.{placed}
+use Rattle.split_field.specs.declared.Written.{Written}
+use Rattle.split_field.specs.declared.Written.the-variants.{Len, Class, NoRoom}
+
+-- the answers in document 01's numbers: the output's new length, 19, "bracket class", or 21, "no room for output"
+abbrev pub writtenOutcome : Written → Outcome ℕ
+writtenOutcome (Len n) = done n
+writtenOutcome Class = refused bracketClass
+writtenOutcome NoRoom = refused outputRoom
+
+-- the new length of an output with so much room, where the texts that a stage gives come behind its first `used` bytes
+unfoldable pub lengthWith : ℕ → ℕ → Outcome (List Text) → Outcome ℕ
+lengthWith room used o = o >>= λ l. pick (leb (used + recordBytes l) room) (done (used + recordBytes l)) (refused outputRoom)
+
+-- what an answer says of the stage and of the bytes
+pub data Says (o : Outcome (List Text)) (used : ℕ) (old left : Text) : Written → Type 0 where
+  len : {n : ℕ} (l : List Text) → o ≡ done l → n ≡ used + recordBytes l → n ≤ length old → left ≡ placed used (written l) old → Says o used old left (Len n)
+  class : o ≡ refused bracketClass → Says o used old left Class
+  noRoom : (l : List Text) → o ≡ done l → length old < used + recordBytes l → Says o used old left NoRoom
+
+pub record Puts (o : Outcome (List Text)) (used : ℕ) (old left : Text) (r : Written) : Type 0 where
+  pub answers : writtenOutcome r ≡ lengthWith (length old) used o
+  pub says : Says o used old left r

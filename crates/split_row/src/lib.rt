@@ -1,0 +1,79 @@
+// A row of units to fields, and what those become behind the output's used part. The walk over the row is one pass of two nested loops: the outer
+// one takes field by field, the inner one finds a field's end.
+ghost use mathlib.Core.Path.{_≡_};
+ghost use Prim.Native.Nat.{_≤_};
+ghost use lib.ListN.{length, take};
+ghost use Rattle.stages.specs.Numbers.{imageLimit};
+ghost use Rattle.stages.specs.Bytes.{text, blanks};
+ghost use Rattle.stages.specs.Images.{lookup, held, heldTexts};
+ghost use Rattle.stages.specs.Split.{split, ifsOr, fieldsOfRow};
+ghost use Rattle.stages.specs.Paths.{named};
+ghost use Rattle.text.specs.Rows.{rowOf};
+ghost use Rattle.table.specs.Places.{Table};
+ghost use Rattle.split_field.specs.Answers.{Says, Puts};
+ghost use Rattle.split_field.specs.Fields.{Listed};
+use split_field::Written;
+use table::Found;
+
+// Splits a row into its fields and writes what they become. Each field is taken where it stands, since the walk never comes back to it. All fields
+// are checked for a class before one that does not fit refuses the row, so the walk goes on behind it.
+fn put_fields(row: &mut [u8], ifs: &[u8], paths: &[u8], out: &mut [u8], used: usize) -> Written
+    requires { ⌜ (used ≤ length (now out)) × (length (now out) ≤ imageLimit) ⌝ }
+    requires { ⌜ Listed (now paths) ⌝ }
+    ensures { λ r. ⌜ Says (named (heldTexts (now (paths .entry))) (split (now (ifs .entry)) (rowOf (now (row .entry))))) used (now (out .entry)) (now (out .exit)) r ⌝ }
+{
+    let mut at = split_delimiter::skip_white(row, 0, ifs);
+    let mut len = used;
+    let mut full = false;
+    while row.len() - at > 1 {
+        let mut end = at;
+        let next = loop {
+            if !split_delimiter::goes_on(row, end, ifs) {
+                break split_delimiter::behind_field(row, end, ifs);
+            }
+            end += 2;
+        };
+        match split_field::put_field(&mut row[at..end], paths, out, len) {
+            Written::Len(n) => len = n,
+            Written::Class => return Written::Class,
+            Written::NoRoom => full = true,
+        }
+        at = next;
+    }
+    if full {
+        return Written::NoRoom;
+    }
+    Written::Len(len)
+}
+
+// IFS as it stands in the variables, or what it means where it is unset.
+fn ifs_of<'a>(vars: &'a [u8], unset: &'a [u8]) -> &'a [u8]
+    requires { ⌜ Table (now vars) ⌝ }
+    requires { ⌜ now unset ≡ blanks ⌝ }
+    ensures { λ r. ⌜ now r ≡ ifsOr (lookup (text "IFS") (held (now (vars .entry)))) ⌝ }
+{
+    let found = table_find::look_up_ifs(vars);
+    match found {
+        Found::At { from, to } => &vars[from..to],
+        Found::Missing => unset,
+    }
+}
+
+// Writes the fields of a word's row behind the first `used` bytes of the output, IFS being what it is in the variables now: "IFS as it stands after the
+// word's own stores; unset means space, tab, newline". The row is spent.
+pub fn put_word_fields(
+    row: &mut [u8],
+    vars: &[u8],
+    have: usize,
+    paths: &[u8],
+    out: &mut [u8],
+    used: usize,
+) -> Written
+    requires { ⌜ (have ≤ length (now vars)) × Table (take have (now vars)) ⌝ }
+    requires { ⌜ (used ≤ length (now out)) × (length (now out) ≤ imageLimit) ⌝ }
+    requires { ⌜ Listed (now paths) ⌝ }
+    ensures { λ r. ⌜ Puts (named (heldTexts (now (paths .entry))) (fieldsOfRow (held (take have (now (vars .entry)))) (rowOf (now (row .entry))))) used (now (out .entry)) (now (out .exit)) r ⌝ }
+{
+    let ifs = ifs_of(&vars[..have], b" \t\n");
+    put_fields(row, ifs, paths, out, used)
+}

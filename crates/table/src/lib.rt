@@ -1,0 +1,202 @@
+// Images of the four kinds of table: is one well formed, and what stands at a place of it.
+ghost use mathlib.Core.Path.{_≡_};
+ghost use mathlib.Core.Bool.{Bool, true, false};
+ghost use Prim.Native.Nat.{ℕ, _+_, _<_, _≤_};
+ghost use lib.ListN.{length};
+ghost use Rattle.stages.specs.Bytes.{ltText};
+ghost use Rattle.stages.specs.Images.{isName, isLogin};
+ghost use Rattle.table.specs.Kinds.{wellFormed, limitOf, keyFits, recordEnd};
+ghost use Rattle.table.specs.Pieces.{sizeAt, pieceAt};
+use text::Class;
+use text::Order;
+
+// The kinds of table: what their records are.
+pub enum Kind {
+    Variables,
+    Homes,
+    Paths,
+    Fields,
+}
+
+// What stands at a place of an image: nothing more, no text, or a text and where it ends.
+pub enum Piece {
+    End,
+    Bad,
+    At(usize),
+}
+
+// Where a key is or belongs: its record from `at` to `end`, its name up to `mid`; or the place of a new record.
+pub enum Spot {
+    Known { at: usize, mid: usize, end: usize },
+    Fresh(usize),
+}
+
+// The value of a key is the bytes from one place to another, or there is none.
+pub enum Found {
+    At { from: usize, to: usize },
+    Missing,
+}
+
+// "one version byte, 1"
+const VERSION: u8 = 1;
+
+// "An image has at most 8,192 bytes, that of paths 32,768."
+const IMAGE_LIMIT: usize = 8192;
+
+const PATHS_LIMIT: usize = 32768;
+
+// The length that the two bytes at a place say.
+pub fn size_at(image: &[u8], at: usize) -> usize
+    requires { ⌜ at + 1 < length (now image) ⌝ }
+    ensures { λ r. ⌜ r ≡ sizeAt (now (image .entry)) at ⌝ }
+{
+    (image[at] as usize) * 256 + (image[at + 1] as usize)
+}
+
+// What stands at a place of an image.
+pub fn text_at(image: &[u8], at: usize) -> Piece
+    ensures { λ r. ⌜ r ≡ pieceAt (now (image .entry)) at ⌝ }
+{
+    if image.len() <= at {
+        return Piece::End;
+    }
+    let left = image.len() - at;
+    if left == 1 {
+        return Piece::Bad;
+    }
+    let n = size_at(image, at);
+    if left - 2 < n {
+        return Piece::Bad;
+    }
+    let start = at + 2;
+    let end = start + n;
+    if text::run_end(&image[start..end], 0, Class::NotZero) == n {
+        Piece::At(end)
+    } else {
+        Piece::Bad
+    }
+}
+
+// Is it "a letter or `_`, then letters, digits, `_`"?
+fn is_name(key: &[u8]) -> bool
+    ensures { λ r. ⌜ r ≡ isName (now (key .entry)) ⌝ }
+{
+    if key.len() == 0 {
+        return false;
+    }
+    if !text::in_class(Class::NameStart, key[0]) {
+        return false;
+    }
+    text::run_end(key, 1, Class::NameByte) == key.len()
+}
+
+// Is it "one or more letters, digits, `.`, `_`, `-`"?
+fn is_login(key: &[u8]) -> bool
+    ensures { λ r. ⌜ r ≡ isLogin (now (key .entry)) ⌝ }
+{
+    if key.len() == 0 {
+        return false;
+    }
+    text::run_end(key, 0, Class::LoginByte) == key.len()
+}
+
+// Is the first text below the second?
+fn rises(last: &[u8], key: &[u8]) -> bool
+    ensures { λ r. ⌜ r ≡ ltText (now (last .entry)) (now (key .entry)) ⌝ }
+{
+    let order = text::compare(last, key);
+    match order {
+        Order::Less => true,
+        Order::Same => false,
+        Order::More => false,
+    }
+}
+
+// May this key of the kind stand behind the last one?
+pub fn key_fits(kind: Kind, last: &[u8], key: &[u8]) -> bool
+    ensures { λ r. ⌜ r ≡ keyFits kind (now (last .entry)) (now (key .entry)) ⌝ }
+{
+    match kind {
+        Kind::Variables => {
+            if is_name(key) {
+                rises(last, key)
+            } else {
+                false
+            }
+        }
+        Kind::Homes => {
+            if is_login(key) {
+                rises(last, key)
+            } else {
+                false
+            }
+        }
+        Kind::Paths => rises(last, key),
+        Kind::Fields => true,
+    }
+}
+
+// The most bytes that an image of the kind may have.
+fn limit(kind: Kind) -> usize
+    ensures { λ r. ⌜ r ≡ limitOf kind ⌝ }
+{
+    match kind {
+        Kind::Variables => IMAGE_LIMIT,
+        Kind::Homes => IMAGE_LIMIT,
+        Kind::Paths => PATHS_LIMIT,
+        Kind::Fields => IMAGE_LIMIT,
+    }
+}
+
+// The end of a record whose first text ends at a place: that of the text there, or the place itself.
+fn record_end(kind: Kind, image: &[u8], at: usize) -> Piece
+    ensures { λ r. ⌜ r ≡ recordEnd kind (now (image .entry)) at ⌝ }
+{
+    match kind {
+        Kind::Variables => text_at(image, at),
+        Kind::Homes => text_at(image, at),
+        Kind::Paths => Piece::At(at),
+        Kind::Fields => Piece::At(at),
+    }
+}
+
+// Is it an image of the kind? One walk over its records; the key before the first is the empty text.
+pub fn well_formed(kind: Kind, image: &[u8]) -> bool
+    ensures { λ r. ⌜ r ≡ wellFormed kind (now (image .entry)) ⌝ }
+{
+    if limit(kind) < image.len() {
+        return false;
+    }
+    if image.len() == 0 {
+        return false;
+    }
+    if image[0] != VERSION {
+        return false;
+    }
+    let mut at: usize = 1;
+    let mut from: usize = 0;
+    let mut to: usize = 0;
+    loop {
+        let first = text_at(image, at);
+        match first {
+            Piece::End => return true,
+            Piece::Bad => return false,
+            Piece::At(end) => {
+                let start = at + 2;
+                if !key_fits(kind, &image[from..to], &image[start..end]) {
+                    return false;
+                }
+                from = start;
+                to = end;
+                let last = record_end(kind, image, end);
+                match last {
+                    Piece::End => return false,
+                    Piece::Bad => return false,
+                    Piece::At(next) => {
+                        at = next;
+                    }
+                }
+            }
+        }
+    }
+}

@@ -1,0 +1,199 @@
+// Runs one case. Its buffers are cut to the case's sizes and filled as it says, the job is called, and every byte of every buffer is held against
+// the case's answer.
+use crate::laying::OUT_FILL;
+use crate::laying::cut_to_bytes;
+use crate::laying::cut_to_size;
+use crate::laying::hold_buffers;
+use crate::laying::hold_word;
+use crate::laying::lay;
+use crate::laying::lay_buffers;
+use crate::laying::lay_given;
+use crate::laying::lay_word;
+use crate::telling::Told;
+use crate::telling::hold_bytes;
+use crate::words;
+use crate::words::number;
+use crate::words::word;
+use call_deliver::Answer;
+use drunquill::QuoteAnswer;
+
+// Holds the numbers that a job gave against the case's.
+fn hold_numbers(told: Told, case: &[u8], answer: Answer) -> Told {
+    let told = hold_word(told, b"number", answer.number as usize, case, words::NUMBER);
+    let told = hold_word(told, b"place", answer.place, case, words::PLACE);
+    let told = hold_word(
+        told,
+        b"output length",
+        answer.out_len,
+        case,
+        words::OUT_LENGTH,
+    );
+    hold_word(
+        told,
+        b"used length",
+        answer.used_len,
+        case,
+        words::USED_LENGTH,
+    )
+}
+
+// Calls the expander or the normaliser.
+fn call(
+    is_normaliser: bool,
+    case: &[u8],
+    line: &[u8],
+    vars: &mut [u8],
+    homes: &[u8],
+    paths: &[u8],
+    work: &mut [u8],
+    out: &mut [u8],
+) -> Answer {
+    let used = number(word(case, words::USED));
+    if is_normaliser {
+        drunquill::normalise(line, vars, used, homes, paths, work, out)
+    } else {
+        drunquill::expand(line, vars, used, homes, paths, work, out)
+    }
+}
+
+// Fills the buffers that the expander or the normaliser writes, calls it and holds what it gave against the case.
+fn run_laid(
+    is_normaliser: bool,
+    told: Told,
+    case: &[u8],
+    line: &[u8],
+    vars: &mut [u8],
+    homes: &[u8],
+    paths: &[u8],
+    work: &mut [u8],
+    out: &mut [u8],
+) -> Told {
+    lay_buffers(case, vars, work, out);
+    let answer = call(is_normaliser, case, line, vars, homes, paths, work, out);
+    let told = hold_numbers(told, case, answer);
+    hold_buffers(told, case, vars, work, out)
+}
+
+// Runs a case of the expander or the normaliser in buffers of its sizes.
+fn run_line(
+    is_normaliser: bool,
+    told: Told,
+    case: &[u8],
+    line: &mut [u8],
+    vars: &mut [u8],
+    homes: &mut [u8],
+    paths: &mut [u8],
+    work: &mut [u8],
+    out: &mut [u8],
+) -> Told {
+    lay_given(case, line, homes, paths);
+    run_laid(
+        is_normaliser,
+        told,
+        case,
+        line,
+        vars,
+        homes,
+        paths,
+        work,
+        out,
+    )
+}
+
+// Cuts the areas of the buffers that a job writes, and runs the case.
+fn cut_buffers(
+    is_normaliser: bool,
+    told: Told,
+    case: &[u8],
+    line: &mut [u8],
+    vars: &mut [u8],
+    homes: &mut [u8],
+    paths: &mut [u8],
+    work: &mut [u8],
+    out: &mut [u8],
+) -> Told {
+    let b = cut_to_size(case, words::VARS_BUFFER, vars);
+    let e = cut_to_size(case, words::WORK, work);
+    let f = cut_to_size(case, words::OUT, out);
+    run_line(
+        is_normaliser,
+        told,
+        case,
+        line,
+        &mut vars[..b],
+        homes,
+        paths,
+        &mut work[..e],
+        &mut out[..f],
+    )
+}
+
+// Cuts the areas to the sizes of a case of the expander or the normaliser, first those of what a job reads, and runs it.
+pub fn try_line(
+    is_normaliser: bool,
+    told: Told,
+    case: &[u8],
+    line: &mut [u8],
+    vars: &mut [u8],
+    homes: &mut [u8],
+    paths: &mut [u8],
+    work: &mut [u8],
+    out: &mut [u8],
+) -> Told {
+    let a = cut_to_bytes(case, words::LINE, line);
+    let c = cut_to_bytes(case, words::HOMES, homes);
+    let d = cut_to_bytes(case, words::PATHS, paths);
+    cut_buffers(
+        is_normaliser,
+        told,
+        case,
+        &mut line[..a],
+        vars,
+        &mut homes[..c],
+        &mut paths[..d],
+        work,
+        out,
+    )
+}
+
+// Holds what the quoter gave, and left in the output, against the case.
+fn hold_quote(told: Told, case: &[u8], answer: QuoteAnswer, out: &[u8]) -> Told {
+    let told = hold_word(
+        told,
+        b"number",
+        answer.number as usize,
+        case,
+        words::QUOTE_NUMBER,
+    );
+    let told = hold_word(told, b"place", answer.place, case, words::QUOTE_PLACE);
+    let told = hold_word(
+        told,
+        b"output length",
+        answer.len,
+        case,
+        words::QUOTE_LENGTH,
+    );
+    hold_bytes(
+        told,
+        b"output",
+        out,
+        word(case, words::QUOTE_BYTES),
+        b"-",
+        OUT_FILL,
+    )
+}
+
+// Runs a case of the quoter in buffers of its sizes.
+fn run_quote(told: Told, case: &[u8], fields: &mut [u8], out: &mut [u8]) -> Told {
+    lay_word(fields, case, words::FIELDS, 0);
+    lay(out, b"-", OUT_FILL);
+    let answer = drunquill::quote(fields, out);
+    hold_quote(told, case, answer, out)
+}
+
+// Cuts the areas to the sizes of a case of the quoter, and runs it.
+pub fn try_quote(told: Told, case: &[u8], fields: &mut [u8], out: &mut [u8]) -> Told {
+    let a = cut_to_bytes(case, words::FIELDS, fields);
+    let b = cut_to_size(case, words::QUOTE_OUT, out);
+    run_quote(told, case, &mut fields[..a], &mut out[..b])
+}

@@ -1,0 +1,54 @@
+// Which job a case asks for, if it is a case at all.
+use crate::words;
+
+// What a case asks for, if it is one.
+pub enum Job {
+    // The expander's, or the normaliser's.
+    Line { is_normaliser: bool },
+    Quoter,
+    None,
+}
+
+// Is the case one of the expander or the normaliser: words of the right kinds, variables that their buffer holds, bytes as many as told? On a refusal
+// there are none.
+fn is_line_case(case: &[u8]) -> bool {
+    if !words::has_shape(case, b"jhhdshhss=dddhdh")
+        || !words::fits(case, words::VARS, words::VARS_BUFFER)
+        || !words::agrees(case, words::OUT_LENGTH, words::OUT_BYTES)
+    {
+        return false;
+    }
+    if words::number(words::word(case, words::NUMBER)) == 0 {
+        words::agrees(case, words::USED_LENGTH, words::VARS_BYTES)
+    } else {
+        words::byte_count(words::word(case, words::VARS_BYTES)) == 0
+    }
+}
+
+// Is the case one of the quoter?
+fn is_quote_case(case: &[u8]) -> bool {
+    words::has_shape(case, b"jhs=dddh")
+        && words::agrees(case, words::QUOTE_LENGTH, words::QUOTE_BYTES)
+}
+
+// The job of a case that is sound and that there is room for.
+pub fn job_of(case: &[u8]) -> Job {
+    let job = words::word(case, words::JOB);
+    if text::same(job, b"quote") && is_quote_case(case) {
+        return Job::Quoter;
+    }
+    if !is_line_case(case) {
+        return Job::None;
+    }
+    if text::same(job, b"expand") {
+        return Job::Line {
+            is_normaliser: false,
+        };
+    }
+    if text::same(job, b"normalise") {
+        return Job::Line {
+            is_normaliser: true,
+        };
+    }
+    Job::None
+}

@@ -1,0 +1,38 @@
+-- How a row of units stands in lent bytes: a unit is two bytes, its byte and behind it its mark; the empty mark is two zeros.
+use Prim.Native.Nat.{ℕ, zero, suc}
+use mathlib.Core.Bool.{Bool, true, false}
+use mathlib.Core.List.{List, [], _∷_}
+use lib.Dec.{eqb}
+use Rattle.stages.specs.Bytes.{Text}
+use Rattle.stages.specs.Outcome.{pick}
+use Rattle.stages.specs.Units.{Mark, L, E, Q, Cell, cell, N, Row}
+use Rattle.stages.specs.Pattern.{Sign, Signs}
+
+-- a mark as a byte; no mark is the zero that N has
+abbrev pub markByte : Mark → ℕ
+markByte L = 1
+markByte E = 2
+markByte Q = 3
+
+-- the bytes of a row
+unfoldable pub rowBytes : Row → Text
+rowBytes [] = []
+rowBytes (cell m b ∷ r) = b ∷ markByte m ∷ rowBytes r
+rowBytes (N ∷ r) = 0 ∷ 0 ∷ rowBytes r
+
+-- the unit of a byte and the byte behind it; what is no mark is N
+unfoldable pub unitOf : ℕ → ℕ → Cell
+unitOf b m = pick (eqb m 1) (cell L b) (pick (eqb m 2) (cell E b) (pick (eqb m 3) (cell Q b) N))
+
+-- the row that any bytes stand for; an odd last byte counts for nothing
+unfoldable pub rowOf : Text → Row
+unfolding unitOf
+rowOf [] = []
+rowOf (b ∷ []) = []
+rowOf (b ∷ m ∷ t) = unitOf b m ∷ rowOf t
+
+-- the same bytes as patterns see them where N units are gone: Q bytes stand for themselves, all others are active
+unfoldable pub signsOf : Text → Signs
+signsOf [] = []
+signsOf (b ∷ []) = []
+signsOf (b ∷ m ∷ t) = record { live = pick (eqb m 3) false true; byte = b } ∷ signsOf t

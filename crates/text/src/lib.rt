@@ -1,0 +1,155 @@
+// Bytes and texts read: the classes of bytes, longest runs, comparing.
+ghost use mathlib.Core.Path.{_≡_};
+ghost use Prim.Native.Nat.{ℕ, _≤_};
+ghost use lib.ListN.{length};
+ghost use Rattle.stages.specs.Bytes.{isIn, eqText};
+ghost use Rattle.text.specs.Classes.{inClass, lowBytes, highBytes, upperBytes, Runs};
+ghost use Rattle.text.specs.Orders.{orderOf};
+
+// The classes of bytes that document 01 names.
+pub enum Class {
+    NotZero,
+    Digit,
+    NameStart,
+    NameByte,
+    LoginByte,
+    Blank,
+    Operator,
+}
+
+// How a text stands to another, "ordered by unsigned value, a prefix first".
+pub enum Order {
+    Less,
+    Same,
+    More,
+}
+
+// The bytes 0 to 63 that are in a class, a bit for each.
+fn low_bytes(class: Class) -> u64
+    ensures { λ r. ⌜ r ≡ lowBytes class ⌝ }
+{
+    match class {
+        Class::NotZero => 0xffff_ffff_ffff_fffe,
+        Class::Digit => 0x03ff_0000_0000_0000,
+        Class::NameStart => 0x0000_0000_0000_0000,
+        Class::NameByte => 0x03ff_0000_0000_0000,
+        Class::LoginByte => 0x03ff_6000_0000_0000,
+        Class::Blank => 0x0000_0001_0000_0600,
+        Class::Operator => 0x5800_0340_0000_0000,
+    }
+}
+
+// The bytes 64 to 127 that are in a class, a bit for each.
+fn high_bytes(class: Class) -> u64
+    ensures { λ r. ⌜ r ≡ highBytes class ⌝ }
+{
+    match class {
+        Class::NotZero => 0xffff_ffff_ffff_ffff,
+        Class::Digit => 0x0000_0000_0000_0000,
+        Class::NameStart => 0x07ff_fffe_87ff_fffe,
+        Class::NameByte => 0x07ff_fffe_87ff_fffe,
+        Class::LoginByte => 0x07ff_fffe_87ff_fffe,
+        Class::Blank => 0x0000_0000_0000_0000,
+        Class::Operator => 0x1000_0000_0000_0000,
+    }
+}
+
+// Are the bytes from 128 on in a class?
+fn upper_bytes(class: Class) -> bool
+    ensures { λ r. ⌜ r ≡ upperBytes class ⌝ }
+{
+    match class {
+        Class::NotZero => true,
+        Class::Digit => false,
+        Class::NameStart => false,
+        Class::NameByte => false,
+        Class::LoginByte => false,
+        Class::Blank => false,
+        Class::Operator => false,
+    }
+}
+
+// Is the byte in the class?
+pub fn in_class(class: Class, b: u8) -> bool
+    ensures { λ r. ⌜ r ≡ inClass class b ⌝ }
+{
+    if b < 64 {
+        return (low_bytes(class) >> b) & 1 == 1;
+    }
+    if b < 128 {
+        return (high_bytes(class) >> (b - 64)) & 1 == 1;
+    }
+    upper_bytes(class)
+}
+
+// Is the byte one of the set's?
+pub fn is_in(b: u8, set: &[u8]) -> bool
+    ensures { λ r. ⌜ r ≡ isIn b (now (set .entry)) ⌝ }
+{
+    let mut i: usize = 0;
+    while i < set.len() {
+        if b == set[i] {
+            return true;
+        }
+        i += 1;
+    }
+    false
+}
+
+// The end of the longest run of bytes of the class that begins at `at`.
+pub fn run_end(text: &[u8], at: usize, class: Class) -> usize
+    requires { ⌜ at ≤ length (now text) ⌝ }
+    ensures { λ r. ⌜ Runs (now (text .entry)) at class r ⌝ }
+{
+    let mut i = at;
+    while i < text.len() {
+        if !in_class(class, text[i]) {
+            return i;
+        }
+        i += 1;
+    }
+    i
+}
+
+// Are the two texts the same bytes?
+pub fn same(a: &[u8], b: &[u8]) -> bool
+    ensures { λ r. ⌜ r ≡ eqText (now (a .entry)) (now (b .entry)) ⌝ }
+{
+    if a.len() != b.len() {
+        return false;
+    }
+    let mut i: usize = 0;
+    while i < a.len() {
+        if a[i] != b[i] {
+            return false;
+        }
+        i += 1;
+    }
+    true
+}
+
+// How does the first text stand to the second?
+pub fn compare(a: &[u8], b: &[u8]) -> Order
+    ensures { λ r. ⌜ r ≡ orderOf (now (a .entry)) (now (b .entry)) ⌝ }
+{
+    let mut i: usize = 0;
+    while i < a.len() {
+        if b.len() <= i {
+            return Order::More;
+        }
+        let x = a[i];
+        let y = b[i];
+        if x < y {
+            return Order::Less;
+        }
+        if y < x {
+            return Order::More;
+        }
+        i += 1;
+    }
+    if i < b.len() {
+        Order::Less
+    } else {
+        Order::Same
+    }
+}
