@@ -8,7 +8,8 @@ use Rattle.arith_int.specs.Answers.{numbered}
 use Rattle.arith_int.specs.declared.Number.{Number}
 use Rattle.arith_int.proofs.Determined.{determined-number}
 
-pub number-of-determined : (sign : ℕ → ℤ) (t : Text) (r s : Number) → numbered r ≡ number sign (constant t) → numbered s ≡ number sign (constant t) → r ≡ s
+pub number-of-determined : (sign : ℕ → ℤ) (t : Text) (r s : Number) → numbered r ≡ number sign (constant t) → numbered s ≡ number sign
+    (constant t) → r ≡ s
 number-of-determined sign t r s e f = determined-number r s e f
 
 pub value-of-determined : (t : Text) (r s : Number) → numbered r ≡ valued t → numbered s ≡ valued t → r ≡ s

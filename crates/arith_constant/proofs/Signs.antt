@@ -73,7 +73,8 @@ unfolding constant choose
 zero-first [] n e = absurd (n refl)
 zero-first (b ∷ t) n e = rw e
 
-pub digit-first : (t : Text) → (length t ≡ 0 → ⊥) → (getD t 0 0 ≡ 48 → ⊥) → 49 ≤ getD t 0 0 → getD t 0 0 ≤ 57 → inBase 10 0 t ≡ constant t
+pub digit-first : (t : Text) → (length t ≡ 0 → ⊥) → (getD t 0 0 ≡ 48 → ⊥) → 49 ≤ getD t 0 0 → getD t 0 0 ≤ 57 → inBase 10 0
+    t ≡ constant t
 unfolding constant choose
 digit-first [] n z h k = absurd (n refl)
 digit-first (b ∷ t) n z h k = rw (ne-eqb b 48 z, between-true 49 b 57 h k)
@@ -126,7 +127,8 @@ unfolding valued choose
 plus-first [] n e = absurd (n refl)
 plus-first (b ∷ t) n e = rw e
 
-pub no-sign-first : (t : Text) → (length t ≡ 0 → ⊥) → (getD t 0 0 ≡ 45 → ⊥) → (getD t 0 0 ≡ 43 → ⊥) → number pos (constant t) ≡ valued t
+pub no-sign-first : (t : Text) → (length t ≡ 0 → ⊥) → (getD t 0 0 ≡ 45 → ⊥) → (getD t 0 0 ≡ 43 → ⊥) → number pos
+    (constant t) ≡ valued t
 unfolding valued choose
 no-sign-first [] n h k = absurd (n refl)
 no-sign-first (b ∷ t) n h k = rw (ne-eqb b 45 h, ne-eqb b 43 k)

@@ -6,9 +6,7 @@ ghost use Rattle.arith_int.specs.Answers.{numbered, ofSign};
 ghost use Rattle.arith_constant.specs.Answers.{counted, within};
 use arith_int::BELOW;
 use arith_int::Number;
-use arith_int::REFUSED_OVERFLOW;
-
-pub const REFUSED_NOT_NUMBER: u8 = 15;
+use text::numbers;
 
 // A number without a sign, or a refusal.
 pub enum Count {
@@ -39,7 +37,7 @@ fn in_base(text: &[u8], base: u64, limit: u64) -> Count
     while i < text.len() {
         let d = digit(text[i]);
         if base <= d {
-            return Count::Refused(REFUSED_NOT_NUMBER);
+            return Count::Refused(numbers::REFUSED_NOT_NUMBER);
         }
         if !over {
             if (limit - d) / base < n {
@@ -51,7 +49,7 @@ fn in_base(text: &[u8], base: u64, limit: u64) -> Count
         i += 1;
     }
     if over {
-        return Count::Refused(REFUSED_OVERFLOW);
+        return Count::Refused(numbers::REFUSED_OVERFLOW);
     }
     Count::Value(n)
 }
@@ -66,7 +64,7 @@ fn behind_zero(text: &[u8], limit: u64) -> Count
     }
     if text[0] == b'x' || text[0] == b'X' {
         if text.len() == 1 {
-            return Count::Refused(REFUSED_NOT_NUMBER);
+            return Count::Refused(numbers::REFUSED_NOT_NUMBER);
         }
         return in_base(&text[1..], 16, limit);
     }
@@ -79,13 +77,13 @@ fn constant_of(text: &[u8], limit: u64) -> Count
     ensures { λ r. ⌜ counted r ≡ within limit (constant (now (text .entry))) ⌝ }
 {
     if text.len() == 0 {
-        return Count::Refused(REFUSED_NOT_NUMBER);
+        return Count::Refused(numbers::REFUSED_NOT_NUMBER);
     }
     if text[0] == b'0' {
         return behind_zero(&text[1..], limit);
     }
     if text[0] < b'1' || b'9' < text[0] {
-        return Count::Refused(REFUSED_NOT_NUMBER);
+        return Count::Refused(numbers::REFUSED_NOT_NUMBER);
     }
     in_base(text, 10, limit)
 }

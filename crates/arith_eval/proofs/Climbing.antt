@@ -27,7 +27,8 @@ use Rattle.arith_token.proofs.Lexing.{level-is}
 use Rattle.arith_eval.proofs.Trees.{right-refused, both-done, left-fails}
 use Rattle.arith_eval.proofs.Operands.{fault, work-fault, fails-same, fails-first}
 
-pub turns-shown : (text : Text) (at : ℕ) (v : Pairs) (counts : Bool) (d k : ℕ) (y : ℤ) {r s : Turn} → Turns text at v counts d k y r → r ≡ s → Turns text at v counts d k y s
+pub turns-shown : (text : Text) (at : ℕ) (v : Pairs) (counts : Bool) (d k : ℕ) (y : ℤ) {r s : Turn} → Turns text at v counts d k y r → r ≡
+    s → Turns text at v counts d k y s
 turns-shown text at v counts d k y h e = subst (Turns text at v counts d k y) e h
 
 module _ (text : Text) (v : Pairs) (counts : Bool) where
@@ -101,7 +102,8 @@ module _ (text : Text) (v : Pairs) (counts : Bool) where
         unfolding furtherAt right
         tight l =
             by-operator (code.Op o next) t l ∙ rw (le-leb k (level (opOf o)) (rw (level-is o) at h), furtherAt)
-            (ap (λ (i : ℕ). expression grow d i (drop next text) >>= λ r. grow (further k (binary (opOf o) l (r .0)), d, r .1)) (ap suc (sym (level-is o)) ∙ sym (add-one (levelOf o))))
+            (ap (λ (i : ℕ). expression grow d i (drop next text) >>= λ r. grow (further k (binary (opOf o) l (r .0)), d, r .1))
+            (ap suc (sym (level-is o)) ∙ sym (add-one (levelOf o))))
 
         pub right-fails : (e : ℕ) → Fails v counts (expression grow d (levelOf o + 1) (drop next text)) e → Turns text at v counts d k y (turn.Refused e)
         unfolding right

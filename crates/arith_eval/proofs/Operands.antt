@@ -31,15 +31,18 @@ use Rattle.arith_eval.proofs.Trees.{never, bound, negated-refused, nega
 pub token-shown : {text : Text} {at : ℕ} {r s : Token} → TokenAt text at r → r ≡ s → TokenAt text at s
 token-shown {text} {at} h e = subst (TokenAt text at) e h
 
-pub says-shown : (text : Text) (at : ℕ) (v : Pairs) (counts : Bool) (o : Grown) {r s : Climbed} → Says text at v counts o r → r ≡ s → Says text at v counts o s
+pub says-shown : (text : Text) (at : ℕ) (v : Pairs) (counts : Bool) (o : Grown) {r s : Climbed} → Says text at v counts o r → r ≡ s → Says
+    text at v counts o s
 says-shown text at v counts o h e = subst (Says text at v counts o) e h
 
 -- What stands behind a value, by its token.
 
-pub closes-by : (text : Text) (at : ℕ) (k : Token) → TokenAt text at k → (l : Tree) → (token (drop at text) >>= λ s. shut l s) ≡ (lexed text k >>= λ s. shut l s)
+pub closes-by : (text : Text) (at : ℕ) (k : Token) → TokenAt text at k → (l : Tree) → (token (drop at text) >>= λ s. shut l s) ≡
+    (lexed text k >>= λ s. shut l s)
 closes-by text at k t l = ap (λ (o : Lexed). o >>= λ s. shut l s) (t .is)
 
-pub ends-by : (text : Text) (at : ℕ) (k : Token) → TokenAt text at k → (l : Tree) → (token (drop at text) >>= λ s. whole l s) ≡ (lexed text k >>= λ s. whole l s)
+pub ends-by : (text : Text) (at : ℕ) (k : Token) → TokenAt text at k → (l : Tree) → (token (drop at text) >>= λ s. whole l s) ≡
+    (lexed text k >>= λ s. whole l s)
 ends-by text at k t l = ap (λ (o : Lexed). o >>= λ s. whole l s) (t .is)
 
 -- Refusals.
@@ -50,7 +53,8 @@ module _ (v : Pairs) (counts : Bool) where
   fault q = record { reads = λ c. q; works = λ p h. absurd (never (sym q ∙ h)) }
 
   -- of working out, where it counts
-  pub work-fault : {o : Grown} {e : ℕ} → counts ≡ true → ((p : Tree × Text) → o ≡ done p → evaluate v (p .0) ≡ refused e) → Fails v counts o e
+  pub work-fault : {o : Grown} {e : ℕ} → counts ≡ true → ((p : Tree × Text) → o ≡ done p → evaluate v (p .0) ≡ refused e) → Fails v
+      counts o e
   work-fault c w = record { reads = λ f. absurd (no (sym f ∙ c)); works = w }
 
   pub fails-same : {o q : Grown} {e : ℕ} → o ≡ q → Fails v counts q e → Fails v counts o e
@@ -116,11 +120,13 @@ module _ (text : Text) (v : Pairs) (counts : Bool) where
       within = t .ends .within;
     }
 
-    pub operand-sign : (o : Op) (next : ℕ) (r : Climbed) → TokenAt text at (code.Op o next) → Says text next v counts (sign grow (opOf o) d (drop next text)) r → Says text at v counts here r
+    pub operand-sign : (o : Op) (next : ℕ) (r : Climbed) → TokenAt text at (code.Op o next) → Says text next v counts
+        (sign grow (opOf o) d (drop next text)) r → Says text at v counts here r
     unfolding operandAt
     operand-sign o next r t h = let l = t .ends .onward in says-same at next here _ r (by-token (code.Op o next) t) (omega arith) h
 
-    pub operand-opens : (next : ℕ) (r : Climbed) → TokenAt text at (code.Opens next) → Says text next v counts (enclosed grow d (drop next text)) r → Says text at v counts here r
+    pub operand-opens : (next : ℕ) (r : Climbed) → TokenAt text at (code.Opens next) → Says text next v counts
+        (enclosed grow d (drop next text)) r → Says text at v counts here r
     unfolding operandAt
     operand-opens next r t h = let l = t .ends .onward in says-same at next here _ r (by-token (code.Opens next) t) (omega arith) h
 
@@ -130,7 +136,14 @@ module _ (text : Text) (v : Pairs) (counts : Bool) where
       name-here = by-token (code.Name from to) t
 
       value-comes : (z : ℤ) → (counts ≡ true → evaluate v (nameOf (part text from to)) ≡ done (z, v)) → Comes text (suc at) v counts here z to
-      value-comes z w = record { tree = nameOf (part text from to); is = name-here; worth = w; onward = t .ends .behind .onward; within = t .ends .behind .within }
+      value-comes z w = record {
+        tree = nameOf (part text from to);
+        is = name-here;
+        worth = w;
+        onward = t .ends .behind .onward;
+        within =
+            t .ends .behind .within;
+      }
 
       outcome-says : counts ≡ true → (o : Outcome ℤ) → nameNumber (lookup (part text from to) v) ≡ o → Says text at v counts here (climbing o to)
       outcome-says c (refused e) q =
@@ -138,7 +151,8 @@ module _ (text : Text) (v : Pairs) (counts : Bool) where
           ap (λ (x : Tree × Text). evaluate v (x .0)) (done-same (sym h ∙ name-here)) ∙ name-is v (part text from to) ∙ ap (withVariables v) q
       outcome-says c (done z) q = value-comes z (λ _. name-is v (part text from to) ∙ ap (withVariables v) q)
 
-    pub operand-name : (from to : ℕ) (r : Climbed) → TokenAt text at (code.Name from to) → (b : Bool) → counts ≡ b → Names text from to v b r → Says text at v counts here r
+    pub operand-name : (from to : ℕ) (r : Climbed) → TokenAt text at (code.Name from to) → (b : Bool) → counts ≡ b → Names text from to v
+        b r → Says text at v counts here r
     operand-name from to r t true c h = subst (Says text at v counts here) (sym h) (outcome-says from to t c (nameNumber (lookup (part text from to) v)) refl)
     operand-name from to r t false c h = subst (Says text at v counts here) (sym h) (value-comes from to t (pos 0) (λ k. absurd (no (sym c ∙ k))))
 
@@ -158,7 +172,8 @@ module _ (text : Text) (v : Pairs) (counts : Bool) where
     less : (d ≡ 0 → ⊥) → d ≡ suc (d - 1)
     less n = omega arith
 
-    pub plus-says : (r : Climbed) → o ≡ Add → (d ≡ 0 → ⊥) → Says text at v counts (grow (operand, d - 1, drop at text)) r → Says text at v counts sign-here r
+    pub plus-says : (r : Climbed) → o ≡ Add → (d ≡ 0 → ⊥) → Says text at v counts (grow (operand, d - 1, drop at text)) r → Says text
+        at v counts sign-here r
     unfolding sign
     plus-says r e n h = says-same at at sign-here _ r (ap (λ (i : ℕ). sign grow (opOf o) i (drop at text)) (less n) ∙ rw e) (omega arith) h
 
@@ -182,7 +197,8 @@ module _ (text : Text) (v : Pairs) (counts : Bool) where
       minus-outcome : counts ≡ true → (u : Outcome ℤ) → ranged (negℤ z) ≡ u → Says text at v counts sign-here (climbing u next)
       minus-outcome k (refused e) q =
           work-fault v counts k λ p h.
-          ap (λ (x : Tree × Text). evaluate v (x .0)) (done-same (sym h ∙ minus-here)) ∙ negated-done v (c .tree) z (c .worth k) ∙ ap (withVariables v) q
+          ap (λ (x : Tree × Text). evaluate v (x .0)) (done-same (sym h ∙ minus-here)) ∙ negated-done v (c .tree) z (c .worth k) ∙ ap
+          (withVariables v) q
       minus-outcome k (done y) q = minus-comes y (λ _. negated-done v (c .tree) z (c .worth k) ∙ ap (withVariables v) q)
 
       pub minus-says : (r : Climbed) (b : Bool) → counts ≡ b → Turned z next b r → Says text at v counts sign-here r
@@ -212,7 +228,8 @@ module _ (text : Text) (v : Pairs) (counts : Bool) where
     unfolding inside close
     enclosed-fails e n f = fails-same v counts (enclosed-is n) (fails-first v counts close f λ q p h b. rw (shut-tree (token (q .1)) (q .0) p h) b)
 
-    pub enclosed-says : (z : ℤ) (next : ℕ) (r : Climbed) → (d ≡ 0 → ⊥) → Comes text (suc at) v counts (expression grow (d - 1) 1 (drop at text)) z next → Closes text next z r
+    pub enclosed-says : (z : ℤ) (next : ℕ) (r : Climbed) → (d ≡ 0 → ⊥) → Comes text (suc at) v counts
+        (expression grow (d - 1) 1 (drop at text)) z next → Closes text next z r
         → Says text at v counts enclosed-here r
     unfolding inside close
     enclosed-says z next (climbed.Refused e) n c h = fault v counts (enclosed-is n ∙ ap (λ (o : Grown). o >>= close) (c .is) ∙ h (c .tree))

@@ -37,13 +37,15 @@ module _ (v : Pairs) where
   unfolding evaluate
   left-refused o l r e q = ap (λ (x : Evaluated). x >>= λ p. evaluate (p .1) r >>= λ s. withVariables (s .1) (apply o (p .0) (s .0))) q
 
-  pub right-refused : (o : Op) (l r : Tree) (x : ℤ) (e : ℕ) → evaluate v l ≡ done (x, v) → evaluate v r ≡ refused e → evaluate v (binary o l r) ≡ refused e
+  pub right-refused : (o : Op) (l r : Tree) (x : ℤ) (e : ℕ) → evaluate v l ≡ done (x, v) → evaluate v r ≡ refused e → evaluate v
+      (binary o l r) ≡ refused e
   unfolding evaluate
   right-refused o l r x e q h =
       ap (λ (x : Evaluated). x >>= λ p. evaluate (p .1) r >>= λ s. withVariables (s .1) (apply o (p .0) (s .0))) q
       ∙ ap (λ (y : Evaluated). y >>= λ s. withVariables (s .1) (apply o x (s .0))) h
 
-  pub both-done : (o : Op) (l r : Tree) (x y : ℤ) → evaluate v l ≡ done (x, v) → evaluate v r ≡ done (y, v) → evaluate v (binary o l r) ≡ withVariables v (apply o x y)
+  pub both-done : (o : Op) (l r : Tree) (x y : ℤ) → evaluate v l ≡ done (x, v) → evaluate v r ≡ done (y, v) → evaluate v (binary o l r)
+      ≡ withVariables v (apply o x y)
   unfolding evaluate
   both-done o l r x y q h =
       ap (λ (x : Evaluated). x >>= λ p. evaluate (p .1) r >>= λ s. withVariables (s .1) (apply o (p .0) (s .0))) q
@@ -99,12 +101,14 @@ evaluate-keeps v (binary o a b) = keeps-left v o b (evaluate v a) (evaluate-keep
 module _ (v : Pairs) where
   -- the tree of what is read behind l, at a text, fails where l does
   abbrev Failing : ℕ × ℕ × Tree × Text → Type 0
-  Failing a = (p : Tree × Text) → grow (further (a .1) (a .2), a .0, a .3) ≡ done p → (e : ℕ) → evaluate v (a .2) ≡ refused e → evaluate v (p .0) ≡ refused e
+  Failing a = (p : Tree × Text) → grow (further (a .1) (a .2), a .0, a .3) ≡ done p → (e : ℕ) → evaluate v (a .2) ≡ refused e →
+      evaluate v (p .0) ≡ refused e
 
   abbrev failSize : ℕ × ℕ × Tree × Text → ℕ
   failSize a = length (a .3)
 
-  module _ (d k : ℕ) (l : Tree) (t : Text) (ih : (b : ℕ × ℕ × Tree × Text) → failSize b < length t → Failing b) (p : Tree × Text) (e : ℕ) (bad : evaluate v l ≡ refused e) where
+  module _ (d k : ℕ) (l : Tree) (t : Text) (ih : (b : ℕ × ℕ × Tree × Text) → failSize b < length t → Failing b) (p : Tree × Text)
+      (e : ℕ) (bad : evaluate v l ≡ refused e) where
     ends-here : done (l, t) ≡ done p → evaluate v (p .0) ≡ refused e
     ends-here q = rw (sym (done-same q)) bad
 
@@ -134,4 +138,5 @@ module _ (v : Pairs) where
   left-fails d k l t = by-size failSize Failing one (d, k, l, t)
     where
       one : (a : ℕ × ℕ × Tree × Text) → ((b : ℕ × ℕ × Tree × Text) → failSize b < failSize a → Failing b) → Failing a
-      one a ih p q e bad = by-token (a .0) (a .1) (a .2) (a .3) ih p e bad (token (a .3)) (token-left (a .3)) (sym (grow-eq (further (a .1) (a .2), a .0, a .3)) ∙ q)
+      one a ih p q e bad =
+          by-token (a .0) (a .1) (a .2) (a .3) ih p e bad (token (a .3)) (token-left (a .3)) (sym (grow-eq (further (a .1) (a .2), a .0, a .3)) ∙ q)

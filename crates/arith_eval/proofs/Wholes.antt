@@ -47,7 +47,8 @@ module _ (text : Text) (v : Pairs) (counts : Bool) where
         ap (evaluate v) (whole-tree (token (b .from .1)) (b .from .0) l (b .then-is)) ∙ f .works (b .from) (b .first);
   }
 
-  pub once-says : (z : ℤ) (next : ℕ) (r : Number) → Comes text 1 v counts (expression grow openLimit 1 text) z next → Finishes text next z r → Answers v counts (tree text) r
+  pub once-says : (z : ℤ) (next : ℕ) (r : Number) → Comes text 1 v counts (expression grow openLimit 1 text) z next → Finishes text next z r
+      → Answers v counts (tree text) r
   unfolding behind
   once-says z next (number.Refused e) c h =
       let q : tree text ≡ refused e = tree-is ∙ ap (λ (o : Grown). o >>= behind) (c .is) ∙ h (c .tree) in

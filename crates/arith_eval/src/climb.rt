@@ -10,10 +10,10 @@ use super::REFUSED_DEPTH;
 use super::name_number;
 use arith_int::Number;
 use arith_int::Op;
-use arith_token::REFUSED_SYNTAX;
 use arith_token::Token;
 use arith_token::level;
 use arith_token::token_at;
+use text::numbers;
 
 // A value and the place behind its text.
 pub enum Climbed {
@@ -95,11 +95,11 @@ fn closed(text: &[u8], value: i64, at: usize) -> Climbed
             value: value,
             next: next,
         },
-        Token::Stop => Climbed::Refused(REFUSED_SYNTAX),
-        Token::Number { value: _, next: _ } => Climbed::Refused(REFUSED_SYNTAX),
-        Token::Name { from: _, to: _ } => Climbed::Refused(REFUSED_SYNTAX),
-        Token::Op(_, _) => Climbed::Refused(REFUSED_SYNTAX),
-        Token::Opens(_) => Climbed::Refused(REFUSED_SYNTAX),
+        Token::Stop => Climbed::Refused(numbers::REFUSED_ARITHMETIC),
+        Token::Number { value: _, next: _ } => Climbed::Refused(numbers::REFUSED_ARITHMETIC),
+        Token::Name { from: _, to: _ } => Climbed::Refused(numbers::REFUSED_ARITHMETIC),
+        Token::Op(_, _) => Climbed::Refused(numbers::REFUSED_ARITHMETIC),
+        Token::Opens(_) => Climbed::Refused(numbers::REFUSED_ARITHMETIC),
     }
 }
 
@@ -118,8 +118,8 @@ fn operand(text: &[u8], at: usize, room: usize, counts: bool, vars: &[u8]) -> Cl
         Token::Name { from, to } => named(text, from, to, counts, vars),
         Token::Op(op, next) => signed(text, next, op, room, counts, vars),
         Token::Opens(next) => enclosed(text, next, room, counts, vars),
-        Token::Shuts(_) => Climbed::Refused(REFUSED_SYNTAX),
-        Token::Stop => Climbed::Refused(REFUSED_SYNTAX),
+        Token::Shuts(_) => Climbed::Refused(numbers::REFUSED_ARITHMETIC),
+        Token::Stop => Climbed::Refused(numbers::REFUSED_ARITHMETIC),
     }
 }
 
@@ -131,13 +131,13 @@ fn signed(text: &[u8], at: usize, op: Op, room: usize, counts: bool, vars: &[u8]
     match op {
         Op::Add => {
             if room == 0 {
-                return Climbed::Refused(REFUSED_DEPTH);
+                return Climbed::Refused(numbers::REFUSED_DEPTH);
             }
             operand(text, at, room - 1, counts, vars)
         }
         Op::Sub => {
             if room == 0 {
-                return Climbed::Refused(REFUSED_DEPTH);
+                return Climbed::Refused(numbers::REFUSED_DEPTH);
             }
             let got = operand(text, at, room - 1, counts, vars);
             match got {
@@ -145,15 +145,15 @@ fn signed(text: &[u8], at: usize, op: Op, room: usize, counts: bool, vars: &[u8]
                 Climbed::Value { value, next } => turned(value, next, counts),
             }
         }
-        Op::Mul => Climbed::Refused(REFUSED_SYNTAX),
-        Op::Div => Climbed::Refused(REFUSED_SYNTAX),
-        Op::Rem => Climbed::Refused(REFUSED_SYNTAX),
-        Op::Lt => Climbed::Refused(REFUSED_SYNTAX),
-        Op::Le => Climbed::Refused(REFUSED_SYNTAX),
-        Op::Gt => Climbed::Refused(REFUSED_SYNTAX),
-        Op::Ge => Climbed::Refused(REFUSED_SYNTAX),
-        Op::Eq => Climbed::Refused(REFUSED_SYNTAX),
-        Op::Ne => Climbed::Refused(REFUSED_SYNTAX),
+        Op::Mul => Climbed::Refused(numbers::REFUSED_ARITHMETIC),
+        Op::Div => Climbed::Refused(numbers::REFUSED_ARITHMETIC),
+        Op::Rem => Climbed::Refused(numbers::REFUSED_ARITHMETIC),
+        Op::Lt => Climbed::Refused(numbers::REFUSED_ARITHMETIC),
+        Op::Le => Climbed::Refused(numbers::REFUSED_ARITHMETIC),
+        Op::Gt => Climbed::Refused(numbers::REFUSED_ARITHMETIC),
+        Op::Ge => Climbed::Refused(numbers::REFUSED_ARITHMETIC),
+        Op::Eq => Climbed::Refused(numbers::REFUSED_ARITHMETIC),
+        Op::Ne => Climbed::Refused(numbers::REFUSED_ARITHMETIC),
     }
 }
 
@@ -163,7 +163,7 @@ fn enclosed(text: &[u8], at: usize, room: usize, counts: bool, vars: &[u8]) -> C
     ensures { λ r. ⌜ Says (now (text .entry)) at (held (now (vars .entry))) counts (enclosedIn grow room (drop at (now (text .entry)))) r ⌝ }
 {
     if room == 0 {
-        return Climbed::Refused(REFUSED_DEPTH);
+        return Climbed::Refused(numbers::REFUSED_DEPTH);
     }
     let got = expression(text, at, room - 1, 1, counts, vars);
     match got {

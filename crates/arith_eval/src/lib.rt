@@ -10,19 +10,14 @@ ghost use Rattle.table.specs.Places.{Table};
 ghost use Rattle.arith_int.specs.Answers.{numbered};
 ghost use Rattle.arith_eval.specs.Climbs.{Answers, Finishes, comesTo};
 use arith_int::Number;
-use arith_token::REFUSED_SYNTAX;
 use arith_token::Token;
 use arith_token::token_at;
 use climb::Climbed;
 use climb::expression;
 use table::Found;
+use text::numbers;
 
 mod climb;
-
-pub const REFUSED_DEPTH: u8 = 12;
-
-// "More than 32 open parentheses and unary signs, together, is 12."
-const MOST_OPEN: usize = 32;
 
 // What a name stands for: 0 if unset or empty, else the constant that its value is.
 fn name_number(name: &[u8], vars: &[u8]) -> Number
@@ -45,11 +40,11 @@ fn ended(text: &[u8], value: i64, at: usize) -> Number
     match token {
         Token::Refused(e) => Number::Refused(e),
         Token::Stop => Number::Value(value),
-        Token::Number { value: _, next: _ } => Number::Refused(REFUSED_SYNTAX),
-        Token::Name { from: _, to: _ } => Number::Refused(REFUSED_SYNTAX),
-        Token::Op(_, _) => Number::Refused(REFUSED_SYNTAX),
-        Token::Opens(_) => Number::Refused(REFUSED_SYNTAX),
-        Token::Shuts(_) => Number::Refused(REFUSED_SYNTAX),
+        Token::Number { value: _, next: _ } => Number::Refused(numbers::REFUSED_ARITHMETIC),
+        Token::Name { from: _, to: _ } => Number::Refused(numbers::REFUSED_ARITHMETIC),
+        Token::Op(_, _) => Number::Refused(numbers::REFUSED_ARITHMETIC),
+        Token::Opens(_) => Number::Refused(numbers::REFUSED_ARITHMETIC),
+        Token::Shuts(_) => Number::Refused(numbers::REFUSED_ARITHMETIC),
     }
 }
 
@@ -58,7 +53,7 @@ fn once(text: &[u8], counts: bool, vars: &[u8]) -> Number
     requires { ⌜ Table (now vars) ⌝ }
     ensures { λ r. ⌜ Answers (held (now (vars .entry))) counts (tree (now (text .entry))) r ⌝ }
 {
-    let got = expression(text, 0, MOST_OPEN, 1, counts, vars);
+    let got = expression(text, 0, numbers::OPEN_LIMIT, 1, counts, vars);
     match got {
         Climbed::Refused(e) => Number::Refused(e),
         Climbed::Value { value, next } => ended(text, value, next),

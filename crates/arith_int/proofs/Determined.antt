@@ -27,7 +27,8 @@ negate-determined a r s e f = determined-number r s e f
 pub magnitude-determined : (a : ℤ) (r s : ℕ) → r ≡ natAbs a → s ≡ natAbs a → r ≡ s
 magnitude-determined a r s e f = e ∙ sym f
 
-pub of-magnitude-determined : (below : Bool) (m : ℕ) (r s : Number) → numbered r ≡ ranged (ofSign below m) → numbered s ≡ ranged (ofSign below m) → r ≡ s
+pub of-magnitude-determined : (below : Bool) (m : ℕ) (r s : Number) → numbered r ≡ ranged (ofSign below m) → numbered s ≡ ranged
+    (ofSign below m) → r ≡ s
 of-magnitude-determined below m r s e f = determined-number r s e f
 
 pub operate-determined : (o : Op) (a b : ℤ) (r s : Number) → numbered r ≡ apply o a b → numbered s ≡ apply o a b → r ≡ s

@@ -64,7 +64,10 @@ quot-fits (negsuc a) (negsuc zero) h n = record { sfits = let f = h .sfits in om
   where
     top : a ≡ 9223372036854775807 → ⊥
     top e = n refl (ap negsuc e)
-quot-fits (negsuc a) (negsuc (suc b)) h n = record { sfits = let f = h .sfits in omega (arith, div-lt-self {n = suc a} {k = suc (suc b)} (omega arith) (omega arith)) }
+quot-fits (negsuc a) (negsuc (suc b)) h n = record {
+  sfits = let f = h .sfits in
+      omega (arith, div-lt-self {n = suc a} {k = suc (suc b)} (omega arith) (omega arith));
+}
 
 pub rem-fits : (a b : ℤ) → SFits w64 a → SFits w64 (remZ a b)
 rem-fits a b h = record { sfits = let f = h .sfits in omega (arith, mag-rem a b) }

@@ -7,10 +7,7 @@ ghost use Rattle.stages.specs.Outcome.{done};
 ghost use Rattle.stages.specs.Constants.{ranged};
 ghost use Rattle.stages.specs.Arith.{divided, apply, truth as truthOf};
 ghost use Rattle.arith_int.specs.Answers.{numbered, opOf, ofSign};
-
-pub const REFUSED_OVERFLOW: u8 = 17;
-
-pub const REFUSED_ZERO_DIVISOR: u8 = 18;
+use text::numbers;
 
 const SMALLEST: i64 = -9223372036854775808;
 
@@ -46,12 +43,12 @@ fn sum(a: i64, b: i64) -> Number
 {
     if b < 0 {
         if a < SMALLEST - b {
-            return Number::Refused(REFUSED_OVERFLOW);
+            return Number::Refused(numbers::REFUSED_OVERFLOW);
         }
         return Number::Value(a + b);
     }
     if LARGEST - b < a {
-        return Number::Refused(REFUSED_OVERFLOW);
+        return Number::Refused(numbers::REFUSED_OVERFLOW);
     }
     Number::Value(a + b)
 }
@@ -61,7 +58,7 @@ pub fn negate(a: i64) -> Number
     ensures { λ r. ⌜ numbered r ≡ ranged (negℤ a) ⌝ }
 {
     if a == SMALLEST {
-        return Number::Refused(REFUSED_OVERFLOW);
+        return Number::Refused(numbers::REFUSED_OVERFLOW);
     }
     Number::Value(-a)
 }
@@ -74,7 +71,7 @@ fn difference(a: i64, b: i64) -> Number
         if a < 0 {
             return Number::Value(a - b);
         }
-        return Number::Refused(REFUSED_OVERFLOW);
+        return Number::Refused(numbers::REFUSED_OVERFLOW);
     }
     sum(a, -b)
 }
@@ -84,11 +81,11 @@ fn quotient(a: i64, b: i64) -> Number
     ensures { λ r. ⌜ numbered r ≡ divided quotZ a b ⌝ }
 {
     if b == 0 {
-        return Number::Refused(REFUSED_ZERO_DIVISOR);
+        return Number::Refused(numbers::REFUSED_ZERO_DIVISOR);
     }
     if b == -1 {
         if a == SMALLEST {
-            return Number::Refused(REFUSED_OVERFLOW);
+            return Number::Refused(numbers::REFUSED_OVERFLOW);
         }
     }
     Number::Value(a / b)
@@ -99,11 +96,11 @@ fn remainder(a: i64, b: i64) -> Number
     ensures { λ r. ⌜ numbered r ≡ divided remZ a b ⌝ }
 {
     if b == 0 {
-        return Number::Refused(REFUSED_ZERO_DIVISOR);
+        return Number::Refused(numbers::REFUSED_ZERO_DIVISOR);
     }
     if b == -1 {
         if a == SMALLEST {
-            return Number::Refused(REFUSED_OVERFLOW);
+            return Number::Refused(numbers::REFUSED_OVERFLOW);
         }
     }
     Number::Value(a % b)
@@ -130,13 +127,13 @@ pub fn of_magnitude(below: bool, m: u64) -> Number
     if below {
         let k = m - 1;
         if ABOVE < k {
-            return Number::Refused(REFUSED_OVERFLOW);
+            return Number::Refused(numbers::REFUSED_OVERFLOW);
         }
         let i = k as i64;
         return Number::Value(-1 - i);
     }
     if ABOVE < m {
-        return Number::Refused(REFUSED_OVERFLOW);
+        return Number::Refused(numbers::REFUSED_OVERFLOW);
     }
     Number::Value(m as i64)
 }
@@ -151,7 +148,7 @@ fn product(a: i64, b: i64) -> Number
         return Number::Value(0);
     }
     if BELOW / x < y {
-        return Number::Refused(REFUSED_OVERFLOW);
+        return Number::Refused(numbers::REFUSED_OVERFLOW);
     }
     let z = x * y;
     if a < 0 {

@@ -59,8 +59,10 @@ level-small Ne = omega arith
 
 -- the first byte decides
 
-none-fits : (b : ℕ) (u : Text) → isBlank b ≡ false → isDigit b ≡ false → isNameStart b ≡ false → eqb b 40 ≡ false → eqb b 41 ≡ false → eqb b 42 ≡ false → eqb b 47 ≡ false
-    → eqb b 37 ≡ false → eqb b 43 ≡ false → eqb b 45 ≡ false → eqb b 60 ≡ false → eqb b 62 ≡ false → eqb b 61 ≡ false → eqb b 33 ≡ false
+none-fits : (b : ℕ) (u : Text) → isBlank b ≡ false → isDigit b ≡ false → isNameStart b ≡ false → eqb b 40 ≡ false → eqb b 41 ≡
+    false → eqb b 42 ≡ false → eqb b 47 ≡ false
+    → eqb b 37 ≡ false → eqb b 43 ≡ false → eqb b 45 ≡ false → eqb b 60 ≡ false → eqb b 62 ≡ false → eqb b 61 ≡ false → eqb
+    b 33 ≡ false
     → token (b ∷ u) ≡ refused arithmeticSyntax
 unfolding token choose
 none-fits b u x y z e1 e2 e3 e4 e5 e6 e7 e8 e9 e10 e11 = rw (x, y, z, e1, e2, e3, e4, e5, e6, e7, e8, e9, e10, e11)
@@ -70,7 +72,8 @@ constant-first : (b : ℕ) (u : Text) → isBlank b ≡ false → isDigit b ≡ 
 unfolding token choose
 constant-first b u e f x y s = rw (e, f, s)
 
-name-first : (b : ℕ) (u : Text) → isBlank b ≡ false → isDigit b ≡ false → isNameStart b ≡ true → (x y : Text) → span isNameByte (b ∷ u) ≡ (x, y)
+name-first : (b : ℕ) (u : Text) → isBlank b ≡ false → isDigit b ≡ false → isNameStart b ≡ true → (x y : Text) → span isNameByte
+    (b ∷ u) ≡ (x, y)
     → token (b ∷ u) ≡ done (name x, y)
 unfolding token choose
 name-first b u e f g x y s = rw (e, f, g, s)
@@ -83,21 +86,27 @@ pub next-place : (text : Text) (at : ℕ) → at < length text → Behind text a
 next-place text at h = record { onward = omega arith; within = omega arith }
 
 -- a token that its first byte decides
-pub single : (text : Text) (at b : ℕ) (r : Token) → Symbol text at → getD text at 0 ≡ b → token (b ∷ drop (at + 1) text) ≡ lexed text r → Ends text at r → TokenAt text at r
+pub single : (text : Text) (at b : ℕ) (r : Token) → Symbol text at → getD text at 0 ≡ b → token (b ∷ drop (at + 1) text) ≡ lexed text r
+    → Ends text at r → TokenAt text at r
 single text at b r s e t w = record { is = ap token (here text at (s .within) ∙ ap (λ (x : ℕ). x ∷ drop (at + 1) text) e) ∙ t; ends = w }
 
 -- a byte that begins no token
-pub no-token : (text : Text) (at : ℕ) → Symbol text at → (getD text at 0 ≡ 40 → ⊥) → (getD text at 0 ≡ 41 → ⊥) → (getD text at 0 ≡ 42 → ⊥) → (getD text at 0 ≡ 47 → ⊥)
-    → (getD text at 0 ≡ 37 → ⊥) → (getD text at 0 ≡ 43 → ⊥) → (getD text at 0 ≡ 45 → ⊥) → (getD text at 0 ≡ 60 → ⊥) → (getD text at 0 ≡ 62 → ⊥)
+pub no-token : (text : Text) (at : ℕ) → Symbol text at → (getD text at 0 ≡ 40 → ⊥) → (getD text at 0 ≡ 41 → ⊥) →
+    (getD text at 0 ≡ 42 → ⊥) → (getD text at 0 ≡ 47 → ⊥)
+    → (getD text at 0 ≡ 37 → ⊥) → (getD text at 0 ≡ 43 → ⊥) → (getD text at 0 ≡ 45 → ⊥) → (getD text at 0 ≡ 60 → ⊥)
+    → (getD text at 0 ≡ 62 → ⊥)
     → (getD text at 0 ≡ 61 → ⊥) → (getD text at 0 ≡ 33 → ⊥) → TokenAt text at (code.Refused arithmeticSyntax)
 no-token text at s e1 e2 e3 e4 e5 e6 e7 e8 e9 e10 e11 = record {
   is = ap token (here text at (s .within)) ∙ go (getD text at 0) (s .bare) (s .digit) (s .start) e1 e2 e3 e4 e5 e6 e7 e8 e9 e10 e11;
   ends = tt;
 }
   where
-    go : (b : ℕ) → isBlank b ≡ false → isDigit b ≡ false → isNameStart b ≡ false → (b ≡ 40 → ⊥) → (b ≡ 41 → ⊥) → (b ≡ 42 → ⊥) → (b ≡ 47 → ⊥) → (b ≡ 37 → ⊥)
-        → (b ≡ 43 → ⊥) → (b ≡ 45 → ⊥) → (b ≡ 60 → ⊥) → (b ≡ 62 → ⊥) → (b ≡ 61 → ⊥) → (b ≡ 33 → ⊥) → token (b ∷ drop (at + 1) text) ≡ refused arithmeticSyntax
-    go b x y z e1 e2 e3 e4 e5 e6 e7 e8 e9 e10 e11 = none-fits b (drop (at + 1) text) x y z (ne-eqb b 40 e1) (ne-eqb b 41 e2) (ne-eqb b 42 e3) (ne-eqb b 47 e4) (ne-eqb b 37 e5)
+    go : (b : ℕ) → isBlank b ≡ false → isDigit b ≡ false → isNameStart b ≡ false → (b ≡ 40 → ⊥) → (b ≡ 41 → ⊥) →
+        (b ≡ 42 → ⊥) → (b ≡ 47 → ⊥) → (b ≡ 37 → ⊥)
+        → (b ≡ 43 → ⊥) → (b ≡ 45 → ⊥) → (b ≡ 60 → ⊥) → (b ≡ 62 → ⊥) → (b ≡ 61 → ⊥) → (b ≡ 33 → ⊥) →
+        token (b ∷ drop (at + 1) text) ≡ refused arithmeticSyntax
+    go b x y z e1 e2 e3 e4 e5 e6 e7 e8 e9 e10 e11 =
+        none-fits b (drop (at + 1) text) x y z (ne-eqb b 40 e1) (ne-eqb b 41 e2) (ne-eqb b 42 e3) (ne-eqb b 47 e4) (ne-eqb b 37 e5)
         (ne-eqb b 43 e6) (ne-eqb b 45 e7) (ne-eqb b 60 e8) (ne-eqb b 62 e9) (ne-eqb b 61 e10) (ne-eqb b 33 e11)
 
 -- with `=` behind it, or alone
@@ -126,7 +135,8 @@ token-blanks (b ∷ t) u e = rw (and-left (isBlank b) (all isBlank t) e) (token-
 module _ (text : Text) (at i : ℕ) (r : Runs text at Blank i) where
   pub past-blanks : token (drop at text) ≡ token (drop i text)
   past-blanks =
-      ap token (sym (span-join isBlank (drop at text))) ∙ token-blanks (span isBlank (drop at text) .0) (span isBlank (drop at text) .1) (span-all isBlank (drop at text))
+      ap token (sym (span-join isBlank (drop at text))) ∙ token-blanks (span isBlank (drop at text) .0) (span isBlank (drop at text) .1)
+      (span-all isBlank (drop at text))
       ∙ ap (λ (p : Text × Text). token (p .1)) (r .is)
 
   -- a token behind them is the token
@@ -161,13 +171,18 @@ module _ (text : Text) (at to : ℕ) (h : at < length text) (r : Runs text at Na
   run = ap (span isNameByte) (sym (here text at h)) ∙ r .is
 
   run-behind : isNameByte (getD text at 0) ≡ true → Behind text at to
-  run-behind e = record { onward = grows (ap (λ (p : Text × Text). length (p .0)) (sym (span-more isNameByte (getD text at 0) (drop (at + 1) text) e) ∙ run)); within = r .within }
+  run-behind e = record {
+    onward =
+        grows (ap (λ (p : Text × Text). length (p .0)) (sym (span-more isNameByte (getD text at 0) (drop (at + 1) text) e) ∙ run));
+    within = r .within;
+  }
     where
       grows : suc (length (span isNameByte (drop (at + 1) text) .0)) ≡ length (part text at to) → at < to
       grows q = omega (arith, length-take (to - at) (drop at text))
 
   module _ (bare : isBlank (getD text at 0) ≡ false) where
-    constant-token : isDigit (getD text at 0) ≡ true → token (drop at text) ≡ (number pos (constant (part text at to)) >>= λ z. done (num z, drop to text))
+    constant-token : isDigit (getD text at 0) ≡ true → token (drop at text) ≡
+        (number pos (constant (part text at to)) >>= λ z. done (num z, drop to text))
     constant-token e = ap token (here text at h) ∙ constant-first (getD text at 0) (drop (at + 1) text) bare e (part text at to) (drop to text) run
 
     pub name-at : isDigit (getD text at 0) ≡ false → isNameStart (getD text at 0) ≡ true → TokenAt text at (code.Name at to)
@@ -176,10 +191,12 @@ module _ (text : Text) (at to : ℕ) (h : at < length text) (r : Runs text at Na
       ends = record { behind = run-behind (start-name-byte (getD text at 0) f); rising = r .onward };
     }
 
-    pub bad-constant : isDigit (getD text at 0) ≡ true → (e : ℕ) → refused e ≡ number pos (constant (part text at to)) → TokenAt text at (code.Refused e)
+    pub bad-constant : isDigit (getD text at 0) ≡ true → (e : ℕ) → refused e ≡ number pos (constant (part text at to)) → TokenAt text at
+        (code.Refused e)
     bad-constant d e q = record { is = constant-token d ∙ ap (λ (o : Outcome ℤ). o >>= λ z. done (num z, drop to text)) (sym q); ends = tt }
 
-    pub good-constant : isDigit (getD text at 0) ≡ true → (z : ℤ) → done z ≡ number pos (constant (part text at to)) → TokenAt text at (code.Number z to)
+    pub good-constant : isDigit (getD text at 0) ≡ true → (z : ℤ) → done z ≡ number pos (constant (part text at to)) → TokenAt text at
+        (code.Number z to)
     good-constant d z q = record {
       is = constant-token d ∙ ap (λ (o : Outcome ℤ). o >>= λ z. done (num z, drop to text)) (sym q);
       ends = run-behind (digit-name-byte (getD text at 0) d);

@@ -6,8 +6,7 @@ ghost use Rattle.arith_token.specs.Tokens.{levelOf, TokenAt, Digit, Symb
 use arith_int::Number;
 use arith_int::Op;
 use text::Class;
-
-pub const REFUSED_SYNTAX: u8 = 16;
+use text::numbers;
 
 // A token, and the place behind it; of a name, where it begins and ends.
 pub enum Token {
@@ -82,9 +81,19 @@ fn symbol_at(text: &[u8], at: usize) -> Token
         b'-' => Token::Op(Op::Sub, next),
         b'<' => paired(text, at, Token::Op(Op::Lt, next), Op::Le),
         b'>' => paired(text, at, Token::Op(Op::Gt, next), Op::Ge),
-        b'=' => paired(text, at, Token::Refused(REFUSED_SYNTAX), Op::Eq),
-        b'!' => paired(text, at, Token::Refused(REFUSED_SYNTAX), Op::Ne),
-        _ => Token::Refused(REFUSED_SYNTAX),
+        b'=' => paired(
+            text,
+            at,
+            Token::Refused(numbers::REFUSED_ARITHMETIC),
+            Op::Eq,
+        ),
+        b'!' => paired(
+            text,
+            at,
+            Token::Refused(numbers::REFUSED_ARITHMETIC),
+            Op::Ne,
+        ),
+        _ => Token::Refused(numbers::REFUSED_ARITHMETIC),
     }
 }
 

@@ -69,7 +69,13 @@ module _ (job : Job) (g : Given) where
         unfolding expanded orRefused
         homes-bad h =
             record {
-              is = rw (le-leb workLeast (length (g .work)) a, le-leb (g .used) (length (g .vars)) i, variables-are _ (vars-of _ v), none-of (homes (g .homes)) h);
+              is = rw (
+                le-leb workLeast (length (g .work)) a,
+                le-leb (g .used) (length (g .vars)) i,
+                variables-are _ (vars-of _ v),
+                none-of
+                    (homes (g .homes)) h,
+              );
               early = λ p. apart h (p .tables .housed);
             }
 
@@ -78,7 +84,14 @@ module _ (job : Job) (g : Given) where
           unfolding expanded orRefused
           paths-bad h =
               record {
-                is = rw (le-leb workLeast (length (g .work)) a, le-leb (g .used) (length (g .vars)) i, variables-are _ (vars-of _ v), homes-are _ (homes-of _ w), none-of (pathsOf (g .paths)) h);
+                is = rw (
+                  le-leb workLeast (length (g .work)) a,
+                  le-leb (g .used) (length (g .vars)) i,
+                  variables-are _ (vars-of _ v),
+                  homes-are _
+                      (homes-of _ w),
+                  none-of (pathsOf (g .paths)) h,
+                );
                 early = λ p. apart h (p .tables .listed);
               }
 
@@ -94,7 +107,13 @@ module _ (job : Job) (g : Given) (t : Tabled g) where
   tables-passed : expanded g out ≡ expandLine (among g out) (g .line) v
   unfolding expanded orRefused
   tables-passed =
-      rw (le-leb workLeast (length (g .work)) (t .area), le-leb (g .used) (length (g .vars)) (t .inside), variables-are _ (vars-of _ (t .formed)), homes-are _ (homes-of _ (t .housed)), paths-are _ (paths-of _ (t .listed)))
+      rw (
+        le-leb workLeast (length (g .work)) (t .area),
+        le-leb (g .used) (length (g .vars)) (t .inside),
+        variables-are _ (vars-of _ (t .formed)),
+        homes-are _ (homes-of _ (t .housed)),
+        paths-are _ (paths-of _ (t .listed)),
+      )
 
   pub line-long : lineLimit < length (g .line) → Stopped job g lineTooLong 0
   unfolding expandLine
@@ -143,12 +162,14 @@ module _ (g : Given) (out : ℕ) where
   abbrev behind : Word → List Word → ℕ → Around → Fields × Pairs → Placed (Fields × Pairs)
   behind w ws n a r = joined (w .place) (r .0) (expandWords a ws (n + recordBytes (r .0)) (r .1)) (outFits a (n + recordBytes (r .0)))
 
-  behind-capped : (w : Word) (ws : List Word) (n : ℕ) → ((m : ℕ) (v : Pairs) → expandWords (among g out) ws m v ≡ expandWords (among g (capped out)) ws m v)
+  behind-capped : (w : Word) (ws : List Word) (n : ℕ) →
+      ((m : ℕ) (v : Pairs) → expandWords (among g out) ws m v ≡ expandWords (among g (capped out)) ws m v)
       → (o : Outcome (Fields × Pairs)) → (at (w .place) o then behind w ws n (among g out)) ≡ (at (w .place) o then behind w ws n (among g (capped out)))
   behind-capped w ws n ih (refused k) = refl
   behind-capped w ws n ih (done r) =
       ap (joined (w .place) (r .0) (expandWords (among g out) ws (n + recordBytes (r .0)) (r .1))) (fits-capped (n + recordBytes (r .0)))
-      ∙ ap (λ (o : Placed (Fields × Pairs)). joined (w .place) (r .0) o (outFits (among g (capped out)) (n + recordBytes (r .0)))) (ih (n + recordBytes (r .0)) (r .1))
+      ∙ ap (λ (o : Placed (Fields × Pairs)). joined (w .place) (r .0) o (outFits (among g (capped out)) (n + recordBytes (r .0))))
+      (ih (n + recordBytes (r .0)) (r .1))
 
   words-capped : (ws : List Word) (n : ℕ) (v : Pairs) → expandWords (among g out) ws n v ≡ expandWords (among g (capped out)) ws n v
   unfolding expandWords wordFields
@@ -176,7 +197,9 @@ module _ (job : Job) (g : Given) (t : Tabled g) (l : length (g .line) ≤ lineLi
         words = a .all;
         read = a .is;
         byte = b;
-        is = line-passed job g t l z (a .all) (a .is) (fits-capped g (roomOf job (length (g .out))) 1 ∙ rw (le-leb 1 (capped (roomOf job (length (g .out)))) b)) ∙ words-capped g (roomOf job (length (g .out))) (a .all) 1 (held (take (g .used) (g .vars)));
+        is = line-passed job g t l z (a .all) (a .is)
+            (fits-capped g (roomOf job (length (g .out))) 1 ∙ rw (le-leb 1 (capped (roomOf job (length (g .out)))) b)) ∙ words-capped g
+            (roomOf job (length (g .out))) (a .all) 1 (held (take (g .used) (g .vars)));
       }
 
 -- an answer once it is known

@@ -1,8 +1,7 @@
 // What is looked at before the first word is expanded: "Order: 1 to 6 as numbered; then the whole line is read", then room for the empty fields image.
-pub mod refusals;
-
 use read_line::LineRead;
 use table::Kind;
+use text::numbers;
 ghost use mathlib.Core.Path.{_≡_};
 ghost use lib.ListN.{length};
 ghost use Rattle.call_check.specs.Calls.{given};
@@ -25,12 +24,12 @@ pub fn room(job: Job, out: usize) -> usize
     ensures { λ r. ⌜ r ≡ roomIn job out ⌝ }
 {
     match job {
-        Job::Normaliser => refusals::IMAGE_LIMIT,
+        Job::Normaliser => numbers::IMAGE_LIMIT,
         Job::Expander => {
-            if out <= refusals::IMAGE_LIMIT {
+            if out <= numbers::IMAGE_LIMIT {
                 out
             } else {
-                refusals::IMAGE_LIMIT
+                numbers::IMAGE_LIMIT
             }
         }
     }
@@ -58,13 +57,14 @@ fn check_line(
     out: &[u8],
 ) -> Checked
     requires { ⌜ Tabled (given (now line) (now vars) used (now homes) (now paths) (now work) (now out)) ⌝ }
-    ensures { λ r. ⌜ Checks job (given (now (line .entry)) (now (vars .entry)) used (now (homes .entry)) (now (paths .entry)) (now (work .entry)) (now (out .entry))) r ⌝ }
+    ensures { λ r. ⌜ Checks job
+        (given (now (line .entry)) (now (vars .entry)) used (now (homes .entry)) (now (paths .entry)) (now (work .entry)) (now (out .entry))) r ⌝ }
 {
-    if refusals::LINE_LIMIT < line.len() {
-        return refuse(refusals::REFUSED_LENGTH);
+    if numbers::LINE_LIMIT < line.len() {
+        return refuse(numbers::REFUSED_LENGTH);
     }
     if text::is_in(0, line) {
-        return refuse(refusals::REFUSED_ZERO);
+        return refuse(numbers::REFUSED_ZERO);
     }
     let read = read_line::read_line(line);
     match read {
@@ -74,7 +74,7 @@ fn check_line(
         },
         LineRead::Read => {
             if room(job, out.len()) == 0 {
-                return refuse(refusals::REFUSED_OUTPUT);
+                return refuse(numbers::REFUSED_OUTPUT);
             }
             Checked::Fine
         }
@@ -92,22 +92,23 @@ pub fn check(
     work: &[u8],
     out: &[u8],
 ) -> Checked
-    ensures { λ r. ⌜ Checks job (given (now (line .entry)) (now (vars .entry)) used (now (homes .entry)) (now (paths .entry)) (now (work .entry)) (now (out .entry))) r ⌝ }
+    ensures { λ r. ⌜ Checks job
+        (given (now (line .entry)) (now (vars .entry)) used (now (homes .entry)) (now (paths .entry)) (now (work .entry)) (now (out .entry))) r ⌝ }
 {
-    if work.len() < refusals::WORK_LEAST {
-        return refuse(refusals::REFUSED_WORK);
+    if work.len() < numbers::WORK_LEAST {
+        return refuse(numbers::REFUSED_WORK);
     }
     if vars.len() < used {
-        return refuse(refusals::REFUSED_VARIABLES);
+        return refuse(numbers::REFUSED_VARIABLES);
     }
     if !table::well_formed(Kind::Variables, &vars[..used]) {
-        return refuse(refusals::REFUSED_VARIABLES);
+        return refuse(numbers::REFUSED_VARIABLES);
     }
     if !table::well_formed(Kind::Homes, homes) {
-        return refuse(refusals::REFUSED_HOMES);
+        return refuse(numbers::REFUSED_HOMES);
     }
     if !table::well_formed(Kind::Paths, paths) {
-        return refuse(refusals::REFUSED_PATHS);
+        return refuse(numbers::REFUSED_PATHS);
     }
     check_line(job, line, vars, used, homes, paths, work, out)
 }

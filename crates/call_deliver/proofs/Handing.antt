@@ -25,7 +25,8 @@ unfolding quoting over
 copied-over t old left e = rw e
 
 -- the output is written, and the variables' image is copied
-pub handed-both : {q : Quoting} {n : ℕ} (kept old : Text) (used : ℕ) {vars left : Text} → quotingOf (Len n) left ≡ q → vars ≡ kept ++ drop (length kept) old
+pub handed-both : {q : Quoting} {n : ℕ} (kept old : Text) (used : ℕ) {vars left : Text} → quotingOf (Len n) left ≡ q → vars ≡ kept ++ drop
+    (length kept) old
     → Handed q kept old used (record { number = accepted; place = 0; «out_len» = n; «used_len» = length kept }) vars left
 unfolding over
 handed-both {n = n} kept old used {vars = vars} {left = left} e d =

@@ -1,8 +1,8 @@
 // What was worked out is handed over at the end of a job: the output with the variables' new image, or neither. "On acceptance, bytes behind either new
 // image are unchanged": no more than the new images' bytes is ever copied.
 use call_check::Job;
-use call_check::refusals;
 use quote::Quoted;
+use text::numbers;
 ghost use mathlib.Core.Path.{_≡_};
 ghost use Prim.Native.Nat.{ℕ, _≤_};
 ghost use lib.ListN.{length};
@@ -54,20 +54,21 @@ pub fn hand_over(
     out: &mut [u8],
 ) -> Answer
     requires { ⌜ (length (now image) ≤ roomOf job (length (now out))) × (length (now kept) ≤ length (now vars)) ⌝ }
-    ensures { λ r. ⌜ Handed (writingOf job (now (image .entry)) (now (out .entry))) (now (kept .entry)) (now (vars .entry)) used r (now (vars .exit)) (now (out .exit)) ⌝ }
+    ensures { λ r. ⌜ Handed (writingOf job (now (image .entry)) (now (out .entry))) (now (kept .entry)) (now (vars .entry)) used r
+        (now (vars .exit)) (now (out .exit)) ⌝ }
 {
     let written = deliver(job, image, out);
     match written {
         Quoted::Len(n) => {
             text_copy::copy_in(kept, vars);
             Answer {
-                number: refusals::ACCEPTED,
+                number: numbers::ACCEPTED,
                 place: 0,
                 out_len: n,
                 used_len: kept.len(),
             }
         }
-        Quoted::NoRoom => refuse(refusals::REFUSED_OUTPUT, 0, used),
-        Quoted::Malformed => refuse(refusals::REFUSED_FIELDS, 0, used),
+        Quoted::NoRoom => refuse(numbers::REFUSED_OUTPUT, 0, used),
+        Quoted::Malformed => refuse(numbers::REFUSED_FIELDS, 0, used),
     }
 }

@@ -39,7 +39,8 @@ hands-refused g n place = record { number = refl; place = refl; outLength = refl
 pub answer-refused : (job : Job) (g : Given) {n place : ℕ} {r : Answer} → worked job g ≡ refusedAt n place → r ≡ refusedAs n place (g .used)
     → Hands (answerOf job g) r (g .vars) (g .out)
 answer-refused job g {n = n} {place = place} {r = r} h e =
-    subst (λ (a : stage.Answer). Hands a r (g .vars) (g .out)) (sym (answer-is job g ∙ ap (λ (o : Placed (Fields × Pairs)). answered g (o then rest job g)) h))
+    subst (λ (a : stage.Answer). Hands a r (g .vars) (g .out))
+    (sym (answer-is job g ∙ ap (λ (o : Placed (Fields × Pairs)). answered g (o then rest job g)) h))
     (subst (λ (x : Answer). Hands (answered g (refusedAt n place)) x (g .vars) (g .out)) (sym e) (hands-refused g n place))
 
 -- what is written is refused with 21, or it is a text
@@ -47,7 +48,8 @@ data Written : Placed Text → Type 0 where
   full : Written (refusedAt outputRoom 0)
   fine : {t : Text} → Written (doneAt t)
 
-quoted-written : (out : ℕ) (l : Fields) (x : Bool) → (leb (length (quotedLine l)) lineLimit && leb (length (quotedLine l)) out) ≡ x → Written (quotedIn out l)
+quoted-written : (out : ℕ) (l : Fields) (x : Bool) → (leb (length (quotedLine l)) lineLimit && leb (length (quotedLine l)) out) ≡ x → Written
+    (quotedIn out l)
 unfolding quotedIn
 quoted-written out l true e = rw e fine
 quoted-written out l false e = rw e full
@@ -65,13 +67,15 @@ hands-written g v (doneAt t) fine h =
     record { number = h .number; place = h .place; outLength = h .outLength; usedLength = h .usedLength; output = h .output; variables = h .variables }
 
 -- the fields' image is written as the stage writes the fields
-writing-is : (job : Job) (l : Fields) (out : Text) → Fine l → imageLength l ≤ imageLimit → writingOf job (image l) out ≡ quoting out (outputOf job (length out) l)
+writing-is : (job : Job) (l : Fields) (out : Text) → Fine l → imageLength l ≤ imageLimit → writingOf job (image l) out ≡ quoting out
+    (outputOf job (length out) l)
 unfolding quoter orRefused
 writing-is Expander l out f n = refl
 writing-is Normaliser l out f n = let e : fieldsOf (image l) ≡ some l = fields-are (image l) (fields-image l f n) ∙ ap some (heldTexts-image l f) in rw e
 
 -- the line is expanded, and what came of it is handed over
-pub answer-handed : (job : Job) (g : Given) {l : Fields} {v : Pairs} {r : Answer} {vars out : Text} → worked job g ≡ doneAt (l, v) → Fine l → imageLength l ≤ imageLimit
+pub answer-handed : (job : Job) (g : Given) {l : Fields} {v : Pairs} {r : Answer} {vars out : Text} → worked job g ≡ doneAt (l, v) → Fine l →
+    imageLength l ≤ imageLimit
     → Handed (writingOf job (image l) (g .out)) (image (flat v)) (g .vars) (g .used) r vars out → Hands (answerOf job g) r vars out
 answer-handed job g {l = l} {v = v} {r = r} {vars = vars} {out = out} h f n k =
     subst (λ (a : stage.Answer). Hands a r vars out) (sym (answer-is job g ∙ ap (λ (o : Placed (Fields × Pairs)). answered g (o then rest job g)) h))
@@ -84,6 +88,8 @@ unfolding answered cleared
 answered-clear g (refusedAt n place) = refl
 answered-clear g (doneAt r) = refl
 
-pub gives-cleared : (job : Job) (g : Given) {r : Answer} {vars out work : Text} → Hands (answerOf job g) r vars out → work ≡ replicate (length (g .work)) 0
+pub gives-cleared : (job : Job) (g : Given) {r : Answer} {vars out work : Text} → Hands (answerOf job g) r vars out → work ≡ replicate
+    (length (g .work)) 0
     → Gives (answerOf job g) r vars work out
-gives-cleared job g h e = record { hands = h; clears = e ∙ sym (ap (λ (a : stage.Answer). a .work) (answer-is job g) ∙ answered-clear g (worked job g then rest job g)) }
+gives-cleared job g h e =
+    record { hands = h; clears = e ∙ sym (ap (λ (a : stage.Answer). a .work) (answer-is job g) ∙ answered-clear g (worked job g then rest job g)) }

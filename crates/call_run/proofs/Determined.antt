@@ -14,7 +14,8 @@ pub gives-determined : (a : stage.Answer) (r s : Answer) (vars vars' work work' 
 gives-determined a r s vars vars' work work' out out' g h =
     let i = g .hands in
     let j = h .hands in (
-      answer-same r s (i .number ∙ sym (j .number)) (i .place ∙ sym (j .place)) (i .outLength ∙ sym (j .outLength)) (i .usedLength ∙ sym (j .usedLength)),
+      answer-same r s (i .number ∙ sym (j .number)) (i .place ∙ sym (j .place)) (i .outLength ∙ sym (j .outLength))
+          (i .usedLength ∙ sym (j .usedLength)),
       i .variables ∙ sym (j .variables),
       g .clears ∙ sym (h .clears),
       i .output ∙ sym (j .output),

@@ -112,9 +112,11 @@ module _ {job : Job} {g : Given} (p : Passed job g) (copy copy₁ images : Text)
     line-of : {x : LineExpanded} → got ≡ x
         → LineSays (length (g .vars)) (lineOutcome (around (length lent)) (g .line) (held (take (g .used) copy₁))) copy₂ lent image₁ x
     line-of k =
-        subst (λ (x : LineExpanded). LineSays (length (g .vars)) (lineOutcome (around (length lent)) (g .line) (held (take (g .used) copy₁))) copy₂ lent image₁ x) k h
+        subst (λ (x : LineExpanded). LineSays (length (g .vars)) (lineOutcome (around (length lent)) (g .line) (held (take (g .used) copy₁)))
+        copy₂ lent image₁ x) k h
 
-    pub words-refused : {n place : ℕ} {r : Answer} → got ≡ line.Refused n place → r ≡ refusedAs n place (g .used) → Hands (answerOf job g) r (g .vars) (g .out)
+    pub words-refused : {n place : ℕ} {r : Answer} → got ≡ line.Refused n place → r ≡ refusedAs n place (g .used) → Hands (answerOf job g)
+        r (g .vars) (g .out)
     words-refused k f = answer-refused job g (worked-line ∙ line-of k) f
 
     module _ {len have : ℕ} (k : got ≡ line.Done len have) where

@@ -4,6 +4,7 @@ use call_check::Checked;
 use call_check::Job;
 use call_deliver::Answer;
 use expand_line::LineExpanded;
+use text::numbers;
 ghost use mathlib.Core.Path.{_≡_};
 ghost use lib.ListN.{length};
 ghost use Rattle.stages.specs.Numbers.{imageLimit};
@@ -26,7 +27,9 @@ fn work_out(
 ) -> Answer
     requires { ⌜ Passed job (given (now line) (now vars) used (now homes) (now paths) (now work) (now out)) ⌝ }
     requires { ⌜ (length (now copy) ≡ imageLimit) × (length (now image) ≡ imageLimit) ⌝ }
-    ensures { λ r. ⌜ Hands (answerOf job (given (now (line .entry)) (now (vars .entry)) used (now (homes .entry)) (now (paths .entry)) (now (work .entry)) (now (out .entry)))) r (now (vars .exit)) (now (out .exit)) ⌝ }
+    ensures { λ r. ⌜ Hands
+        (answerOf job (given (now (line .entry)) (now (vars .entry)) used (now (homes .entry)) (now (paths .entry)) (now (work .entry))
+        (now (out .entry)))) r (now (vars .exit)) (now (out .exit)) ⌝ }
 {
     text_copy::copy_in(&vars[..used], copy);
     let size = call_check::room(job, out.len());
@@ -65,10 +68,12 @@ fn with_copies(
     out: &mut [u8],
 ) -> Answer
     requires { ⌜ Passed job (given (now line) (now vars) used (now homes) (now paths) (now work) (now out)) ⌝ }
-    ensures { λ r. ⌜ Hands (answerOf job (given (now (line .entry)) (now (vars .entry)) used (now (homes .entry)) (now (paths .entry)) (now (work .entry)) (now (out .entry)))) r (now (vars .exit)) (now (out .exit)) ⌝ }
+    ensures { λ r. ⌜ Hands
+        (answerOf job (given (now (line .entry)) (now (vars .entry)) used (now (homes .entry)) (now (paths .entry)) (now (work .entry))
+        (now (out .entry)))) r (now (vars .exit)) (now (out .exit)) ⌝ }
 {
-    let mut copy = [0u8; 8192];
-    let mut image = [0u8; 8192];
+    let mut copy = [0u8; numbers::IMAGE_LIMIT];
+    let mut image = [0u8; numbers::IMAGE_LIMIT];
     work_out(
         job,
         line,
@@ -94,7 +99,9 @@ fn from_checks(
     work: &mut [u8],
     out: &mut [u8],
 ) -> Answer
-    ensures { λ r. ⌜ Hands (answerOf job (given (now (line .entry)) (now (vars .entry)) used (now (homes .entry)) (now (paths .entry)) (now (work .entry)) (now (out .entry)))) r (now (vars .exit)) (now (out .exit)) ⌝ }
+    ensures { λ r. ⌜ Hands
+        (answerOf job (given (now (line .entry)) (now (vars .entry)) used (now (homes .entry)) (now (paths .entry)) (now (work .entry))
+        (now (out .entry)))) r (now (vars .exit)) (now (out .exit)) ⌝ }
 {
     let checked = call_check::check(job, line, vars, used, homes, paths, work, out);
     match checked {
@@ -114,7 +121,9 @@ pub fn answer_call(
     work: &mut [u8],
     out: &mut [u8],
 ) -> Answer
-    ensures { λ r. ⌜ Gives (answerOf job (given (now (line .entry)) (now (vars .entry)) used (now (homes .entry)) (now (paths .entry)) (now (work .entry)) (now (out .entry)))) r (now (vars .exit)) (now (work .exit)) (now (out .exit)) ⌝ }
+    ensures { λ r. ⌜ Gives
+        (answerOf job (given (now (line .entry)) (now (vars .entry)) used (now (homes .entry)) (now (paths .entry)) (now (work .entry))
+        (now (out .entry)))) r (now (vars .exit)) (now (work .exit)) (now (out .exit)) ⌝ }
 {
     let answer = from_checks(job, line, vars, used, homes, paths, work, out);
     text_copy::fill_zero(work);

@@ -19,7 +19,8 @@ module _ (g : stage.Given) (r s : Answer) (vars vars' work work' out out' : Text
       → (r ≡ s) × (vars ≡ vars') × (work ≡ work') × (out ≡ out')
   normalise-determined = gives-determined (stage.normaliser g) r s vars vars' work work' out out'
 
-pub quote-determined : (fields old : Text) (r s : QuoteAnswer) (out out' : Text) → Quotes (stage.quoter fields old) r out → Quotes (stage.quoter fields old) s out'
+pub quote-determined : (fields old : Text) (r s : QuoteAnswer) (out out' : Text) → Quotes (stage.quoter fields old) r out → Quotes
+    (stage.quoter fields old) s out'
     → (r ≡ s) × (out ≡ out')
 quote-determined fields old r s out out' g h = (
   ap (λ (n : ℕ). record { number = n; place = r .place; len = r .len }) (g .number ∙ sym (h .number))

@@ -1,9 +1,9 @@
 // Drunquill's three jobs. Each takes any bytes in any buffers and answers by document 01's numbers. Inside, a line is worked on in copies of the
 // variables and the output, which are handed over at the end, so that a refusal has touched neither.
 use call_check::Job;
-use call_check::refusals;
 use call_deliver::Answer;
 use quote::Quoted;
+use text::numbers;
 ghost use Rattle.stages.specs.Call.{expander, normaliser, quoter};
 ghost use Rattle.call_check.specs.Calls.{given};
 ghost use Rattle.call_deliver.specs.Hands.{Gives};
@@ -27,7 +27,9 @@ pub fn expand(
     work: &mut [u8],
     out: &mut [u8],
 ) -> Answer
-    ensures { λ r. ⌜ Gives (expander (given (now (line .entry)) (now (vars .entry)) used (now (homes .entry)) (now (paths .entry)) (now (work .entry)) (now (out .entry)))) r (now (vars .exit)) (now (work .exit)) (now (out .exit)) ⌝ }
+    ensures { λ r. ⌜ Gives
+        (expander (given (now (line .entry)) (now (vars .entry)) used (now (homes .entry)) (now (paths .entry)) (now (work .entry))
+        (now (out .entry)))) r (now (vars .exit)) (now (work .exit)) (now (out .exit)) ⌝ }
 {
     call_run::answer_call(Job::Expander, line, vars, used, homes, paths, work, out)
 }
@@ -42,7 +44,9 @@ pub fn normalise(
     work: &mut [u8],
     out: &mut [u8],
 ) -> Answer
-    ensures { λ r. ⌜ Gives (normaliser (given (now (line .entry)) (now (vars .entry)) used (now (homes .entry)) (now (paths .entry)) (now (work .entry)) (now (out .entry)))) r (now (vars .exit)) (now (work .exit)) (now (out .exit)) ⌝ }
+    ensures { λ r. ⌜ Gives
+        (normaliser (given (now (line .entry)) (now (vars .entry)) used (now (homes .entry)) (now (paths .entry)) (now (work .entry))
+        (now (out .entry)))) r (now (vars .exit)) (now (work .exit)) (now (out .exit)) ⌝ }
 {
     call_run::answer_call(Job::Normaliser, line, vars, used, homes, paths, work, out)
 }
@@ -54,17 +58,17 @@ pub fn quote(fields: &[u8], out: &mut [u8]) -> QuoteAnswer
     let quoted = quote::quote_fields(fields, out);
     match quoted {
         Quoted::Len(n) => QuoteAnswer {
-            number: refusals::ACCEPTED,
+            number: numbers::ACCEPTED,
             place: 0,
             len: n,
         },
         Quoted::Malformed => QuoteAnswer {
-            number: refusals::REFUSED_FIELDS,
+            number: numbers::REFUSED_FIELDS,
             place: 0,
             len: 0,
         },
         Quoted::NoRoom => QuoteAnswer {
-            number: refusals::REFUSED_OUTPUT,
+            number: numbers::REFUSED_OUTPUT,
             place: 0,
             len: 0,
         },

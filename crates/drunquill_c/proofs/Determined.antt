@@ -8,7 +8,8 @@ use Rattle.drunquill_c.specs.Hands.{Gives, Quotes}
 use Rattle.drunquill_c.specs.declared.Answer.{Answer}
 use Rattle.drunquill_c.specs.declared.QuoteAnswer.{QuoteAnswer}
 
-answer-same : (r s : Answer) → r .number ≡ s .number → r .place ≡ s .place → r .«out_len» ≡ s .«out_len» → r .«used_len» ≡ s .«used_len» → r ≡ s
+answer-same : (r s : Answer) → r .number ≡ s .number → r .place ≡ s .place → r .«out_len» ≡ s .«out_len» → r .«used_len» ≡
+    s .«used_len» → r ≡ s
 answer-same r s a b c d =
     ap (λ (n : ℕ). record { number = n; place = r .place; «out_len» = r .«out_len»; «used_len» = r .«used_len» }) a
     ∙ ap (λ (n : ℕ). record { number = s .number; place = n; «out_len» = r .«out_len»; «used_len» = r .«used_len» }) b

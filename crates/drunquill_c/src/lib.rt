@@ -33,7 +33,9 @@ pub extern "C" fn drunquill_expand(
     work: &mut [u8],
     out: &mut [u8],
 ) -> Answer
-    ensures { λ r. ⌜ Gives (expander (given (now (line .entry)) (now (vars .entry)) used (now (homes .entry)) (now (paths .entry)) (now (work .entry)) (now (out .entry)))) r (now (vars .exit)) (now (work .exit)) (now (out .exit)) ⌝ }
+    ensures { λ r. ⌜ Gives
+        (expander (given (now (line .entry)) (now (vars .entry)) used (now (homes .entry)) (now (paths .entry)) (now (work .entry))
+        (now (out .entry)))) r (now (vars .exit)) (now (work .exit)) (now (out .exit)) ⌝ }
 {
     let expanded = drunquill::expand(line, vars, used, homes, paths, work, out);
     Answer {
@@ -55,7 +57,9 @@ pub extern "C" fn drunquill_normalise(
     work: &mut [u8],
     out: &mut [u8],
 ) -> Answer
-    ensures { λ r. ⌜ Gives (normaliser (given (now (line .entry)) (now (vars .entry)) used (now (homes .entry)) (now (paths .entry)) (now (work .entry)) (now (out .entry)))) r (now (vars .exit)) (now (work .exit)) (now (out .exit)) ⌝ }
+    ensures { λ r. ⌜ Gives
+        (normaliser (given (now (line .entry)) (now (vars .entry)) used (now (homes .entry)) (now (paths .entry)) (now (work .entry))
+        (now (out .entry)))) r (now (vars .exit)) (now (work .exit)) (now (out .exit)) ⌝ }
 {
     let normalised = drunquill::normalise(line, vars, used, homes, paths, work, out);
     Answer {

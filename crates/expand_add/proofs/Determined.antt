@@ -91,7 +91,8 @@ module _ (room used : ℕ) (made : Made) (area vars area′ vars′ : Text) wher
         ∙ sym (table-canonical isName (take have′ vars′) (vars-held room vars′ have′ (i′ .holds)) b′)
 
   -- what a leaf hands on; its row and its image are one by `row-same` and `image-same`
-  pub finishes-determined : (next : ℕ) (r r′ : Expanded) → Finishes room used made next area vars r → Finishes room used made next area′ vars′ r′ → r ≡ r′
+  pub finishes-determined : (next : ℕ) (r r′ : Expanded) → Finishes room used made next area vars r → Finishes room used made next area′
+      vars′ r′ → r ≡ r′
   finishes-determined next (answer.Refused e) (answer.Refused e′) h h′ = ap answer.Refused (one-number h h′)
   finishes-determined next (answer.Refused e) (answer.Row n′ next′ have′) h h′ = absurd (clash h (h′ .1 .is))
   finishes-determined next (answer.Row n after have) (answer.Refused e′) h h′ = absurd (clash h′ (h .1 .is))
@@ -103,9 +104,11 @@ module _ (room used : ℕ) (made : Made) (area vars area′ vars′ : Text) wher
 
   module _ (text : Text) (at : ℕ) (rest : Text) where
     same-next : {next next′ : ℕ} → Ends text at next rest → Ends text at next′ rest → next ≡ next′
-    same-next {next} {next′} k k′ = omega (arith, length-drop next text, length-drop next′ text, ap length (k .ends), ap length (k′ .ends), k .within, k′ .within)
+    same-next {next} {next′} k k′ =
+        omega (arith, length-drop next text, length-drop next′ text, ap length (k .ends), ap length (k′ .ends), k .within, k′ .within)
 
-    answers-same : (r r′ : Expanded) → Answers room text at used made rest area vars r → Answers room text at used made rest area′ vars′ r′ → r ≡ r′
+    answers-same : (r r′ : Expanded) → Answers room text at used made rest area vars r → Answers room text at used made rest area′ vars′
+        r′ → r ≡ r′
     answers-same (answer.Refused e) (answer.Refused e′) h h′ = ap answer.Refused (one-number h h′)
     answers-same (answer.Refused e) (answer.Row n′ next′ have′) h h′ = absurd (clash h (h′ .0 .is))
     answers-same (answer.Row n next have) (answer.Refused e′) h h′ = absurd (clash h′ (h .0 .is))
@@ -116,20 +119,23 @@ module _ (room used : ℕ) (made : Made) (area vars area′ vars′ : Text) wher
         cc
 
 -- every function that answers for a text
-module _ (room : ℕ) (text : Text) (at used : ℕ) (own : Parts → Made) {o : Taken} {p : Parts × Text} (e : o ≡ done p) (area vars area′ vars′ : Text) (r r′ : Expanded)
+module _ (room : ℕ) (text : Text) (at used : ℕ) (own : Parts → Made) {o : Taken} {p : Parts × Text} (e : o ≡ done p)
+    (area vars area′ vars′ : Text) (r r′ : Expanded)
     (s : Says room text at used own o area vars r) (s′ : Says room text at used own o area′ vars′ r′) where
   pub determined : r ≡ r′
   determined =
       answers-same room used (own (p .0)) area vars area′ vars′ text at (p .1) r r′
       (says-known room text at used own area vars r s e) (says-known room text at used own area′ vars′ r′ s′ e)
 
-  pub determined-row : {n next have n′ next′ have′ : ℕ} → r ≡ answer.Row n next have → r′ ≡ answer.Row n′ next′ have′ → take (2 * n) area ≡ take (2 * n′) area′
+  pub determined-row : {n next have n′ next′ have′ : ℕ} → r ≡ answer.Row n next have → r′ ≡ answer.Row n′ next′ have′ → take
+      (2 * n) area ≡ take (2 * n′) area′
   determined-row q q′ =
       let h = answers-known room text at used (own (p .0)) (p .1) area vars (says-known room text at used own area vars r s e) q in
       let h′ = answers-known room text at used (own (p .0)) (p .1) area′ vars′ (says-known room text at used own area′ vars′ r′ s′ e) q′ in
       row-same room used (own (p .0)) area vars area′ vars′ (h .0) (h′ .0)
 
-  pub determined-image : {n next have n′ next′ have′ : ℕ} → r ≡ answer.Row n next have → r′ ≡ answer.Row n′ next′ have′ → Bytes (take have vars) → Bytes (take have′ vars′)
+  pub determined-image : {n next have n′ next′ have′ : ℕ} → r ≡ answer.Row n next have → r′ ≡ answer.Row n′ next′ have′ →
+      Bytes (take have vars) → Bytes (take have′ vars′)
       → take have vars ≡ take have′ vars′
   determined-image q q′ b b′ =
       let h = answers-known room text at used (own (p .0)) (p .1) area vars (says-known room text at used own area vars r s e) q in

@@ -41,7 +41,8 @@ marked-count m [] = refl
 marked-count m (b ∷ t) = ap suc (marked-count m t)
 
 -- a row that was put at the front fits where it was measured to
-pub fronted-fits : (used count : ℕ) (row : Row) (area left : Text) → length row ≡ count → used + count ≤ rowLimit → left ≡ fronted (rowBytes row) area
+pub fronted-fits : (used count : ℕ) (row : Row) (area left : Text) → length row ≡ count → used + count ≤ rowLimit → left ≡ fronted
+    (rowBytes row) area
     → Fitting used (done row) left count
 fronted-fits used count row area left c f e =
     record { row = row; is = refl; counts = c; stands = record { rest = drop (length (rowBytes row)) area; is = e }; fits = f }

@@ -41,7 +41,8 @@ fitting-row room used o area vars count have f w =
     let l = f .fits in
     record {
       row = f .row;
-      is = placed-fits used (beside (held (take have vars)) o) (f .row) (held (take have vars)) (beside-done (held (take have vars)) o (f .row) (f .is)) (omega arith);
+      is = placed-fits used (beside (held (take have vars)) o) (f .row) (held (take have vars))
+          (beside-done (held (take have vars)) o (f .row) (f .is)) (omega arith);
       counts = c;
       stands = f .stands;
       fits = l;

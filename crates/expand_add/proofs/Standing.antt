@@ -21,7 +21,8 @@ stands-inside row area n s e =
     omega arith
 
 -- an area whose part behind the row was lent, and came back with a row, or with anything
-pub stands-nest : (row new : Row) (area ys z : Text) (n : ℕ) → Stands row area → length row ≡ n → Stands new ys → Stands (row ++ new) (take (2 * n) area ++ (ys ++ z))
+pub stands-nest : (row new : Row) (area ys z : Text) (n : ℕ) → Stands row area → length row ≡ n → Stands new ys → Stands (row ++ new)
+    (take (2 * n) area ++ (ys ++ z))
 stands-nest row new area ys z n s e t =
     record {
       rest = t .rest ++ z;

@@ -32,7 +32,8 @@ module _ (room : ℕ) (p : Parts) (m : Mark) (n : ℕ) where
   placed-followed (refused e) = refl
   placed-followed (done r) =
       by-fit
-      (λ (o : Outcome ℕ). (o >>= λ i. onto (r .0) (expand room p m i (r .1))) ≡ ((o >>= λ i. done r) >>= λ s. onto (s .0) (expand room p m (n + length (s .0)) (s .1))))
+      (λ (o : Outcome ℕ). (o >>= λ i. onto (r .0) (expand room p m i (r .1))) ≡
+      ((o >>= λ i. done r) >>= λ s. onto (s .0) (expand room p m (n + length (s .0)) (s .1))))
       n (length (r .0)) refl refl
 
   pub expand-lit : (q : Bool) (b : ℕ) (v : Pairs) → expand room (lit q b p) m n v ≡ followed room p m n (placed n (done (cell (litMark q m) b ∷ [], v)))
@@ -44,7 +45,8 @@ module _ (room : ℕ) (p : Parts) (m : Mark) (n : ℕ) where
   unfolding expand
   expand-par x f q v = placed-followed (parameter room (λ k w. expand room q k 0 w) x f m v)
 
-  pub expand-len : (x : Text) (v : Pairs) → expand room (len x p) m n v ≡ followed room p m n (placed n (done (marked (expanded m) (decimal (length (value v x))), v)))
+  pub expand-len : (x : Text) (v : Pairs) → expand room (len x p) m n v ≡ followed room p m n
+      (placed n (done (marked (expanded m) (decimal (length (value v x))), v)))
   unfolding expand
   expand-len x v = placed-followed (done (marked (expanded m) (decimal (length (value v x))), v))
 
@@ -91,7 +93,8 @@ module _ (room : ℕ) (p : Parts) (m : Mark) (n : ℕ) where
   unfolding followed
   followed-refused own e h = rw h
 
-  pub followed-row : (own : Made) (row : Row) (v : Pairs) (count : ℕ) → own ≡ done (row, v) → length row ≡ count → followed room p m n own ≡ onto row (expand room p m (n + count) v)
+  pub followed-row : (own : Made) (row : Row) (v : Pairs) (count : ℕ) → own ≡ done (row, v) → length row ≡ count → followed room p m n own
+      ≡ onto row (expand room p m (n + count) v)
   unfolding followed
   followed-row own row v count h c = rw (h, c)
 
@@ -108,7 +111,8 @@ placed-fits n made row v h l = rw (h, fit-ok n (length row) l)
 beside-placed : (n : ℕ) (v : Pairs) (o : Outcome Row) → placed n (beside v o) ≡ beside v (measured n o)
 unfolding placed measured
 beside-placed n v (refused e) = refl
-beside-placed n v (done r) = by-fit (λ (o : Outcome ℕ). _≡_ {A = Made} (_>>=_ {B = Row × Pairs} o (λ i. done (r, v))) (beside v (o >>= λ i. done r))) n (length r) refl refl
+beside-placed n v (done r) =
+    by-fit (λ (o : Outcome ℕ). _≡_ {A = Made} (_>>=_ {B = Row × Pairs} o (λ i. done (r, v))) (beside v (o >>= λ i. done r))) n (length r) refl refl
 
 pub beside-refused : (n : ℕ) (v : Pairs) (o : Outcome Row) (e : ℕ) → measured n o ≡ refused e → placed n (beside v o) ≡ refused e
 beside-refused n v o e h = beside-placed n v o ∙ ap (beside v) h

@@ -11,14 +11,9 @@ ghost use Rattle.row.specs.Marks.{markOf};
 ghost use Rattle.table.specs.Places.{Table};
 ghost use Rattle.expand_add.specs.Added.{Adds};
 use row::Mark;
+use text::numbers;
 
 pub mod answers;
-
-// The most units of a row.
-pub const ROW_LIMIT: usize = 2048;
-
-// More units than that.
-pub const REFUSED_UNITS: u8 = 14;
 
 // A row that was to be added: how many units it has, or the number that refuses it.
 pub enum Added {
@@ -31,9 +26,9 @@ pub fn give_text(text: &[u8], mark: Mark, used: usize, area: &mut [u8]) -> Added
     requires { ⌜ (used ≤ rowLimit) × (2 * rowLimit ≤ length (now area) + 2 * used) ⌝ }
     ensures { λ r. ⌜ Adds used (done (marked (markOf mark) (now (text .entry)))) (now (area .exit)) r ⌝ }
 {
-    let room = ROW_LIMIT - used;
+    let room = numbers::ROW_LIMIT - used;
     if text.len() > room {
-        return Added::Refused(REFUSED_UNITS);
+        return Added::Refused(numbers::REFUSED_UNITS);
     }
     row::put_marked(text, mark, area);
     Added::Units(text.len())
@@ -47,9 +42,6 @@ pub fn give_value(name: &[u8], mark: Mark, used: usize, vars: &[u8], area: &mut 
     let value = table_find::value_of(vars, name);
     give_text(value, row::expanded_mark(mark), used, area)
 }
-
-// The most bytes of a number's decimal text.
-pub const DIGITS: usize = 20;
 
 // Adds the decimal text of a number, which is worked out in `digits`.
 fn give_signed(z: i64, mark: Mark, used: usize, digits: &mut [u8], area: &mut [u8]) -> Added
@@ -65,6 +57,6 @@ pub fn give_number(z: i64, mark: Mark, used: usize, area: &mut [u8]) -> Added
     requires { ⌜ (used ≤ rowLimit) × (2 * rowLimit ≤ length (now area) + 2 * used) ⌝ }
     ensures { λ r. ⌜ Adds used (done (marked (expanded (markOf mark)) (signed z))) (now (area .exit)) r ⌝ }
 {
-    let mut digits = [0u8; DIGITS];
+    let mut digits = [0u8; numbers::MOST_DIGITS];
     give_signed(z, mark, used, &mut digits, area)
 }

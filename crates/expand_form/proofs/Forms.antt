@@ -103,5 +103,6 @@ module _ (room : ℕ) (operand : Mark → Pairs → Made) (x : Text) (m : Mark) 
   pub unused-operand : wants plan ≡ false → parameter room operand x f m (held t) ≡ beside (held t) (settled plan x m (held t))
   unused-operand w = by-found ∙ without room operand x m (held t) plan w
 
-  pub used-operand : wants plan ≡ true → parameter room operand x f m (held t) ≡ (operand (operandMark plan m) (held t) >>= λ r. finished plan room x m r)
+  pub used-operand : wants plan ≡ true → parameter room operand x f m (held t) ≡
+      (operand (operandMark plan m) (held t) >>= λ r. finished plan room x m r)
   used-operand w = by-found ∙ withal room operand x m (held t) plan w

@@ -15,7 +15,8 @@ use Rattle.expand_add.proofs.Determined.{adds-determined}
 use Rattle.expand_item.specs.Given.{turnOf, Given, Gives}
 use Rattle.expand_item.specs.declared.Turn.{Turn}
 
-given-determined : (used : ℕ) (o : Outcome Row) (area area′ : Text) (next : ℕ) (mode : Mode) (have : ℕ) (r s : Turn) → Given used o area next mode have r
+given-determined : (used : ℕ) (o : Outcome Row) (area area′ : Text) (next : ℕ) (mode : Mode) (have : ℕ) (r s : Turn) → Given used o area
+    next mode have r
     → Given used o area′ next mode have s → r ≡ s
 given-determined used o area area′ next mode have r s g h =
     g .is ∙ ap (λ (a : Added). turnOf a next mode have) (adds-determined used o area area′ (g .added) (h .added) (g .adds) (h .adds)) ∙ sym (h .is)

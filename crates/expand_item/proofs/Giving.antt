@@ -26,11 +26,13 @@ pub gives-known : (text : Text) (at : ℕ) (mode : Mode) (m : Mark) (used : ℕ)
 gives-known text at mode m used v have area r e h = subst (λ (k : Item). Gives k text at mode m used v have area r) (sym e) h
 
 -- a unit with the mark that was worked out
-pub adds-unit : (used b : ℕ) {k m : Mark} (area : Text) (a : Added) → k ≡ m → Adds used (done (cell k b ∷ [])) area a → Adds used (done (cell m b ∷ [])) area a
+pub adds-unit : (used b : ℕ) {k m : Mark} (area : Text) (a : Added) → k ≡ m → Adds used (done (cell k b ∷ [])) area a → Adds used
+    (done (cell m b ∷ [])) area a
 adds-unit used b area a e h = subst (λ (k : Mark). Adds used (done (cell k b ∷ [])) area a) e h
 
 -- what holds a text is left where it stands
-pub gives-none : (i : Item) (text : Text) (at : ℕ) (mode : Mode) (m : Mark) (used : ℕ) (v : Pairs) (have : ℕ) (area : Text) → OneOf (4 ∷ 7 ∷ 8 ∷ []) (tagOf item-type.the-type i)
+pub gives-none : (i : Item) (text : Text) (at : ℕ) (mode : Mode) (m : Mark) (used : ℕ) (v : Pairs) (have : ℕ) (area : Text) → OneOf
+    (4 ∷ 7 ∷ 8 ∷ []) (tagOf item-type.the-type i)
     → Gives i text at mode m used v have area (turn.End at)
 gives-none (Fault e) text at mode m used v have area k = absurd (miss (4 ∷ 7 ∷ 8 ∷ []) 0 tt k)
 gives-none (Stop next) text at mode m used v have area k = absurd (miss (4 ∷ 7 ∷ 8 ∷ []) 1 tt k)

@@ -16,6 +16,7 @@ use expand_add::Added;
 use read_brace::Item;
 use read_mode::Mode;
 use row::Mark;
+use text::numbers;
 
 // What one item answers: so many units stand at the front of the area, and the text goes on at `next` in this mode; or the text ends; or the number
 // that refuses it.
@@ -50,8 +51,8 @@ fn give_unit(b: u8, mark: Mark, used: usize, area: &mut [u8]) -> Added
     requires { ⌜ (used ≤ rowLimit) × (2 * rowLimit ≤ length (now area) + 2 * used) ⌝ }
     ensures { λ r. ⌜ Adds used (done (cell (markOf mark) b ∷ [])) (now (area .exit)) r ⌝ }
 {
-    if used >= expand_add::ROW_LIMIT {
-        return Added::Refused(expand_add::REFUSED_UNITS);
+    if used >= numbers::ROW_LIMIT {
+        return Added::Refused(numbers::REFUSED_UNITS);
     }
     row::put_unit(area, b, mark);
     Added::Units(1)
@@ -69,10 +70,11 @@ fn give_count(n: u64, mark: Mark, used: usize, digits: &mut [u8], area: &mut [u8
 // Adds the length in bytes of a name's value in the image, 0 if it is unset.
 fn give_length(name: &[u8], mark: Mark, used: usize, vars: &[u8], area: &mut [u8]) -> Added
     requires { ⌜ Table (now vars) × (used ≤ rowLimit) × (2 * rowLimit ≤ length (now area) + 2 * used) ⌝ }
-    ensures { λ r. ⌜ Adds used (done (marked (expanded (markOf mark)) (decimal (length (value (held (now (vars .entry))) (now (name .entry))))))) (now (area .exit)) r ⌝ }
+    ensures { λ r. ⌜ Adds used (done (marked (expanded (markOf mark)) (decimal (length (value (held (now (vars .entry))) (now (name .entry)))))))
+        (now (area .exit)) r ⌝ }
 {
     let value = table_find::value_of(vars, name);
-    let mut digits = [0u8; expand_add::DIGITS];
+    let mut digits = [0u8; numbers::MOST_DIGITS];
     give_count(value.len() as u64, mark, used, &mut digits, area)
 }
 

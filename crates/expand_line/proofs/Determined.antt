@@ -37,7 +37,8 @@ module _ (room : ℕ) (o : Placed (Fields × Pairs)) (old vars vars' out out' : 
       let l : g .fields ≡ h .fields = ap (λ (x : Fields × Pairs). x .0) p in
       let v : held (take have vars) ≡ held (take have' vars') = ap (λ (x : Fields × Pairs). x .1) p in
       let n : len ≡ len' = g .long ∙ ap (λ (x : Fields). length (image x)) l ∙ sym (h .long) in
-      let k : have ≡ have' = have-is room vars have (g .holds) ∙ ap (λ (x : Pairs). imageLength (flat x)) v ∙ sym (have-is room vars' have' (h .holds)) in (
+      let k : have ≡ have' =
+      have-is room vars have (g .holds) ∙ ap (λ (x : Pairs). imageLength (flat x)) v ∙ sym (have-is room vars' have' (h .holds)) in (
         ap (λ (i : ℕ). Done i have) n ∙ ap (Done len') k,
         table-canonical isName (take have vars) (vars-of (take have vars) (g .holds .formed)) (bytes-take have vars b)
             ∙ ap (λ (x : Pairs). image (flat x)) v

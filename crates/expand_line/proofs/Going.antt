@@ -35,7 +35,8 @@ module _ (a : Around) (w : Word) (ws : List Word) (n : ℕ) (v : Pairs) where
   abbrev later : Fields × Pairs → Placed (Fields × Pairs)
   later r = before (r .0) (expandWords a ws (n + recordBytes (r .0)) (r .1))
 
-  by-room : (r : Fields × Pairs) (x : Bool) → (require x outputRoom (w .place) then λ _. later r) ≡ (at (w .place) (pick x (done r) (refused outputRoom)) then later)
+  by-room : (r : Fields × Pairs) (x : Bool) → (require x outputRoom (w .place) then λ _. later r) ≡
+      (at (w .place) (pick x (done r) (refused outputRoom)) then later)
   by-room r true = refl
   by-room r false = refl
 
@@ -110,8 +111,10 @@ module _ {a : Around} {o : Placed (Fields × Pairs)} {line : Text} {from len : �
     goes-refused h = opened ∙ ap (λ (w : Outcome (Fields × Pairs)). before (g .fields) (at place w then later a own (first .tail) len v)) h
 
     -- its fields stand behind those before them
-    module _ {l : Fields} {u : Pairs} (h : wordOutcome a (first .tree) len v ≡ done (l, u)) {next len' : ℕ} (ends : drop next line ≡ first .rest) (w : next ≤ length line)
-        (e : len' ≡ len + recordBytes l) (f : len' ≤ length old) {out' : Text} (d : out' ≡ take len out ++ (written l ++ drop (len + length (written l)) out)) where
+    module _ {l : Fields} {u : Pairs} (h : wordOutcome a (first .tree) len v ≡ done (l, u)) {next len' : ℕ}
+        (ends : drop next line ≡ first .rest) (w : next ≤ length line)
+        (e : len' ≡ len + recordBytes l) (f : len' ≤ length old) {out' : Text}
+        (d : out' ≡ take len out ++ (written l ++ drop (len + length (written l)) out)) where
       taken : take len out ≡ image (g .fields)
       taken = ap (take len) (g .front) ∙ take-at (image (g .fields)) (drop len old) len (sym (g .long))
 

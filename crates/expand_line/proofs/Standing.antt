@@ -113,15 +113,18 @@ module _ {text vars : Text} {have room : ℕ} {houses paths work out : Text} (r 
 
       -- the word's answer, by its parts and for the output as it was where the loop began
       module _ {vars₂ out₂ : Text} {got : WordExpanded}
-          (h : WordSays (among room houses paths (length out')) (parts words depthLimit (drop place text)) text place len (held (take left vars')) vars₂ out' out₂ got) where
+          (h : WordSays (among room houses paths (length out')) (parts words depthLimit (drop place text)) text place len (held (take left vars'))
+          vars₂ out' out₂ got) where
         abbrev a : Around
         a = among room houses paths (length first-out)
 
-        word-of : {x : WordExpanded} → got ≡ x → WordOf a (wordOutcome a (own .tree) len (held (take left vars'))) (own .rest) text place len vars₂ out' out₂ x
+        word-of : {x : WordExpanded} → got ≡ x → WordOf a (wordOutcome a (own .tree) len (held (take left vars'))) (own .rest) text place len
+            vars₂ out' out₂ x
         word-of e =
             subst (λ (y : WordExpanded). WordOf a (wordOutcome a (own .tree) len (held (take left vars'))) (own .rest) text place len vars₂ out' out₂ y) e
             (subst
-            (λ (n : ℕ). WordSays (among room houses paths n) (parts words depthLimit (drop place text)) text place len (held (take left vars')) vars₂ out' out₂ got)
+            (λ (n : ℕ). WordSays (among room houses paths n) (parts words depthLimit (drop place text)) text place len (held (take left vars'))
+            vars₂ out' out₂ got)
             (s .same) h .says (own .tree, own .rest) (own .read))
 
         pub state-refused : {e : ℕ} → got ≡ word.Refused e → LineSays room outside vars₂ out out₂ (line.Refused e place)

@@ -69,7 +69,8 @@ module _ {room used : ℕ} {made : Made} {area vars : Text} {count have : ℕ} (
   row-within = omega (arith, row-long, simp length-append at (ap length (q .stands .is)))
 
   pub row-there : rowOf (take (2 * count) area) ≡ q .row
-  row-there = ap rowOf (ap (take (2 * count)) (q .stands .is) ∙ take-at (rowBytes (q .row)) (q .stands .rest) (2 * count) row-long) ∙ rowOf-rowBytes (q .row)
+  row-there = ap rowOf (ap (take (2 * count)) (q .stands .is) ∙ take-at (rowBytes (q .row)) (q .stands .rest) (2 * count) row-long) ∙
+      rowOf-rowBytes (q .row)
 
 -- a word's outcome by its row and its fields
 
@@ -125,14 +126,16 @@ module _ {line : Text} {at : ℕ} {vars : Text} {have room : ℕ} {houses paths 
         subst (λ (x : Expanded). RowOf room line at 0 (wordRow room (held houses) tree v) rest area vars' x) e
         (subst (λ (o : Taken). Expands room line at 0 (λ t. wordRow room (held houses) t v) o area vars' got) (w .ready .is) h)
 
-    pub word-refused : {e : ℕ} {out : Text} → got ≡ expanded.Refused e → WordSays a (parts words depthLimit (drop at line)) line at used v vars' old out (word.Refused e)
+    pub word-refused : {e : ℕ} {out : Text} → got ≡ expanded.Refused e → WordSays a (parts words depthLimit (drop at line)) line at used v
+        vars' old out (word.Refused e)
     word-refused {e = e} {out = out} g = said vars' out (word.Refused e) (outcome-refused a tree used v (row-of g))
 
     module _ {units next left : ℕ} (g : got ≡ expanded.Row units next left) where
       pub there : IsRow room 0 (wordRow room (held houses) tree v) area vars' units left
       there = row-of g .0
 
-      module _ {out : Text} {r : Written} (p : Puts (named (heldTexts paths) (fieldsOfRow (held (take left vars')) (rowOf (take (2 * units) area)))) used old out r) where
+      module _ {out : Text} {r : Written}
+          (p : Puts (named (heldTexts paths) (fieldsOfRow (held (take left vars')) (rowOf (take (2 * units) area)))) used old out r) where
         split : Says (named (heldTexts paths) (fieldsOfRow (held (take left vars')) (there .row))) used old out r
         split = subst (λ (x : Row). Says (named (heldTexts paths) (fieldsOfRow (held (take left vars')) x)) used old out r) (row-there there) (p .says)
 
@@ -144,7 +147,8 @@ module _ {line : Text} {at : ℕ} {vars : Text} {have room : ℕ} {houses paths 
             let f = full-of split c in
             said vars' out (word.Refused outputRoom) (outcome-full a tree used v (there .is) (f .is) (f .full))
 
-        pub word-written : {n : ℕ} → r ≡ Len n → WordSays a (parts words depthLimit (drop at line)) line at used v vars' old out (word.Fields n next left)
+        pub word-written : {n : ℕ} → r ≡ Len n → WordSays a (parts words depthLimit (drop at line)) line at used v vars' old out
+            (word.Fields n next left)
         word-written {n = n} c =
             let f = len-of split c in
             said vars' out (word.Fields n next left)

@@ -42,7 +42,8 @@ pub record WordReady (text : Text) (at : ℕ) (vars : Text) (have room : ℕ) (h
   pub few : length out ≤ imageLimit
 
 -- a word's fields are written, and behind it stands `rest`
-pub record IsFields (a : Around) (made : Outcome (Fields × Pairs)) (rest text : Text) (at used : ℕ) (vars old out : Text) (len next have : ℕ) : Type 0 where
+pub record IsFields (a : Around) (made : Outcome (Fields × Pairs)) (rest text : Text) (at used : ℕ) (vars old out : Text) (len next have : ℕ) :
+    Type 0 where
   pub fields : Fields
   pub is : made ≡ done (fields, held (take have vars))
   pub long : len ≡ used + recordBytes fields

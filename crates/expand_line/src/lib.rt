@@ -3,6 +3,7 @@
 use expand_add::answers::Expanded;
 use read_line::NextWord;
 use split_field::Written;
+use text::numbers;
 ghost use lib.ListN.{length, take, drop};
 ghost use Rattle.stages.specs.Numbers.{depthLimit};
 ghost use Rattle.stages.specs.Images.{held};
@@ -27,15 +28,6 @@ enum WordExpanded {
     Refused(u8),
 }
 
-// "one version byte, 1"
-const VERSION: u8 = 1;
-
-// "bracket class"
-const REFUSED_CLASS: u8 = 19;
-
-// "no room for output"
-const REFUSED_OUTPUT: u8 = 21;
-
 // The word at a place: its fields, behind the first `used` bytes of the output. "Fields are checked for 19 in order.", and "21 is met at the end of the
 // word".
 fn put_word(
@@ -51,7 +43,9 @@ fn put_word(
     used: usize,
 ) -> WordExpanded
     requires { ⌜ WordReady (now line) at (now vars) have room (now homes) (now paths) (now work) (now out) used ⌝ }
-    ensures { λ r. ⌜ WordSays (among room (now (homes .entry)) (now (paths .entry)) (length (now (out .entry)))) (parts word depthLimit (drop at (now (line .entry)))) (now (line .entry)) at used (held (take have (now (vars .entry)))) (now (vars .exit)) (now (out .entry)) (now (out .exit)) r ⌝ }
+    ensures { λ r. ⌜ WordSays (among room (now (homes .entry)) (now (paths .entry)) (length (now (out .entry))))
+        (parts word depthLimit (drop at (now (line .entry)))) (now (line .entry)) at used (held (take have (now (vars .entry)))) (now (vars .exit))
+        (now (out .entry)) (now (out .exit)) r ⌝ }
 {
     let got = expand_word::expand_word(line, at, vars, have, room, homes, work);
     match got {
@@ -64,8 +58,8 @@ fn put_word(
             let end = 2 * units;
             let put = split_row::put_word_fields(&mut work[..end], vars, left, paths, out, used);
             match put {
-                Written::Class => WordExpanded::Refused(REFUSED_CLASS),
-                Written::NoRoom => WordExpanded::Refused(REFUSED_OUTPUT),
+                Written::Class => WordExpanded::Refused(numbers::REFUSED_CLASS),
+                Written::NoRoom => WordExpanded::Refused(numbers::REFUSED_OUTPUT),
                 Written::Len(longer) => WordExpanded::Fields {
                     len: longer,
                     next: next,
@@ -89,9 +83,11 @@ pub fn expand_line(
     out: &mut [u8],
 ) -> LineExpanded
     requires { ⌜ LineReady (now line) (now vars) have room (now homes) (now paths) (now work) (now out) ⌝ }
-    ensures { λ r. ⌜ LineSays room (lineOutcome (among room (now (homes .entry)) (now (paths .entry)) (length (now (out .entry)))) (now (line .entry)) (held (take have (now (vars .entry))))) (now (vars .exit)) (now (out .entry)) (now (out .exit)) r ⌝ }
+    ensures { λ r. ⌜ LineSays room
+        (lineOutcome (among room (now (homes .entry)) (now (paths .entry)) (length (now (out .entry)))) (now (line .entry))
+        (held (take have (now (vars .entry))))) (now (vars .exit)) (now (out .entry)) (now (out .exit)) r ⌝ }
 {
-    out[0] = VERSION;
+    out[0] = numbers::VERSION;
     let mut at: usize = 0;
     let mut len: usize = 1;
     let mut left = have;

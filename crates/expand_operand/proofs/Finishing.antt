@@ -84,7 +84,8 @@ module _ (s long : Bool) (x : Text) (m : Mark) (v : Pairs) (row pat : Text) (e :
   same-signs : signsOf pat ≡ signs (rowOf row)
   same-signs = ap signsOf e ∙ kept-signs row
 
-  pub cut-class : (used : ℕ) (area : Text) → hasClass false 0 (signsOf pat) ≡ true → Adds used (leftBy s long x m (rowOf row) v) area (added.Refused bracketClass)
+  pub cut-class : (used : ℕ) (area : Text) → hasClass false 0 (signsOf pat) ≡ true → Adds used (leftBy s long x m (rowOf row) v) area
+      (added.Refused bracketClass)
   unfolding measured leftBy pattern
   cut-class used area c = rw (ap (hasClass false 0) (sym same-signs) ∙ c, pattern)
 
@@ -94,7 +95,8 @@ module _ (s long : Bool) (x : Text) (m : Mark) (v : Pairs) (row pat : Text) (e :
   cut-left c = rw (ap (hasClass false 0) (sym same-signs) ∙ c, pattern)
 
   pub cut-given : (used : ℕ) (area : Text) (a : Added) → hasClass false 0 (signsOf pat) ≡ false
-      → {value₀ : Text} → value₀ ≡ value v x → {t : Text} → t ≡ removed s long (elements false 0 (signsOf pat)) value₀ → {k : Mark} → k ≡ expanded m
+      → {value₀ : Text} → value₀ ≡ value v x → {t : Text} → t ≡ removed s long (elements false 0 (signsOf pat)) value₀ →
+      {k : Mark} → k ≡ expanded m
       → Adds used (done (marked k t)) area a → Adds used (leftBy s long x m (rowOf row) v) area a
   cut-given used area a c {value₀} q {t} r {k} l h = adds-same used area a (sym made) h
     where
@@ -115,7 +117,8 @@ cut-beside s long x m row v = go (pattern false row)
 
 -- What was added, where nothing is stored besides.
 
-pub finishing : (room used : ℕ) (made : Made) (o : Outcome Row) (area vars : Text) (have next : ℕ) → made ≡ beside (held (take have vars)) o → Holds room vars have
+pub finishing : (room used : ℕ) (made : Made) (o : Outcome Row) (area vars : Text) (have next : ℕ) → made ≡ beside (held (take have vars)) o
+    → Holds room vars have
     → (a : Added) → Adds used o area a → {r : Expanded} → r ≡ goingOn a next have → Finishes room used (placed used made) next area vars r
 finishing room used made o area vars have next e w a h {r} q = rw q (go a h)
   where
@@ -137,7 +140,11 @@ admitted-adds used units name area p {a} q = rw q (either (leb (used + units) ro
     count = omega (arith, sym (length-rowBytes row) ∙ ap length (p .is) ∙ length-take-le (2 * units) area (p .inside))
 
     whole : Stands row area
-    whole = record { rest = drop (2 * units) area; is = sym (take-append-drop (2 * units) area) ∙ ap (λ (t : Text). t ++ drop (2 * units) area) (sym (p .is)) }
+    whole = record {
+      rest = drop (2 * units) area;
+      is =
+          sym (take-append-drop (2 * units) area) ∙ ap (λ (t : Text). t ++ drop (2 * units) area) (sym (p .is));
+    }
 
     fits : leb (used + units) rowLimit ≡ true → Adds used (done row) area (admitted used units)
     fits e = rw e (record { row = row; is = refl; counts = count; stands = whole; fits = leb-true (used + units) rowLimit e })
@@ -146,12 +153,15 @@ admitted-adds used units name area p {a} q = rw q (either (leb (used + units) ro
     full e = rw e (measured-full used row (omega (arith, count, leb-false (used + units) rowLimit e)))
 
 module _ (room used units : ℕ) (name : Text) (m : Mark) (area vars : Text) (have next : ℕ) (p : Operand name area units) (w : Holds room vars have) where
-  pub finish-given : (plan : Plan) → finished plan room name m (rowOf (take (2 * units) area), held (take have vars)) ≡ done (rowOf (take (2 * units) area), held (take have vars))
+  pub finish-given : (plan : Plan) → finished plan room name m (rowOf (take (2 * units) area), held (take have vars)) ≡ done
+      (rowOf (take (2 * units) area), held (take have vars))
       → {a : Added} → a ≡ admitted used units → {r : Expanded} → r ≡ goingOn a next have
       → Finishes room used (placed used (finished plan room name m (rowOf (take (2 * units) area), held (take have vars)))) next area vars r
-  finish-given plan e {a} q {r} g = finishing room used _ (done (rowOf (take (2 * units) area))) area vars have next e w a (admitted-adds used units name area p q) g
+  finish-given plan e {a} q {r} g =
+      finishing room used _ (done (rowOf (take (2 * units) area))) area vars have next e w a (admitted-adds used units name area p q) g
 
-  pub finish-cut : (s long : Bool) (left : Text) (a : Added) → Adds used (leftBy s long name m (rowOf (take (2 * units) area)) (held (take have vars))) left a → {r : Expanded} → r ≡ goingOn a next have
+  pub finish-cut : (s long : Bool) (left : Text) (a : Added) → Adds used
+      (leftBy s long name m (rowOf (take (2 * units) area)) (held (take have vars))) left a → {r : Expanded} → r ≡ goingOn a next have
       → Finishes room used (placed used (finished (Cuts s long) room name m (rowOf (take (2 * units) area), held (take have vars)))) next left vars r
   unfolding finished
   finish-cut s long left a h g =
@@ -187,8 +197,10 @@ store-cap room x t v = go (leb n room && leb n imageLimit) refl
     same : (leb n (capOf room) && leb n imageLimit) ≡ (leb n room && leb n imageLimit)
     same =
         same-tests (leb n (capOf room) && leb n imageLimit) (leb n room && leb n imageLimit)
-        (λ e. and-both (le-leb n room (le-trans-cap (leb-true n (capOf room) (and-left (leb n (capOf room)) (leb n imageLimit) e)))) (and-right (leb n (capOf room)) (leb n imageLimit) e))
-        (λ e. and-both (le-leb n (capOf room) (cap-least room n (leb-true n room (and-left (leb n room) (leb n imageLimit) e)) (leb-true n imageLimit (and-right (leb n room) (leb n imageLimit) e))))
+        (λ e. and-both (le-leb n room (le-trans-cap (leb-true n (capOf room) (and-left (leb n (capOf room)) (leb n imageLimit) e))))
+        (and-right (leb n (capOf room)) (leb n imageLimit) e))
+        (λ e. and-both (le-leb n (capOf room)
+        (cap-least room n (leb-true n room (and-left (leb n room) (leb n imageLimit) e)) (leb-true n imageLimit (and-right (leb n room) (leb n imageLimit) e))))
         (and-right (leb n room) (leb n imageLimit) e))
       where
         le-trans-cap : n ≤ capOf room → n ≤ room
@@ -220,8 +232,10 @@ module _ (room have : ℕ) (x t : Text) (vars left : Text) (w : Holds room vars 
           )
 
 -- the operand's bytes as the code has them, and its cap
-pub stored-operand : (room have : ℕ) (x area : Text) (units : ℕ) (vars left : Text) → Holds room vars have → Operand x area units → {cap : ℕ} → cap ≡ capOf room
-    → {t : Text} → t ≡ bytes (rowOf (take (2 * units) area)) → (r : Stored) → Writes (imageIn cap x t (held (take have vars))) vars left (storedOutcome r)
+pub stored-operand : (room have : ℕ) (x area : Text) (units : ℕ) (vars left : Text) → Holds room vars have → Operand x area units →
+    {cap : ℕ} → cap ≡ capOf room
+    → {t : Text} → t ≡ bytes (rowOf (take (2 * units) area)) → (r : Stored) → Writes (imageIn cap x t (held (take have vars))) vars left
+    (storedOutcome r)
     → length left ≡ length vars → StoresIn room x (bytes (rowOf (take (2 * units) area))) (held (take have vars)) left r
 stored-operand room have x area units vars left w p {cap} c {t} e r s len =
     stores-in room have x (bytes (rowOf (take (2 * units) area))) vars left w (p .named) (p .clean) r
@@ -272,16 +286,19 @@ module _ (m : Mark) (row : Row) (v : Pairs) (t : Text) (e : t ≡ bytes row) (r 
       value-of (done p) = refl
 
       go : (o : Outcome Tree)
-          → (_>>=_ {B = Row} (_>>=_ {B = Text × Pairs} o (λ l. _>>=_ {B = Text × Pairs} (evaluate v l) (λ p. done (signed (p .0), p .1)))) (λ s. done (marked (expanded m) (s .0))))
+          → (_>>=_ {B = Row} (_>>=_ {B = Text × Pairs} o (λ l. _>>=_ {B = Text × Pairs} (evaluate v l) (λ p. done (signed (p .0), p .1))))
+          (λ s. done (marked (expanded m) (s .0))))
           ≡ ((o >>= λ l. evaluate v l >>= λ p. done (p .0)) >>= λ z. done (marked (expanded m) (signed z)))
       go (refused k) = refl
       go (done l) = value-of (evaluate v l)
 
   pub sum-refuses : (used : ℕ) (area : Text) {k : ℕ} → r ≡ number.Refused k → Adds used (sumOf m row v) area (added.Refused k)
   unfolding measured
-  sum-refuses used area {k} q = ap (measured used) (sum-by ∙ ap (λ (o : Outcome ℤ). o >>= λ z. done (marked (expanded m) (signed z))) (sym h ∙ ap numbered q))
+  sum-refuses used area {k} q =
+      ap (measured used) (sum-by ∙ ap (λ (o : Outcome ℤ). o >>= λ z. done (marked (expanded m) (signed z))) (sym h ∙ ap numbered q))
 
-  pub sum-gives : (used : ℕ) (area : Text) (a : Added) {z : ℤ} → r ≡ number.Value z → {w : ℤ} → w ≡ z → Adds used (done (marked (expanded m) (signed w))) area a
+  pub sum-gives : (used : ℕ) (area : Text) (a : Added) {z : ℤ} → r ≡ number.Value z → {w : ℤ} → w ≡ z → Adds used
+      (done (marked (expanded m) (signed w))) area a
       → Adds used (sumOf m row v) area a
   sum-gives used area a {z} q {w} i g =
       adds-same used area a

@@ -21,26 +21,15 @@ use expand_add::answers::going_on;
 use expand_form::Plan;
 use row::Mark;
 use table_store::Stored;
-
-// The most bytes of an image.
-const IMAGE_LIMIT: usize = 8192;
-
-// A `?` form on a missing value.
-const REFUSED_DEMAND: u8 = 13;
-
-// A bracket class in a pattern.
-const REFUSED_CLASS: u8 = 19;
-
-// No room for a variable.
-const REFUSED_VARIABLE: u8 = 20;
+use text::numbers;
 
 // A row of so many units is added behind `used` others, if they are not too many.
 fn admit(units: usize, used: usize) -> Added
     requires { ⌜ used ≤ rowLimit ⌝ }
     ensures { λ r. ⌜ r ≡ admitted used units ⌝ }
 {
-    if units > expand_add::ROW_LIMIT - used {
-        return Added::Refused(expand_add::REFUSED_UNITS);
+    if units > numbers::ROW_LIMIT - used {
+        return Added::Refused(numbers::REFUSED_UNITS);
     }
     Added::Units(units)
 }
@@ -49,8 +38,8 @@ fn admit(units: usize, used: usize) -> Added
 fn cap_of(room: usize) -> usize
     ensures { λ r. ⌜ r ≡ capOf room ⌝ }
 {
-    if room > IMAGE_LIMIT {
-        return IMAGE_LIMIT;
+    if room > numbers::IMAGE_LIMIT {
+        return numbers::IMAGE_LIMIT;
     }
     room
 }
@@ -65,7 +54,8 @@ fn store_operand(
     work: &mut [u8],
 ) -> Stored
     requires { ⌜ Operand (now name) (now work) units × Holds room (now vars) have ⌝ }
-    ensures { λ r. ⌜ StoresIn room (now (name .entry)) (bytes (rowOf (take (2 * units) (now (work .entry))))) (held (take have (now (vars .entry)))) (now (vars .exit)) r ⌝ }
+    ensures { λ r. ⌜ StoresIn room (now (name .entry)) (bytes (rowOf (take (2 * units) (now (work .entry)))))
+        (held (take have (now (vars .entry)))) (now (vars .exit)) r ⌝ }
 {
     let end = 2 * units;
     let n = row::strip_marks(&mut work[..end]);
@@ -85,11 +75,13 @@ fn assign(
     work: &mut [u8],
 ) -> Expanded
     requires { ⌜ Operand (now name) (now work) units × Holds room (now vars) have × (used ≤ rowLimit) × (2 * rowLimit ≤ length (now work)) ⌝ }
-    ensures { λ r. ⌜ Finishes room used (placed used (finished Plan.Assigns room (now (name .entry)) (markOf mark) (rowOf (take (2 * units) (now (work .entry))), held (take have (now (vars .entry)))))) next (now (work .exit)) (now (vars .exit)) r ⌝ }
+    ensures { λ r. ⌜ Finishes room used
+        (placed used (finished Plan.Assigns room (now (name .entry)) (markOf mark)
+        (rowOf (take (2 * units) (now (work .entry))), held (take have (now (vars .entry)))))) next (now (work .exit)) (now (vars .exit)) r ⌝ }
 {
     let stored = store_operand(name, units, vars, have, room, work);
     match stored {
-        Stored::Full => Expanded::Refused(REFUSED_VARIABLE),
+        Stored::Full => Expanded::Refused(numbers::REFUSED_STORE),
         Stored::Used(left) => going_on(
             expand_add::give_value(name, mark, used, &vars[..left], work),
             next,
@@ -110,12 +102,14 @@ fn cut(
     work: &mut [u8],
 ) -> Added
     requires { ⌜ Table (now vars) × (2 * units ≤ length (now work)) × (used ≤ rowLimit) × (2 * rowLimit ≤ length (now work)) ⌝ }
-    ensures { λ r. ⌜ Adds used (leftBy suffix long (now (name .entry)) (markOf mark) (rowOf (take (2 * units) (now (work .entry)))) (held (now (vars .entry)))) (now (work .exit)) r ⌝ }
+    ensures { λ r. ⌜ Adds used
+        (leftBy suffix long (now (name .entry)) (markOf mark) (rowOf (take (2 * units) (now (work .entry)))) (held (now (vars .entry))))
+        (now (work .exit)) r ⌝ }
 {
     let end = 2 * units;
     let n = pattern_row::drop_empty(&mut work[..end]);
     if pattern_row::has_class(&work[..n], false) {
-        return Added::Refused(REFUSED_CLASS);
+        return Added::Refused(numbers::REFUSED_CLASS);
     }
     let value = table_find::value_of(vars, name);
     let left = pattern_remove::removed(value, &work[..n], suffix, long);
@@ -151,7 +145,7 @@ pub fn settle(
     match plan {
         Plan::Gives => expand_add::give_value(name, mark, used, vars, work),
         Plan::Nothing => Added::Units(0),
-        Plan::Demands => Added::Refused(REFUSED_DEMAND),
+        Plan::Demands => Added::Refused(numbers::REFUSED_DEMAND),
         Plan::Uses => Added::Units(0),
         Plan::Assigns => Added::Units(0),
         Plan::Cuts { suffix: _, long: _ } => Added::Units(0),
@@ -172,7 +166,9 @@ pub fn finish(
     work: &mut [u8],
 ) -> Expanded
     requires { ⌜ Operand (now name) (now work) units × Holds room (now vars) have × (used ≤ rowLimit) × (2 * rowLimit ≤ length (now work)) ⌝ }
-    ensures { λ r. ⌜ Finishes room used (placed used (finished plan room (now (name .entry)) (markOf mark) (rowOf (take (2 * units) (now (work .entry))), held (take have (now (vars .entry)))))) next (now (work .exit)) (now (vars .exit)) r ⌝ }
+    ensures { λ r. ⌜ Finishes room used
+        (placed used (finished plan room (now (name .entry)) (markOf mark)
+        (rowOf (take (2 * units) (now (work .entry))), held (take have (now (vars .entry)))))) next (now (work .exit)) (now (vars .exit)) r ⌝ }
 {
     match plan {
         Plan::Assigns => assign(name, units, next, mark, used, vars, have, room, work),

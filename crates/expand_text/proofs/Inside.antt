@@ -58,7 +58,8 @@ kept-held room vars have w =
     record { fine = table-fine isName (take have vars) t; passes = t .passes; rises = t .rises; fits = omega arith; small = omega arith }
 
 -- An operand's row: the bytes at the front, none of them zero.
-module _ (room : ℕ) (text : Text) (at : ℕ) (mode : Mode) (d used size : ℕ) (vars₀ : Text) (have : ℕ) (y : Ready text at mode d used size) (w : Holds room vars₀ have) where
+module _ (room : ℕ) (text : Text) (at : ℕ) (mode : Mode) (d used size : ℕ) (vars₀ : Text) (have : ℕ) (y : Ready text at mode d used size)
+    (w : Holds room vars₀ have) where
   tree-safe : SafeParts (y .tree)
   tree-safe = safe-done (parts-safe (modeOf mode) d (drop at text) (all-drop notZero at text (y .clean))) (y .is) .clean
 
@@ -92,13 +93,15 @@ module _ (room : ℕ) (text : Text) (at : ℕ) (mode : Mode) (d used size : ℕ)
     inside : Answers room text at (used + 1) (expand room (y .tree) Q (used + 1) (held (take have vars₀))) (y .rest) ys us g
     inside = says-known room text at (used + 1) (λ t. expand room t Q (used + 1) (held (take have vars₀))) ys us g s (y .is)
 
-    quote-made : (o : Made) → expand room (y .tree) Q (used + 1) (held (take have vars₀)) ≡ o → quoted room (y .tree) used (held (take have vars₀)) ≡ onto (N ∷ []) o
+    quote-made : (o : Made) → expand room (y .tree) Q (used + 1) (held (take have vars₀)) ≡ o → quoted room (y .tree) used
+        (held (take have vars₀)) ≡ onto (N ∷ []) o
     unfolding quoted
     quote-made o e = rw (fit-ok used 1 (omega arith), e)
 
     pub quote-refused : (area : Text) {e : ℕ} → g ≡ answer.Refused e → Quoted area us (answer.Refused e)
     quote-refused area {e} q =
-        let b : expand room (y .tree) Q (used + 1) (held (take have vars₀)) ≡ refused e = answers-known room text at (used + 1) _ (y .rest) ys us inside q in
+        let b : expand room (y .tree) Q (used + 1) (held (take have vars₀)) ≡ refused e =
+        answers-known room text at (used + 1) _ (y .rest) ys us inside q in
         rw (y .is) (quote-made (refused e) b)
 
     module _ {count next left : ℕ} (q : g ≡ answer.Row count next left) where
@@ -136,7 +139,8 @@ module _ (room : ℕ) (text : Text) (at : ℕ) (mode : Mode) (d used size : ℕ)
     {plan : Plan} (e : plan ≡ planOf form (missingIn found)) where
   abbrev Given : Text → Text → Expanded → Type 0
   Given area vars g =
-      Says room text at used (λ q. placed used (parameter room (λ k u. expand room q k 0 u) name form m (held (take have vars₀)))) (parts (modeOf mode) d (drop at text)) area vars g
+      Says room text at used (λ q. placed used (parameter room (λ k u. expand room q k 0 u) name form m (held (take have vars₀))))
+      (parts (modeOf mode) d (drop at text)) area vars g
 
   pub unused-fault : (area vars : Text) {b : ℕ} → parts (modeOf mode) d (drop at text) ≡ refused b → (g : Expanded) → Given area vars g
   unused-fault area vars {b} q g =
@@ -145,18 +149,24 @@ module _ (room : ℕ) (text : Text) (at : ℕ) (mode : Mode) (d used size : ℕ)
       absurd (omega arith)
 
   module _ (n : wants plan ≡ false) where
-    without : placed used (parameter room (λ k u. expand room (y .tree) k 0 u) name form m (held (take have vars₀))) ≡ placed used (beside (held (take have vars₀)) (settled plan name m (held (take have vars₀))))
+    without : placed used (parameter room (λ k u. expand room (y .tree) k 0 u) name form m (held (take have vars₀))) ≡ placed used
+        (beside (held (take have vars₀)) (settled plan name m (held (take have vars₀))))
     without = ap (placed used) (unused-operand room (λ k u. expand room (y .tree) k 0 u) name m (take have vars₀) form found s e n)
 
-    unused-answer : (next : ℕ) → Ends text at next (y .rest) → (area : Text) (a : Added) → Adds used (settled plan name m (held (take have vars₀))) area a
-        → Answers room text at used (placed used (parameter room (λ k u. expand room (y .tree) k 0 u) name form m (held (take have vars₀)))) (y .rest) area vars₀ (goingOn a next have)
-    unused-answer next t area (added.Refused b) h = without ∙ beside-refused used (held (take have vars₀)) (settled plan name m (held (take have vars₀))) b h
+    unused-answer : (next : ℕ) → Ends text at next (y .rest) → (area : Text) (a : Added) → Adds used
+        (settled plan name m (held (take have vars₀))) area a
+        → Answers room text at used (placed used (parameter room (λ k u. expand room (y .tree) k 0 u) name form m (held (take have vars₀))))
+        (y .rest) area vars₀ (goingOn a next have)
+    unused-answer next t area (added.Refused b) h =
+        without ∙ beside-refused used (held (take have vars₀)) (settled plan name m (held (take have vars₀))) b h
     unused-answer next t area (added.Units count) h =
         let i = fitting-row room used (settled plan name m (held (take have vars₀))) area vars₀ count have h w in
         (record { row = i .row; is = without ∙ i .is; counts = i .counts; stands = i .stands; fits = i .fits; holds = i .holds }, t)
 
-    pub unused-given : {tree : Parts} {next : ℕ} → parts (modeOf mode) d (drop at text) ≡ done (tree, drop next text) → at ≤ next → next ≤ length text
-        → (area : Text) (a : Added) → Adds used (settled plan name m (held (take have vars₀))) area a → {g : Expanded} → g ≡ goingOn a next have → Given area vars₀ g
+    pub unused-given : {tree : Parts} {next : ℕ} → parts (modeOf mode) d (drop at text) ≡ done (tree, drop next text) → at ≤ next → next
+        ≤ length text
+        → (area : Text) (a : Added) → Adds used (settled plan name m (held (take have vars₀))) area a → {g : Expanded} → g ≡ goingOn a
+        next have → Given area vars₀ g
     unused-given {tree} {next} r l k area a h q =
         let u : _≡_ {A = Taken} (done (tree, drop next text)) (done (y .tree, y .rest)) = sym r ∙ y .is in
         let x : _≡_ {A = Parts × Text} (tree, drop next text) (y .tree, y .rest) = cc in
@@ -168,7 +178,8 @@ module _ (room : ℕ) (text : Text) (at : ℕ) (mode : Mode) (d used size : ℕ)
     operand-answer = says-known room text at 0 (λ p. expand room p k 0 (held (take have vars₀))) ys us g t (y .is)
 
     withal : (o : Made) → expand room (y .tree) k 0 (held (take have vars₀)) ≡ o
-        → placed used (parameter room (λ k u. expand room (y .tree) k 0 u) name form m (held (take have vars₀))) ≡ placed used (o >>= λ r. finished plan room name m r)
+        → placed used (parameter room (λ k u. expand room (y .tree) k 0 u) name form m (held (take have vars₀))) ≡ placed used
+        (o >>= λ r. finished plan room name m r)
     withal o h =
         ap (placed used)
         (used-operand room (λ k u. expand room (y .tree) k 0 u) name m (take have vars₀) form found s e n
@@ -199,11 +210,13 @@ module _ (room : ℕ) (text : Text) (at : ℕ) (mode : Mode) (d used size : ℕ)
           record {
             inside = stands-inside (o .row) ys count (o .stands) (o .counts);
             is = ap rowBytes at-front ∙ sym (front (o .row) ys count (o .stands) (o .counts));
-            clean = ap (λ (r : Row). all notZero (bytes r)) at-front ∙ row-clean room text at mode d 0 size vars₀ have y w k (o .row) (held (take left us)) (o .is);
+            clean = ap (λ (r : Row). all notZero (bytes r)) at-front ∙ row-clean room text at mode d 0 size vars₀ have y w k (o .row)
+                (held (take left us)) (o .is);
             named = i;
           }
 
-      pub used-given : (area vars : Text) (f : Expanded) → Finishes room used (placed used (finished plan room name m (rowOf (take (2 * count) ys), held (take left us)))) next area vars f
+      pub used-given : (area vars : Text) (f : Expanded) → Finishes room used
+          (placed used (finished plan room name m (rowOf (take (2 * count) ys), held (take left us)))) next area vars f
           → Given area vars f
       used-given area vars f h = rw (y .is) (go f h)
         where
@@ -213,12 +226,24 @@ module _ (room : ℕ) (text : Text) (at : ℕ) (mode : Mode) (d used size : ℕ)
               withal (done (operand-row .0 .row, held (take left us))) (operand-row .0 .is)
               ∙ ap (λ (r : Row). placed used (finished plan room name m (r, held (take left us)))) (sym at-front)
 
-          go : (f : Expanded) → Finishes room used (placed used (finished plan room name m (rowOf (take (2 * count) ys), held (take left us)))) next area vars f
-              → Answers room text at used (placed used (parameter room (λ k u. expand room (y .tree) k 0 u) name form m (held (take have vars₀)))) (y .rest) area vars f
+          go : (f : Expanded) → Finishes room used (placed used (finished plan room name m (rowOf (take (2 * count) ys), held (take left us)))) next
+              area vars f
+              → Answers room text at used
+              (placed used (parameter room (λ k u. expand room (y .tree) k 0 u) name form m (held (take have vars₀)))) (y .rest) area vars f
           go (answer.Refused b) h = same ∙ h
           go (answer.Row units after got) h =
-              let i = h .1 in
-              (record { row = i .row; is = same ∙ i .is; counts = i .counts; stands = i .stands; fits = i .fits; holds = i .holds }, rw (h .0) (operand-row .1))
+              let i = h .1 in (
+                record {
+                  row = i .row;
+                  is = same ∙ i .is;
+                  counts = i .counts;
+                  stands = i .stands;
+                  fits = i .fits;
+                  holds =
+                      i .holds;
+                },
+                rw (h .0) (operand-row .1),
+              )
 
 -- An arithmetic text.
 
@@ -227,7 +252,8 @@ unfolding summed sumOf
 summed-beside m row v = go (arithmeticOf v (bytes row)) (arithmetic-safe (λ (u : Pairs). u ≡ v) v (bytes row) refl)
   where
     go : (o : Outcome (Text × Pairs)) → Safe (λ s. (all notZero (s .0) ≡ true) × (s .1 ≡ v)) o
-        → _≡_ {A = Made} (_>>=_ {B = Row × Pairs} o (λ s. done (marked (expanded m) (s .0), s .1))) (beside v (o >>= λ s. done (marked (expanded m) (s .0))))
+        → _≡_ {A = Made} (_>>=_ {B = Row × Pairs} o (λ s. done (marked (expanded m) (s .0), s .1)))
+        (beside v (o >>= λ s. done (marked (expanded m) (s .0))))
     go (refused e) s = refl
     go (done p) (gives s) = ap (λ (u : Pairs). _>>=_ {A = Row × Pairs} {B = Row × Pairs} (done (marked (expanded m) (p .0), u)) (λ r. done r)) (s .1)
 
@@ -278,5 +304,15 @@ module _ (room : ℕ) (text : Text) (at d used size : ℕ) (vars₀ : Text) (hav
             → Answers room text at used (placed used (summing room (y .tree) m (held (take have vars₀)))) (y .rest) area us (goingOn a next left)
         go (added.Refused b) h = ap (placed used) same ∙ beside-refused used (held (take left us)) (sumOf m row (held (take left us))) b h
         go (added.Units n) h =
-            let i = fitting-row room used (sumOf m row (held (take left us))) area us n left h (sum-row .0 .holds) in
-            (record { row = i .row; is = ap (placed used) same ∙ i .is; counts = i .counts; stands = i .stands; fits = i .fits; holds = i .holds }, sum-row .1)
+            let i = fitting-row room used (sumOf m row (held (take left us))) area us n left h (sum-row .0 .holds) in (
+              record {
+                row = i .row;
+                is = ap (placed used) same ∙ i .is;
+                counts = i .counts;
+                stands = i .stands;
+                fits = i .fits;
+                holds =
+                    i .holds;
+              },
+              sum-row .1,
+            )

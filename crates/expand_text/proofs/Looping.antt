@@ -26,15 +26,18 @@ use Rattle.expand_item.specs.declared.Turn.the-variants as turn
 use Rattle.expand_add.proofs.Steps.{onto-none, onto-onto}
 use Rattle.expand_add.proofs.Standing.{stands-inside, stands-nest, stands-kept}
 
-pub turns-known : (room : ℕ) (text : Text) (at depth : ℕ) (m : Mark) (used have : ℕ) (own : Parts → Made) {o : Taken} {p : Parts × Text} (area vars : Text) {r s : Turn}
-    → Turns room text at depth m used have own o area vars r → o ≡ done p → r ≡ s → TurnOf room text at depth m used have (own (p .0)) (p .1) area vars s
+pub turns-known : (room : ℕ) (text : Text) (at depth : ℕ) (m : Mark) (used have : ℕ) (own : Parts → Made) {o : Taken} {p : Parts × Text}
+    (area vars : Text) {r s : Turn}
+    → Turns room text at depth m used have own o area vars r → o ≡ done p → r ≡ s → TurnOf room text at depth m used have (own (p .0))
+    (p .1) area vars s
 turns-known room text at depth m used have own {o} {p} area vars {r} {s} h e q =
     subst (λ (x : Turn). TurnOf room text at depth m used have (own (p .0)) (p .1) area vars x) q
     (subst (λ (x : Taken). Turns room text at depth m used have own x area vars r) e h)
 
 -- The loop.
 
-pub record Going (room : ℕ) (text : Text) (at : ℕ) (mode₀ : Mode) (depth : ℕ) (k : Mark) (used : ℕ) (v : Pairs) (area₀ vars₀ area vars : Text) (n i : ℕ) (mode : Mode) (have : ℕ) : Type 0 where
+pub record Going (room : ℕ) (text : Text) (at : ℕ) (mode₀ : Mode) (depth : ℕ) (k : Mark) (used : ℕ) (v : Pairs)
+    (area₀ vars₀ area vars : Text) (n i : ℕ) (mode : Mode) (have : ℕ) : Type 0 where
   pub tree : Parts
   pub rest : Text
   pub whole : parts (modeOf mode₀) depth (drop at text) ≡ done (tree, rest)
@@ -77,27 +80,33 @@ module _ (room : ℕ) (text : Text) (at : ℕ) (mode₀ : Mode) (d : ℕ) (k : M
         is = onto-none _ ∙ ap (λ (j : ℕ). onto [] (expand room (y .tree) k j (held (take have vars)))) (sym (add-zero used));
       }
 
-  module _ (v : Pairs) (area₀ vars₀ area vars : Text) (n i : ℕ) (mode : Mode) (have : ℕ) (g : Going room text at mode₀ d k used v area₀ vars₀ area vars n i mode have) where
+  module _ (v : Pairs) (area₀ vars₀ area vars : Text) (n i : ℕ) (mode : Mode) (have : ℕ)
+      (g : Going room text at mode₀ d k used v area₀ vars₀ area vars n i mode have) where
     pub going-room : 2 * n ≤ length area
     going-room = stands-inside (g .row) area n (g .stands) (g .counts)
 
-    pub going-ready : all notZero text ≡ true → (size : ℕ) → 2 * rowLimit * (d + 1) ≤ length area₀ + 2 * used → size + 2 * n ≡ length area → Ready text i mode d (used + n) size
+    pub going-ready : all notZero text ≡ true → (size : ℕ) → 2 * rowLimit * (d + 1) ≤ length area₀ + 2 * used → size + 2 * n ≡ length
+        area → Ready text i mode d (used + n) size
     going-ready c size e l =
         let a = g .long in
         record { start = g .within; opens = g .opens; few = g .fits; area = omega arith; clean = c; tree = g .left; rest = g .rest; is = g .read }
 
     module _ (ys us : Text) {r : Turn}
-        (t : Turns room text i d k (used + n) have (λ p. expand room p k (used + n) (held (take have vars))) (parts (modeOf mode) d (drop i text)) ys us r) where
+        (t : Turns room text i d k (used + n) have (λ p. expand room p k (used + n) (held (take have vars))) (parts (modeOf mode) d (drop i text)) ys
+        us r) where
       pub going-refused : (z : Text) {e : ℕ} → r ≡ turn.Refused e
           → Says room text at used (λ p. expand room p k used v) (parts (modeOf mode₀) d (drop at text)) z us (answer.Refused e)
       going-refused z {e} q =
-          let h : expand room (g .left) k (used + n) (held (take have vars)) ≡ refused e = turns-known room text i d k (used + n) have _ ys us t (g .read) q in
+          let h : expand room (g .left) k (used + n) (held (take have vars)) ≡ refused e =
+          turns-known room text i d k (used + n) have _ ys us t (g .read) q in
           rw (g .whole) (g .is ∙ ap (onto (g .row)) h)
 
       pub going-end : (z : Text) {next : ℕ} → r ≡ turn.End next
-          → Says room text at used (λ p. expand room p k used v) (parts (modeOf mode₀) d (drop at text)) (take (2 * n) area ++ z) us (answer.Row n next have)
+          → Says room text at used (λ p. expand room p k used v) (parts (modeOf mode₀) d (drop at text)) (take (2 * n) area ++ z) us
+          (answer.Row n next have)
       going-end z {next} q =
-          let h : Closes room text i have (expand room (g .left) k (used + n) (held (take have vars))) (g .rest) us next = turns-known room text i d k (used + n) have _ ys us t (g .read) q in
+          let h : Closes room text i have (expand room (g .left) k (used + n) (held (take have vars))) (g .rest) us next =
+          turns-known room text i d k (used + n) have _ ys us t (g .read) q in
           let a = g .onward in
           let b = h .ends .onward in
           rw (g .whole) (

@@ -79,7 +79,8 @@ module _ (room : ℕ) (text : Text) (at : ℕ) (mode : Mode) (d : ℕ) (m : Mark
     own-refused : (area vars : Text) {e : ℕ} → own ≡ refused e → Turned area vars (turn.Refused e)
     own-refused area vars {e} h = so area vars (turn.Refused e) (is ∙ followed-refused room p m used own e h)
 
-    own-row : (area vars : Text) (count left next : ℕ) (mode′ : Mode) → IsRow room used own area vars count left → parts (modeOf mode′) d (drop next text) ≡ done (p, y .rest)
+    own-row : (area vars : Text) (count left next : ℕ) (mode′ : Mode) → IsRow room used own area vars count left → parts (modeOf mode′) d
+        (drop next text) ≡ done (p, y .rest)
         → openIn mode′ ≤ next → at < next → next ≤ length text → Turned area vars (turn.Row count next mode′ left)
     own-row area vars count left next mode′ i read o l k =
         so area vars (turn.Row count next mode′ left)
@@ -108,9 +109,11 @@ module _ (room : ℕ) (text : Text) (at : ℕ) (mode : Mode) (d : ℕ) (m : Mark
 
   -- a row that is added at once
   own-added : (p : Parts) (o : Outcome Row) → expand room (y .tree) m used v ≡ followed room p m used (placed used (beside v o))
-      → (next : ℕ) (mode′ : Mode) → parts (modeOf mode′) d (drop next text) ≡ done (p, y .rest) → openIn mode′ ≤ next → at < next → next ≤ length text
+      → (next : ℕ) (mode′ : Mode) → parts (modeOf mode′) d (drop next text) ≡ done (p, y .rest) → openIn mode′ ≤ next → at < next
+      → next ≤ length text
       → (area : Text) (a : Added) → Adds used o area a → {g : Turn} → g ≡ turnOf a next mode′ have → Turned area vars₀ g
-  own-added p o is next mode′ read i l k area (added.Refused e) h q = rw q (own-refused p (placed used (beside v o)) is area vars₀ (beside-refused used v o e h))
+  own-added p o is next mode′ read i l k area (added.Refused e) h q =
+      rw q (own-refused p (placed used (beside v o)) is area vars₀ (beside-refused used v o e h))
   own-added p o is next mode′ read i l k area (added.Units count) h q =
       rw q (own-row p (placed used (beside v o)) is area vars₀ count have next mode′ (fitting-row room used o area vars₀ count have h w) read i l k)
 
@@ -135,7 +138,8 @@ module _ (room : ℕ) (text : Text) (at : ℕ) (mode : Mode) (d : ℕ) (m : Mark
         let s = shown text at d _ h c in
         let o = y .opens in
         let i = s .1 .onward in
-        let t = behind (lit q b) (parts (modeOf mode) d (drop next text)) (y .tree) (y .rest) (sym (at-byte text at (modeOf mode) d q b next (s .0) (s .1 .onward)) ∙ y .is) in
+        let t = behind (lit q b) (parts (modeOf mode) d (drop next text)) (y .tree) (y .rest)
+        (sym (at-byte text at (modeOf mode) d q b next (s .0) (s .1 .onward)) ∙ y .is) in
         own-added (t .next) (done (cell (litMark q m) b ∷ []))
         (ap (λ (x : Parts). expand room x m used v) (t .whole) ∙ expand-lit room (t .next) m used q b v)
         next mode (t .read) (omega arith) i (s .1 .within) area a f g
@@ -145,37 +149,43 @@ module _ (room : ℕ) (text : Text) (at : ℕ) (mode : Mode) (d : ℕ) (m : Mark
     item-paren {b} {n} c area a f g =
         let s = shown text at d _ h c in
         let i = s .1 in
-        let t = behind (lit false b) (parts (sums n) d (drop (at + 1) text)) (y .tree) (y .rest) (sym (at-paren text at (modeOf mode) d b n (s .0)) ∙ y .is) in
+        let t = behind (lit false b) (parts (sums n) d (drop (at + 1) text)) (y .tree) (y .rest)
+        (sym (at-paren text at (modeOf mode) d b n (s .0)) ∙ y .is) in
         own-added (t .next) (done (cell m b ∷ []))
         (ap (λ (x : Parts). expand room x m used v) (t .whole) ∙ expand-lit room (t .next) m used false b v)
         (at + 1) (Arith n) (t .read) (s .2) (omega arith) (omega arith) area a f g
 
     item-value : {from to next : ℕ} → r ≡ Value from to next → (area : Text) (a : Added)
-        → Adds used (done (marked (expanded m) (value v (part text from to)))) area a → {g : Turn} → g ≡ turnOf a next mode have → Turned area vars₀ g
+        → Adds used (done (marked (expanded m) (value v (part text from to)))) area a → {g : Turn} → g ≡ turnOf a next mode have → Turned
+        area vars₀ g
     unfolding parameter
     item-value {from} {to} {next} c area a f g =
         let s = shown text at d _ h c in
         let o = y .opens in
         let i = s .1 .onward in
-        let t = behind (par (part text from to) plain end) (parts (modeOf mode) d (drop next text)) (y .tree) (y .rest) (sym (at-value text at (modeOf mode) d (part text from to) next (s .0) (s .1 .onward)) ∙ y .is) in
+        let t = behind (par (part text from to) plain end) (parts (modeOf mode) d (drop next text)) (y .tree) (y .rest)
+        (sym (at-value text at (modeOf mode) d (part text from to) next (s .0) (s .1 .onward)) ∙ y .is) in
         own-added (t .next) (done (marked (expanded m) (value v (part text from to))))
         (ap (λ (x : Parts). expand room x m used v) (t .whole) ∙ expand-par room (t .next) m used (part text from to) plain end v)
         next mode (t .read) (omega arith) i (s .1 .within) area a f g
 
     item-count : {from to next : ℕ} → r ≡ Count from to next → (area : Text) (a : Added)
-        → Adds used (done (marked (expanded m) (decimal (length (value v (part text from to)))))) area a → {g : Turn} → g ≡ turnOf a next mode have → Turned area vars₀ g
+        → Adds used (done (marked (expanded m) (decimal (length (value v (part text from to)))))) area a → {g : Turn} → g ≡ turnOf a next mode
+        have → Turned area vars₀ g
     item-count {from} {to} {next} c area a f g =
         let s = shown text at d _ h c in
         let o = y .opens in
         let i = s .1 .onward in
-        let t = behind (len (part text from to)) (parts (modeOf mode) d (drop next text)) (y .tree) (y .rest) (sym (at-count text at (modeOf mode) d (part text from to) next (s .0) (s .1 .onward)) ∙ y .is) in
+        let t = behind (len (part text from to)) (parts (modeOf mode) d (drop next text)) (y .tree) (y .rest)
+        (sym (at-count text at (modeOf mode) d (part text from to) next (s .0) (s .1 .onward)) ∙ y .is) in
         own-added (t .next) (done (marked (expanded m) (decimal (length (value v (part text from to))))))
         (ap (λ (x : Parts). expand room x m used v) (t .whole) ∙ expand-len room (t .next) m used (part text from to) v)
         next mode (t .read) (omega arith) i (s .1 .within) area a f g
 
     module _ {n : Mode} (c : r ≡ Quote n) where
       quote-parts : Within quo (parts (modeOf n) d (drop (at + 1) text)) (parts (modeOf mode) d) (y .tree) (y .rest)
-      quote-parts = within quo _ (parts (modeOf mode) d) (y .tree) (y .rest) (sym (at-quote text at (modeOf mode) d (modeOf n) (shown text at d _ h c .0)) ∙ y .is)
+      quote-parts = within quo _ (parts (modeOf mode) d) (y .tree) (y .rest)
+          (sym (at-quote text at (modeOf mode) d (modeOf n) (shown text at d _ h c .0)) ∙ y .is)
 
       pub quote-ready : Ready text (at + 1) n d used size
       quote-ready =
@@ -193,11 +203,13 @@ module _ (room : ℕ) (text : Text) (at : ℕ) (mode : Mode) (d : ℕ) (m : Mark
             is = quote-parts .first;
           }
 
-      pub item-quote : (area vars : Text) (a : Expanded) → Says room text (at + 1) used (λ q. quoted room q used v) (parts (modeOf n) d (drop (at + 1) text)) area vars a
+      pub item-quote : (area vars : Text) (a : Expanded) → Says room text (at + 1) used (λ q. quoted room q used v)
+          (parts (modeOf n) d (drop (at + 1) text)) area vars a
           → {g : Turn} → g ≡ turnFrom a mode → Turned area vars g
       item-quote area vars a s q =
           let t = quote-parts in
-          own-text (t .next) (quoted room (t .inside) used v) (ap (λ (x : Parts). expand room x m used v) (t .whole) ∙ expand-quo room (t .next) m used (t .inside) v)
+          own-text (t .next) (quoted room (t .inside) used v)
+          (ap (λ (x : Parts). expand room x m used v) (t .whole) ∙ expand-quo room (t .next) m used (t .inside) v)
           (at + 1) (t .mid) (t .read) (omega arith) area vars a (says-known room text (at + 1) used (λ q. quoted room q used v) area vars a s (t .first)) q
 
     module _ {from to : ℕ} {f : code-form.Form} {n : Mode} {next : ℕ} (c : r ≡ Inner from to f n next) where
@@ -208,7 +220,8 @@ module _ (room : ℕ) (text : Text) (at : ℕ) (mode : Mode) (d : ℕ) (m : Mark
           (sym (at-inner text at (modeOf mode) d (part text from to) (formOf f) (modeOf n) next (s .0) (s .1 .onward)) ∙ y .is)
 
       pub inner-name : isName (part text from to) ≡ true
-      inner-name = subst SafeParts (inner-parts .whole) (safe-done (parts-safe (modeOf mode) d (drop at text) (all-drop notZero at text (y .clean))) (y .is) .clean) .0
+      inner-name = subst SafeParts (inner-parts .whole)
+          (safe-done (parts-safe (modeOf mode) d (drop at text) (all-drop notZero at text (y .clean))) (y .is) .clean) .0
 
       pub inner-ready : Ready text next n (d - 1) 0 size
       inner-ready =
@@ -229,21 +242,24 @@ module _ (room : ℕ) (text : Text) (at : ℕ) (mode : Mode) (d : ℕ) (m : Mark
           }
 
       pub item-inner : (area vars : Text) (a : Expanded)
-          → Says room text next used (λ q. placed used (parameter room (λ k u. expand room q k 0 u) (part text from to) (formOf f) m v)) (parts (modeOf n) (d - 1) (drop next text)) area vars a
+          → Says room text next used (λ q. placed used (parameter room (λ k u. expand room q k 0 u) (part text from to) (formOf f) m v))
+          (parts (modeOf n) (d - 1) (drop next text)) area vars a
           → {g : Turn} → g ≡ turnFrom a mode → Turned area vars g
       item-inner area vars a s q =
           let t = inner-parts in
           own-text (t .next) (placed used (parameter room (λ k u. expand room (t .inside) k 0 u) (part text from to) (formOf f) m v))
           (ap (λ (x : Parts). expand room x m used v) (t .whole) ∙ expand-par room (t .next) m used (part text from to) (formOf f) (t .inside) v)
           next (t .mid) (t .read) (shown text at d _ h c .1 .onward) area vars a
-          (says-known room text next used (λ q. placed used (parameter room (λ k u. expand room q k 0 u) (part text from to) (formOf f) m v)) area vars a s (t .first)) q
+          (says-known room text next used (λ q. placed used (parameter room (λ k u. expand room q k 0 u) (part text from to) (formOf f) m v)) area
+          vars a s (t .first)) q
 
     module _ {next : ℕ} (c : r ≡ Sum next) where
       sum-parts : Within ari (parts (sums 0) (d - 1) (drop next text)) (parts (modeOf mode) d) (y .tree) (y .rest)
       sum-parts =
           let s = shown text at d _ h c in
           within ari _ (parts (modeOf mode) d) (y .tree) (y .rest)
-          (sym (at-sum text at (modeOf mode) d (s .0) ∙ ap (λ (k : ℕ). nest ari (parts (sums 0) (d - 1) (drop k text)) (parts (modeOf mode) d)) (sym (s .1))) ∙ y .is)
+          (sym (at-sum text at (modeOf mode) d (s .0) ∙ ap (λ (k : ℕ). nest ari (parts (sums 0) (d - 1) (drop k text)) (parts (modeOf mode) d))
+          (sym (s .1))) ∙ y .is)
 
       pub sum-ready : Ready text next (Arith 0) (d - 1) 0 size
       sum-ready =
@@ -275,7 +291,8 @@ module _ (room : ℕ) (text : Text) (at : ℕ) (mode : Mode) (d : ℕ) (m : Mark
           (says-known room text next used (λ q. placed used (summing room q m v)) area vars a s (t .first)) q
 
   -- what holds no text turns as it is given
-  pub item-given : (r : Item) → Shows text at d r (item (modeOf mode) d (drop at text)) → (area : Text) (g : Turn) → Plain r → Gives r text at mode m used v have area g
+  pub item-given : (r : Item) → Shows text at d r (item (modeOf mode) d (drop at text)) → (area : Text) (g : Turn) → Plain r → Gives r text at
+      mode m used v have area g
       → Turned area vars₀ g
   item-given (Fault e) h area g k q = rw q (item-fault {r = Fault e} h area vars₀ refl)
   item-given (Stop next) h area g k q = rw q (item-stop {r = Stop next} h area refl)

@@ -25,7 +25,8 @@ turnFrom (expanded.Row units next have) mode = turn.Row units next mode have
 turnFrom (expanded.Refused e) mode = turn.Refused e
 
 -- one item is expanded: its units stand in the area, and what is behind it is to be expanded behind them
-pub record Moves (room : ℕ) (text : Text) (at depth : ℕ) (m : Mark) (used : ℕ) (made : Made) (rest area vars : Text) (count next : ℕ) (mode : Mode) (have : ℕ) : Type 0 where
+pub record Moves (room : ℕ) (text : Text) (at depth : ℕ) (m : Mark) (used : ℕ) (made : Made) (rest area vars : Text) (count next : ℕ)
+    (mode : Mode) (have : ℕ) : Type 0 where
   pub more : Parts
   pub read : parts (modeOf mode) depth (drop next text) ≡ done (more, rest)
   pub opens : openIn mode ≤ next

@@ -14,8 +14,6 @@ ghost use Rattle.read_mode.specs.Modes.{modeOf, formOf};
 ghost use Rattle.expand_add.specs.Steps.{placed, quoted, summing};
 ghost use Rattle.expand_add.specs.Answers.{Holds, Ready, Says};
 ghost use Rattle.expand_text.specs.Turns.{turnFrom, Turns};
-use expand_add::REFUSED_UNITS;
-use expand_add::ROW_LIMIT;
 use expand_add::answers::Expanded;
 use expand_add::answers::going_on;
 use expand_form::operand_mark;
@@ -59,10 +57,11 @@ fn expand_quote(
     work: &mut [u8],
 ) -> Expanded
     requires { ⌜ Ready (now text) at mode depth used (length (now work)) × Holds room (now vars) have ⌝ }
-    ensures { λ r. ⌜ Says room (now (text .entry)) at used (λ q. quoted room q used (held (take have (now (vars .entry))))) (parts (modeOf mode) depth (drop at (now (text .entry)))) (now (work .exit)) (now (vars .exit)) r ⌝ }
+    ensures { λ r. ⌜ Says room (now (text .entry)) at used (λ q. quoted room q used (held (take have (now (vars .entry)))))
+        (parts (modeOf mode) depth (drop at (now (text .entry)))) (now (work .exit)) (now (vars .exit)) r ⌝ }
 {
-    if used >= ROW_LIMIT {
-        return Expanded::Refused(REFUSED_UNITS);
+    if used >= numbers::ROW_LIMIT {
+        return Expanded::Refused(numbers::REFUSED_UNITS);
     }
     row::put_empty(work);
     let got = expand_text(
@@ -106,8 +105,11 @@ fn expand_inner(
     room: usize,
     work: &mut [u8],
 ) -> Expanded
-    requires { ⌜ Ready (now text) at mode depth 0 (length (now work)) × Holds room (now vars) have × (used ≤ rowLimit) × (isName (now name) ≡ true) ⌝ }
-    ensures { λ r. ⌜ Says room (now (text .entry)) at used (λ q. placed used (parameter room (λ k u. expand room q k 0 u) (now (name .entry)) (formOf form) (markOf mark) (held (take have (now (vars .entry)))))) (parts (modeOf mode) depth (drop at (now (text .entry)))) (now (work .exit)) (now (vars .exit)) r ⌝ }
+    requires { ⌜ Ready (now text) at mode depth 0 (length (now work)) × Holds room (now vars) have × (used ≤ rowLimit) ×
+        (isName (now name) ≡ true) ⌝ }
+    ensures { λ r. ⌜ Says room (now (text .entry)) at used
+        (λ q. placed used (parameter room (λ k u. expand room q k 0 u) (now (name .entry)) (formOf form) (markOf mark)
+        (held (take have (now (vars .entry)))))) (parts (modeOf mode) depth (drop at (now (text .entry)))) (now (work .exit)) (now (vars .exit)) r ⌝ }
 {
     let found = table_find::look_up(&vars[..have], name);
     let plan = plan_of(form, found);
@@ -148,7 +150,9 @@ fn expand_sum(
     work: &mut [u8],
 ) -> Expanded
     requires { ⌜ Ready (now text) at (Mode.Arith 0) depth 0 (length (now work)) × Holds room (now vars) have × (used ≤ rowLimit) ⌝ }
-    ensures { λ r. ⌜ Says room (now (text .entry)) at used (λ q. placed used (summing room q (markOf mark) (held (take have (now (vars .entry)))))) (parts (arith 0) depth (drop at (now (text .entry)))) (now (work .exit)) (now (vars .exit)) r ⌝ }
+    ensures { λ r. ⌜ Says room (now (text .entry)) at used
+        (λ q. placed used (summing room q (markOf mark) (held (take have (now (vars .entry))))))
+        (parts (arith 0) depth (drop at (now (text .entry)))) (now (work .exit)) (now (vars .exit)) r ⌝ }
 {
     let got = expand_text(
         text,
@@ -186,7 +190,9 @@ fn expand_item(
     work: &mut [u8],
 ) -> Turn
     requires { ⌜ Ready (now text) at mode depth used (length (now work)) × Holds room (now vars) have ⌝ }
-    ensures { λ r. ⌜ Turns room (now (text .entry)) at depth (markOf mark) used have (λ t. expand room t (markOf mark) used (held (take have (now (vars .entry))))) (parts (modeOf mode) depth (drop at (now (text .entry)))) (now (work .exit)) (now (vars .exit)) r ⌝ }
+    ensures { λ r. ⌜ Turns room (now (text .entry)) at depth (markOf mark) used have
+        (λ t. expand room t (markOf mark) used (held (take have (now (vars .entry))))) (parts (modeOf mode) depth (drop at (now (text .entry))))
+        (now (work .exit)) (now (vars .exit)) r ⌝ }
 {
     let item = read_item::item_at(text, at, mode, depth);
     match item {
@@ -239,7 +245,8 @@ pub fn expand_text(
     work: &mut [u8],
 ) -> Expanded
     requires { ⌜ Ready (now text) at mode depth used (length (now work)) × Holds room (now vars) have ⌝ }
-    ensures { λ r. ⌜ Says room (now (text .entry)) at used (λ t. expand room t (markOf mark) used (held (take have (now (vars .entry))))) (parts (modeOf mode) depth (drop at (now (text .entry)))) (now (work .exit)) (now (vars .exit)) r ⌝ }
+    ensures { λ r. ⌜ Says room (now (text .entry)) at used (λ t. expand room t (markOf mark) used (held (take have (now (vars .entry)))))
+        (parts (modeOf mode) depth (drop at (now (text .entry)))) (now (work .exit)) (now (vars .exit)) r ⌝ }
 {
     let mut n: usize = 0;
     let mut i = at;

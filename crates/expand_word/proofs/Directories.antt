@@ -79,7 +79,8 @@ module _ (line : Text) (to : ℕ) (l : to < length line) where
 pub directory-wide : (d area : Text) → rowLimit ≤ length d → Adds 0 (done (N ∷ marked Q d)) area (added.Refused tooManyUnits)
 directory-wide d area l = measured-full 0 (N ∷ marked Q d) (omega (arith, marked-count Q d))
 
-pub directory-given : (d work first : Text) (z : Text) → length d < rowLimit → first ≡ 0 ∷ 0 ∷ drop 2 work → (ys : Text) → ys ≡ fronted (rowBytes (marked Q d)) z → (rest : Text)
+pub directory-given : (d work first : Text) (z : Text) → length d < rowLimit → first ≡ 0 ∷ 0 ∷ drop 2 work → (ys : Text) → ys ≡
+    fronted (rowBytes (marked Q d)) z → (rest : Text)
     → Adds 0 (done (N ∷ marked Q d)) (take 2 first ++ (ys ++ rest)) (added.Units (length d + 1))
 unfolding rowBytes
 directory-given d work first z l e ys f rest =
@@ -94,7 +95,8 @@ directory-given d work first z l e ys f rest =
       fits = omega arith;
     }
 
-pub home-added : (o : Option Text) (d area : Text) → o ≡ some d → (a : Added) → Adds 0 (done (N ∷ marked Q d)) area a → {h : Home} → h ≡ homeOf a → HomeSays o area h
+pub home-added : (o : Option Text) (d area : Text) → o ≡ some d → (a : Added) → Adds 0 (done (N ∷ marked Q d)) area a → {h : Home} → h
+    ≡ homeOf a → HomeSays o area h
 home-added o d area e a g {h} q = rw q (go a g)
   where
     go : (a : Added) → Adds 0 (done (N ∷ marked Q d)) area a → HomeSays o area (homeOf a)

@@ -9,7 +9,42 @@ use lib.ListN.{length}
 use Rattle.stages.specs.Bytes.{Text, text, isIn, isNameStart, isBlank, isOperator}
 use Rattle.stages.specs.Outcome.{pick}
 use Rattle.stages.specs.Syntax.{Form, suffix, prefix, word}
-use Rattle.stages.specs.Items.{Item, fault, stop, byte, paren, quote, value, count, inner, sum, item, itemOf, sort, Sort, backquote, closes, operator, quotes, quotes2, backslash, dollar, literal, wrong, escaped, quotable, behindColon, removal, behindName, behindLength, named, braced, parenthesis, expansion, notServed}
+use Rattle.stages.specs.Items.{
+  Item,
+  fault,
+  stop,
+  byte,
+  paren,
+  quote,
+  value,
+  count,
+  inner,
+  sum,
+  item,
+  itemOf,
+  sort,
+  Sort,
+  backquote,
+  closes,
+  operator,
+  quotes,
+  quotes2,
+  backslash,
+  dollar,
+  literal,
+  wrong,
+  escaped,
+  quotable,
+  behindColon,
+  removal,
+  behindName,
+  behindLength,
+  named,
+  braced,
+  parenthesis,
+  expansion,
+  notServed,
+}
 
 -- Items whose bare byte, if they are one, fails a test that `$` and `\` fail.
 
@@ -53,7 +88,8 @@ module _ (f : ℕ → Bool) where
   name-foreign x k [] = wrong-foreign 11 []
   name-foreign x k (b ∷ t) =
       pick-foreign (eqb b (code "}")) (sure refl) (pick-foreign (eqb b (code ":")) (colon-foreign x (suc k) t) (pick-foreign (isIn b (text "-=?+")) (sure refl)
-      (pick-foreign (eqb b (code "%")) (removal-foreign x suffix b k t) (pick-foreign (eqb b (code "#")) (removal-foreign x prefix b k t) (wrong-foreign 11 (b ∷ t))))))
+      (pick-foreign (eqb b (code "%")) (removal-foreign x suffix b k t)
+      (pick-foreign (eqb b (code "#")) (removal-foreign x prefix b k t) (wrong-foreign 11 (b ∷ t))))))
 
   length-foreign : (x : Text) (k : ℕ) (t : Text) → Foreign (behindLength x k t)
   unfolding behindLength
@@ -110,7 +146,8 @@ module _ (f : ℕ → Bool) where
         go
         (pick-sorted (eqb b (code "`")) backquote _ (sure refl) (pick-sorted (isBlank b) closes _ (sure refl) (pick-sorted (isOperator b) operator _ (sure refl)
         (pick-sorted (eqb b (code "'")) quotes _ (sure refl) (pick-sorted (eqb b (code "\"")) quotes2 _ (sure refl)
-        (pick-sorted (eqb b (code "\\")) backslash _ (escaped-foreign t) (pick-sorted (eqb b (code "$")) dollar literal (expansion-foreign t) (bare-foreign b 0 byte-no))))))))
+        (pick-sorted (eqb b (code "\\")) backslash _ (escaped-foreign t)
+        (pick-sorted (eqb b (code "$")) dollar literal (expansion-foreign t) (bare-foreign b 0 byte-no))))))))
       where
         go : {i : Item} → Foreign i → foreign i ≡ true
         go (sure h) = h

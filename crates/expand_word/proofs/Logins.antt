@@ -35,12 +35,22 @@ is-no false y e = refl
 
 others : (b : ℕ) (set : Text) → isLoginByte b ≡ true → all (λ c. not (isLoginByte c)) set ≡ true → isIn b set ≡ false
 others b [] l n = refl
-others b (c ∷ set) l n = rw (other b c l (is-no (isLoginByte c) (all (λ c. not (isLoginByte c)) set) n)) (others b set l (and-right (not (isLoginByte c)) (all (λ c. not (isLoginByte c)) set) n))
+others b (c ∷ set) l n =
+    rw (other b c l (is-no (isLoginByte c) (all (λ c. not (isLoginByte c)) set) n))
+    (others b set l (and-right (not (isLoginByte c)) (all (λ c. not (isLoginByte c)) set) n))
 
 login-sort : (b : ℕ) → isLoginByte b ≡ true → sort word b ≡ literal
 unfolding sort isBlank isOperator isLoginByte isNameByte isNameStart isLetter isDigit
 login-sort b l =
-    rw (other b (code "`") l refl, others b blanks l refl, others b (text "|&;<>()") l refl, other b (code "'") l refl, other b (code "\"") l refl, other b (code "\\") l refl, other b (code "$") l refl)
+    rw (
+      other b (code "`") l refl,
+      others b blanks l refl,
+      others b (text "|&;<>()") l refl,
+      other b (code "'") l refl,
+      other b (code "\"") l refl,
+      other b (code "\\") l refl,
+      other b (code "$") l refl,
+    )
 
 login-no-slash : (b : ℕ) → isLoginByte b ≡ true → eqb b (code "/") ≡ false
 unfolding isLoginByte isNameByte isNameStart isLetter isDigit
@@ -78,17 +88,24 @@ module _ (d b : ℕ) (t : Text) (p : Parts) (rest : Text) (h : parts word d (b �
       go false u true v = absurd (no (rw (u, v) at n))
       go false u false v = rw (v, login, u, login)
 
-  none-by : {P : ℕ → Type 0} {i : Item} → Fair P false i → item word d (b ∷ t) ≡ i → foreign (λ c. isLoginByte c || eqb c (code "/")) i ≡ true → login p ≡ none
+  none-by : {P : ℕ → Type 0} {i : Item} → Fair P false i → item word d (b ∷ t) ≡ i → foreign (λ c. isLoginByte c || eqb c (code "/")) i
+      ≡ true → login p ≡ none
   unfolding readItem login
   none-by (faults {n = n} w) q g =
-      absurd (let u : _≡_ {A = Taken} (refused n) (done (p, rest)) = sym (parts-item word d (b ∷ t) q) ∙ h in let z : _≡_ {A = ℕ} 0 1 = cc in omega arith)
-  none-by (a-byte {q = true} {b = c} {k = k} w) q g = ap login (behind (lit true c) (parts word d (drop (suc k) (b ∷ t))) p rest (sym (parts-item word d (b ∷ t) q) ∙ h) .whole)
-  none-by (a-byte {q = false} {b = c} {k = k} w) q g = let u = behind (lit false c) (parts word d (drop (suc k) (b ∷ t))) p rest (sym (parts-item word d (b ∷ t) q) ∙ h) in bare-none c (u .next) g (u .whole)
+      absurd (let u : _≡_ {A = Taken} (refused n) (done (p, rest)) = sym (parts-item word d (b ∷ t) q) ∙ h in
+      let z : _≡_ {A = ℕ} 0 1 = cc in omega arith)
+  none-by (a-byte {q = true} {b = c} {k = k} w) q g =
+      ap login (behind (lit true c) (parts word d (drop (suc k) (b ∷ t))) p rest (sym (parts-item word d (b ∷ t) q) ∙ h) .whole)
+  none-by (a-byte {q = false} {b = c} {k = k} w) q g = let u =
+      behind (lit false c) (parts word d (drop (suc k) (b ∷ t))) p rest (sym (parts-item word d (b ∷ t) q) ∙ h) in bare-none c (u .next) g (u .whole)
   none-by (a-paren w) q g = absurd (no g)
   none-by (a-quote {m = n}) q g = ap login (within quo (parts n d t) (parts word d) p rest (sym (parts-item word d (b ∷ t) q) ∙ h) .whole)
-  none-by (a-value {x = x} {k = k} w) q g = ap login (behind (par x plain end) (parts word d (drop (suc k) (b ∷ t))) p rest (sym (parts-item word d (b ∷ t) q) ∙ h) .whole)
-  none-by (a-count {x = x} {k = k} w) q g = ap login (behind (len x) (parts word d (drop (suc k) (b ∷ t))) p rest (sym (parts-item word d (b ∷ t) q) ∙ h) .whole)
-  none-by (an-inner {x = x} {f = f} {m = n} {k = k} w) q g = ap login (within (par x f) (parts n (d - 1) (drop (suc k) (b ∷ t))) (parts word d) p rest (sym (parts-item word d (b ∷ t) q) ∙ h) .whole)
+  none-by (a-value {x = x} {k = k} w) q g =
+      ap login (behind (par x plain end) (parts word d (drop (suc k) (b ∷ t))) p rest (sym (parts-item word d (b ∷ t) q) ∙ h) .whole)
+  none-by (a-count {x = x} {k = k} w) q g =
+      ap login (behind (len x) (parts word d (drop (suc k) (b ∷ t))) p rest (sym (parts-item word d (b ∷ t) q) ∙ h) .whole)
+  none-by (an-inner {x = x} {f = f} {m = n} {k = k} w) q g =
+      ap login (within (par x f) (parts n (d - 1) (drop (suc k) (b ∷ t))) (parts word d) p rest (sym (parts-item word d (b ∷ t) q) ∙ h) .whole)
   none-by a-sum q g = ap login (within ari (parts (sums 0) (d - 1) (drop 3 (b ∷ t))) (parts word d) p rest (sym (parts-item word d (b ∷ t) q) ∙ h) .whole)
 
   no-login : isLoginByte b ≡ false → eqb b (code "/") ≡ false → isBlank b ≡ false → login p ≡ none
@@ -128,7 +145,9 @@ module _ (d : ℕ) where
       record { more = p; is = rw (sym (ap (λ (x : Parts × Text). x .0) w)) refl; read = h }
   read-login (b ∷ t) p rest h e = either (isLoginByte b) (λ l. longer-login (λ q r k. read-login t q rest r k) l) (λ l. here l)
     where
-      longer-login : ((q : Parts) → parts word d t ≡ done (q, rest) → endsLogin (span isLoginByte t .1) ≡ true → Login d q rest (span isLoginByte t .0) (span isLoginByte t .1)) → isLoginByte b ≡ true → Login d p rest (span isLoginByte (b ∷ t) .0) (span isLoginByte (b ∷ t) .1)
+      longer-login : ((q : Parts) → parts word d t ≡ done (q, rest) → endsLogin (span isLoginByte t .1) ≡ true → Login d q rest
+          (span isLoginByte t .0) (span isLoginByte t .1)) → isLoginByte b ≡ true → Login d p rest (span isLoginByte (b ∷ t) .0)
+          (span isLoginByte (b ∷ t) .1)
       longer-login ih l =
           let s = span-more isLoginByte b t l in
           let w = literal-behind d b t p rest h (login-sort b l) in
@@ -138,12 +157,14 @@ module _ (d : ℕ) where
       here : isLoginByte b ≡ false → Login d p rest (span isLoginByte (b ∷ t) .0) (span isLoginByte (b ∷ t) .1)
       here l = rw (span-stop isLoginByte (b ∷ t) l) (record { more = p; is = ended-login d b t p rest h (ends-or b t l e); read = h })
 
-  pub no-login-read : (t : Text) (p : Parts) (rest : Text) → parts word d t ≡ done (p, rest) → endsLogin (span isLoginByte t .1) ≡ false → login p ≡ none
+  pub no-login-read : (t : Text) (p : Parts) (rest : Text) → parts word d t ≡ done (p, rest) → endsLogin (span isLoginByte t .1) ≡ false →
+      login p ≡ none
   unfolding endsLogin span
   no-login-read [] p rest h e = absurd (no (sym e))
   no-login-read (b ∷ t) p rest h e = either (isLoginByte b) (λ l. further (λ q r k. no-login-read t q rest r k) l) (λ l. here l)
     where
-      further : ((q : Parts) → parts word d t ≡ done (q, rest) → endsLogin (span isLoginByte t .1) ≡ false → login q ≡ none) → isLoginByte b ≡ true → login p ≡ none
+      further : ((q : Parts) → parts word d t ≡ done (q, rest) → endsLogin (span isLoginByte t .1) ≡ false → login q ≡ none) →
+          isLoginByte b ≡ true → login p ≡ none
       further ih l =
           let w = literal-behind d b t p rest h (login-sort b l) in
           let i = ih (w .next) (w .read) (ap (λ (x : Text × Text). endsLogin (x .1)) (sym (span-more isLoginByte b t l)) ∙ e) in
@@ -187,19 +208,28 @@ module _ (d : ℕ) (v homes : Pairs) (p : Parts) (rest : Text) where
     no-tilde-by : (i : Item) → item word d (b ∷ t) ≡ i → foreign (λ c. eqb c (code "~")) i ≡ true → tilde v homes p ≡ none
     unfolding readItem tilde
     no-tilde-by (fault n) q g =
-        absurd (let u : _≡_ {A = Taken} (refused n) (done (p, rest)) = sym (parts-item word d (b ∷ t) q) ∙ h in let z : _≡_ {A = ℕ} 0 1 = cc in omega arith)
+        absurd (let u : _≡_ {A = Taken} (refused n) (done (p, rest)) = sym (parts-item word d (b ∷ t) q) ∙ h in
+        let z : _≡_ {A = ℕ} 0 1 = cc in omega arith)
     no-tilde-by (stop k) q g =
         let u : _≡_ {A = Taken} (done (end, drop k (b ∷ t))) (done (p, rest)) = sym (parts-item word d (b ∷ t) q) ∙ h in
         let w : _≡_ {A = Parts × Text} (end, drop k (b ∷ t)) (p, rest) = cc in
         rw (sym (ap (λ (x : Parts × Text). x .0) w)) refl
-    no-tilde-by (byte true c k) q g = ap (tilde v homes) (behind (lit true c) (parts word d (drop (suc k) (b ∷ t))) p rest (sym (parts-item word d (b ∷ t) q) ∙ h) .whole)
-    no-tilde-by (byte false c k) q g = let u = behind (lit false c) (parts word d (drop (suc k) (b ∷ t))) p rest (sym (parts-item word d (b ∷ t) q) ∙ h) in bare-no-tilde c (u .next) g (u .whole)
+    no-tilde-by (byte true c k) q g =
+        ap (tilde v homes) (behind (lit true c) (parts word d (drop (suc k) (b ∷ t))) p rest (sym (parts-item word d (b ∷ t) q) ∙ h) .whole)
+    no-tilde-by (byte false c k) q g = let u =
+        behind (lit false c) (parts word d (drop (suc k) (b ∷ t))) p rest (sym (parts-item word d (b ∷ t) q) ∙ h) in
+        bare-no-tilde c (u .next) g (u .whole)
     no-tilde-by (paren c n) q g = absurd (no g)
     no-tilde-by (quote n) q g = ap (tilde v homes) (within quo (parts n d t) (parts word d) p rest (sym (parts-item word d (b ∷ t) q) ∙ h) .whole)
-    no-tilde-by (value x k) q g = ap (tilde v homes) (behind (par x plain end) (parts word d (drop (suc k) (b ∷ t))) p rest (sym (parts-item word d (b ∷ t) q) ∙ h) .whole)
-    no-tilde-by (count x k) q g = ap (tilde v homes) (behind (len x) (parts word d (drop (suc k) (b ∷ t))) p rest (sym (parts-item word d (b ∷ t) q) ∙ h) .whole)
-    no-tilde-by (inner x f n k) q g = ap (tilde v homes) (within (par x f) (parts n (d - 1) (drop (suc k) (b ∷ t))) (parts word d) p rest (sym (parts-item word d (b ∷ t) q) ∙ h) .whole)
-    no-tilde-by sum q g = ap (tilde v homes) (within ari (parts (sums 0) (d - 1) (drop 3 (b ∷ t))) (parts word d) p rest (sym (parts-item word d (b ∷ t) q) ∙ h) .whole)
+    no-tilde-by (value x k) q g =
+        ap (tilde v homes) (behind (par x plain end) (parts word d (drop (suc k) (b ∷ t))) p rest (sym (parts-item word d (b ∷ t) q) ∙ h) .whole)
+    no-tilde-by (count x k) q g =
+        ap (tilde v homes) (behind (len x) (parts word d (drop (suc k) (b ∷ t))) p rest (sym (parts-item word d (b ∷ t) q) ∙ h) .whole)
+    no-tilde-by (inner x f n k) q g =
+        ap (tilde v homes) (within (par x f) (parts n (d - 1) (drop (suc k) (b ∷ t))) (parts word d) p rest
+        (sym (parts-item word d (b ∷ t) q) ∙ h) .whole)
+    no-tilde-by sum q g =
+        ap (tilde v homes) (within ari (parts (sums 0) (d - 1) (drop 3 (b ∷ t))) (parts word d) p rest (sym (parts-item word d (b ∷ t) q) ∙ h) .whole)
 
     pub no-tilde : eqb b (code "~") ≡ false → tilde v homes p ≡ none
     no-tilde e = no-tilde-by (item word d (b ∷ t)) refl (word-foreign (λ c. eqb c (code "~")) d b t e refl refl)

@@ -35,7 +35,8 @@ use Rattle.expand_add.proofs.Standing.{stands-nest, stands-inside}
 use Rattle.expand_word.proofs.Logins.{Login, read-login, no-login-read, tilde-behind, tilde-homed, no-tilde-end, no-tilde}
 
 -- no login: the tilde is literal, if there is one
-no-login-tilde : (d : ℕ) (v homes : Pairs) (p : Parts) (rest t : Text) → parts word d t ≡ done (p, rest) → noLogin t ≡ true → tilde v homes p ≡ none
+no-login-tilde : (d : ℕ) (v homes : Pairs) (p : Parts) (rest t : Text) → parts word d t ≡ done (p, rest) → noLogin t ≡ true → tilde v
+    homes p ≡ none
 unfolding noLogin homed
 no-login-tilde d v homes p rest [] h n = no-tilde-end d v homes p rest h
 no-login-tilde d v homes p rest (b ∷ t) h n = go (eqb b (code "~")) refl
@@ -47,7 +48,8 @@ no-login-tilde d v homes p rest (b ∷ t) h n = go (eqb b (code "~")) refl
     literal : b ≡ code "~" → endsLogin (span isLoginByte t .1) ≡ false → tilde v homes p ≡ none
     literal e k =
         let r : parts word d (code "~" ∷ t) ≡ done (p, rest) = ap (λ (c : ℕ). parts word d (c ∷ t)) (sym e) ∙ h in
-        tilde-homed d v homes p rest t r ∙ ap (homed v homes) (no-login-read d t (tilde-behind d v homes p rest t r .next) rest (tilde-behind d v homes p rest t r .read) k)
+        tilde-homed d v homes p rest t r ∙ ap (homed v homes)
+        (no-login-read d t (tilde-behind d v homes p rest t r .next) rest (tilde-behind d v homes p rest t r .read) k)
 
     go : (x : Bool) → eqb b (code "~") ≡ x → tilde v homes p ≡ none
     go true e = literal (eqb-true b (code "~") e) (ends e (endsLogin (span isLoginByte t .1)) refl)
@@ -55,7 +57,8 @@ no-login-tilde d v homes p rest (b ∷ t) h n = go (eqb b (code "~")) refl
 
 -- The row of a word.
 
-module _ (room : ℕ) (line : Text) (at size : ℕ) (vars₀ : Text) (have : ℕ) (homes : Pairs) (y : Ready line at Word depthLimit 0 size) (w : Holds room vars₀ have) where
+module _ (room : ℕ) (line : Text) (at size : ℕ) (vars₀ : Text) (have : ℕ) (homes : Pairs) (y : Ready line at Word depthLimit 0 size)
+    (w : Holds room vars₀ have) where
   abbrev v : Pairs
   v = held (take have vars₀)
 
@@ -71,7 +74,8 @@ module _ (room : ℕ) (line : Text) (at size : ℕ) (vars₀ : Text) (have : ℕ
       → Says room line at 0 (λ t. expand room t L 0 v) (parts word depthLimit (drop at line)) area vars r → Worded area vars r
   plain-word e area vars r s = rw (y .is) (go r (says-known room line at 0 (λ t. expand room t L 0 v) area vars r s (y .is)))
     where
-      go : (r : Expanded) → Answers room line at 0 (expand room (y .tree) L 0 v) (y .rest) area vars r → Answers room line at 0 (wordRow room homes (y .tree) v) (y .rest) area vars r
+      go : (r : Expanded) → Answers room line at 0 (expand room (y .tree) L 0 v) (y .rest) area vars r → Answers room line at 0
+          (wordRow room homes (y .tree) v) (y .rest) area vars r
       go (answer.Refused k) h = plain-row e ∙ h
       go (answer.Row n next left) h =
           let i = h .0 in
@@ -84,9 +88,11 @@ module _ (room : ℕ) (line : Text) (at size : ℕ) (vars₀ : Text) (have : ℕ
     read : parts word depthLimit (code "~" ∷ drop (at + 1) line) ≡ done (y .tree, y .rest)
     read = ap (parts word depthLimit) (sym (o .tilde)) ∙ y .is
 
-    found : Login depthLimit (tilde-behind depthLimit v homes (y .tree) (y .rest) (drop (at + 1) line) read .next) (y .rest) (part line (at + 1) to) (drop to line)
+    found : Login depthLimit (tilde-behind depthLimit v homes (y .tree) (y .rest) (drop (at + 1) line) read .next) (y .rest) (part line (at + 1) to)
+        (drop to line)
     found =
-        subst (λ (p : Text × Text). Login depthLimit (tilde-behind depthLimit v homes (y .tree) (y .rest) (drop (at + 1) line) read .next) (y .rest) (p .0) (p .1)) (o .run)
+        subst (λ (p : Text × Text). Login depthLimit (tilde-behind depthLimit v homes (y .tree) (y .rest) (drop (at + 1) line) read .next) (y .rest)
+        (p .0) (p .1)) (o .run)
         (read-login depthLimit (drop (at + 1) line) _ (y .rest) (tilde-behind depthLimit v homes (y .tree) (y .rest) (drop (at + 1) line) read .read)
         (ap (λ (p : Text × Text). endsLogin (p .1)) (o .run) ∙ o .ends))
 
@@ -159,7 +165,8 @@ module _ (room : ℕ) (line : Text) (at size : ℕ) (vars₀ : Text) (have : ℕ
             let l = home-units in
             let k : 0 + length (N ∷ marked Q (g .directory)) ≡ units = omega (arith, home-count) in
             home-made (g .directory) (g .is)
-            ∙ ap (λ (x : Outcome ℕ). x >>= λ i. onto (N ∷ marked Q (g .directory)) (expand room (found .more) L i v)) (fit-ok 0 (length (N ∷ marked Q (g .directory))) (omega (arith, home-count)))
+            ∙ ap (λ (x : Outcome ℕ). x >>= λ i. onto (N ∷ marked Q (g .directory)) (expand room (found .more) L i v))
+            (fit-ok 0 (length (N ∷ marked Q (g .directory))) (omega (arith, home-count)))
             ∙ ap (λ (i : ℕ). onto (N ∷ marked Q (g .directory)) (expand room (found .more) L i v)) k
 
         pub behind-refused : (z : Text) {e : ℕ} → r ≡ answer.Refused e → Worded z us (answer.Refused e)
@@ -199,5 +206,6 @@ home-known o area g e = subst (λ (x : Home). HomeSays o area x) e g
 pub login-known : (line : Text) (at : ℕ) {r k : CodeLogin} → LoginSays line at r → r ≡ k → LoginSays line at k
 login-known line at g e = subst (λ (x : CodeLogin). LoginSays line at x) e g
 
-pub ready-size : {text : Text} {at : ℕ} {mode : Mode} {d used size size′ : ℕ} → Ready text at mode d used size → size′ ≡ size → Ready text at mode d used size′
+pub ready-size : {text : Text} {at : ℕ} {mode : Mode} {d used size size′ : ℕ} → Ready text at mode d used size → size′ ≡ size → Ready
+    text at mode d used size′
 ready-size {text} {at} {mode} {d} {used} y e = subst (λ (n : ℕ). Ready text at mode d used n) (sym e) y

@@ -15,6 +15,7 @@ use expand_add::Added;
 use row::Mark;
 use table::Found;
 use text::Class;
+use text::numbers;
 
 // Where the login behind a `~` ends, if both stand there.
 pub enum Login {
@@ -58,8 +59,8 @@ fn give_directory(directory: &[u8], work: &mut [u8]) -> Added
     requires { ⌜ 2 * rowLimit ≤ length (now work) ⌝ }
     ensures { λ r. ⌜ Adds 0 (done (N ∷ marked Q (now (directory .entry)))) (now (work .exit)) r ⌝ }
 {
-    if directory.len() >= expand_add::ROW_LIMIT {
-        return Added::Refused(expand_add::REFUSED_UNITS);
+    if directory.len() >= numbers::ROW_LIMIT {
+        return Added::Refused(numbers::REFUSED_UNITS);
     }
     row::put_empty(work);
     row::put_marked(directory, Mark::Q, &mut work[2..]);

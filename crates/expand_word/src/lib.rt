@@ -14,6 +14,7 @@ use homes::Home;
 use homes::Login;
 use read_mode::Mode;
 use row::Mark;
+use text::numbers;
 
 mod homes;
 
@@ -28,8 +29,10 @@ fn expand_home(
     homes: &[u8],
     work: &mut [u8],
 ) -> Expanded
-    requires { ⌜ Opens (now line) at to × Ready (now line) at Mode.Word depthLimit 0 (length (now work)) × Holds room (now vars) have × Table (now homes) ⌝ }
-    ensures { λ r. ⌜ Says room (now (line .entry)) at 0 (λ t. wordRow room (held (now (homes .entry))) t (held (take have (now (vars .entry))))) (parts word depthLimit (drop at (now (line .entry)))) (now (work .exit)) (now (vars .exit)) r ⌝ }
+    requires { ⌜ Opens (now line) at to × Ready (now line) at Mode.Word depthLimit 0 (length (now work)) × Holds room (now vars) have × Table
+        (now homes) ⌝ }
+    ensures { λ r. ⌜ Says room (now (line .entry)) at 0 (λ t. wordRow room (held (now (homes .entry))) t (held (take have (now (vars .entry)))))
+        (parts word depthLimit (drop at (now (line .entry)))) (now (work .exit)) (now (vars .exit)) r ⌝ }
 {
     let start = at + 1;
     let home = homes::give_home(&line[start..to], &vars[..have], homes, work);
@@ -39,7 +42,7 @@ fn expand_home(
             line,
             at,
             Mode::Word,
-            read_line::DEPTH,
+            numbers::DEPTH_LIMIT,
             Mark::L,
             0,
             vars,
@@ -53,7 +56,7 @@ fn expand_home(
                 line,
                 to,
                 Mode::Word,
-                read_line::DEPTH,
+                numbers::DEPTH_LIMIT,
                 Mark::L,
                 units,
                 vars,
@@ -89,7 +92,8 @@ pub fn expand_word(
     work: &mut [u8],
 ) -> Expanded
     requires { ⌜ Ready (now line) at Mode.Word depthLimit 0 (length (now work)) × Holds room (now vars) have × Table (now homes) ⌝ }
-    ensures { λ r. ⌜ Says room (now (line .entry)) at 0 (λ t. wordRow room (held (now (homes .entry))) t (held (take have (now (vars .entry))))) (parts word depthLimit (drop at (now (line .entry)))) (now (work .exit)) (now (vars .exit)) r ⌝ }
+    ensures { λ r. ⌜ Says room (now (line .entry)) at 0 (λ t. wordRow room (held (now (homes .entry))) t (held (take have (now (vars .entry)))))
+        (parts word depthLimit (drop at (now (line .entry)))) (now (work .exit)) (now (vars .exit)) r ⌝ }
 {
     let login = homes::login_at(line, at);
     match login {
@@ -97,7 +101,7 @@ pub fn expand_word(
             line,
             at,
             Mode::Word,
-            read_line::DEPTH,
+            numbers::DEPTH_LIMIT,
             Mark::L,
             0,
             vars,

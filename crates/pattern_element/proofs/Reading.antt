@@ -11,7 +11,28 @@ use borrow.Author.Tests.{eqb-true, ne-eqb}
 use Rattle.stages.proofs.Bools.{and-right}
 use Rattle.stages.specs.Outcome.{pick}
 use Rattle.stages.specs.Bytes.{Text}
-use Rattle.stages.specs.Pattern.{Sign, Signs, isLive, Element, byte, set, Found, class, unclosed, closedAfter, bracket, others, skipped, bracketed, bracketLength, element, extra, elements, isClass, hasClass}
+use Rattle.stages.specs.Pattern.{
+  Sign,
+  Signs,
+  isLive,
+  Element,
+  byte,
+  set,
+  Found,
+  class,
+  unclosed,
+  closedAfter,
+  bracket,
+  others,
+  skipped,
+  bracketed,
+  bracketLength,
+  element,
+  extra,
+  elements,
+  isClass,
+  hasClass,
+}
 use Rattle.text.specs.Rows.{signsOf}
 use Rattle.pattern_element.specs.Pieces.{setFrom, bracketAt, pieceAt, behindOf, elementOf, isClassPiece, Lies}
 use Rattle.pattern_element.specs.declared.Piece.{Piece}
@@ -52,7 +73,8 @@ module _ (p : Text) (k : ℕ) where
       ap (λ (l : Signs). set (others units) l)
       (rw e (sym (rw (units-behind (skipped units) (drop k p), units-of n (drop (2 * skipped units) (drop k p)), drop-drop (2 * skipped units) k p))))
 
-  bracket-behind : (at : ℕ) → at + 2 ≡ k → (f : Found) → behindOf (setFrom (others units) (k + 2 * skipped units) f) at ≡ k + 2 * bracketLength units f
+  bracket-behind : (at : ℕ) → at + 2 ≡ k → (f : Found) → behindOf (setFrom (others units) (k + 2 * skipped units) f) at ≡ k + 2 *
+      bracketLength units f
   unfolding bracketLength
   bracket-behind at h class = omega arith
   bracket-behind at h unclosed = omega arith

@@ -29,7 +29,8 @@ opens-both s (u ∷ r) = rw (three (u .byte) (u .live))
 
 -- a class opens at a place
 pub opens-at : (p : Text) (k : ℕ) → k + 1 < length p
-    → opens (signsOf (drop k p)) ≡ (begins 91 (signsOf (drop k p)) && (begins 58 (signsOf (drop (k + 2) p)) || (begins 46 (signsOf (drop (k + 2) p)) || begins 61 (signsOf (drop (k + 2) p)))))
+    → opens (signsOf (drop k p)) ≡
+    (begins 91 (signsOf (drop k p)) && (begins 58 (signsOf (drop (k + 2) p)) || (begins 46 (signsOf (drop (k + 2) p)) || begins 61 (signsOf (drop (k + 2) p)))))
 unfolding opens begins
 opens-at p k h = rw (unit-at p k h) (opens-both (signAt p k) (signsOf (drop (k + 2) p)))
 
@@ -43,11 +44,13 @@ module _ (path first : Bool) (s : Sign) (r : Signs) where
   unfolding find
   search-bars n y = rw (n, y)
 
-  search-class : (not first && isLive 93 s) ≡ false → (path && eqb (s .byte) 47) ≡ false → opensClass s r ≡ true → find path first (s ∷ r) ≡ class
+  search-class : (not first && isLive 93 s) ≡ false → (path && eqb (s .byte) 47) ≡ false → opensClass s r ≡ true → find path first
+      (s ∷ r) ≡ class
   unfolding find
   search-class n m y = rw (n, m, y)
 
-  search-more : (not first && isLive 93 s) ≡ false → (path && eqb (s .byte) 47) ≡ false → opensClass s r ≡ false → find path first (s ∷ r) ≡ oneMore (find path false r)
+  search-more : (not first && isLive 93 s) ≡ false → (path && eqb (s .byte) 47) ≡ false → opensClass s r ≡ false → find path first
+      (s ∷ r) ≡ oneMore (find path false r)
   unfolding find
   search-more n m y = rw (n, m, y)
 

@@ -17,7 +17,20 @@ use Rattle.pattern_element.specs.declared.Piece.the-variants.{Star, One, Byte, 
 use Rattle.pattern_element.proofs.Reading.{elements-over}
 use Rattle.pattern_row.specs.Special.{from}
 use Rattle.pattern_row.proofs.Standing.{Standing, parted}
-use Rattle.pattern_match.proofs.Stars.{some-last, some-next, some-here, passes-inside, passes-other, passes-slash, passes-unless, bars, star-star, absorbs, inside-part, some-inside}
+use Rattle.pattern_match.proofs.Stars.{
+  some-last,
+  some-next,
+  some-here,
+  passes-inside,
+  passes-other,
+  passes-slash,
+  passes-unless,
+  bars,
+  star-star,
+  absorbs,
+  inside-part,
+  some-inside,
+}
 use Rattle.pattern_match.specs.Steps.{isStar, isSlash, takesOne, behindStar, MeetsStar, RunSays}
 use Rattle.pattern_match.specs.declared.Run.{Run}
 use Rattle.pattern_match.specs.declared.Run.the-variants.{Whole, Fails, Star as StarMet}
@@ -36,11 +49,13 @@ module _ (path head first : Bool) (es : List Element) (b : ℕ) (t : Text) where
   unfolding matchesFrom
   byte-step c = go (takes path head first c b)
     where
-      go : (x : Bool) → elim x [ true ↦ matchesFrom path es (eqb c 47) (eqb c 47) t | false ↦ false ] ≡ (x && matchesFrom path es (eqb c 47) (eqb c 47) t)
+      go : (x : Bool) → elim x [ true ↦ matchesFrom path es (eqb c 47) (eqb c 47) t | false ↦ false ] ≡
+          (x && matchesFrom path es (eqb c 47) (eqb c 47) t)
       go true = refl
       go false = refl
 
-  set-step : (n : Bool) (m : List _) → matchesFrom path (set n m ∷ es) head first (b ∷ t) ≡ ((passes path first b && inSet n m b) && matchesFrom path es false false t)
+  set-step : (n : Bool) (m : List _) → matchesFrom path (set n m ∷ es) head first (b ∷ t) ≡
+      ((passes path first b && inSet n m b) && matchesFrom path es false false t)
   unfolding matchesFrom
   set-step n m = go (passes path first b && inSet n m b)
     where
@@ -49,7 +64,8 @@ module _ (path head first : Bool) (es : List Element) (b : ℕ) (t : Text) where
       go false = refl
 
   step : (p : Text) (q : Piece) → isStar q ≡ false
-      → matchesFrom path (elementOf p q ∷ es) head first (b ∷ t) ≡ (takesOne path head first (elementOf p q) b && matchesFrom path es (isSlash q) (isSlash q) t)
+      → matchesFrom path (elementOf p q ∷ es) head first (b ∷ t) ≡
+      (takesOne path head first (elementOf p q) b && matchesFrom path es (isSlash q) (isSlash q) t)
   unfolding elementOf takesOne
   step p Star n = absurd (no (sym n))
   step p One n = one-step
@@ -58,7 +74,8 @@ module _ (path head first : Bool) (es : List Element) (b : ℕ) (t : Text) where
   step p (Set negative a e) n = set-step negative _
 
 -- no byte is left for it
-none-left : (path head first : Bool) (es : List Element) (p : Text) (q : Piece) → isStar q ≡ false → matchesFrom path (elementOf p q ∷ es) head first [] ≡ false
+none-left : (path head first : Bool) (es : List Element) (p : Text) (q : Piece) → isStar q ≡ false → matchesFrom path (elementOf p q ∷ es)
+    head first [] ≡ false
 unfolding matchesFrom elementOf
 none-left path head first es p Star n = absurd (no (sym n))
 none-left path head first es p One n = refl
@@ -77,7 +94,8 @@ takes-passes path head first b p Class n s y = passes-other path b (ap (λ (x : 
 takes-passes path head first b p (Set negative a e) n s y = passes-inside path first b (and-left (passes path first b) _ y)
 
 -- a slash of the pattern takes a byte that in paths no star takes
-slash-bars : (head first : Bool) (b : ℕ) (p : Text) (q : Piece) → isSlash q ≡ true → takesOne true head first (elementOf p q) b ≡ true → passes true first b ≡ false
+slash-bars : (head first : Bool) (b : ℕ) (p : Text) (q : Piece) → isSlash q ≡ true → takesOne true head first (elementOf p q) b ≡ true →
+    passes true first b ≡ false
 unfolding elementOf takesOne takes
 slash-bars head first b p Star s y = absurd (no s)
 slash-bars head first b p One s y = absurd (no s)
@@ -147,7 +165,8 @@ module _ {path : Bool} {p : Text} {at : ℕ} {q : Piece} {n : ℕ} (s : Standing
     run-star y = seen ∙ met path head first p n (drop k t) q y
 
     -- and had a star stood there
-    star-seen : behindStar path p at head first (drop k t) ≡ someEnd path (λ f u. matchesFrom path (elementOf p q ∷ from path p n) head f u) first (drop k t)
+    star-seen : behindStar path p at head first (drop k t) ≡ someEnd path (λ f u. matchesFrom path (elementOf p q ∷ from path p n) head f u)
+        first (drop k t)
     unfolding behindStar
     star-seen = ap (λ (es : List Element). someEnd path (λ f u. matchesFrom path es head f u) first (drop k t)) (parted s)
 
@@ -162,7 +181,8 @@ module _ {path : Bool} {p : Text} {at : ℕ} {q : Piece} {n : ℕ} (s : Standing
           seen ∙ ap (λ (u : Text). matchesFrom path (elementOf p q ∷ from path p n) head first u) (drop-of-length-le t l)
           ∙ none-left path head first (from path p n) p q y
 
-      stepped : k < length t → running ≡ (takesOne path head first (elementOf p q) (getD t k 0) && matchesFrom path (from path p n) (isSlash q) (isSlash q) (drop (k + 1) t))
+      stepped : k < length t → running ≡
+          (takesOne path head first (elementOf p q) (getD t k 0) && matchesFrom path (from path p n) (isSlash q) (isSlash q) (drop (k + 1) t))
       stepped l =
           seen ∙ ap (λ (u : Text). matchesFrom path (elementOf p q ∷ from path p n) head first u) (drop-cons t k 0 l)
           ∙ rw (add-one k) (step path head first (from path p n) (getD t k 0) (drop (suc k) t) p q y)

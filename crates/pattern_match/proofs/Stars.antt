@@ -29,7 +29,8 @@ module _ (path : Bool) (F : Rest) (first : Bool) where
   unfolding someEnd
   some-next b t = go (F first (b ∷ t)) (passes path first b)
     where
-      go : (x y : Bool) → elim x [ true ↦ true | false ↦ elim y [ true ↦ someEnd path F false t | false ↦ false ] ] ≡ (x || (y && someEnd path F false t))
+      go : (x y : Bool) → elim x [ true ↦ true | false ↦ elim y [ true ↦ someEnd path F false t | false ↦ false ] ] ≡
+          (x || (y && someEnd path F false t))
       go true y = refl
       go false true = refl
       go false false = refl
@@ -68,7 +69,8 @@ passes-unless false x b n h = refl
 passes-unless true x b n h = h n
 
 -- a star right behind a star reaches no more
-pub star-star : (path : Bool) (F : Rest) (first : Bool) (t : Text) → someEnd path (λ f u. someEnd path F f u) first t ≡ true → someEnd path F first t ≡ true
+pub star-star : (path : Bool) (F : Rest) (first : Bool) (t : Text) → someEnd path (λ f u. someEnd path F f u) first t ≡ true → someEnd path F
+    first t ≡ true
 star-star path F first [] y = sym (some-last path (λ f u. someEnd path F f u) first) ∙ y
 star-star path F first (b ∷ t) y =
     some-cases path (λ f u. someEnd path F f u) first b t y (λ z. z) λ p z. some-later path F first b t p (star-star path F false t z)
@@ -81,7 +83,8 @@ module _ (path : Bool) (F G : Rest) (ends : (f : Bool) → F f [] ≡ false)
 
   pub absorbs : (first : Bool) (b : ℕ) (t : Text) → someEnd path F first (b ∷ t) ≡ true → someEnd path G false t ≡ true
   absorbs first b [] y =
-      some-cases path F first b [] y (λ z. some-here path G false [] (taken first b [] z .1)) λ p z. absurd (apart (ends false) (sym (some-last path F false) ∙ z))
+      some-cases path F first b [] y (λ z. some-here path G false [] (taken first b [] z .1)) λ p z. absurd
+      (apart (ends false) (sym (some-last path F false) ∙ z))
   absorbs first b (c ∷ t) y =
       some-cases path F first b (c ∷ t) y (λ z. some-here path G false (c ∷ t) (taken first b (c ∷ t) z .1))
       λ p z. some-later path G false c t (front-passes false c t z) (absorbs false c t z)

@@ -93,7 +93,8 @@ module _ {p t : Text} {at i : ℕ} (g : Passing p t at i) {r : Piece} (s : r ≡
     here : textsFrom t i ≡ found ∷ textsFrom t end
     here = step .is ∙ ap (λ (l : List Text). found ∷ l) (sym (from-ahead t end (step .more) (step .ahead)))
 
-    next-here : nextIn (pathElements p) i (textsFrom t i) ≡ pick (matches true (pathElements p) found) (Path (i + 2) end) (nextIn (pathElements p) end (textsFrom t end))
+    next-here : nextIn (pathElements p) i (textsFrom t i) ≡ pick (matches true (pathElements p) found) (Path (i + 2) end)
+        (nextIn (pathElements p) end (textsFrom t end))
     unfolding nextIn
     next-here = ap (λ (l : List Text). nextIn (pathElements p) i l) here
         ∙ ap (λ (n : ℕ). pick (matches true (pathElements p) found) (Path (i + 2) n) (nextIn (pathElements p) n (textsFrom t end))) ends
@@ -106,12 +107,14 @@ module _ {p t : Text} {at i : ℕ} (g : Passing p t at i) {r : Piece} (s : r ≡
     passing-found y = record {
       is = sym (g .next ∙ next-here ∙ ap (λ (b : Bool). pick b (Path (i + 2) end) (nextIn (pathElements p) end (textsFrom t end))) y);
       shows = path (step .low) (step .ahead .within) (walks-ahead t end (step .more) (step .ahead))
-          (g .chooses ∙ chosen-here ∙ ap (λ (b : Bool). pick b (found ∷ chosen (pathElements p) (textsFrom t end)) (chosen (pathElements p) (textsFrom t end))) y);
+          (g .chooses ∙ chosen-here ∙ ap
+          (λ (b : Bool). pick b (found ∷ chosen (pathElements p) (textsFrom t end)) (chosen (pathElements p) (textsFrom t end))) y);
     }
 
     pub passing-on : matches true (pathElements p) found ≡ false → Passing p t at end
     passing-on n = record {
       walks = walks-ahead t end (step .more) (step .ahead);
       next = g .next ∙ next-here ∙ ap (λ (b : Bool). pick b (Path (i + 2) end) (nextIn (pathElements p) end (textsFrom t end))) n;
-      chooses = g .chooses ∙ chosen-here ∙ ap (λ (b : Bool). pick b (found ∷ chosen (pathElements p) (textsFrom t end)) (chosen (pathElements p) (textsFrom t end))) n;
+      chooses = g .chooses ∙ chosen-here ∙ ap
+          (λ (b : Bool). pick b (found ∷ chosen (pathElements p) (textsFrom t end)) (chosen (pathElements p) (textsFrom t end))) n;
     }

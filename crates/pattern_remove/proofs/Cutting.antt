@@ -13,7 +13,8 @@ use Rattle.text.specs.Rows.{signsOf}
 use Rattle.pattern_remove.specs.Cuts.{matchedAt, CutsAt}
 
 -- the first of some cuts, by whether the first one tried passes
-one-cut : (f : ℕ → Bool) (other : ℕ) (at : ℕ → ℕ) (i d : ℕ) → firstCut f other at i (suc d) ≡ pick (f (at i)) (at i) (firstCut f other at (suc i) d)
+one-cut : (f : ℕ → Bool) (other : ℕ) (at : ℕ → ℕ) (i d : ℕ) → firstCut f other at i (suc d) ≡ pick (f (at i)) (at i)
+    (firstCut f other at (suc i) d)
 unfolding firstCut
 one-cut f other at i d = go (f (at i))
   where
@@ -29,7 +30,8 @@ module _ (suffix down : Bool) (p v : Text) where
   abbrev pub cutFrom : ℕ → ℕ
   cutFrom i = first i (suc (length v) - i)
 
-  from-here : (i d : ℕ) → suc (length v) - i ≡ suc d → {x : Bool} → matchedAt suffix p v (cutAt down (length v) i) ≡ x → cutFrom i ≡ pick x (cutAt down (length v) i) (first (suc i) d)
+  from-here : (i d : ℕ) → suc (length v) - i ≡ suc d → {x : Bool} → matchedAt suffix p v (cutAt down (length v) i) ≡ x → cutFrom i ≡
+      pick x (cutAt down (length v) i) (first (suc i) d)
   from-here i d e y =
       ap (first i) e ∙ one-cut (λ k. matchedAt suffix p v k) (keepAll suffix v) (cutAt down (length v)) i d
       ∙ ap (λ (b : Bool). pick b (cutAt down (length v) i) (first (suc i) d)) y

@@ -12,7 +12,8 @@ use Rattle.pattern_row.specs.Kept.{Dropped}
 pub drop-empty-determined : (entry : Text) {exit end : Text} {r q : ℕ} → Dropped entry exit r → Dropped entry end q → (exit ≡ end) × (r ≡ q)
 drop-empty-determined entry d e = (one-answer (d .stands) (e .stands), one-answer (d .counts) (e .counts))
 
-pub has-class-determined : (pattern : Text) (path : Bool) {r q : Bool} → r ≡ hasClass path 0 (signsOf pattern) → q ≡ hasClass path 0 (signsOf pattern) → r ≡ q
+pub has-class-determined : (pattern : Text) (path : Bool) {r q : Bool} → r ≡ hasClass path 0 (signsOf pattern) → q ≡ hasClass path 0
+    (signsOf pattern) → r ≡ q
 has-class-determined pattern path = one-answer
 
 pub is-active-determined : (pattern : Text) {r q : Bool}

@@ -24,7 +24,8 @@ unfolding kept withoutEmpty rowBytes rowOf unitOf
 kept-first b m t = go (eqb m 1) (eqb m 2) (eqb m 3) (λ e. eqb-true m 1 e) (λ e. eqb-true m 2 e) (λ e. eqb-true m 3 e)
   where
     go : (x y z : Bool) → (x ≡ true → m ≡ 1) → (y ≡ true → m ≡ 2) → (z ≡ true → m ≡ 3)
-        → rowBytes (withoutEmpty (pick x (cell L b) (pick y (cell E b) (pick z (cell Q b) N)) ∷ rowOf t)) ≡ pick (x || (y || z)) (b ∷ m ∷ kept t) (kept t)
+        → rowBytes (withoutEmpty (pick x (cell L b) (pick y (cell E b) (pick z (cell Q b) N)) ∷ rowOf t)) ≡ pick (x || (y || z))
+        (b ∷ m ∷ kept t) (kept t)
     go true y z e f g = ap (λ (n : ℕ). b ∷ n ∷ kept t) (sym (e refl))
     go false true z e f g = ap (λ (n : ℕ). b ∷ n ∷ kept t) (sym (f refl))
     go false false true e f g = ap (λ (n : ℕ). b ∷ n ∷ kept t) (sym (g refl))
@@ -65,7 +66,8 @@ module _ {entry row : Text} {at to : ℕ} (g : Going entry row at to) where
       ∙ getD-append-add (g .front) (drop to entry) (j - to) 0 ∙ getD-drop to entry (j - to) 0 ∙ ap (λ (n : ℕ). getD entry n 0) f
 
   module _ (h : at + 1 < length entry) where
-    here : kept (drop at entry) ≡ pick (isMark (getD row (at + 1) 0)) (getD row at 0 ∷ getD row (at + 1) 0 ∷ kept (drop (at + 2) entry)) (kept (drop (at + 2) entry))
+    here : kept (drop at entry) ≡ pick (isMark (getD row (at + 1) 0)) (getD row at 0 ∷ getD row (at + 1) 0 ∷ kept (drop (at + 2) entry))
+        (kept (drop (at + 2) entry))
     here =
         let o = g .order in
         ap kept (two-on entry at h) ∙ kept-first (getD entry at 0) (getD entry (at + 1) 0) (drop (at + 2) entry)
@@ -74,7 +76,8 @@ module _ {entry row : Text} {at to : ℕ} (g : Going entry row at to) where
     pub going-skip : isMark (getD row (at + 1) 0) ≡ false → Going entry row (at + 2) to
     going-skip n = record {
       front = g .front;
-      whole = g .whole ∙ ap (λ (l : Text). g .front ++ l) (here ∙ ap (λ (b : Bool). pick b (getD row at 0 ∷ getD row (at + 1) 0 ∷ kept (drop (at + 2) entry)) (kept (drop (at + 2) entry))) n);
+      whole = g .whole ∙ ap (λ (l : Text). g .front ++ l)
+          (here ∙ ap (λ (b : Bool). pick b (getD row at 0 ∷ getD row (at + 1) 0 ∷ kept (drop (at + 2) entry)) (kept (drop (at + 2) entry))) n);
       stands = g .stands;
       sized = g .sized;
       order = let o = g .order in omega arith;
@@ -97,7 +100,8 @@ module _ {entry row : Text} {at to : ℕ} (g : Going entry row at to) where
     going-keep y = record {
       front = g .front ++ getD row at 0 ∷ getD row (at + 1) 0 ∷ [];
       whole = g .whole
-          ∙ ap (λ (l : Text). g .front ++ l) (here ∙ ap (λ (b : Bool). pick b (getD row at 0 ∷ getD row (at + 1) 0 ∷ kept (drop (at + 2) entry)) (kept (drop (at + 2) entry))) y)
+          ∙ ap (λ (l : Text). g .front ++ l)
+          (here ∙ ap (λ (b : Bool). pick b (getD row at 0 ∷ getD row (at + 1) 0 ∷ kept (drop (at + 2) entry)) (kept (drop (at + 2) entry))) y)
           ∙ simp append-assoc;
       stands = stored (getD row at 0) (getD row (at + 1) 0);
       sized = let s = g .sized in simp length-append (omega arith);
@@ -107,7 +111,8 @@ module _ {entry row : Text} {at to : ℕ} (g : Going entry row at to) where
 
   pub going-end : length entry ≤ at + 1 → Dropped entry row to
   going-end h =
-      let all : kept entry ≡ g .front = g .whole ∙ ap (λ (l : Text). g .front ++ l) (kept-few (drop at entry) (simp length-drop (omega arith))) ∙ append-nil (g .front) in
+      let all : kept entry ≡ g .front =
+      g .whole ∙ ap (λ (l : Text). g .front ++ l) (kept-few (drop at entry) (simp length-drop (omega arith))) ∙ append-nil (g .front) in
       record {
         stands = g .stands ∙ ap (λ (n : ℕ). g .front ++ drop n entry) (sym (g .sized)) ∙ ap (λ (l : Text). l ++ drop (length l) entry) (sym all);
         counts = sym (g .sized) ∙ ap length (sym all);

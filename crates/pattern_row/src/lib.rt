@@ -1,5 +1,6 @@
 // Rows as patterns see them, before anything is matched: their N dropped, whether a class refuses them, whether a field is a pattern.
 use pattern_element::Piece;
+use text::marks;
 ghost use mathlib.Core.Path.{_≡_};
 ghost use mathlib.Core.Bool.{true};
 ghost use Rattle.stages.specs.Pattern.{elements, hasClass};
@@ -9,24 +10,17 @@ ghost use Rattle.pattern_element.specs.Pieces.{isClassPiece};
 ghost use Rattle.pattern_row.specs.Special.{isSpecial};
 ghost use Rattle.pattern_row.specs.Kept.{isMark, Dropped};
 
-// The marks of units that are bytes. What has no such mark is N.
-const LITERAL: u8 = 1;
-
-const EXPANDED: u8 = 2;
-
-const QUOTED: u8 = 3;
-
 // The mark is that of a byte.
 fn is_mark(m: u8) -> bool
     ensures { λ r. ⌜ r ≡ isMark m ⌝ }
 {
-    if m == LITERAL {
+    if m == marks::LITERAL {
         return true;
     }
-    if m == EXPANDED {
+    if m == marks::EXPANDED {
         return true;
     }
-    m == QUOTED
+    m == marks::QUOTED
 }
 
 // "N vanishes": the units that are bytes move to the front, in order. The answer is how many bytes they take; all behind these stay.

@@ -18,7 +18,8 @@ use Rattle.pattern_set.specs.declared.ByteSet.{ByteSet}
 pub has-determined : (s : ByteSet) (b : ℕ) {r q : Bool} → r ≡ has (s .on) b → q ≡ has (s .on) b → r ≡ q
 has-determined s b = one-answer
 
-pub is-live-determined : (units : Text) (at c : ℕ) {r q : Bool} → r ≡ begins c (signsOf (drop at units)) → q ≡ begins c (signsOf (drop at units)) → r ≡ q
+pub is-live-determined : (units : Text) (at c : ℕ) {r q : Bool} → r ≡ begins c (signsOf (drop at units)) → q ≡ begins c
+    (signsOf (drop at units)) → r ≡ q
 is-live-determined units at c = one-answer
 
 -- a set that is given flag by flag; its type says that there are 256

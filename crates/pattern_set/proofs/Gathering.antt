@@ -18,7 +18,8 @@ use Rattle.pattern_set.proofs.Units.{signAt, unit-at, none-at}
 
 -- three units or more, by whether the middle one makes a range
 parted : (m s u : Sign) (r : Signs) (x : ℕ)
-    → listed (m ∷ s ∷ u ∷ r) x ≡ pick (isLive (code "-") s) (between (m .byte) x (u .byte) || listed r x) (eqb (m .byte) x || listed (s ∷ u ∷ r) x)
+    → listed (m ∷ s ∷ u ∷ r) x ≡ pick (isLive (code "-") s) (between (m .byte) x (u .byte) || listed r x)
+    (eqb (m .byte) x || listed (s ∷ u ∷ r) x)
 unfolding listed
 parted m s u r x = go (isLive (code "-") s)
   where
@@ -32,11 +33,14 @@ single : (m : Sign) (l : Signs) (x : ℕ) → ranges (m ∷ l) ≡ false → lis
 unfolding listed ranges
 single m [] x n = sym (or-false (eqb (m .byte) x))
 single m (s ∷ []) x n = refl
-single m (s ∷ u ∷ r) x n = parted m s u r x ∙ ap (λ (b : Bool). pick b (between (m .byte) x (u .byte) || listed r x) (eqb (m .byte) x || listed (s ∷ u ∷ r) x)) n
+single m (s ∷ u ∷ r) x n =
+    parted m s u r x ∙ ap (λ (b : Bool). pick b (between (m .byte) x (u .byte) || listed r x) (eqb (m .byte) x || listed (s ∷ u ∷ r) x)) n
 
-triple : (m s u : Sign) (r : Signs) (x : ℕ) → ranges (m ∷ s ∷ u ∷ r) ≡ true → listed (m ∷ s ∷ u ∷ r) x ≡ (between (m .byte) x (u .byte) || listed r x)
+triple : (m s u : Sign) (r : Signs) (x : ℕ) → ranges (m ∷ s ∷ u ∷ r) ≡ true → listed (m ∷ s ∷ u ∷ r) x ≡
+    (between (m .byte) x (u .byte) || listed r x)
 unfolding ranges
-triple m s u r x y = parted m s u r x ∙ ap (λ (b : Bool). pick b (between (m .byte) x (u .byte) || listed r x) (eqb (m .byte) x || listed (s ∷ u ∷ r) x)) y
+triple m s u r x y =
+    parted m s u r x ∙ ap (λ (b : Bool). pick b (between (m .byte) x (u .byte) || listed r x) (eqb (m .byte) x || listed (s ∷ u ∷ r) x)) y
 
 module _ (p : Text) (k : ℕ) where
   -- a range asks for two units behind the first
@@ -91,7 +95,8 @@ module _ (p : Text) (k : ℕ) where
   lists-none x h = rw (none-at p k h)
 
 -- what is gathered and what is left, before and after a member
-pub gathered : (all had now new left : Bool) → all ≡ (had || left) → left ≡ (new || now) → {more : Bool} → more ≡ (new || had) → all ≡ (more || now)
+pub gathered : (all had now new left : Bool) → all ≡ (had || left) → left ≡ (new || now) → {more : Bool} → more ≡ (new || had) → all
+    ≡ (more || now)
 gathered all had now new left e f g = e ∙ rw (f, g) (turned had new now)
   where
     turned : (a b c : Bool) → (a || (b || c)) ≡ ((b || a) || c)

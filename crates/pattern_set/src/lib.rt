@@ -10,9 +10,7 @@ ghost use Rattle.stages.specs.Pattern.{listed, inSet};
 ghost use Rattle.text.specs.Rows.{signsOf};
 ghost use Rattle.pattern_set.specs.Sets.{has};
 ghost use Rattle.pattern_set.specs.Heads.{begins, ranges};
-
-// The mark of a quoted unit; the units with any other mark are active.
-const QUOTED: u8 = 3;
+use text::marks;
 
 // "A bracket stands for a set of the 256 byte values": a flag for each of them.
 pub struct ByteSet {
@@ -78,7 +76,7 @@ pub fn is_live(units: &[u8], at: usize, c: u8) -> bool
     if units.len() <= at + 1 {
         return false;
     }
-    if units[at + 1] == QUOTED {
+    if units[at + 1] == marks::QUOTED {
         return false;
     }
     units[at] == c

@@ -22,7 +22,8 @@ pub fields-here : (t : Text) → isSome (fieldsOf t) ≡ true → fieldsOf t ≡
 fields-here t e = fields-are t (fields-of t e)
 
 -- the line where it has room, and where it has none
-pub line-fits : (out : ℕ) (l : List Text) → length (quotedLine l) ≤ lineLimit → length (quotedLine l) ≤ out → quotedIn out l ≡ doneAt (quotedLine l)
+pub line-fits : (out : ℕ) (l : List Text) → length (quotedLine l) ≤ lineLimit → length (quotedLine l) ≤ out → quotedIn out l ≡ doneAt
+    (quotedLine l)
 unfolding quotedIn
 line-fits out l h k = rw (and-both (le-leb (length (quotedLine l)) lineLimit h) (le-leb (length (quotedLine l)) out k))
 
@@ -30,7 +31,8 @@ pub line-long : (out : ℕ) (l : List Text) → lineLimit < length (quotedLine l
 unfolding quotedIn
 line-long out l h = rw (lt-leb (length (quotedLine l)) lineLimit h)
 
-pub line-full : (out : ℕ) (l : List Text) → length (quotedLine l) ≤ lineLimit → out < length (quotedLine l) → quotedIn out l ≡ refusedAt outputRoom 0
+pub line-full : (out : ℕ) (l : List Text) → length (quotedLine l) ≤ lineLimit → out < length (quotedLine l) → quotedIn out l ≡ refusedAt
+    outputRoom 0
 unfolding quotedIn
 line-full out l h k = rw (le-leb (length (quotedLine l)) lineLimit h, lt-leb (length (quotedLine l)) out k)
 

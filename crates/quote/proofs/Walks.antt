@@ -68,7 +68,8 @@ module _ {t : Text} {from at n : ℕ} (c : Counts t from at n) {r : Piece} (s : 
       let k : Next t at end (c .left) = ahead-text (c .ahead) s e in
       field-of t (at + 2) end (c .small) (k .low) (k .ahead .within)
 
-  pub counts-more : {end : ℕ} (k : ℕ) → r ≡ At end → k ≡ length (quotedField (part t (at + 2) end)) → Rest t from → Counts t from end (n + (1 + k))
+  pub counts-more : {end : ℕ} (k : ℕ) → r ≡ At end → k ≡ length (quotedField (part t (at + 2) end)) → Rest t from → Counts t from end
+      (n + (1 + k))
   counts-more {end} k e q h =
       let x : Next t at end (c .left) = ahead-text (c .ahead) s e in
       let y : length (blanked (c .left)) ≡ 1 + length (quotedField (part t (at + 2) end)) + length (blanked (x .more)) =
@@ -169,7 +170,8 @@ module _ (t : Text) (h : fieldsOf t ≡ some (heldTexts t)) {r : Piece} (s : r �
         → Puts (blanked (textsFrom t end)) (midOf used (length out - used) out) ys n
         → Puts (quotedLine (heldTexts t)) old (putMid used (length out - used) out ys) (used + n)
     line-whole old out ys used n h p q =
-        fill-ends (fill-piece (line-first old out used h p) (blanked (textsFrom t end)) [] ys n (used + n) (sym (append-nil (blanked (textsFrom t end)))) q refl) refl
+        fill-ends (fill-piece (line-first old out used h p) (blanked (textsFrom t end)) [] ys n (used + n)
+        (sym (append-nil (blanked (textsFrom t end)))) q refl) refl
 
 -- the line of no fields
 pub puts-none : (t old : Text) → t ≡ [] → Puts t old old 0

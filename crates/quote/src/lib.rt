@@ -14,6 +14,7 @@ ghost use Rattle.quote.specs.Answers.{quotingOf};
 ghost use Rattle.quote.specs.Rests.{quotedByte, textsFrom, Rest};
 use table::Kind;
 use table::Piece;
+use text::numbers;
 
 // What the quoter answers.
 pub enum Quoted {
@@ -24,9 +25,6 @@ pub enum Quoted {
     // The line is longer than a line may be, or than the buffer.
     NoRoom,
 }
-
-// "Above 2,048 bytes or the buffer is 21."
-const LINE_LIMIT: usize = 2048;
 
 const QUOTE: u8 = b'\'';
 
@@ -190,7 +188,7 @@ pub fn quote_fields(fields: &[u8], out: &mut [u8]) -> Quoted
         return Quoted::Malformed;
     }
     let n = line_length(fields);
-    if LINE_LIMIT < n {
+    if numbers::LINE_LIMIT < n {
         return Quoted::NoRoom;
     }
     if out.len() < n {

@@ -62,7 +62,8 @@ item-back text at d (Inner from to f m next) i h =
     let p = form-back f in
     let q = mode-back m in
     let k = next-back at next (h .1 .onward) in
-    let w : Inner from to f m next ≡ Inner (at + 2) (at + 2 + length (part text from to)) (formBack (formOf f)) (modeBack (modeOf m)) (at + suc (next - suc at)) = cc in
+    let w : Inner from to f m next ≡ Inner (at + 2) (at + 2 + length (part text from to)) (formBack (formOf f)) (modeBack (modeOf m))
+    (at + suc (next - suc at)) = cc in
     w ∙ sym (ap (itemBack at) (h .0))
 item-back text at d (Sum next) i h = ap Sum (h .1) ∙ sym (ap (itemBack at) (h .0))
 

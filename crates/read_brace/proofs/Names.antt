@@ -32,18 +32,21 @@ module _ (m : Mode) (s x : Text) (k to : ℕ) where
     unfolding behindColon
     colon-sign e = rw (drop-cons s to 0 l) (rw e)
 
-    pub colon-wrong : isIn (getD s to 0) (text "-=?+") ≡ false → {e : ℕ} → wrong badSyntax (getD s to 0 ∷ []) ≡ fault e → behindColon m x k (drop to s) ≡ fault e
+    pub colon-wrong : isIn (getD s to 0) (text "-=?+") ≡ false → {e : ℕ} → wrong badSyntax (getD s to 0 ∷ []) ≡ fault e → behindColon m
+        x k (drop to s) ≡ fault e
     unfolding behindColon
     colon-wrong f h = rw (drop-cons s to 0 l) (rw f (wrong-byte badSyntax (getD s to 0) (drop (suc to) s) [] h))
 
 -- Behind a removal's sign.
 
-removal-is : (x : Text) (f : Bool → Form) (sign k : ℕ) (t : Text) → removal x f sign k t ≡ pick (isAt sign t) (inner x (f true) bare (suc k)) (inner x (f false) bare k)
+removal-is : (x : Text) (f : Bool → Form) (sign k : ℕ) (t : Text) → removal x f sign k t ≡ pick (isAt sign t) (inner x (f true) bare (suc k))
+    (inner x (f false) bare k)
 unfolding removal
 removal-is x f sign k [] = refl
 removal-is x f sign k (b ∷ t) = refl
 
-pub removal-doubled : (x : Text) (f : Bool → Form) (sign k : ℕ) (t : Text) → isAt sign t ≡ true → removal x f sign k t ≡ inner x (f true) bare (suc k)
+pub removal-doubled : (x : Text) (f : Bool → Form) (sign k : ℕ) (t : Text) → isAt sign t ≡ true → removal x f sign k t ≡ inner x (f true)
+    bare (suc k)
 removal-doubled x f sign k t e = removal-is x f sign k t ∙ rw e
 
 pub removal-once : (x : Text) (f : Bool → Form) (sign k : ℕ) (t : Text) → isAt sign t ≡ false → removal x f sign k t ≡ inner x (f false) bare k
@@ -90,7 +93,8 @@ module _ (m : Mode) (s x : Text) (k to : ℕ) where
                 ap (behindName m x k) (drop-cons s to 0 l)
                 ∙ rw (ne-eqb _ _ e, ne-eqb _ _ f, g, ne-eqb _ _ h, ne-eqb _ _ i) (wrong-byte badSyntax b (drop (suc to) s) [] w)
 
-pub colon-place : (m : Mode) (x s : Text) (at to : ℕ) → at ≤ to → behindColon m x (suc (to - at)) (drop (suc to) s) ≡ behindColon m x (to + 1 - at) (drop (to + 1) s)
+pub colon-place : (m : Mode) (x s : Text) (at to : ℕ) → at ≤ to → behindColon m x (suc (to - at)) (drop (suc to) s) ≡ behindColon m x
+    (to + 1 - at) (drop (to + 1) s)
 colon-place m x s at to l =
     let e : suc (to - at) ≡ to + 1 - at = omega arith in
     ap (λ (k : ℕ). behindColon m x k (drop (suc to) s)) e ∙ ap (λ (i : ℕ). behindColon m x (to + 1 - at) (drop i s)) (sym (add-one to))
@@ -110,7 +114,8 @@ module _ (s x : Text) (k to : ℕ) where
     unfolding behindLength
     length-close e = rw (drop-cons s to 0 l) (rw (eq-eqb _ _ e))
 
-    pub length-wrong : (getD s to 0 ≡ 125 → ⊥) → {n : ℕ} → wrong badSyntax (getD s to 0 ∷ []) ≡ fault n → behindLength x k (drop to s) ≡ fault n
+    pub length-wrong : (getD s to 0 ≡ 125 → ⊥) → {n : ℕ} → wrong badSyntax (getD s to 0 ∷ []) ≡ fault n → behindLength x k
+        (drop to s) ≡ fault n
     unfolding behindLength
     length-wrong e w = rw (drop-cons s to 0 l) (rw (ne-eqb _ _ e) (wrong-byte badSyntax (getD s to 0) (drop (suc to) s) [] w))
 
@@ -138,7 +143,8 @@ pub counted-end : (s : Text) (at : ℕ) → length s ≤ at + 3 → counted (dro
 unfolding counted
 counted-end s at l = named-end (λ x u. behindLength x (length x + 3) u) s (at + 3) l
 
-pub counted-wrong : (s : Text) (at : ℕ) → at + 3 < length s → isNameStart (getD s (at + 3) 0) ≡ false → {n : ℕ} → wrong unserved (getD s (at + 3) 0 ∷ []) ≡ fault n
+pub counted-wrong : (s : Text) (at : ℕ) → at + 3 < length s → isNameStart (getD s (at + 3) 0) ≡ false → {n : ℕ} → wrong unserved
+    (getD s (at + 3) 0 ∷ []) ≡ fault n
     → counted (drop (at + 3) s) ≡ fault n
 unfolding counted
 counted-wrong s at l e w = named-wrong (λ x u. behindLength x (length x + 3) u) s (at + 3) l e w
@@ -183,5 +189,6 @@ module _ (m : Mode) (d : ℕ) (s : Text) (at : ℕ) (z : d ≡ 0 → ⊥) where
           brace-name ∙ named-name (λ x u. behindName m x (length x + 2) u) s (at + 2) l f to r
           ∙ ap (λ (k : ℕ). behindName m (part s (at + 2) to) k (drop to s)) (named-width s at 2 to (r .onward) (r .within))
 
-      pub brace-wrong : isNameStart (getD s (at + 2) 0) ≡ false → {n : ℕ} → wrong unserved (getD s (at + 2) 0 ∷ []) ≡ fault n → braced m d (drop (at + 2) s) ≡ fault n
+      pub brace-wrong : isNameStart (getD s (at + 2) 0) ≡ false → {n : ℕ} → wrong unserved (getD s (at + 2) 0 ∷ []) ≡ fault n → braced m
+          d (drop (at + 2) s) ≡ fault n
       brace-wrong f w = brace-name ∙ named-wrong (λ x u. behindName m x (length x + 2) u) s (at + 2) l f w

@@ -34,13 +34,15 @@ module _ (s : Text) (at d next k : ℕ) (e : next ≡ at + suc k) (w : next ≤ 
   shows-byte q b h = (h ∙ ap (byte q b) took, past)
 
   module _ (from to : ℕ) (f : from ≤ to) (t : to ≤ length s) where
-    pub shows-value : from ≡ nameOf at (to - from) (next - suc at) → {i : Item} → i ≡ value (part s from to) k → Shows s at d (code.Value from to next) i
+    pub shows-value : from ≡ nameOf at (to - from) (next - suc at) → {i : Item} → i ≡ value (part s from to) k → Shows s at d
+        (code.Value from to next) i
     shows-value q h = (h ∙ ap (value (part s from to)) took, past, record { onward = f; within = t }, q)
 
     pub shows-count : from ≡ at + 3 → {i : Item} → i ≡ count (part s from to) k → Shows s at d (code.Count from to next) i
     shows-count q h = (h ∙ ap (count (part s from to)) took, past, record { onward = f; within = t }, q)
 
-    pub shows-inner : from ≡ at + 2 → (p : code-form.Form) (m : code-mode.Mode) → 0 < d → openIn m ≡ 0 → {i : Item} → i ≡ inner (part s from to) (formOf p) (modeOf m) k
+    pub shows-inner : from ≡ at + 2 → (p : code-form.Form) (m : code-mode.Mode) → 0 < d → openIn m ≡ 0 → {i : Item} → i ≡ inner
+        (part s from to) (formOf p) (modeOf m) k
         → Shows s at d (code.Inner from to p m next) i
     shows-inner q p m z o h = (h ∙ ap (inner (part s from to) (formOf p) (modeOf m)) took, past, record { onward = f; within = t }, z, o, q)
 

@@ -50,8 +50,10 @@ Shows text at depth (Stop next) i = (i ≡ stop (next - at)) × (at ≤ next) ×
 Shows text at depth (Byte q b next) i = (i ≡ byte q b (next - suc at)) × Behind text at next
 Shows text at depth (Paren b n) i = (i ≡ paren b n) × (at < length text) × (n ≤ at + 1)
 Shows text at depth (Quote m) i = (i ≡ quote (modeOf m)) × (at < length text) × (openIn m ≡ 0)
-Shows text at depth (Value from to next) i = (i ≡ value (part text from to) (next - suc at)) × Behind text at next × Name text from to × (from ≡ nameOf at (to - from) (next - suc at))
+Shows text at depth (Value from to next) i =
+    (i ≡ value (part text from to) (next - suc at)) × Behind text at next × Name text from to × (from ≡ nameOf at (to - from) (next - suc at))
 Shows text at depth (Count from to next) i = (i ≡ count (part text from to) (next - suc at)) × Behind text at next × Name text from to × (from ≡ at + 3)
 Shows text at depth (Inner from to f m next) i =
-    (i ≡ inner (part text from to) (formOf f) (modeOf m) (next - suc at)) × Behind text at next × Name text from to × (0 < depth) × (openIn m ≡ 0) × (from ≡ at + 2)
+    (i ≡ inner (part text from to) (formOf f) (modeOf m) (next - suc at)) × Behind text at next × Name text from to × (0 < depth) ×
+    (openIn m ≡ 0) × (from ≡ at + 2)
 Shows text at depth (Sum next) i = (i ≡ sum) × (next ≡ at + 3) × (next ≤ length text) × (0 < depth)

@@ -3,6 +3,7 @@
 use read_mode::Form;
 use read_mode::Mode;
 use text::Class;
+use text::numbers;
 ghost use mathlib.Core.Path.{_≡_};
 ghost use Prim.Native.Nat.{_+_, _-_, _≤_, _<_};
 ghost use lib.ListN.{length, drop, getD};
@@ -69,10 +70,11 @@ pub fn is_at(text: &[u8], at: usize, b: u8) -> bool
 // What `${name:` at `at` is, whose colon is at `to`.
 fn behind_colon(text: &[u8], at: usize, mode: Mode, depth: usize, to: usize) -> Item
     requires { ⌜ (at + 2 ≤ to) × (to < length (now text)) × (0 < depth) ⌝ }
-    ensures { λ r. ⌜ Shows (now (text .entry)) at depth r (behindColon (modeOf mode) (part (now (text .entry)) (at + 2) to) (to + 1 - at) (drop (to + 1) (now (text .entry)))) ⌝ }
+    ensures { λ r. ⌜ Shows (now (text .entry)) at depth r
+        (behindColon (modeOf mode) (part (now (text .entry)) (at + 2) to) (to + 1 - at) (drop (to + 1) (now (text .entry)))) ⌝ }
 {
     if to + 1 >= text.len() {
-        return Item::Fault(read_mode::REFUSED_UNENDED);
+        return Item::Fault(numbers::REFUSED_UNENDED);
     }
     let b = text[to + 1];
     if text::is_in(b, b"-=?+") {
@@ -84,7 +86,7 @@ fn behind_colon(text: &[u8], at: usize, mode: Mode, depth: usize, to: usize) -> 
             next: to + 2,
         };
     }
-    Item::Fault(read_mode::wrong_byte(read_mode::REFUSED_SYNTAX, b))
+    Item::Fault(read_mode::wrong_byte(numbers::REFUSED_SYNTAX, b))
 }
 
 // The form of a removal.
@@ -100,7 +102,9 @@ fn removal_form(prefix: bool, doubled: bool) -> Form
 // What a removal `${name%` or `${name#` at `at` is, whose sign is at `to`.
 fn removal_at(text: &[u8], at: usize, depth: usize, to: usize, prefix: bool) -> Item
     requires { ⌜ (at + 2 ≤ to) × (to < length (now text)) × (0 < depth) ⌝ }
-    ensures { λ r. ⌜ Shows (now (text .entry)) at depth r (removal (part (now (text .entry)) (at + 2) to) (removalForm «prefix») (getD (now (text .entry)) to 0) (to - at) (drop (to + 1) (now (text .entry)))) ⌝ }
+    ensures { λ r. ⌜ Shows (now (text .entry)) at depth r
+        (removal (part (now (text .entry)) (at + 2) to) (removalForm «prefix») (getD (now (text .entry)) to 0) (to - at)
+        (drop (to + 1) (now (text .entry)))) ⌝ }
 {
     let doubled = is_at(text, to + 1, text[to]);
     Item::Inner {
@@ -115,10 +119,11 @@ fn removal_at(text: &[u8], at: usize, depth: usize, to: usize, prefix: bool) -> 
 // What `${name` at `at` is, whose name ends at `to`.
 fn behind_name(text: &[u8], at: usize, mode: Mode, depth: usize, to: usize) -> Item
     requires { ⌜ (at + 2 ≤ to) × (to ≤ length (now text)) × (0 < depth) ⌝ }
-    ensures { λ r. ⌜ Shows (now (text .entry)) at depth r (behindName (modeOf mode) (part (now (text .entry)) (at + 2) to) (to - at) (drop to (now (text .entry)))) ⌝ }
+    ensures { λ r. ⌜ Shows (now (text .entry)) at depth r
+        (behindName (modeOf mode) (part (now (text .entry)) (at + 2) to) (to - at) (drop to (now (text .entry)))) ⌝ }
 {
     if to >= text.len() {
-        return Item::Fault(read_mode::REFUSED_UNENDED);
+        return Item::Fault(numbers::REFUSED_UNENDED);
     }
     let b = text[to];
     if b == b'}' {
@@ -146,7 +151,7 @@ fn behind_name(text: &[u8], at: usize, mode: Mode, depth: usize, to: usize) -> I
     if b == b'#' {
         return removal_at(text, at, depth, to, true);
     }
-    Item::Fault(read_mode::wrong_byte(read_mode::REFUSED_SYNTAX, b))
+    Item::Fault(read_mode::wrong_byte(numbers::REFUSED_SYNTAX, b))
 }
 
 // What `${#name` at `at` is, whose name ends at `to`.
@@ -155,11 +160,11 @@ fn behind_length(text: &[u8], at: usize, depth: usize, to: usize) -> Item
     ensures { λ r. ⌜ Shows (now (text .entry)) at depth r (behindLength (part (now (text .entry)) (at + 3) to) (to - at) (drop to (now (text .entry)))) ⌝ }
 {
     if to >= text.len() {
-        return Item::Fault(read_mode::REFUSED_UNENDED);
+        return Item::Fault(numbers::REFUSED_UNENDED);
     }
     let b = text[to];
     if b != b'}' {
-        return Item::Fault(read_mode::wrong_byte(read_mode::REFUSED_SYNTAX, b));
+        return Item::Fault(read_mode::wrong_byte(numbers::REFUSED_SYNTAX, b));
     }
     Item::Count {
         from: at + 3,
@@ -174,14 +179,14 @@ fn length_at(text: &[u8], at: usize, depth: usize) -> Item
     ensures { λ r. ⌜ Shows (now (text .entry)) at depth r (counted (drop (at + 3) (now (text .entry)))) ⌝ }
 {
     if at + 3 >= text.len() {
-        return Item::Fault(read_mode::REFUSED_UNENDED);
+        return Item::Fault(numbers::REFUSED_UNENDED);
     }
     let b = text[at + 3];
     if text::in_class(Class::NameStart, b) {
         let to = text::run_end(text, at + 3, Class::NameByte);
         return behind_length(text, at, depth, to);
     }
-    Item::Fault(read_mode::wrong_byte(read_mode::REFUSED_UNSERVED, b))
+    Item::Fault(read_mode::wrong_byte(numbers::REFUSED_UNSERVED, b))
 }
 
 // What `${` at `at` is.
@@ -190,10 +195,10 @@ pub fn braced_at(text: &[u8], at: usize, mode: Mode, depth: usize) -> Item
     ensures { λ r. ⌜ Shows (now (text .entry)) at depth r (braced (modeOf mode) depth (drop (at + 2) (now (text .entry)))) ⌝ }
 {
     if depth == 0 {
-        return Item::Fault(read_mode::REFUSED_DEPTH);
+        return Item::Fault(numbers::REFUSED_DEPTH);
     }
     if at + 2 >= text.len() {
-        return Item::Fault(read_mode::REFUSED_UNENDED);
+        return Item::Fault(numbers::REFUSED_UNENDED);
     }
     let b = text[at + 2];
     if b == b'#' {
@@ -203,5 +208,5 @@ pub fn braced_at(text: &[u8], at: usize, mode: Mode, depth: usize) -> Item
         let to = text::run_end(text, at + 2, Class::NameByte);
         return behind_name(text, at, mode, depth, to);
     }
-    Item::Fault(read_mode::wrong_byte(read_mode::REFUSED_UNSERVED, b))
+    Item::Fault(read_mode::wrong_byte(numbers::REFUSED_UNSERVED, b))
 }

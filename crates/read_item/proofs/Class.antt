@@ -85,7 +85,8 @@ module _ (m : Mode) (d : ℕ) (s : Text) (at : ℕ) where
         top
         ∙ rw e
         (rw (← drop-cons s (at + 1) 0 l)
-        (ap (λ (p : Text × Text). value (p .0) (length (p .0))) (r .is) ∙ ap (value (part s (at + 1) to)) (part-length s (at + 1) to (r .onward) (r .within))))
+        (ap (λ (p : Text × Text). value (p .0) (length (p .0))) (r .is) ∙ ap (value (part s (at + 1) to))
+        (part-length s (at + 1) to (r .onward) (r .within))))
 
     module _ (e : isNameStart (getD s (at + 1) 0) ≡ false) where
       pub dollar-paren : getD s (at + 1) 0 ≡ 40 → expansion m d (drop (at + 1) s) ≡ parenthesis d (drop (at + 2) s)
@@ -127,7 +128,8 @@ module _ (n b : ℕ) (s : Text) (at : ℕ) where
       unfolding outer
       closed-stop e = closed-outer ∙ ap outer (drop-cons s (at + 1) 0 l) ∙ rw (eq-eqb _ _ e)
 
-      pub closed-wrong : (getD s (at + 1) 0 ≡ 41 → ⊥) → {k : ℕ} → wrong badSyntax (getD s (at + 1) 0 ∷ []) ≡ fault k → closed (sums n) b (drop (at + 1) s) ≡ fault k
+      pub closed-wrong : (getD s (at + 1) 0 ≡ 41 → ⊥) → {k : ℕ} → wrong badSyntax (getD s (at + 1) 0 ∷ []) ≡ fault k → closed
+          (sums n) b (drop (at + 1) s) ≡ fault k
       unfolding outer wrong
       closed-wrong e w = closed-outer ∙ ap outer (drop-cons s (at + 1) 0 l) ∙ rw (ne-eqb _ _ e) w
 

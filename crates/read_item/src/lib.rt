@@ -4,6 +4,7 @@ use read_brace::Item;
 use read_mode::Mode;
 use read_mode::Sort;
 use text::Class;
+use text::numbers;
 ghost use Prim.Native.Nat.{_+_, _≤_, _<_};
 ghost use lib.ListN.{length, drop, getD};
 ghost use Rattle.stages.specs.Syntax.{arith};
@@ -17,11 +18,11 @@ fn escaped_at(text: &[u8], at: usize, mode: Mode, depth: usize) -> Item
     ensures { λ r. ⌜ Shows (now (text .entry)) at depth r (escaped (modeOf mode) (drop (at + 1) (now (text .entry)))) ⌝ }
 {
     if at + 1 >= text.len() {
-        return Item::Fault(read_mode::REFUSED_UNENDED);
+        return Item::Fault(numbers::REFUSED_UNENDED);
     }
     let b = text[at + 1];
     if b == b'\n' {
-        return Item::Fault(read_mode::REFUSED_SYNTAX);
+        return Item::Fault(numbers::REFUSED_SYNTAX);
     }
     if read_mode::is_quotable(mode, b) {
         return Item::Byte {
@@ -44,11 +45,11 @@ fn parenthesis_at(text: &[u8], at: usize, depth: usize) -> Item
 {
     if read_brace::is_at(text, at + 2, b'(') {
         if depth == 0 {
-            return Item::Fault(read_mode::REFUSED_DEPTH);
+            return Item::Fault(numbers::REFUSED_DEPTH);
         }
         return Item::Sum { next: at + 3 };
     }
-    Item::Fault(read_mode::REFUSED_SUBSTITUTION)
+    Item::Fault(numbers::REFUSED_SUBSTITUTION)
 }
 
 // What `$` at `at` is.
@@ -79,7 +80,7 @@ fn expansion_at(text: &[u8], at: usize, mode: Mode, depth: usize) -> Item
         return read_brace::braced_at(text, at, mode, depth);
     }
     if read_mode::is_not_served(mode, b) {
-        return Item::Fault(read_mode::REFUSED_UNSERVED);
+        return Item::Fault(numbers::REFUSED_UNSERVED);
     }
     Item::Byte {
         quoted: false,
@@ -100,13 +101,13 @@ fn closed_at(text: &[u8], at: usize, depth: usize, parens: usize) -> Item
         };
     }
     if at + 1 >= text.len() {
-        return Item::Fault(read_mode::REFUSED_SYNTAX);
+        return Item::Fault(numbers::REFUSED_SYNTAX);
     }
     let b = text[at + 1];
     if b == b')' {
         return Item::Stop(at + 2);
     }
-    Item::Fault(read_mode::wrong_byte(read_mode::REFUSED_SYNTAX, b))
+    Item::Fault(read_mode::wrong_byte(numbers::REFUSED_SYNTAX, b))
 }
 
 // What stands at a place of a text that is read in a mode, where `depth` expansions may still open.
@@ -118,19 +119,19 @@ pub fn item_at(text: &[u8], at: usize, mode: Mode, depth: usize) -> Item
         if read_mode::may_end(mode) {
             return Item::Stop(at);
         }
-        return Item::Fault(read_mode::REFUSED_UNENDED);
+        return Item::Fault(numbers::REFUSED_UNENDED);
     }
     let b = text[at];
     let sort = read_mode::sort_at(mode, b);
     match sort {
-        Sort::Backquote => Item::Fault(read_mode::REFUSED_SUBSTITUTION),
+        Sort::Backquote => Item::Fault(numbers::REFUSED_SUBSTITUTION),
         Sort::Closes(taken) => Item::Stop(at + taken),
-        Sort::Operator => Item::Fault(read_mode::REFUSED_OPERATOR),
+        Sort::Operator => Item::Fault(numbers::REFUSED_OPERATOR),
         Sort::Quotes => Item::Quote(Mode::Single),
         Sort::Quotes2 => Item::Quote(Mode::Double),
         Sort::Backslash => escaped_at(text, at, mode, depth),
         Sort::Dollar => expansion_at(text, at, mode, depth),
-        Sort::Bad => Item::Fault(read_mode::REFUSED_SYNTAX),
+        Sort::Bad => Item::Fault(numbers::REFUSED_SYNTAX),
         Sort::Opening(parens) => Item::Paren {
             byte: b,
             parens: parens + 1,

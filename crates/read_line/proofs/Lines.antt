@@ -110,7 +110,8 @@ module _ (line : Text) (place : ℕ) (l : place < length line) (e : isBlank (get
 
       later : (next : ℕ) (tree : Parts) → next ≤ length line → parts word depthLimit (drop place line) ≡ done (tree, drop next line) → place < next
       later next tree k q =
-          let g = good-left (word-good depthLimit b (drop (suc place) line) e) (tree, drop next line) (ap (parts word depthLimit) (sym (drop-cons line place 0 l)) ∙ q) in
+          let g = good-left (word-good depthLimit b (drop (suc place) line) e) (tree, drop next line)
+          (ap (parts word depthLimit) (sym (drop-cons line place 0 l)) ∙ q) in
           omega (arith, g, length-drop next line, length-drop (suc place) line)
 
       abbrev around : Taken → Words
@@ -127,10 +128,12 @@ module _ (line : Text) (place : ℕ) (l : place < length line) (e : isBlank (get
       word-read (reading.Fault n) q = opens ∙ ap around q
       word-read (reading.End next) q =
           let w = later next (q .tree) (q .within) (q .is) in
-          let k : place + (length (drop place line) - length (drop next line)) ≡ next = omega (arith, length-drop next line, length-drop place line, q .within) in
+          let k : place + (length (drop place line) - length (drop next line)) ≡ next =
+          omega (arith, length-drop next line, length-drop place line, q .within) in
           record {
             first = record { place = place; parts = q .tree };
-            is = opens ∙ ap around (q .is) ∙ ap (λ (i : ℕ). words (i, drop next line) then λ ws. doneAt (record { place = place; parts = q .tree } ∷ ws)) k;
+            is = opens ∙ ap around (q .is) ∙ ap
+                (λ (i : ℕ). words (i, drop next line) then λ ws. doneAt (record { place = place; parts = q .tree } ∷ ws)) k;
             onward = w;
             within = q .within;
           }
@@ -195,7 +198,8 @@ refused-line line n p h = refused-of (readLine line) n p h
 
 -- For a walk over the words of a line that is accepted: the next word is the first of those that are left, and where there is none, none is left.
 
-pub next-first : (line : Text) (from place : ℕ) (ws : List Word) → NextAt line from place → words (from, drop from line) ≡ doneAt ws → FirstWord line place ws
+pub next-first : (line : Text) (from place : ℕ) (ws : List Word) → NextAt line from place → words (from, drop from line) ≡ doneAt ws →
+    FirstWord line place ws
 next-first line from place ws p h = first-word line place (p .within) (p .starts) ws (sym (p .same) ∙ h)
 
 pub next-last : (line : Text) (from : ℕ) (ws : List Word) → NextNone line from → words (from, drop from line) ≡ doneAt ws → ws ≡ []

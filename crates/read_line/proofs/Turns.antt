@@ -39,11 +39,13 @@ module _ (text : Text) (at d : ℕ) (m : code-mode.Mode) (l : openIn m ≤ at) w
   abbrev Is : code-item.Item → Type 0
   Is r = Shows text at d r (item (modeOf m) d (drop at text))
 
-  on : (before : Parts → Parts) (next : ℕ) → o ≡ put before (parts (modeOf m) d (drop next text)) → Behind text at next → ReadMore text at d o next m
+  on : (before : Parts → Parts) (next : ℕ) → o ≡ put before (parts (modeOf m) d (drop next text)) → Behind text at next → ReadMore text at
+      d o next m
   on before next e b = let h = b .onward in record { before = before; is = e; place = b; few = omega arith }
 
   -- an inner text from `from` on
-  inside : (f : Parts → Parts → Parts) (from : ℕ) (r : Taken) → at < from → o ≡ nest f r (parts (modeOf m) d) → (got : Reading) → ReadSays text from r got
+  inside : (f : Parts → Parts → Parts) (from : ℕ) (r : Taken) → at < from → o ≡ nest f r (parts (modeOf m) d) → (got : Reading) →
+      ReadSays text from r got
       → ReadTurn text at d o (onward m got)
   inside f from r k e (reading.Fault n) h = e ∙ ap (λ (x : Taken). nest f x (parts (modeOf m) d)) h
   inside f from r k e (reading.End next) h =
@@ -95,9 +97,11 @@ module _ (text : Text) (at d : ℕ) (m : code-mode.Mode) (l : openIn m ≤ at) w
         → (got : Reading) → ReadSays text from (parts (modeOf n) (d - 1) (drop from text)) got → ReadTurn text at d o (onward m got)
     turn-inner {x = x} {y = y} {p = p} {n = n} {from = from} e got g =
         let s = known e in
-        inside (par (part text x y) (formOf p)) from _ (s .1 .onward) (at-inner text at (modeOf m) d (part text x y) (formOf p) (modeOf n) from (s .0) (s .1 .onward)) got g
+        inside (par (part text x y) (formOf p)) from _ (s .1 .onward)
+        (at-inner text at (modeOf m) d (part text x y) (formOf p) (modeOf n) from (s .0) (s .1 .onward)) got g
 
-    pub turn-sum : {from : ℕ} → r ≡ code.Sum from → (got : Reading) → ReadSays text from (parts (sums 0) (d - 1) (drop from text)) got → ReadTurn text at d o (onward m got)
+    pub turn-sum : {from : ℕ} → r ≡ code.Sum from → (got : Reading) → ReadSays text from (parts (sums 0) (d - 1) (drop from text)) got →
+        ReadTurn text at d o (onward m got)
     turn-sum {from = from} e got g =
         let s = known e in
         let k : at < from = omega (arith, s .1) in
@@ -121,7 +125,8 @@ put-put : (f g : Parts → Parts) (r : Taken) → put f (put g r) ≡ put (λ p.
 put-put f g (refused e) = refl
 put-put f g (done p) = refl
 
-pub reads-start : (text : Text) (at d : ℕ) (m : code-mode.Mode) → at ≤ length text → openIn m ≤ at → Reads text at d (parts (modeOf m) d (drop at text)) at m
+pub reads-start : (text : Text) (at d : ℕ) (m : code-mode.Mode) → at ≤ length text → openIn m ≤ at → Reads text at d
+    (parts (modeOf m) d (drop at text)) at m
 reads-start text at d m l k =
     record { before = λ p. p; is = put-same (parts (modeOf m) d (drop at text)); onward = omega arith; within = l; few = k }
 

@@ -3,6 +3,7 @@
 use read_brace::Item;
 use read_mode::Mode;
 use text::Class;
+use text::numbers;
 ghost use mathlib.Core.Path.{_≡_};
 ghost use mathlib.Core.Bool.{Bool, true, false};
 ghost use Prim.Native.Nat.{ℕ, _≤_, _<_};
@@ -11,9 +12,6 @@ ghost use Rattle.stages.specs.Bytes.{isBlank};
 ghost use Rattle.stages.specs.Read.{parts, readLine};
 ghost use Rattle.read_mode.specs.Modes.{modeOf, openIn};
 ghost use Rattle.read_line.specs.Says.{ReadSays, ReadTurn, onward, NextSays, WordSays, verdict, verdictOf};
-
-// "At most 8 expansions are open at once"
-pub const DEPTH: usize = 8;
 
 // What a text is read as: the place behind it, or the number that refuses it.
 pub enum Reading {
@@ -145,12 +143,12 @@ fn read_word(line: &[u8], place: usize) -> Reading
 {
     let b = line[place];
     if text::in_class(Class::Operator, b) {
-        return Reading::Fault(read_mode::REFUSED_OPERATOR);
+        return Reading::Fault(numbers::REFUSED_OPERATOR);
     }
     if b == b'#' {
-        return Reading::Fault(read_mode::REFUSED_OPERATOR);
+        return Reading::Fault(numbers::REFUSED_OPERATOR);
     }
-    read_text(line, place, Mode::Word, DEPTH)
+    read_text(line, place, Mode::Word, numbers::DEPTH_LIMIT)
 }
 
 // Reads the whole line: the first fault's number and the place of its word, if there is a fault.

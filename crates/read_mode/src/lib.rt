@@ -7,19 +7,7 @@ ghost use Rattle.stages.specs.Bytes.{isDigit, isIn, text};
 ghost use Rattle.stages.specs.Syntax.{word, bare, single, double, operand, arith};
 ghost use Rattle.stages.specs.Items.{quotable, notServed, operandMode, ended, wrong, fault, signForm};
 ghost use Rattle.read_mode.specs.Modes.{modeOf, formOf, Operands, Sorted, Shared, quotesSort, plainSort, endsLine};
-
-// The numbers of document 01 that reading gives.
-pub const REFUSED_UNENDED: u8 = 7;
-
-pub const REFUSED_OPERATOR: u8 = 8;
-
-pub const REFUSED_SUBSTITUTION: u8 = 9;
-
-pub const REFUSED_UNSERVED: u8 = 10;
-
-pub const REFUSED_SYNTAX: u8 = 11;
-
-pub const REFUSED_DEPTH: u8 = 12;
+use text::numbers;
 
 // Where a text stands.
 pub enum Mode {
@@ -35,6 +23,13 @@ pub enum Mode {
     Operand,
     // arithmetic, with so many open parentheses
     Arith(usize),
+}
+
+// Where a text is read: from `at` on, in a mode, where `depth` expansions may still open.
+pub struct Cursor {
+    pub at: usize,
+    pub mode: Mode,
+    pub depth: usize,
 }
 
 // What stands behind the name in `${name`: whether a colon stands before `-=?+`, or whether a removal's sign is doubled.
@@ -267,7 +262,7 @@ pub fn wrong_byte(number: u8, b: u8) -> u8
     ensures { λ r. ⌜ wrong number (b ∷ []) ≡ fault r ⌝ }
 {
     if b == b'`' {
-        return REFUSED_SUBSTITUTION;
+        return numbers::REFUSED_SUBSTITUTION;
     }
     number
 }

@@ -2,8 +2,12 @@
 use libc::STDIN_FILENO;
 use libc::STDOUT_FILENO;
 use recipe_cut::Taken;
+use text::numbers;
 ghost use mathlib.Core.Path.{_≡_};
+ghost use Prim.Native.Nat.{_+_};
 ghost use lib.ListN.{length};
+ghost use Rattle.stages.specs.Numbers.{imageLimit};
+ghost use Rattle.recipe_cut.specs.Said.{answerRoom};
 ghost use Rattle.recipe.specs.Keeps.{Keeps};
 
 // What is carried from line to line: the bytes kept of a line that has not ended, the variables' used length, and whether there is more to answer.
@@ -14,17 +18,17 @@ pub struct Carried {
 }
 
 // Room for what is said of a line.
-fn said_room() -> [u8; 8237]
-    ensures { λ r. ⌜ 8237 ≡ length r ⌝ }
+fn said_room() -> [u8; numbers::SAID_ROOM]
+    ensures { λ r. ⌜ imageLimit + answerRoom ≡ length r ⌝ }
 {
-    [0; 8237]
+    [0; numbers::SAID_ROOM]
 }
 
 // "they and the output get 8,192 bytes"
-fn out_room() -> [u8; 8192]
-    ensures { λ r. ⌜ 8192 ≡ length r ⌝ }
+fn out_room() -> [u8; numbers::IMAGE_LIMIT]
+    ensures { λ r. ⌜ imageLimit ≡ length r ⌝ }
 {
-    [0; 8192]
+    [0; numbers::IMAGE_LIMIT]
 }
 
 // Answers a line. Output that cannot be written ends the run.

@@ -3,32 +3,32 @@
 mod answering;
 
 ghost use mathlib.Core.Path.{_≡_};
+ghost use Prim.Native.Nat.{_+_};
 ghost use lib.ListN.{length};
+ghost use Rattle.stages.specs.Numbers.{imageLimit, pathsLimit, lineLimit};
 use answering::Carried;
 use recipe_load::Loaded;
-
-// "Variables carry over; they and the output get 8,192 bytes."
-const VARIABLES_ROOM: usize = 8192;
+use text::numbers;
 
 // Room for an image and a byte more, which tells a file that is too long.
-fn image_room() -> [u8; 8193]
-    ensures { λ r. ⌜ 8193 ≡ length r ⌝ }
+fn image_room() -> [u8; numbers::IMAGE_KEPT]
+    ensures { λ r. ⌜ imageLimit + 1 ≡ length r ⌝ }
 {
-    [0; 8193]
+    [0; numbers::IMAGE_KEPT]
 }
 
 // The same for an image of paths.
-fn paths_room() -> [u8; 32769]
-    ensures { λ r. ⌜ 32769 ≡ length r ⌝ }
+fn paths_room() -> [u8; numbers::PATHS_KEPT]
+    ensures { λ r. ⌜ pathsLimit + 1 ≡ length r ⌝ }
 {
-    [0; 32769]
+    [0; numbers::PATHS_KEPT]
 }
 
 // One byte more than a line may have.
-fn line_room() -> [u8; 2049]
-    ensures { λ r. ⌜ 2049 ≡ length r ⌝ }
+fn line_room() -> [u8; numbers::LINE_KEPT]
+    ensures { λ r. ⌜ lineLimit + 1 ≡ length r ⌝ }
 {
-    [0; 2049]
+    [0; numbers::LINE_KEPT]
 }
 
 // Answers all lines with the tables that were read.
@@ -45,7 +45,7 @@ fn answer_with(vars: &mut [u8], used: usize, homes: &[u8], paths: &[u8]) {
 
 // Reads the three tables. If one of them cannot be read, no line is answered.
 fn run(vars: &mut [u8], homes: &mut [u8], paths: &mut [u8])
-    requires { ⌜ (8193 ≡ length (now vars)) × (8193 ≡ length (now homes)) × (32769 ≡ length (now paths)) ⌝ }
+    requires { ⌜ (imageLimit + 1 ≡ length (now vars)) × (imageLimit + 1 ≡ length (now homes)) × (pathsLimit + 1 ≡ length (now paths)) ⌝ }
 {
     let Loaded::Length(used) = recipe_load::load(b"vars.tab", vars) else {
         return;
@@ -56,7 +56,12 @@ fn run(vars: &mut [u8], homes: &mut [u8], paths: &mut [u8])
     let Loaded::Length(p) = recipe_load::load(b"paths.tab", paths) else {
         return;
     };
-    answer_with(&mut vars[..VARIABLES_ROOM], used, &homes[..h], &paths[..p]);
+    answer_with(
+        &mut vars[..numbers::IMAGE_LIMIT],
+        used,
+        &homes[..h],
+        &paths[..p],
+    );
 }
 
 fn main() {

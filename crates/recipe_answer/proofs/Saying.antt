@@ -56,8 +56,10 @@ module _ (line vars : Text) (used : ℕ) (homes paths work out work' out' : Text
   unfolding normaliser outcome
   same-lengths =
       subst
-      (λ (x : Placed (Text × Pairs)). Alike (normaliser (given line vars used homes paths work out)) (answered (given line vars used homes paths work' out') x)) same-outcome
-      (answered-alike (given line vars used homes paths work out) (given line vars used homes paths work' out') (outcome (given line vars used homes paths work out)) refl refl)
+      (λ (x : Placed (Text × Pairs)). Alike (normaliser (given line vars used homes paths work out))
+      (answered (given line vars used homes paths work' out') x)) same-outcome
+      (answered-alike (given line vars used homes paths work out) (given line vars used homes paths work' out')
+      (outcome (given line vars used homes paths work out)) refl refl)
 
 -- the code's answer, said
 
@@ -105,7 +107,8 @@ module _ (line vars : Text) (used : ℕ) (homes paths work out : Text) {r : Answ
       → Puts (saidBy (r .number) (r .place) (take (r .«out_len») out')) old left len
       → Says (answerTo homes paths line vars used) old left vars' (record { len = len; used = r .«used_len» })
   said-so {old} {left} {len} w o h p =
-      let a : Alike (normaliser (given line vars used homes paths work out)) (answerTo homes paths line vars used) = to-stage line vars used homes paths work out w o in
+      let a : Alike (normaliser (given line vars used homes paths work out)) (answerTo homes paths line vars used) =
+      to-stage line vars used homes paths work out w o in
       record {
         words = subst (λ (t : Text). Puts t old left len) (words-are (given line vars used homes paths work out) h ∙ a .words) p;
         variables = h .hands .variables ∙ a .variables;

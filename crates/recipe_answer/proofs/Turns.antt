@@ -19,7 +19,8 @@ variablesOf vars used = record { bytes = vars; used = used }
 -- what is written for lines, turn by turn
 pub data Wrote (homes paths : Text) : Text → ℕ → List Text → Text → Type 0 where
   nothing : {vars : Text} {used : ℕ} → Wrote homes paths vars used [] []
-  wrote : {vars next old left : Text} {used : ℕ} {l : Text} {ls : List Text} {t : Text} (r : Said) → Says (answerTo homes paths (cutLine l) vars used) old left next r
+  wrote : {vars next old left : Text} {used : ℕ} {l : Text} {ls : List Text} {t : Text} (r : Said) → Says
+      (answerTo homes paths (cutLine l) vars used) old left next r
       → Wrote homes paths next (r .used) ls t → Wrote homes paths vars used (l ∷ ls) (take (r .len) left ++ t)
 
 module _ (homes paths : Text) where
@@ -28,7 +29,8 @@ module _ (homes paths : Text) where
   unfolding answerTo givenLine
   kept-answer l vars used = normaliser-cut (givenLine homes paths l (variablesOf vars used)) l
 
-  pub turns-said : {vars : Text} {used : ℕ} {ls : List Text} {t : Text} → Wrote homes paths vars used ls t → t ≡ saidOf homes paths (variablesOf vars used) ls
+  pub turns-said : {vars : Text} {used : ℕ} {ls : List Text} {t : Text} → Wrote homes paths vars used ls t → t ≡ saidOf homes paths
+      (variablesOf vars used) ls
   unfolding saidOf
   turns-said nothing = refl
   turns-said {vars} {used} (wrote {next = next} {old = old} {left = left} {l = l} {ls = ls} {t = t} r s w) =
@@ -40,6 +42,7 @@ module _ (homes paths : Text) where
       ∙ ap (λ (u : ℕ). saidOf homes paths (variablesOf (a .vars) u) ls) (s .usedLength ∙ ap (λ (x : Answer). x .used) n))
 
   -- the lines that ended in blocks, and the last one if it is not empty, are the lines of all that was read
-  pub run-said : {vars : Text} {used : ℕ} {blocks ls : List Text} {left t : Text} → InBlocks [] blocks ls left → Wrote homes paths vars used (ls ++ linesOf left) t
+  pub run-said : {vars : Text} {used : ℕ} {blocks ls : List Text} {left t : Text} → InBlocks [] blocks ls left → Wrote homes paths vars used
+      (ls ++ linesOf left) t
       → t ≡ saidOf homes paths (variablesOf vars used) (linesOf (joined blocks))
   run-said {vars} {used} b w = turns-said w ∙ ap (saidOf homes paths (variablesOf vars used)) (sym (blocks-lines b refl .0))

@@ -24,7 +24,8 @@ pub fn say(
     said: &mut [u8],
 ) -> Said
     requires { ⌜ (workLeast ≡ length (now work)) × (imageLimit ≡ length (now out)) × (length (now out) + answerRoom ≤ length (now said)) ⌝ }
-    ensures { λ r. ⌜ Says (answerTo (now (homes .entry)) (now (paths .entry)) (now (line .entry)) (now (vars .entry)) used) (now (said .entry)) (now (said .exit)) (now (vars .exit)) r ⌝ }
+    ensures { λ r. ⌜ Says (answerTo (now (homes .entry)) (now (paths .entry)) (now (line .entry)) (now (vars .entry)) used) (now (said .entry))
+        (now (said .exit)) (now (vars .exit)) r ⌝ }
 {
     let answer = drunquill::normalise(line, vars, used, homes, paths, work, out);
     let n = answer.out_len;

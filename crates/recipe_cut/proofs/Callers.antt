@@ -84,7 +84,8 @@ newline-at block from next e = go (behind block from) refl
     split : (b : ℕ) (u : Text) → behind block from ≡ b ∷ u → block ≡ (take from block ++ (came block from ++ (b ∷ []))) ++ u
     split b u q =
         sym (take-append-drop from block)
-        ∙ ap (λ (x : Text). take from block ++ x) (sym (came-behind block from) ∙ ap (λ (x : Text). came block from ++ x) q ∙ sym (append-assoc (came block from) (b ∷ []) u))
+        ∙ ap (λ (x : Text). take from block ++ x)
+        (sym (came-behind block from) ∙ ap (λ (x : Text). came block from ++ x) q ∙ sym (append-assoc (came block from) (b ∷ []) u))
         ∙ sym (append-assoc (take from block) (came block from ++ (b ∷ [])) u)
 
     go : (u : Text) → behind block from ≡ u → Newline block from next

@@ -18,7 +18,8 @@ one-taken (Ended k n) (Open k′) e f = absurd (clash (sym f))
 one-taken (Open k) (Ended k′ n′) e f = absurd (clash f)
 one-taken (Open k) (Open k′) e f = ap Open e
 
-pub take-in-determined : (line block left left′ : Text) (kept from : ℕ) (r s : Taken) → Takes line kept block from left r → Takes line kept block from left′ s
+pub take-in-determined : (line block left left′ : Text) (kept from : ℕ) (r s : Taken) → Takes line kept block from left r → Takes line kept
+    block from left′ s
     → (r ≡ s) × (left ≡ left′)
 take-in-determined line block left left′ kept from r s w w′ =
     let p : (keptIn r ≡ keptIn s) × (left ≡ left′) = puts-once (w .puts) (w′ .puts) in

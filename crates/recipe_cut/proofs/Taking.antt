@@ -37,13 +37,15 @@ module _ {block : Text} {from i : ℕ} (p : Passing block from i) where
   passing-more h e = record {
     onward = omega (arith, p .onward);
     within = omega arith;
-    plain = ap (all notNewline) (part-more block from i (p .onward) h) ∙ all-append notNewline (part block from i) (getD block i 0 ∷ []) (p .plain) (rw (ne-eqb (getD block i 0) 10 e));
+    plain = ap (all notNewline) (part-more block from i (p .onward) h) ∙ all-append notNewline (part block from i) (getD block i 0 ∷ [])
+        (p .plain) (rw (ne-eqb (getD block i 0) 10 e));
   }
 
   split : part block from i ++ drop i block ≡ drop from block
   split =
       let k : from + (i - from) ≡ i = omega (arith, p .onward) in
-      ap (λ (u : Text). part block from i ++ u) (ap (λ (n : ℕ). drop n block) (sym k) ∙ sym (drop-drop (i - from) from block)) ∙ take-append-drop (i - from) (drop from block)
+      ap (λ (u : Text). part block from i ++ u) (ap (λ (n : ℕ). drop n block) (sym k) ∙ sym (drop-drop (i - from) from block)) ∙
+      take-append-drop (i - from) (drop from block)
 
   stopped : Stops notNewline (drop i block) → LineEnd block from i
   stopped s = record {
@@ -99,7 +101,8 @@ module _ (line bytes : Text) (kept n : ℕ) (h : kept ≤ lineKept) (l : lineKep
   unfolding over
   keep-puts ys e =
       rw kept-is
-      (fill-ends (fill-piece keep-filling (take n bytes) [] ys n (kept + n) (sym (append-nil (take n bytes))) (record { counts = sym copied-length; leaves = e }) refl) refl)
+      (fill-ends (fill-piece keep-filling (take n bytes) [] ys n (kept + n) (sym (append-nil (take n bytes)))
+      (record { counts = sym copied-length; leaves = e }) refl) refl)
 
 -- `take_in`
 module _ (line : Text) (kept : ℕ) (block : Text) (from end : ℕ) (left : Text) (n : ℕ) (e : LineEnd block from end)

@@ -8,6 +8,7 @@ ghost use lib.ListN.{length, take};
 ghost use Rattle.text.specs.Putting.{Puts};
 ghost use Rattle.recipe_cut.specs.Lines.{lineKept, keptOf, hasLine, LineEnd, Takes};
 ghost use Rattle.recipe_cut.specs.Said.{saidBy, okText, noText, answerRoom};
+use text::numbers;
 
 // What came of a line.
 pub enum Taken {
@@ -17,15 +18,9 @@ pub enum Taken {
     Open(usize),
 }
 
-// One byte more than a line may have: what is longer is refused, whatever comes behind.
-const LINE_KEPT: usize = 2049;
-
 const NEWLINE: u8 = b'\n';
 
 const BLANK: u8 = b' ';
-
-// The number of an acceptance.
-const ACCEPTED: u8 = 0;
 
 // The lesser of two numbers.
 fn least(a: usize, b: usize) -> usize
@@ -54,7 +49,7 @@ fn keep(line: &mut [u8], kept: usize, bytes: &[u8]) -> usize
     requires { ⌜ (kept ≤ lineKept) × (lineKept ≤ length (now line)) ⌝ }
     ensures { λ r. ⌜ Puts (keptOf (take kept (now (line .entry)) ++ now (bytes .entry))) (now (line .entry)) (now (line .exit)) r ⌝ }
 {
-    let n = least(bytes.len(), LINE_KEPT - kept);
+    let n = least(bytes.len(), numbers::LINE_KEPT - kept);
     text_copy::copy_in(&bytes[..n], &mut line[kept..]);
     kept + n
 }
@@ -116,7 +111,7 @@ pub fn put_answer(number: u8, place: usize, line: &[u8], out: &mut [u8]) -> usiz
     requires { ⌜ length (now line) + answerRoom ≤ length (now out) ⌝ }
     ensures { λ r. ⌜ Puts (saidBy number place (now (line .entry))) (now (out .entry)) (now (out .exit)) r ⌝ }
 {
-    if number == ACCEPTED {
+    if number == numbers::ACCEPTED {
         put_ok(line, out)
     } else {
         put_no(number, place, out)

@@ -2,6 +2,7 @@
 ghost use Prim.Native.Nat.{_≤_};
 ghost use lib.ListN.{length};
 ghost use Rattle.recipe_load.specs.Loads.{Loads, Ends};
+use text::numbers;
 
 pub enum Loaded {
     // So many bytes of the file stand in the buffer: all, or as many as it takes.
@@ -9,9 +10,6 @@ pub enum Loaded {
     // It cannot be read, and standard error says why.
     Failed,
 }
-
-// The image without records.
-const VERSION: u8 = 1;
 
 // A read that gave no byte was the file's end, or has failed.
 fn end_of_file(got: isize, name: &[u8], done: usize) -> Loaded
@@ -49,7 +47,7 @@ fn absent(name: &[u8], buffer: &mut [u8]) -> Loaded
         os::fail(name);
         return Loaded::Failed;
     }
-    buffer[0] = VERSION;
+    buffer[0] = numbers::VERSION;
     Loaded::Length(1)
 }
 

@@ -136,7 +136,9 @@ module _ {row₀ row : Text} {kept i : ℕ} (s : Stripping row₀ row kept i) wh
           whole =
               s .whole
               ∙ ap (λ (r : Row). s .done ++ bytes r) unit-at
-              ∙ ap (λ (t : Text). s .done ++ t) (unit-bytes (getD row₀ i 0) (getD row₀ (i + 1) 0) (rowOf (drop (i + 2) row₀)) (sym (ap isMark (here (i + 1) (omega arith) (omega arith))) ∙ m))
+              ∙ ap (λ (t : Text). s .done ++ t)
+              (unit-bytes (getD row₀ i 0) (getD row₀ (i + 1) 0) (rowOf (drop (i + 2) row₀))
+              (sym (ap isMark (here (i + 1) (omega arith) (omega arith))) ∙ m))
               ∙ sym (append-assoc (s .done) (getD row₀ i 0 ∷ []) (bytes (rowOf (drop (i + 2) row₀))));
           behind = omega arith;
           within = omega arith;
@@ -152,7 +154,9 @@ module _ {row₀ row : Text} {kept i : ℕ} (s : Stripping row₀ row kept i) wh
           whole =
               s .whole
               ∙ ap (λ (r : Row). s .done ++ bytes r) unit-at
-              ∙ ap (λ (t : Text). s .done ++ t) (empty-bytes (getD row₀ i 0) (getD row₀ (i + 1) 0) (rowOf (drop (i + 2) row₀)) (sym (ap isMark (here (i + 1) (omega arith) (omega arith))) ∙ m));
+              ∙ ap (λ (t : Text). s .done ++ t)
+              (empty-bytes (getD row₀ i 0) (getD row₀ (i + 1) 0) (rowOf (drop (i + 2) row₀))
+              (sym (ap isMark (here (i + 1) (omega arith) (omega arith))) ∙ m));
           behind = omega arith;
           within = omega arith;
         }
@@ -165,5 +169,6 @@ module _ {row₀ row : Text} {kept i : ℕ} (s : Stripping row₀ row kept i) wh
 
   pub strip-end : length row₀ - i ≤ 1 → Stripped row₀ row kept
   strip-end l =
-      let w : bytes (rowOf row₀) ≡ s .done = s .whole ∙ ap (λ (t : Text). s .done ++ t) (short (drop i row₀) (simp length-drop l)) ∙ append-nil (s .done) in
+      let w : bytes (rowOf row₀) ≡ s .done =
+      s .whole ∙ ap (λ (t : Text). s .done ++ t) (short (drop i row₀) (simp length-drop l)) ∙ append-nil (s .done) in
       record { counts = sym (s .counts) ∙ ap length (sym w); leaves = s .leaves ∙ ap (λ (t : Text). fronted t row₀) (sym w) }

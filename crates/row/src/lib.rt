@@ -15,6 +15,12 @@ pub enum Mark {
     Q,
 }
 
+// Where a row stands: so many units are before it, and a literal byte gets this mark.
+pub struct RowEnd {
+    pub mark: Mark,
+    pub units: usize,
+}
+
 // The byte that stands for a mark.
 pub fn mark_byte(mark: Mark) -> u8
     ensures { λ r. ⌜ r ≡ markByte (markOf mark) ⌝ }

@@ -25,10 +25,24 @@ module _ {row : Text} {at : ℕ} where
   one-place : {to to′ : ℕ} {r : Row} → Reaches row at to r → Reaches row at to′ r → to ≡ to′
   one-place {to} {to′} p q =
       let n : length (ahead row to) ≡ length (ahead row to′) = ap length (p .units ∙ sym (q .units)) in
-      omega (arith, n, p .far, q .far, p .within, q .within, ahead-length row to .0, ahead-length row to .1, ahead-length row to′ .0, ahead-length row to′ .1)
+      omega (
+        arith,
+        n,
+        p .far,
+        q .far,
+        p .within,
+        q .within,
+        ahead-length row to .0,
+        ahead-length row to .1,
+        ahead-length row to′ .0,
+        ahead-length
+            row to′ .1,
+      )
 
-  pub skip-white-determined : (ifs : Text) {to to′ : ℕ} → Reaches row at to (dropWhite ifs (ahead row at)) → Reaches row at to′ (dropWhite ifs (ahead row at)) → to ≡ to′
+  pub skip-white-determined : (ifs : Text) {to to′ : ℕ} → Reaches row at to (dropWhite ifs (ahead row at)) → Reaches row at to′
+      (dropWhite ifs (ahead row at)) → to ≡ to′
   skip-white-determined ifs p q = one-place p q
 
-  pub behind-field-determined : (ifs : Text) {to to′ : ℕ} → Reaches row at to (dropHard ifs (dropWhite ifs (ahead row at))) → Reaches row at to′ (dropHard ifs (dropWhite ifs (ahead row at))) → to ≡ to′
+  pub behind-field-determined : (ifs : Text) {to to′ : ℕ} → Reaches row at to (dropHard ifs (dropWhite ifs (ahead row at))) → Reaches row at
+      to′ (dropHard ifs (dropWhite ifs (ahead row at))) → to ≡ to′
   behind-field-determined ifs p q = one-place p q

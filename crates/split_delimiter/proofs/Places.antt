@@ -35,7 +35,8 @@ module _ (row : Text) (at : ℕ) where
       rw (drop-cons row at 0 (omega arith), e, drop-cons row (at + 1) 0 (omega arith), f)
 
   -- either no unit is ahead, or one and those behind it
-  pub by-place : (P : Row → Type 0) → (length row - at ≤ 1 → P []) → (1 < length row - at → (c : Cell) → P (c ∷ ahead row (at + 2))) → P (ahead row at)
+  pub by-place : (P : Row → Type 0) → (length row - at ≤ 1 → P []) → (1 < length row - at → (c : Cell) → P (c ∷ ahead row (at + 2)))
+      → P (ahead row at)
   by-place P f g = go (ltb 1 (length row - at)) refl
     where
       go : (x : Bool) → ltb 1 (length row - at) ≡ x → P (ahead row at)
@@ -58,7 +59,8 @@ module _ (ifs row : Text) (at : ℕ) where
   module _ (l : 1 < length row - at) where
     pub place-other : (getD row (at + 1) 0 ≡ 2 → ⊥) → other ≡ first ifs (ahead row at)
     unfolding first unitOf
-    place-other n = rw (unit-ahead row at l, ne-eqb (getD row (at + 1) 0) 2 n) (marked-other ifs (getD row at 0) (eqb (getD row (at + 1) 0) 1) (eqb (getD row (at + 1) 0) 3))
+    place-other n = rw (unit-ahead row at l, ne-eqb (getD row (at + 1) 0) 2 n)
+        (marked-other ifs (getD row at 0) (eqb (getD row (at + 1) 0) 1) (eqb (getD row (at + 1) 0) 3))
 
     module _ (m : getD row (at + 1) 0 ≡ 2) where
       first-is : first ifs (ahead row at) ≡ delimiter ifs (cell E (getD row at 0))
@@ -163,15 +165,28 @@ module _ (ifs : Text) where
 
   module _ {row : Text} {at to : ℕ} {r : Row} (h : Reaches row at to r) where
     pub behind-white : first ifs (ahead row to) ≡ white → Reaches row at to (dropHard ifs r)
-    behind-white e = record { passed = h .passed; far = h .far; within = h .within; units = sym (ap (dropHard ifs) (sym (h .units)) ∙ hard-stops-white (ahead row to) e) }
+    behind-white e = record {
+      passed = h .passed;
+      far = h .far;
+      within = h .within;
+      units =
+          sym (ap (dropHard ifs) (sym (h .units)) ∙ hard-stops-white (ahead row to) e);
+    }
 
     pub behind-other : first ifs (ahead row to) ≡ other → Reaches row at to (dropHard ifs r)
-    behind-other e = record { passed = h .passed; far = h .far; within = h .within; units = sym (ap (dropHard ifs) (sym (h .units)) ∙ hard-stops-other (ahead row to) e) }
+    behind-other e = record {
+      passed = h .passed;
+      far = h .far;
+      within = h .within;
+      units =
+          sym (ap (dropHard ifs) (sym (h .units)) ∙ hard-stops-other (ahead row to) e);
+    }
 
     pub behind-fits : first ifs (ahead row to) ≡ hard → to + 2 ≤ length row
     behind-fits e = hard-more row to e .0
 
-    pub behind-hard : first ifs (ahead row to) ≡ hard → {next : ℕ} → Reaches row (to + 2) next (dropWhite ifs (ahead row (to + 2))) → Reaches row at next (dropHard ifs r)
+    pub behind-hard : first ifs (ahead row to) ≡ hard → {next : ℕ} → Reaches row (to + 2) next (dropWhite ifs (ahead row (to + 2))) →
+        Reaches row at next (dropHard ifs r)
     behind-hard e k = record {
       passed = suc (h .passed + k .passed);
       far = omega (arith, h .far, k .far);

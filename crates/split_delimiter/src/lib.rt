@@ -5,6 +5,7 @@ ghost use lib.ListN.{length};
 ghost use Rattle.stages.specs.Split.{dropWhite, dropHard};
 ghost use Rattle.split_delimiter.specs.Places.{delimiterOf, ahead, first, goesOn, Reaches};
 use text::Class;
+use text::marks;
 
 // What a unit is in splitting: "white if space, tab or newline, else hard", or no delimiter.
 enum Delimiter {
@@ -12,9 +13,6 @@ enum Delimiter {
     Hard,
     Other,
 }
-
-// The mark of units "from an expansion, bare", which alone can be delimiters.
-const EXPANDED: u8 = 2;
 
 // What the unit at a place is; no unit is no delimiter.
 fn delimiter_at(row: &[u8], at: usize, ifs: &[u8]) -> Delimiter
@@ -24,7 +22,7 @@ fn delimiter_at(row: &[u8], at: usize, ifs: &[u8]) -> Delimiter
     if row.len() - at <= 1 {
         return Delimiter::Other;
     }
-    if row[at + 1] != EXPANDED {
+    if row[at + 1] != marks::EXPANDED {
         return Delimiter::Other;
     }
     let b = row[at];

@@ -97,8 +97,10 @@ module _ {p t : Text} {used : ℕ} {old : Text} {at n : ℕ} {out : Text} (g : C
       choosing-full e =
           let d : Lacks (done (part t from to ∷ [])) n out = says-full s e in
           let k : recordBytes (part t from to ∷ []) ≡ recordBytes (d .texts) = ap recordBytes (done-same (d .gives)) in
-          let c : recordBytes all ≡ recordBytes (g .texts ++ (part t from to ∷ [])) + recordBytes (left to) = ap recordBytes split ∙ recordBytes-append (g .texts ++ (part t from to ∷ [])) (left to) in
-          let b : recordBytes (g .texts ++ (part t from to ∷ [])) ≡ recordBytes (g .texts) + recordBytes (part t from to ∷ []) = recordBytes-append (g .texts) (part t from to ∷ []) in
+          let c : recordBytes all ≡ recordBytes (g .texts ++ (part t from to ∷ [])) + recordBytes (left to) =
+          ap recordBytes split ∙ recordBytes-append (g .texts ++ (part t from to ∷ [])) (left to) in
+          let b : recordBytes (g .texts ++ (part t from to ∷ [])) ≡ recordBytes (g .texts) + recordBytes (part t from to ∷ []) =
+          recordBytes-append (g .texts) (part t from to ∷ []) in
           noRoom all refl (omega (arith, d .short, k, c, b, g .filled .long, filled-length (g .filled)))
 
       pub choosing-class : r ≡ Class → ⊥
@@ -205,14 +207,17 @@ module _ (paths : List Text) {field row : Text} {n : ℕ} (d : Dropped field row
     unfolding fieldTexts pattern
     field-class e = class (rw (ap (hasClass true 0) (sym signs-are) ∙ e, pattern))
 
-    pub field-named : hasClass true 0 (signsOf (take n row)) ≡ false → {r : Written} → Says (done (pathsFor paths (rowOf (take n row)) (pathElements (take n row)))) used old after r
+    pub field-named : hasClass true 0 (signsOf (take n row)) ≡ false → {r : Written} → Says
+        (done (pathsFor paths (rowOf (take n row)) (pathElements (take n row)))) used old after r
         → Says (fieldTexts paths (rowOf field)) used old after r
     field-named e s =
-        let k : fieldTexts paths (rowOf field) ≡ done (pathsFor paths (rowOf field) (elements true 0 (signs (rowOf field)))) = unclassed (ap (hasClass true 0) (sym signs-are) ∙ e) in
+        let k : fieldTexts paths (rowOf field) ≡ done (pathsFor paths (rowOf field) (elements true 0 (signs (rowOf field)))) =
+        unclassed (ap (hasClass true 0) (sym signs-are) ∙ e) in
         let m : pathsFor paths (rowOf (take n row)) (pathElements (take n row)) ≡ pathsFor paths (rowOf field) (elements true 0 (signs (rowOf field))) =
         paths-bytes paths (pathElements (take n row)) (rowOf (take n row)) (rowOf field) (ap (λ (t : Text). bytes (rowOf t)) front-is ∙ bytes-kept field)
         ∙ ap (λ x. pathsFor paths (rowOf field) (elements true 0 x)) signs-are in
         rw (k, ← m) s
       where
-        unclassed : hasClass true 0 (signs (rowOf field)) ≡ false → fieldTexts paths (rowOf field) ≡ done (pathsFor paths (rowOf field) (elements true 0 (signs (rowOf field))))
+        unclassed : hasClass true 0 (signs (rowOf field)) ≡ false → fieldTexts paths (rowOf field) ≡ done
+            (pathsFor paths (rowOf field) (elements true 0 (signs (rowOf field))))
         unclassed q = unfold fieldTexts in unfold pattern in rw (q, pattern)

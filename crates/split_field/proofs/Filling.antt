@@ -79,5 +79,6 @@ module _ {o : Outcome (List Text)} {used : ℕ} {old left : Text} {r : Written} 
   pub says-full : r ≡ NoRoom → Lacks o used old
   says-full e = lacks-of (rw e at s)
 
-pub says-filled : {o : Outcome (List Text)} {used : ℕ} {old : Text} {l : List Text} {n : ℕ} {out : Text} → o ≡ done l → Filled used old l n out → Says o used old out (Len n)
+pub says-filled : {o : Outcome (List Text)} {used : ℕ} {old : Text} {l : List Text} {n : ℕ} {out : Text} → o ≡ done l → Filled used old l n
+    out → Says o used old out (Len n)
 says-filled {o} {used} {old} {l} {n} e f = len {n = n} l e (f .long) (f .room) (f .is)

@@ -44,13 +44,17 @@ module _ (at : ℕ) (a b old : Text) (h : at + length a ≤ length old) where
   pub placed-then : placed (at + length a) b (placed at a old) ≡ placed at (a ++ b) old
   placed-then =
       let k : at + length a + length b ≡ at + length (a ++ b) = omega (arith, length-append a b) in
-      let f : take (at + length a) (placed at a old) ≡ take at old ++ a = ap (take (at + length a)) regrouped ∙ take-at (take at old ++ a) (drop (at + length a) old) (at + length a) front in
-      let g : drop (at + length a) (placed at a old) ≡ drop (at + length a) old = ap (drop (at + length a)) regrouped ∙ drop-at (take at old ++ a) (drop (at + length a) old) (at + length a) front in
+      let f : take (at + length a) (placed at a old) ≡ take at old ++ a =
+      ap (take (at + length a)) regrouped ∙ take-at (take at old ++ a) (drop (at + length a) old) (at + length a) front in
+      let g : drop (at + length a) (placed at a old) ≡ drop (at + length a) old =
+      ap (drop (at + length a)) regrouped ∙ drop-at (take at old ++ a) (drop (at + length a) old) (at + length a) front in
       let m : drop (at + length a + length b) (placed at a old) ≡ drop (at + length (a ++ b)) old =
-      sym (drop-drop (length b) (at + length a) (placed at a old)) ∙ ap (drop (length b)) g ∙ drop-drop (length b) (at + length a) old ∙ ap (λ (n : ℕ). drop n old) k in
+      sym (drop-drop (length b) (at + length a) (placed at a old)) ∙ ap (drop (length b)) g ∙ drop-drop (length b) (at + length a) old ∙ ap
+      (λ (n : ℕ). drop n old) k in
       joined f m
     where
-      joined : take (at + length a) (placed at a old) ≡ take at old ++ a → drop (at + length a + length b) (placed at a old) ≡ drop (at + length (a ++ b)) old
+      joined : take (at + length a) (placed at a old) ≡ take at old ++ a → drop (at + length a + length b) (placed at a old) ≡ drop
+          (at + length (a ++ b)) old
           → placed (at + length a) b (placed at a old) ≡ placed at (a ++ b) old
       joined f m =
           unfold placed in
@@ -71,7 +75,8 @@ module _ (used : ℕ) (old : Text) (h : used ≤ length old) where
   unfolding over placed
   lent t ys e =
       let z : drop (length old - used) (drop used old) ≡ [] = rw (← length-drop used old) (drop-length (drop used old)) in
-      let y : ys ≡ t ++ drop (used + length t) old = e ∙ ap (λ (x : Text). t ++ drop (length t) x) free-is ∙ ap (λ (x : Text). t ++ x) (drop-drop (length t) used old) in
+      let y : ys ≡ t ++ drop (used + length t) old =
+      e ∙ ap (λ (x : Text). t ++ drop (length t) x) free-is ∙ ap (λ (x : Text). t ++ x) (drop-drop (length t) used old) in
       rw (z, append-nil ys, y)
 
 -- `put_text`
@@ -83,16 +88,19 @@ module _ (t : Text) (used : ℕ) (old ys : Text) (r : Put) (h : used ≤ length 
 
   pub text-fits : {n : ℕ} → r ≡ PutLen n → used + n ≤ length old
   text-fits {n} e =
-      let d : (n ≡ length t + 2) × (ys ≡ over (framed t) (midOf used (length old - used) old)) × (length t + 2 ≤ length (midOf used (length old - used) old)) =
+      let d : (n ≡ length t + 2) × (ys ≡ over (framed t) (midOf used (length old - used) old)) ×
+      (length t + 2 ≤ length (midOf used (length old - used) old)) =
       put-len t (midOf used (length old - used) old) ys r w n e in
       omega (arith, d .0, d .2, free-length used old h)
 
   pub text-put : {n : ℕ} → r ≡ PutLen n → Says (done (t ∷ [])) used old after (Len (used + n))
   unfolding written recordBytes
   text-put {n} e =
-      let d : (n ≡ length t + 2) × (ys ≡ over (framed t) (midOf used (length old - used) old)) × (length t + 2 ≤ length (midOf used (length old - used) old)) =
+      let d : (n ≡ length t + 2) × (ys ≡ over (framed t) (midOf used (length old - used) old)) ×
+      (length t + 2 ≤ length (midOf used (length old - used) old)) =
       put-len t (midOf used (length old - used) old) ys r w n e in
-      len {n = used + n} (t ∷ []) refl (omega (arith, d .0)) (text-fits e) (lent used old h (framed t) ys (d .1) ∙ ap (λ (x : Text). placed used x old) (sym (append-nil (framed t))))
+      len {n = used + n} (t ∷ []) refl (omega (arith, d .0)) (text-fits e)
+      (lent used old h (framed t) ys (d .1) ∙ ap (λ (x : Text). placed used x old) (sym (append-nil (framed t))))
 
   pub text-full : r ≡ PutNoRoom → Says (done (t ∷ [])) used old after NoRoom
   unfolding recordBytes
@@ -107,7 +115,8 @@ module _ (t : Text) (used : ℕ) (old ys : Text) (r : Put) (h : used ≤ length 
 
 -- what is answered, in document 01's numbers
 
-pub says-answers : {o : Outcome (List Text)} {used : ℕ} {old left : Text} {r : Written} → Says o used old left r → writtenOutcome r ≡ lengthWith (length old) used o
+pub says-answers : {o : Outcome (List Text)} {used : ℕ} {old left : Text} {r : Written} → Says o used old left r → writtenOutcome r ≡
+    lengthWith (length old) used o
 unfolding lengthWith
 says-answers {o} {used} {old} (len l e m h q) = sym (rw (e, le-leb (used + recordBytes l) (length old) (omega (arith, m)), m))
 says-answers (class e) = sym (rw e)
@@ -141,5 +150,6 @@ module _ {field left : Text} {n : ℕ} (s : Stripped field left n) where
   own-is : take n left ≡ bytes (rowOf field)
   own-is = ap (take n) (s .leaves) ∙ take-at (bytes (rowOf field)) _ n (sym (s .counts))
 
-  pub own-put : {used : ℕ} {old after : Text} {r : Written} → Says (done (take n left ∷ [])) used old after r → Says (done (bytes (rowOf field) ∷ [])) used old after r
+  pub own-put : {used : ℕ} {old after : Text} {r : Written} → Says (done (take n left ∷ [])) used old after r → Says
+      (done (bytes (rowOf field) ∷ [])) used old after r
   own-put h = rw (← own-is) h

@@ -25,7 +25,8 @@ lengthWith room used o = o >>= λ l. pick (leb (used + recordBytes l) room) (don
 
 -- what an answer says of the stage and of the bytes
 pub data Says (o : Outcome (List Text)) (used : ℕ) (old left : Text) : Written → Type 0 where
-  len : {n : ℕ} (l : List Text) → o ≡ done l → n ≡ used + recordBytes l → n ≤ length old → left ≡ placed used (written l) old → Says o used old left (Len n)
+  len : {n : ℕ} (l : List Text) → o ≡ done l → n ≡ used + recordBytes l → n ≤ length old → left ≡ placed used (written l) old →
+      Says o used old left (Len n)
   class : o ≡ refused bracketClass → Says o used old left Class
   noRoom : (l : List Text) → o ≡ done l → length old < used + recordBytes l → Says o used old left NoRoom
 

@@ -50,7 +50,8 @@ fn put_own(field: &mut [u8], out: &mut [u8], used: usize) -> Written
 fn put_paths(pattern: &[u8], paths: &[u8], out: &mut [u8], used: usize) -> Written
     requires { ⌜ (used ≤ length (now out)) × (length (now out) ≤ imageLimit) ⌝ }
     requires { ⌜ Listed (now paths) ⌝ }
-    ensures { λ r. ⌜ Says (done (chosen (pathElements (now (pattern .entry))) (heldTexts (now (paths .entry))))) used (now (out .entry)) (now (out .exit)) r ⌝ }
+    ensures { λ r. ⌜ Says (done (chosen (pathElements (now (pattern .entry))) (heldTexts (now (paths .entry))))) used (now (out .entry))
+        (now (out .exit)) r ⌝ }
 {
     let mut at: usize = 1;
     let mut len = used;
@@ -74,7 +75,8 @@ fn put_paths(pattern: &[u8], paths: &[u8], out: &mut [u8], used: usize) -> Writt
 fn put_paths_or_own(field: &mut [u8], paths: &[u8], out: &mut [u8], used: usize) -> Written
     requires { ⌜ (used ≤ length (now out)) × (length (now out) ≤ imageLimit) ⌝ }
     requires { ⌜ Listed (now paths) ⌝ }
-    ensures { λ r. ⌜ Says (done (pathsFor (heldTexts (now (paths .entry))) (rowOf (now (field .entry))) (pathElements (now (field .entry))))) used (now (out .entry)) (now (out .exit)) r ⌝ }
+    ensures { λ r. ⌜ Says (done (pathsFor (heldTexts (now (paths .entry))) (rowOf (now (field .entry))) (pathElements (now (field .entry))))) used
+        (now (out .entry)) (now (out .exit)) r ⌝ }
 {
     if !pattern_row::is_active(field) {
         return put_own(field, out, used);

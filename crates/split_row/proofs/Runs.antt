@@ -74,7 +74,8 @@ module _ (ifs : Text) where
       none-left : length row - at ≤ 1 → ahead row at ≡ [] → goesOn ifs [] ≡ true → More row at
       none-left l q e = absurd (let z : _≡_ {A = ℕ} 0 1 = cc in omega arith)
 
-      unit-left : 1 < length row - at → (c : Cell) → ahead row at ≡ c ∷ ahead row (at + 2) → goesOn ifs (c ∷ ahead row (at + 2)) ≡ true → More row at
+      unit-left : 1 < length row - at → (c : Cell) → ahead row at ≡ c ∷ ahead row (at + 2) → goesOn ifs (c ∷ ahead row (at + 2)) ≡ true
+          → More row at
       unit-left l c q e = record { unit = c; fits = omega arith; goes = ap (otherRun ifs) q ∙ run-goes c (ahead row (at + 2)) e }
 
   module _ {row : Text} {at end : ℕ} (s : Run row at end) where
@@ -107,7 +108,8 @@ module _ (ifs : Text) where
         ∙ ap (λ (r : Row). (r, ahead row end)) (append-nil (s .passed)) in
         let j : ahead row at ≡ s .passed ++ ahead row end = sym (run-append ifs (ahead row at)) ∙ ap (λ (p : Row × Row). p .0 ++ p .1) w in
         let k : end - at ≡ 2 * length (s .passed) = omega (arith, s .long) in
-        w ∙ ap (λ (r : Row). (r, ahead row end)) (sym (ap (λ (n : ℕ). rowOf (take n (drop at row))) k ∙ row-front (s .passed) (ahead row end) (drop at row) j))
+        w ∙ ap (λ (r : Row). (r, ahead row end))
+        (sym (ap (λ (n : ℕ). rowOf (take n (drop at row))) k ∙ row-front (s .passed) (ahead row end) (drop at row) j))
 
   -- one step of the stage's walk
 
@@ -124,7 +126,8 @@ module _ (ifs : Text) where
     unfolding fieldsStep
     walk-step =
         let u : ahead row at ≡ unitOf (getD row at 0) (getD row (at + 1) 0) ∷ ahead row (at + 2) = unit-ahead row at l in
-        let s : fieldsFrom ifs (ahead row at) ≡ otherRun ifs (ahead row at) .0 ∷ fieldsFrom ifs (behindField ifs (ahead row at)) = rw u (fields-from ifs (unitOf (getD row at 0) (getD row (at + 1) 0) ∷ ahead row (at + 2))) in
+        let s : fieldsFrom ifs (ahead row at) ≡ otherRun ifs (ahead row at) .0 ∷ fieldsFrom ifs (behindField ifs (ahead row at)) =
+        rw u (fields-from ifs (unitOf (getD row at 0) (getD row (at + 1) 0) ∷ ahead row (at + 2))) in
         s
         ∙ ap (λ (p : Row × Row). p .0 ∷ fieldsFrom ifs (behindField ifs (ahead row at))) run
         ∙ ap (λ (r : Row). rowOf (part row at end) ∷ fieldsFrom ifs r) (sym behind-is)
@@ -132,5 +135,6 @@ module _ (ifs : Text) where
     pub step-falls : length (ahead row next) < length (ahead row at)
     step-falls =
         let u : ahead row at ≡ unitOf (getD row at 0) (getD row (at + 1) 0) ∷ ahead row (at + 2) = unit-ahead row at l in
-        let b : length (behindField ifs (ahead row at)) < length (ahead row at) = rw u (behind-length ifs (unitOf (getD row at 0) (getD row (at + 1) 0)) (ahead row (at + 2))) in
+        let b : length (behindField ifs (ahead row at)) < length (ahead row at) =
+        rw u (behind-length ifs (unitOf (getD row at 0) (getD row (at + 1) 0)) (ahead row (at + 2))) in
         rw behind-is b

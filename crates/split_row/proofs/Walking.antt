@@ -68,7 +68,8 @@ pub data State (used : ℕ) (old : Text) (l : List Text) (n : ℕ) (out : Text) 
   exceeding : length old < used + recordBytes l → State used old l n out true
 
 -- the outer walk stands at a place of a row of `size` bytes
-pub record Walk (paths : List Text) (ifs : Text) (o : Outcome (List Text)) (used : ℕ) (old : Text) (size : ℕ) (row : Text) (at n : ℕ) (full : Bool) (out : Text) : Type 0 where
+pub record Walk (paths : List Text) (ifs : Text) (o : Outcome (List Text)) (used : ℕ) (old : Text) (size : ℕ) (row : Text) (at n : ℕ)
+    (full : Bool) (out : Text) : Type 0 where
   pub texts : List Text
   pub whole : o ≡ (named paths (fieldsFrom ifs (ahead row at)) >>= λ l. done (texts ++ l))
   pub sized : length row ≡ size
@@ -77,7 +78,8 @@ pub record Walk (paths : List Text) (ifs : Text) (o : Outcome (List Text)) (used
   pub same : length out ≡ length old
   pub state : State used old texts n out full
 
-pub walk-start : (paths : List Text) (ifs : Text) (used : ℕ) (old row : Text) (at : ℕ) → used ≤ length old → Reaches row 0 at (dropWhite ifs (ahead row 0))
+pub walk-start : (paths : List Text) (ifs : Text) (used : ℕ) (old row : Text) (at : ℕ) → used ≤ length old → Reaches row 0 at
+    (dropWhite ifs (ahead row 0))
     → Walk paths ifs (named paths (split ifs (rowOf row))) used old (length row) row at used false old
 unfolding split
 walk-start paths ifs used old row at h k = record {
@@ -120,7 +122,8 @@ module _ {paths : List Text} {ifs : Text} {o : Outcome (List Text)} {used : ℕ}
     walk-fits e = says-filled over (is-filled e)
 
 -- a field was taken from `at` to `end` and answered with r, ys are left of its units, and the next one begins at `next`
-pub record Taken (paths : List Text) (ifs : Text) (o : Outcome (List Text)) (used : ℕ) (old : Text) (size : ℕ) (row : Text) (at n : ℕ) (full : Bool) (out : Text)
+pub record Taken (paths : List Text) (ifs : Text) (o : Outcome (List Text)) (used : ℕ) (old : Text) (size : ℕ) (row : Text) (at n : ℕ)
+    (full : Bool) (out : Text)
     (end next : ℕ) (ys after : Text) (r : Written) : Type 0 where
   pub walk : Walk paths ifs o used old size row at n full out
   pub more : 1 < length row - at
@@ -149,7 +152,8 @@ module _ {paths : List Text} {ifs : Text} {o : Outcome (List Text)} {used : ℕ}
   step = w .whole ∙ ap (λ (rs : List Row). named paths rs >>= λ l. done (w .texts ++ l)) (walk-step ifs row at end next (t .more) cut (t .behind))
 
   pub walk-class : r ≡ Class → {left : Text} → Says o used old left Class
-  walk-class e = class (step ∙ ap (λ (x : Outcome (List Text)). x >>= λ l. done (w .texts ++ l)) (named-refused paths field rest bracketClass (says-class (t .says) e)))
+  walk-class e = class
+      (step ∙ ap (λ (x : Outcome (List Text)). x >>= λ l. done (w .texts ++ l)) (named-refused paths field rest bracketClass (says-class (t .says) e)))
 
   -- the field's bytes may have changed, those ahead of the next place have not
   abbrev left : Text
@@ -161,7 +165,8 @@ module _ {paths : List Text} {ifs : Text} {o : Outcome (List Text)} {used : ℕ}
       let j : end + (next - end) ≡ next = omega (arith, t .behind .far) in
       let d : drop end left ≡ drop end row = drop-put at end row ys (run-further ifs (t .run)) i (t .units ∙ mid-len at end row i) in
       let q : drop next left ≡ drop next row =
-      ap (λ (m : ℕ). drop m left) (sym j) ∙ sym (drop-drop (next - end) end left) ∙ ap (drop (next - end)) d ∙ drop-drop (next - end) end row ∙ ap (λ (m : ℕ). drop m row) j in
+      ap (λ (m : ℕ). drop m left) (sym j) ∙ sym (drop-drop (next - end) end left) ∙ ap (drop (next - end)) d ∙ drop-drop (next - end) end row
+      ∙ ap (λ (m : ℕ). drop m row) j in
       ap rowOf q
 
   left-length : length left ≡ length row
@@ -173,7 +178,8 @@ module _ {paths : List Text} {ifs : Text} {o : Outcome (List Text)} {used : ℕ}
   pub walk-falls : length (ahead left next) < length (ahead row at)
   walk-falls = rw ahead-same (step-falls ifs row at end next (t .more) cut (t .behind))
 
-  behind : (a : List Text) → fieldTexts paths field ≡ done a → o ≡ (named paths (fieldsFrom ifs (ahead left next)) >>= λ l. done ((w .texts ++ a) ++ l))
+  behind : (a : List Text) → fieldTexts paths field ≡ done a → o ≡
+      (named paths (fieldsFrom ifs (ahead left next)) >>= λ l. done ((w .texts ++ a) ++ l))
   behind a e =
       step
       ∙ ap (λ (x : Outcome (List Text)). x >>= λ l. done (w .texts ++ l)) (named-done paths field rest a e)
@@ -202,7 +208,8 @@ module _ {paths : List Text} {ifs : Text} {o : Outcome (List Text)} {used : ℕ}
       let d : Given (fieldTexts paths field) n out after m = says-len (t .says) e in
       moved (d .texts) (d .gives) (omega (arith, d .filled .room, w .same)) (by-state d (w .state))
     where
-      by-state : (d : Given (fieldTexts paths field) n out after m) → {x : Bool} → State used old (w .texts) n out x → State used old (w .texts ++ d .texts) m after x
+      by-state : (d : Given (fieldTexts paths field) n out after m) → {x : Bool} → State used old (w .texts) n out x → State used old
+          (w .texts ++ d .texts) m after x
       by-state d (fitting f) = fitting (filled-then f (d .filled))
       by-state d (exceeding x) = exceeding (longer (d .texts) x)
 
@@ -212,6 +219,7 @@ module _ {paths : List Text} {ifs : Text} {o : Outcome (List Text)} {used : ℕ}
       let d : Lacks (fieldTexts paths field) n out = says-full (t .says) e in
       moved (d .texts) (d .gives) (w .room) (exceeding (by-state d (w .state)))
     where
-      by-state : (d : Lacks (fieldTexts paths field) n out) → {x : Bool} → State used old (w .texts) n out x → length old < used + recordBytes (w .texts ++ d .texts)
+      by-state : (d : Lacks (fieldTexts paths field) n out) → {x : Bool} → State used old (w .texts) n out x → length old < used + recordBytes
+          (w .texts ++ d .texts)
       by-state d (fitting f) = omega (arith, f .long, d .short, w .same, recordBytes-append (w .texts) (d .texts))
       by-state d (exceeding x) = longer (d .texts) x

@@ -20,7 +20,8 @@ use table::Found;
 fn put_fields(row: &mut [u8], ifs: &[u8], paths: &[u8], out: &mut [u8], used: usize) -> Written
     requires { ⌜ (used ≤ length (now out)) × (length (now out) ≤ imageLimit) ⌝ }
     requires { ⌜ Listed (now paths) ⌝ }
-    ensures { λ r. ⌜ Says (named (heldTexts (now (paths .entry))) (split (now (ifs .entry)) (rowOf (now (row .entry))))) used (now (out .entry)) (now (out .exit)) r ⌝ }
+    ensures { λ r. ⌜ Says (named (heldTexts (now (paths .entry))) (split (now (ifs .entry)) (rowOf (now (row .entry))))) used (now (out .entry))
+        (now (out .exit)) r ⌝ }
 {
     let mut at = split_delimiter::skip_white(row, 0, ifs);
     let mut len = used;
@@ -72,7 +73,8 @@ pub fn put_word_fields(
     requires { ⌜ (have ≤ length (now vars)) × Table (take have (now vars)) ⌝ }
     requires { ⌜ (used ≤ length (now out)) × (length (now out) ≤ imageLimit) ⌝ }
     requires { ⌜ Listed (now paths) ⌝ }
-    ensures { λ r. ⌜ Puts (named (heldTexts (now (paths .entry))) (fieldsOfRow (held (take have (now (vars .entry)))) (rowOf (now (row .entry))))) used (now (out .entry)) (now (out .exit)) r ⌝ }
+    ensures { λ r. ⌜ Puts (named (heldTexts (now (paths .entry))) (fieldsOfRow (held (take have (now (vars .entry)))) (rowOf (now (row .entry)))))
+        used (now (out .entry)) (now (out .exit)) r ⌝ }
 {
     let ifs = ifs_of(&vars[..have], b" \t\n");
     put_fields(row, ifs, paths, out, used)

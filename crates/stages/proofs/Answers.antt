@@ -10,7 +10,20 @@ use lib.Dec.{leb}
 use lib.ListN.{length, take, drop, replicate, length-replicate}
 use lib.Seq.{length-take-le}
 use borrow.Author.Tests.{leb-true}
-use Rattle.stages.specs.Numbers.{accepted, workTooSmall, badVariables, badHomes, badPaths, zeroByte, unended, outputRoom, badFields, workLeast, lineLimit, imageLimit}
+use Rattle.stages.specs.Numbers.{
+  accepted,
+  workTooSmall,
+  badVariables,
+  badHomes,
+  badPaths,
+  zeroByte,
+  unended,
+  outputRoom,
+  badFields,
+  workLeast,
+  lineLimit,
+  imageLimit,
+}
 use Rattle.stages.specs.Bytes.{Text}
 use Rattle.stages.specs.Outcome.{Placed, refusedAt, doneAt, _then_}
 use Rattle.stages.specs.Images.{Pairs, isName, isLogin, flat, image, imageLength, held, heldTexts, variables, homes, pathsOf, fieldsOf}
@@ -20,7 +33,19 @@ use Rattle.stages.specs.Call.{Given, Answer, over, orRefused, expanded, 
 use Rattle.stages.proofs.Bools.{and-left, and-right, between-bounds}
 use Rattle.stages.proofs.Rooms.{over-front, over-behind, over-length}
 use Rattle.stages.proofs.Images.{Fine, length-image, held-image, heldTexts-image}
-use Rattle.stages.proofs.Tables.{Table, table-of, table-fine, table-length, table-image, variables-are, Paths, paths-held, texts-held-fine, fields-image, fields-are}
+use Rattle.stages.proofs.Tables.{
+  Table,
+  table-of,
+  table-fine,
+  table-length,
+  table-image,
+  variables-are,
+  Paths,
+  paths-held,
+  texts-held-fine,
+  fields-image,
+  fields-are,
+}
 use Rattle.stages.proofs.Outcomes.{isEarly, SafeAt, early, refusesAt, givesAt, safe-then, safe-require}
 use Rattle.stages.proofs.SafeRows.{Kept}
 use Rattle.stages.proofs.SafeLines.{Ready, line-safe}
@@ -200,7 +225,8 @@ quoted-safe : (size out : ℕ) (l : Fields) → SafeAt size (Fitting out l) (quo
 unfolding quotedIn
 quoted-safe size out l =
     let n : ℕ = length (quotedLine l) in
-    safe-then _ (safe-require (leb (length (quotedLine l)) lineLimit && leb (length (quotedLine l)) out) outputRoom 0 (refusesAt {place = 0} refl (omega arith)))
+    safe-then _ (safe-require (leb (length (quotedLine l)) lineLimit && leb (length (quotedLine l)) out) outputRoom 0
+    (refusesAt {place = 0} refl (omega arith)))
     (λ _ e. givesAt (record {
       is = refl;
       short = leb-true n lineLimit (and-left (leb n lineLimit) (leb n out) e);
@@ -240,7 +266,8 @@ module _ (fields out : Text) where
   unfolding quoting
   quoter-refuses n l m = record { place = refl; outKept = refl; refuses = λ _. (l, m, refl, refl); accepts = λ e. absurd (omega arith) }
 
-  quoter-quotes : (l : Fields) → fieldsOf fields ≡ some l → (x : Bool) → (leb (length (quotedLine l)) lineLimit && leb (length (quotedLine l)) (length out)) ≡ x
+  quoter-quotes : (l : Fields) → fieldsOf fields ≡ some l → (x : Bool) →
+      (leb (length (quotedLine l)) lineLimit && leb (length (quotedLine l)) (length out)) ≡ x
       → QuoterFits fields out (quoting out (quotedIn (length out) l))
   unfolding quotedIn quoting
   quoter-quotes l r false e = rw e (quoter-refuses outputRoom (omega arith) (omega arith))
@@ -259,6 +286,7 @@ module _ (fields out : Text) where
   unfolding quoter orRefused
   quoter-fits = go (fieldsOf fields) refl
     where
-      go : (o : Option Fields) → fieldsOf fields ≡ o → QuoterFits fields out (quoting out (orRefused badFields (fieldsOf fields) then λ l. quotedIn (length out) l))
+      go : (o : Option Fields) → fieldsOf fields ≡ o → QuoterFits fields out
+          (quoting out (orRefused badFields (fieldsOf fields) then λ l. quotedIn (length out) l))
       go none e = rw e (quoter-refuses badFields (omega arith) (omega arith))
       go (some l) e = rw e (quoter-quotes l e (leb (length (quotedLine l)) lineLimit && leb (length (quotedLine l)) (length out)) refl)

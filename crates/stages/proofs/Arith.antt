@@ -15,7 +15,29 @@ use Rattle.stages.specs.Bytes.{Text, span, isBlank, isDigit, isNameStart
 use Rattle.stages.specs.Outcome.{Outcome, refused, done, _>>=_, choose}
 use Rattle.stages.specs.Constants.{constant, fits, ranged, number}
 use Rattle.stages.specs.Arith.{Op, mul, div, rem, add, sub, lt, le, gt, ge, eq, ne, Token, stop, num, name, op, opens, shuts, Lexed, paired, token}
-use Rattle.stages.specs.Arith.{level, Tree, constantOf, nameOf, negated, binary, Grown, grown, Task, operand, further, Grow, expression, shut, enclosed, sign, operandAt, furtherAt, growStep, growSize, grow}
+use Rattle.stages.specs.Arith.{
+  level,
+  Tree,
+  constantOf,
+  nameOf,
+  negated,
+  binary,
+  Grown,
+  grown,
+  Task,
+  operand,
+  further,
+  Grow,
+  expression,
+  shut,
+  enclosed,
+  sign,
+  operandAt,
+  furtherAt,
+  growStep,
+  growSize,
+  grow,
+}
 use Rattle.stages.proofs.Bools.{or-right}
 use Rattle.stages.proofs.Texts.{start-name-byte, span-join, span-more}
 
@@ -86,7 +108,9 @@ token-left [] = lex-end {u = []} (omega arith)
 token-left (b ∷ t) =
     let l : length t < suc (length t) = omega arith in
     lex-choose _ _ (isBlank b) (λ e. lex-wider (token-left t)) λ e.
-    lex-choose _ _ (isDigit b) (λ d. lex-number (span isNameByte (b ∷ t) .1) (number pos (constant (span isNameByte (b ∷ t) .0))) (span-shorter isNameByte b t (digit-name-byte b d)) (number-numbered pos (constant (span isNameByte (b ∷ t) .0)))) λ e.
+    lex-choose _ _ (isDigit b)
+    (λ d. lex-number (span isNameByte (b ∷ t) .1) (number pos (constant (span isNameByte (b ∷ t) .0)))
+    (span-shorter isNameByte b t (digit-name-byte b d)) (number-numbered pos (constant (span isNameByte (b ∷ t) .0)))) λ e.
     lex-choose _ _ (isNameStart b) (λ s. lex-more (span-shorter isNameByte b t (start-name-byte b s))) λ e.
     lex-choose _ _ (eqb b (code "(")) (λ e. lex-more l) λ e.
     lex-choose _ _ (eqb b (code ")")) (λ e. lex-more l) λ e.
@@ -178,7 +202,8 @@ module _ (k : ℕ) (f : Grow) (good : (a : Task × ℕ × Text) → growSize a <
   joined-left o l d j n (refused e) h (none-left w) = none-left w
   joined-left o l d j n (done p) h (some-left w) = leaves-wider (good (further j (binary o l (p .0)), d, p .1) (omega arith)) w
 
-  further-left : (d j : ℕ) (l : Tree) (t : Text) (o : Lexed) → Lexes (length t) o → length t ≤ k → Leaves (length t) (o >>= λ p. furtherAt f d j l t p)
+  further-left : (d j : ℕ) (l : Tree) (t : Text) (o : Lexed) → Lexes (length t) o → length t ≤ k → Leaves (length t)
+      (o >>= λ p. furtherAt f d j l t p)
   unfolding furtherAt
   further-left d j l t (refused e) (lex-refused w) h = none-left w
   further-left d j l t (done (stop, u)) w h = some-left {p = (l, t)} (omega arith)
@@ -189,7 +214,8 @@ module _ (k : ℕ) (f : Grow) (good : (a : Task × ℕ × Text) → growSize a <
       go : (x : Bool) → leb j (level o) ≡ x → Leaves (length t) (furtherAt f d j l t (op o, u))
       go true e =
           rw (e, furtherAt)
-          (leaves-wider (joined-left o l d j (length u) (expression f d (suc (level o)) u) (omega arith) (expression-left d (suc (level o)) u (omega arith))) (omega arith))
+          (leaves-wider (joined-left o l d j (length u) (expression f d (suc (level o)) u) (omega arith)
+          (expression-left d (suc (level o)) u (omega arith))) (omega arith))
       go false e = rw (e, furtherAt) (some-left {p = (l, t)} (omega arith))
   further-left d j l t (done (opens, u)) w h = some-left {p = (l, t)} (omega arith)
   further-left d j l t (done (shuts, u)) w h = some-left {p = (l, t)} (omega arith)
@@ -212,7 +238,8 @@ grow-below a = fix-eq growSize (refused 0) growStep a
 pub grow-left : (a : Task × ℕ × Text) → Leaves (growSize a) (grow a)
 grow-left a = by-size growSize (λ b. Leaves (growSize b) (grow b)) one a
   where
-    one : (a : Task × ℕ × Text) → ((b : Task × ℕ × Text) → growSize b < growSize a → Leaves (growSize b) (grow b)) → Leaves (growSize a) (grow a)
+    one : (a : Task × ℕ × Text) → ((b : Task × ℕ × Text) → growSize b < growSize a → Leaves (growSize b) (grow b)) → Leaves
+        (growSize a) (grow a)
     one a h = rw (grow-below a) (step-left (growSize a) (shorter (growSize a)) (λ b l. rw (shorter-ok (growSize a) b l) (h b l)) a (omega arith))
 
 -- Two readers that agree on what is shorter take the same step.
@@ -259,7 +286,8 @@ module _ (k : ℕ) (f g : Grow) (same : (a : Task × ℕ × Text) → growSize a
   operand-same n d (done (opens, u)) (lex-more l) h = enclosed-same d u (omega arith)
   operand-same n d (done (shuts, u)) l h = refl
 
-  further-same : (n d j : ℕ) (l : Tree) (t : Text) (o : Lexed) → Lexes n o → n ≤ k → (o >>= λ p. furtherAt f d j l t p) ≡ (o >>= λ p. furtherAt g d j l t p)
+  further-same : (n d j : ℕ) (l : Tree) (t : Text) (o : Lexed) → Lexes n o → n ≤ k → (o >>= λ p. furtherAt f d j l t p) ≡
+      (o >>= λ p. furtherAt g d j l t p)
   unfolding furtherAt
   further-same n d j l t (refused e) w h = refl
   further-same n d j l t (done (stop, u)) w h = refl

@@ -16,7 +16,19 @@ use Rattle.stages.specs.Line.{Fields}
 use Rattle.stages.specs.Quote.{quotedLine}
 use Rattle.stages.specs.Call.{Given, Answer, over, orRefused, expanded, cleared, answered, expander, quotedIn, normaliser, quoting, quoter}
 use Rattle.stages.proofs.Images.{Bytes, bytes-take, Fine, length-image, heldTexts-image}
-use Rattle.stages.proofs.Tables.{table-canonical, vars-of, variables-are, homes-of, homes-are, paths-of, paths-are, fields-held, fields-image, fields-are, texts-held-fine}
+use Rattle.stages.proofs.Tables.{
+  table-canonical,
+  vars-of,
+  variables-are,
+  homes-of,
+  homes-are,
+  paths-of,
+  paths-are,
+  fields-held,
+  fields-image,
+  fields-are,
+  texts-held-fine,
+}
 use Rattle.stages.proofs.Answers.{FieldsImage, QuotedLine, expander-fits, normaliser-fits}
 use Rattle.stages.proofs.RoundTrip.{quoted-image, quoted-expands}
 use Rattle.stages.proofs.Rooms.{over-front}
@@ -98,12 +110,14 @@ module _ (h : Given) (r : WellFormed h) where
 
     expander-returns : length (image l) ≤ length (h .out) → expander h ≡ unchanged h (image l)
     unfolding expander
-    expander-returns o = ap (λ p. answered h (p then λ r. doneAt (image (r .0), r .1))) (line-returns (length (h .out)) (rw (← length-image l) o)) ∙ kept (image l)
+    expander-returns o =
+        ap (λ p. answered h (p then λ r. doneAt (image (r .0), r .1))) (line-returns (length (h .out)) (rw (← length-image l) o)) ∙ kept (image l)
 
     normaliser-returns : length (quotedLine l) ≤ length (h .out) → normaliser h ≡ unchanged h (quotedLine l)
     unfolding normaliser
     normaliser-returns o =
-        ap (λ p. answered h (p then λ r. quotedIn (length (h .out)) (r .0) then λ t. doneAt (t, r .1))) (line-returns imageLimit (omega (arith, quoted-image l)))
+        ap (λ p. answered h (p then λ r. quotedIn (length (h .out)) (r .0) then λ t. doneAt (t, r .1)))
+        (line-returns imageLimit (omega (arith, quoted-image l)))
         ∙ ap (λ q. answered h (q then λ t. doneAt (t, given))) (quoted-in l (length (h .out)) short o)
         ∙ kept (quotedLine l)
 
@@ -135,7 +149,8 @@ pub record Returned (l : Fields) : Type 0 where
   pub expands : (h : Given) → Asks h l → expander h ≡ unchanged h (image l)
   pub fields : (h : Given) → Asks h l → fieldsOf (output (expander h)) ≡ some l
   pub quotes : (t out : Text) → fieldsOf t ≡ some l → length (quotedLine l) ≤ length out → quoter t out ≡ quoting out (doneAt (quotedLine l))
-  pub normalises : (h : Given) → WellFormed h → h .line ≡ quotedLine l → length (quotedLine l) ≤ length (h .out) → normaliser h ≡ unchanged h (quotedLine l)
+  pub normalises : (h : Given) → WellFormed h → h .line ≡ quotedLine l → length (quotedLine l) ≤ length (h .out) → normaliser h ≡
+      unchanged h (quotedLine l)
 
 module _ (l : Fields) (f : Fine l) (short : length (quotedLine l) ≤ lineLimit) where
   expands-to : (h : Given) → Asks h l → expander h ≡ unchanged h (image l)

@@ -54,7 +54,8 @@ pub safe-refused : {A : Type 0} {P : A → Type 0} {o : Outcome A} {n : ℕ} →
 safe-refused {n = n} (refuses {n = m} h) e = let k : m ≡ n = cc in rw (← k) h
 safe-refused (gives p) e = absurd (let z : _≡_ {A = ℕ} 0 1 = cc in omega arith)
 
-pub safe-bind : {A B : Type 0} {P : A → Type 0} {Q : B → Type 0} {o : Outcome A} (f : A → Outcome B) → Safe P o → ((a : A) → P a → Safe Q (f a)) → Safe Q (o >>= f)
+pub safe-bind : {A B : Type 0} {P : A → Type 0} {Q : B → Type 0} {o : Outcome A} (f : A → Outcome B) → Safe P o →
+    ((a : A) → P a → Safe Q (f a)) → Safe Q (o >>= f)
 safe-bind f (refuses e) h = refuses e
 safe-bind f (gives {a = a} p) h = h a p
 
@@ -63,7 +64,8 @@ safe-weaker f (refuses e) = refuses e
 safe-weaker f (gives {a = a} p) = gives (f a p)
 
 -- one of two outcomes that are safe, the first where its test passes
-pub safe-where : {A : Type 0} {P : A → Type 0} (x : Bool) (f g : Unit {0} → Outcome A) → (x ≡ true → Safe P (f tt)) → Safe P (g tt) → Safe P (choose x f g)
+pub safe-where : {A : Type 0} {P : A → Type 0} (x : Bool) (f g : Unit {0} → Outcome A) → (x ≡ true → Safe P (f tt)) → Safe P (g tt) →
+    Safe P (choose x f g)
 unfolding choose
 safe-where true f g p q = p refl
 safe-where false f g p q = q
@@ -97,7 +99,8 @@ safe-at place l (refuses e) = refusesAt e l
 safe-at place l (gives p) = givesAt p
 
 -- a test that passes or refuses
-pub safe-require : {size : ℕ} (x : Bool) (n place : ℕ) → SafeAt size (λ (u : Unit {0}). Unit {0}) (refusedAt n place) → SafeAt size (λ u. x ≡ true) (require x n place)
+pub safe-require : {size : ℕ} (x : Bool) (n place : ℕ) → SafeAt size (λ (u : Unit {0}). Unit {0}) (refusedAt n place) → SafeAt size
+    (λ u. x ≡ true) (require x n place)
 safe-require true n place h = givesAt refl
 safe-require false n place (early e) = early e
 safe-require false n place (refusesAt e l) = refusesAt e l

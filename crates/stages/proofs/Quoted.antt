@@ -19,7 +19,8 @@ use Rattle.stages.proofs.Read.{parts-item}
 use Rattle.stages.proofs.Words.{words-end, words-blank, words-word}
 
 -- induction on a text whose quotes are told apart from its other bytes
-module _ (P : Text → Type 0) (none : P []) (quote : (t : Text) → P t → P (39 ∷ t)) (other : (b : ℕ) (t : Text) → eqb b 39 ≡ false → P t → P (b ∷ t)) where
+module _ (P : Text → Type 0) (none : P []) (quote : (t : Text) → P t → P (39 ∷ t))
+    (other : (b : ℕ) (t : Text) → eqb b 39 ≡ false → P t → P (b ∷ t)) where
   pub by-quotes : (t : Text) → P t
   by-quotes [] = none
   by-quotes (b ∷ t) = go (eqb b 39) refl (by-quotes t)
@@ -131,7 +132,8 @@ unfolding blanked isBlank
 blanked-reads place [] = words-end place
 blanked-reads place (t ∷ l) =
     words-blank place 32 (quotedField t ++ blanked l) refl
-    ∙ field-words (suc place) t (blanked l) (fieldWords (suc (suc place + length (quotedField t))) l) (blanked-ends l) (blanked-reads (suc place + length (quotedField t)) l)
+    ∙ field-words (suc place) t (blanked l) (fieldWords (suc (suc place + length (quotedField t))) l) (blanked-ends l)
+    (blanked-reads (suc place + length (quotedField t)) l)
 
 -- THE READING: a quoted line is read as its fields' words
 pub quoted-reads : (l : List Text) → readLine (quotedLine l) ≡ doneAt (fieldWords 0 l)

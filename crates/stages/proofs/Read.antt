@@ -14,7 +14,24 @@ use Rattle.stages.specs.Outcome.{Outcome, refused, done, _>>=_}
 use Rattle.stages.specs.Syntax.{Form, Parts, Mode, plain, end, lit, quo, par, len, ari, word, bare, single, double, operand, arith as sums}
 use Rattle.stages.specs.Items.{Item, fault, stop, byte, paren, quote, value, count, inner, sum, item, ended}
 use Rattle.stages.specs.Read.{Taken, Reader, put, nest, readItem, Ask, askSize, askStep, parts}
-use Rattle.stages.proofs.Items.{AnyByte, Fair, faults, a-byte, a-paren, a-quote, a-value, a-count, an-inner, a-sum, View, ends, on, view, item-fair, word-goes}
+use Rattle.stages.proofs.Items.{
+  AnyByte,
+  Fair,
+  faults,
+  a-byte,
+  a-paren,
+  a-quote,
+  a-value,
+  a-count,
+  an-inner,
+  a-sum,
+  View,
+  ends,
+  on,
+  view,
+  item-fair,
+  word-goes,
+}
 
 -- What is left is no longer than the text, and a number is from 7 to 12.
 
@@ -80,20 +97,24 @@ parts-eq m d t = fix-eq askSize (refused 0) askStep (m, d, t)
 pub parts-good : (m : Mode) (d : ℕ) (t : Text) → Good (length t) (parts m d t)
 parts-good m d t = by-size askSize (λ a. Good (length (a .2)) (parts (a .0) (a .1) (a .2))) one (m, d, t)
   where
-    one : (a : Ask) → ((b : Ask) → askSize b < askSize a → Good (length (b .2)) (parts (b .0) (b .1) (b .2))) → Good (length (a .2)) (parts (a .0) (a .1) (a .2))
+    one : (a : Ask) → ((b : Ask) → askSize b < askSize a → Good (length (b .2)) (parts (b .0) (b .1) (b .2))) → Good (length (a .2))
+        (parts (a .0) (a .1) (a .2))
     one a h =
         rw (parts-eq (a .0) (a .1) (a .2))
-        (item-good (length (a .2)) (shorter (length (a .2))) (λ n e u l. rw (shorter-ok (length (a .2)) n e u l) (h (n, e, u) l)) (a .0) (a .1) (a .2) (omega arith))
+        (item-good (length (a .2)) (shorter (length (a .2))) (λ n e u l. rw (shorter-ok (length (a .2)) n e u l) (h (n, e, u) l)) (a .0) (a .1)
+        (a .2) (omega arith))
 
 -- a word whose first byte is no blank leaves less than the text
 pub word-good : (d b : ℕ) (t : Text) → isBlank b ≡ false → Good (length t) (parts word d (b ∷ t))
 word-good d b t e =
     rw (parts-eq word d (b ∷ t))
-    (going-good (suc (length t)) (shorter (suc (length t))) (λ n f u l. rw (shorter-ok (suc (length t)) n f u l) (parts-good n f u)) word d b t (word-goes d b t e) (omega arith))
+    (going-good (suc (length t)) (shorter (suc (length t))) (λ n f u l. rw (shorter-ok (suc (length t)) n f u l) (parts-good n f u)) word d b t
+    (word-goes d b t e) (omega arith))
 
 -- The law of `parts`: a text is read by its first item, the rest by `parts` itself.
 
-nest-ok : (k : ℕ) (f : Parts → Parts → Parts) (m : Mode) (d i : ℕ) {r : Taken} → Good i r → i < k → nest f r (shorter k m d) ≡ nest f r (parts m d)
+nest-ok : (k : ℕ) (f : Parts → Parts → Parts) (m : Mode) (d i : ℕ) {r : Taken} → Good i r → i < k → nest f r (shorter k m d) ≡ nest f
+    r (parts m d)
 nest-ok k f m d i (stays g) h = refl
 nest-ok k f m d i (leaves {p = p} l) h = ap (put (f (p .0))) (shorter-ok k m d (p .1) (omega arith))
 
@@ -157,7 +178,8 @@ module _ (text : Text) (at : ℕ) where
     unfolding readItem
     at-stop next h l = parts-item m d (drop at text) h ∙ ap (λ (t : Text). done (end, t)) (stopped next l)
 
-    pub at-byte : (q : Bool) (b next : ℕ) → item m d (drop at text) ≡ byte q b (next - suc at) → at < next → here (put (lit q b) (parts m d (drop next text)))
+    pub at-byte : (q : Bool) (b next : ℕ) → item m d (drop at text) ≡ byte q b (next - suc at) → at < next → here
+        (put (lit q b) (parts m d (drop next text)))
     unfolding readItem
     at-byte q b next h l = parts-item m d (drop at text) h ∙ ap (λ (t : Text). put (lit q b) (parts m d t)) (place next l)
 
@@ -165,11 +187,13 @@ module _ (text : Text) (at : ℕ) where
     unfolding readItem
     at-paren b n h = parts-item m d (drop at text) h ∙ ap (λ (t : Text). put (lit false b) (parts (sums n) d t)) (drop-drop 1 at text)
 
-    pub at-value : (x : Text) (next : ℕ) → item m d (drop at text) ≡ value x (next - suc at) → at < next → here (put (par x plain end) (parts m d (drop next text)))
+    pub at-value : (x : Text) (next : ℕ) → item m d (drop at text) ≡ value x (next - suc at) → at < next → here
+        (put (par x plain end) (parts m d (drop next text)))
     unfolding readItem
     at-value x next h l = parts-item m d (drop at text) h ∙ ap (λ (t : Text). put (par x plain end) (parts m d t)) (place next l)
 
-    pub at-count : (x : Text) (next : ℕ) → item m d (drop at text) ≡ count x (next - suc at) → at < next → here (put (len x) (parts m d (drop next text)))
+    pub at-count : (x : Text) (next : ℕ) → item m d (drop at text) ≡ count x (next - suc at) → at < next → here
+        (put (len x) (parts m d (drop next text)))
     unfolding readItem
     at-count x next h l = parts-item m d (drop at text) h ∙ ap (λ (t : Text). put (len x) (parts m d t)) (place next l)
 
@@ -207,7 +231,8 @@ pub record Within (f : Parts → Parts → Parts) (r : Taken) (more : Text → T
   pub whole : p ≡ f inside next
   pub read : more mid ≡ done (next, rest)
 
-pub within : (f : Parts → Parts → Parts) (r : Taken) (more : Text → Taken) (p : Parts) (rest : Text) → nest f r more ≡ done (p, rest) → Within f r more p rest
+pub within : (f : Parts → Parts → Parts) (r : Taken) (more : Text → Taken) (p : Parts) (rest : Text) → nest f r more ≡ done (p, rest) →
+    Within f r more p rest
 within f (refused n) more p rest e = absurd (let z : _≡_ {A = ℕ} 0 1 = cc in omega arith)
 within f (done q) more p rest e =
     let b = behind (f (q .0)) (more (q .1)) p rest e in

@@ -92,7 +92,11 @@ table =
       vars = ("HOME", "/home/crew") ∷ ("IFS", ":") ∷ ("job", "north field") ∷ ("note", "") ∷ ("x", ":a::b:") ∷ [];
       homes = [];
       paths = card;
-      answer = doneAt ("" ∷ "a" ∷ "" ∷ "b" ∷ [], ("HOME", "/home/crew") ∷ ("IFS", ":") ∷ ("job", "north field") ∷ ("note", "") ∷ ("x", ":a::b:") ∷ []);
+      answer = doneAt (
+        "" ∷ "a" ∷ "" ∷ "b" ∷ [],
+        ("HOME", "/home/crew") ∷ ("IFS", ":") ∷ ("job", "north field") ∷ ("note", "") ∷
+            ("x", ":a::b:") ∷ [],
+      );
     }
     ∷ gives "${job%% *} ${job##*o}" ("north" ∷ "rth" ∷ "field" ∷ [])
     ∷ gives "$((7/-2)) $((-7%3))" ("-3" ∷ "-1" ∷ [])

@@ -84,7 +84,8 @@ rows-quiet t = by-quotes (λ u. Quiet (rows u .0 ++ rows u .1)) no-units (λ u q
 rows-bytes : (t : Text) → bytes (rows t .0 ++ rows t .1) ≡ t
 unfolding bytes
 rows-bytes t =
-    by-quotes (λ u. bytes (rows u .0 ++ rows u .1) ≡ u) refl (λ u h. ap {B = Text} (λ s. 39 ∷ s) h) (λ b u e h. rw e (ap {B = Text} (λ s. b ∷ s) h)) t
+    by-quotes (λ u. bytes (rows u .0 ++ rows u .1) ≡ u) refl (λ u h. ap {B = Text} (λ s. 39 ∷ s) h)
+    (λ b u e h. rw e (ap {B = Text} (λ s. b ∷ s) h)) t
 
 -- how long a field is in the line: longer than its bytes, and than its row
 record Lengths (t : Text) : Type 0 where
@@ -152,7 +153,8 @@ unfolding wordFields
 word-steps a p v w r l e f = rw (e, f)
 
 -- one word: a quoted field becomes that field, and nothing is stored
-field-row : (a : Around) (t : Text) (v : Pairs) → length (quotedField t) ≤ lineLimit → wordRow (a .room) (a .homes) (fieldParts t) v ≡ done (fieldRow t, v)
+field-row : (a : Around) (t : Text) (v : Pairs) → length (quotedField t) ≤ lineLimit → wordRow (a .room) (a .homes) (fieldParts t) v ≡ done
+    (fieldRow t, v)
 unfolding wordRow rowOf tilde
 field-row a t v h = field-expands (a .room) v t (omega (arith, row-fits-field t))
 
@@ -175,7 +177,8 @@ unfolding blanked
 blanked-length t l = ap suc (length-append (quotedField t) (blanked l))
 
 -- the words of the fields expand, behind an image of n bytes
-words-expand : (a : Around) (l : List Text) (place n : ℕ) (v : Pairs) → length (blanked l) ≤ suc lineLimit → n + recordBytes l ≤ a .out → n + recordBytes l ≤ imageLimit
+words-expand : (a : Around) (l : List Text) (place n : ℕ) (v : Pairs) → length (blanked l) ≤ suc lineLimit → n + recordBytes l ≤ a .out →
+    n + recordBytes l ≤ imageLimit
     → expandWords a (fieldWords place l) n v ≡ doneAt (l, v)
 unfolding expandWords recordBytes
 words-expand a [] place n v b h k = refl
@@ -236,7 +239,8 @@ unfolding imageLength
 quoted-image l = omega (arith, blanked-image l, blanked-line l)
 
 -- a line whose words are read, and expand, expands
-line-steps : (a : Around) (t : Text) (v : Pairs) (ws : List Word) → length t ≤ lineLimit → isIn 0 t ≡ false → readLine t ≡ doneAt ws → 1 ≤ a .out
+line-steps : (a : Around) (t : Text) (v : Pairs) (ws : List Word) → length t ≤ lineLimit → isIn 0 t ≡ false → readLine t ≡ doneAt ws → 1
+    ≤ a .out
     → expandLine a t v ≡ expandWords a ws 1 v
 unfolding expandLine
 line-steps a t v ws h z e o = rw (le-leb (length t) lineLimit h, z, e, out-ok a 1 o (omega arith))

@@ -47,27 +47,34 @@ pub record SafeTaken (t : Text) (p : Parts × Text) : Type 0 where
   pub behind : NoZero (p .1)
   pub short : length (p .1) ≤ length t
 
-put-safe : (f : Parts → Parts) (u t : Text) {r : Taken} → ((p : Parts) → SafeParts p → SafeParts (f p)) → length u ≤ length t → Safe (SafeTaken u) r
+put-safe : (f : Parts → Parts) (u t : Text) {r : Taken} → ((p : Parts) → SafeParts p → SafeParts (f p)) → length u ≤ length t → Safe
+    (SafeTaken u) r
     → Safe (SafeTaken t) (put f r)
-put-safe f u t h l s = safe-bind (λ p. done (f (p .0), p .1)) s (λ p k. gives (record { clean = h (p .0) (k .clean); behind = k .behind; short = omega arith }))
+put-safe f u t h l s =
+    safe-bind (λ p. done (f (p .0), p .1)) s (λ p k. gives (record { clean = h (p .0) (k .clean); behind = k .behind; short = omega arith }))
 
 drop-short : (k : ℕ) (u : Text) → length (drop k u) ≤ length u
 drop-short k u = simp length-drop (omega arith)
 
-module _ (b : ℕ) (u : Text) (rec : Ask → Taken) (ih : (a : Ask) → length (a .2) < suc (length u) → NoZero (a .2) → Safe (SafeTaken (a .2)) (rec a)) (z : NoZero u) where
-  next-safe : (f : Parts → Parts) (m : Mode) (d k : ℕ) → ((p : Parts) → SafeParts p → SafeParts (f p)) → Safe (SafeTaken (b ∷ u)) (put f (rec (m, d, drop k u)))
+module _ (b : ℕ) (u : Text) (rec : Ask → Taken)
+    (ih : (a : Ask) → length (a .2) < suc (length u) → NoZero (a .2) → Safe (SafeTaken (a .2)) (rec a)) (z : NoZero u) where
+  next-safe : (f : Parts → Parts) (m : Mode) (d k : ℕ) → ((p : Parts) → SafeParts p → SafeParts (f p)) → Safe (SafeTaken (b ∷ u))
+      (put f (rec (m, d, drop k u)))
   next-safe f m d k h =
       let l : length (drop k u) ≤ length u = drop-short k u in
       put-safe f (drop k u) (b ∷ u) h (omega arith) (ih (m, d, drop k u) (omega arith) (all-drop notZero k u z))
 
-  nest-safe : (f : Parts → Parts → Parts) (n : Mode) (c k : ℕ) (m : Mode) (d : ℕ) → ((q p : Parts) → SafeParts q → SafeParts p → SafeParts (f q p))
+  nest-safe : (f : Parts → Parts → Parts) (n : Mode) (c k : ℕ) (m : Mode) (d : ℕ) →
+      ((q p : Parts) → SafeParts q → SafeParts p → SafeParts (f q p))
       → Safe (SafeTaken (b ∷ u)) (nest f (rec (n, c, drop k u)) (λ t. rec (m, d, t)))
   nest-safe f n c k m d h =
       let l : length (drop k u) ≤ length u = drop-short k u in
       safe-bind (λ p. put (f (p .0)) (rec (m, d, p .1))) (ih (n, c, drop k u) (omega arith) (all-drop notZero k u z))
-      (λ p s. put-safe (f (p .0)) (p .1) (b ∷ u) (λ q w. h (p .0) q (s .clean) w) (omega (arith, s .short)) (ih (m, d, p .1) (omega (arith, s .short)) (s .behind)))
+      (λ p s. put-safe (f (p .0)) (p .1) (b ∷ u) (λ q w. h (p .0) q (s .clean) w) (omega (arith, s .short))
+      (ih (m, d, p .1) (omega (arith, s .short)) (s .behind)))
 
-  read-safe : (m : Mode) (d : ℕ) {i : Item} → notZero b ≡ true → Fair NotZero true i → Safe (SafeTaken (b ∷ u)) (readItem (λ m d t. rec (m, d, t)) m d (b ∷ u) i)
+  read-safe : (m : Mode) (d : ℕ) {i : Item} → notZero b ≡ true → Fair NotZero true i → Safe (SafeTaken (b ∷ u))
+      (readItem (λ m d t. rec (m, d, t)) m d (b ∷ u) i)
   unfolding readItem
   read-safe m d y (faults {n = n} e) = refuses (reading-fault n e)
   read-safe m d y (stops {k = k}) = gives (record { clean = tt; behind = all-drop notZero k (b ∷ u) (and-both y z); short = drop-short k (b ∷ u) })

@@ -21,7 +21,21 @@ use Rattle.stages.proofs.Bools.{no, and-left, and-right, and-both}
 use Rattle.stages.proofs.Images.{Fine, fine-append, recordBytes-append}
 use Rattle.stages.proofs.Read.{Good, stays, leaves, word-good}
 use Rattle.stages.proofs.Words.{words-end, words-blank, words-operator, words-word}
-use Rattle.stages.proofs.Outcomes.{Each, Safe, refuses, gives, safe-bind, SafeAt, early, refusesAt, givesAt, safe-then, safe-weakerAt, safe-at, safe-require}
+use Rattle.stages.proofs.Outcomes.{
+  Each,
+  Safe,
+  refuses,
+  gives,
+  safe-bind,
+  SafeAt,
+  early,
+  refusesAt,
+  givesAt,
+  safe-then,
+  safe-weakerAt,
+  safe-at,
+  safe-require,
+}
 use Rattle.stages.proofs.Split.{fields-each}
 use Rattle.stages.proofs.Safe.{NoZero, SafeParts, parts-safe}
 use Rattle.stages.proofs.SafeRows.{SafeCell, Kept, row-safe, named-safe}

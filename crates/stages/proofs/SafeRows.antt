@@ -17,7 +17,27 @@ use Rattle.stages.specs.Syntax.{Form, plain, minus, equals, query, plus,
 use Rattle.stages.specs.Units.{Mark, L, Q, Cell, cell, N, Row, marked, bytes, expanded, litMark, fit, decimal}
 use Rattle.stages.specs.Pattern.{Element, signs, hasClass, pattern, matches}
 use Rattle.stages.specs.Removal.{removed, cut}
-use Rattle.stages.specs.Expand.{Made, value, missing, store, given, assigned, cutBy, parameter, onto, adding, expand, login, longerLogin, directory, housed, homed, tilde, rowOf, wordRow}
+use Rattle.stages.specs.Expand.{
+  Made,
+  value,
+  missing,
+  store,
+  given,
+  assigned,
+  cutBy,
+  parameter,
+  onto,
+  adding,
+  expand,
+  login,
+  longerLogin,
+  directory,
+  housed,
+  homed,
+  tilde,
+  rowOf,
+  wordRow,
+}
 use Rattle.stages.specs.Paths.{chosen, active, orElse, pathsFor, named}
 use Rattle.stages.proofs.Bools.{either, and-left, and-right, and-both}
 use Rattle.stages.proofs.Texts.{all-take, all-drop}
@@ -108,9 +128,14 @@ module _ (room : ℕ) (x : Text) (n : isName x ≡ true) where
   unfolding cutBy
   cut-safe s long m p h =
       safe-bind _ (pattern-safe false (p .0))
-      (λ es _. gives (marked-safe (expanded m) (removed s long es (value (p .1) x)) (removed-safe s long es (value (p .1) x) (value-safe (p .1) x (h .1 .fine))), h .1))
+      (λ es _. gives (
+        marked-safe (expanded m) (removed s long es (value (p .1) x))
+            (removed-safe s long es (value (p .1) x) (value-safe (p .1) x (h .1 .fine))),
+        h .1,
+      ))
 
-  pub parameter-safe : (q : Mark → Pairs → Made) → ((m : Mark) (v : Pairs) → Kept room v → Safe (SafeMade room) (q m v)) → (f : Form) (m : Mark) (v : Pairs) → Kept room v
+  pub parameter-safe : (q : Mark → Pairs → Made) → ((m : Mark) (v : Pairs) → Kept room v → Safe (SafeMade room) (q m v)) → (f : Form)
+      (m : Mark) (v : Pairs) → Kept room v
       → Safe (SafeMade room) (parameter room q x f m v)
   unfolding parameter
   parameter-safe q h plain m v k = given-safe m v k
@@ -133,7 +158,8 @@ fit-safe n k = either (leb (n + k) rowLimit) (λ e. rw (e, fit) (gives tt)) (λ 
 onto-safe : (room : ℕ) (r : Row) {o : Made} → Each SafeCell r → Safe (SafeMade room) o → Safe (SafeMade room) (onto r o)
 onto-safe room r h s = safe-bind (λ p. done (r ++ p .0, p .1)) s (λ p k. gives (each-append SafeCell r (p .0) h (k .0), k .1))
 
-adding-safe : (room n : ℕ) (r : Row) (more : ℕ → Made) → Each SafeCell r → ((i : ℕ) → Safe (SafeMade room) (more i)) → Safe (SafeMade room) (adding n r more)
+adding-safe : (room n : ℕ) (r : Row) (more : ℕ → Made) → Each SafeCell r → ((i : ℕ) → Safe (SafeMade room) (more i)) → Safe
+    (SafeMade room) (adding n r more)
 unfolding fit
 adding-safe room n r more h s = safe-bind (λ i. onto r (more i)) (fit-safe n (length r)) (λ i _. onto-safe room r h (s i))
 
@@ -143,12 +169,14 @@ expand-safe room end s m n v k = gives (tt, k)
 expand-safe room (lit q b p) s m n v k = adding-safe room n (cell (litMark q m) b ∷ []) _ (s .0, tt) (λ i. expand-safe room p (s .1) m i v k)
 expand-safe room (quo q p) s m n v k =
     adding-safe room n (N ∷ []) _ (tt, tt)
-    (λ i. safe-bind _ (expand-safe room q (s .0) Q i v k) (λ r h. onto-safe room (r .0) (h .0) (expand-safe room p (s .1) m (i + length (r .0)) (r .1) (h .1))))
+    (λ i. safe-bind _ (expand-safe room q (s .0) Q i v k)
+    (λ r h. onto-safe room (r .0) (h .0) (expand-safe room p (s .1) m (i + length (r .0)) (r .1) (h .1))))
 expand-safe room (par x f q p) s m n v k =
     safe-bind _ (parameter-safe room x (s .0) (λ j w. expand room q j 0 w) (λ j w l. expand-safe room q (s .1) j 0 w l) f m v k)
     (λ r h. adding-safe room n (r .0) _ (h .0) (λ i. expand-safe room p (s .2) m i (r .1) (h .1)))
 expand-safe room (len x p) s m n v k =
-    adding-safe room n (marked (expanded m) (decimal (length (value v x)))) _ (marked-safe (expanded m) (decimal (length (value v x))) (decimal-safe (length (value v x))))
+    adding-safe room n (marked (expanded m) (decimal (length (value v x)))) _
+    (marked-safe (expanded m) (decimal (length (value v x))) (decimal-safe (length (value v x))))
     (λ i. expand-safe room p (s .1) m i v k)
 expand-safe room (ari q p) s m n v k =
     safe-bind _ (expand-safe room q (s .0) Q 0 v k)
@@ -179,7 +207,8 @@ login-safe end s = tt
 login-safe (lit true b p) s = tt
 login-safe (lit false b p) s = go (login-safe p (s .1)) (eqb b (code "/")) refl (isLoginByte b) refl
   where
-    go : If (λ r. SafeParts (r .1)) (login p) → (x : Bool) → eqb b (code "/") ≡ x → (y : Bool) → isLoginByte b ≡ y → If (λ r. SafeParts (r .1)) (login (lit false b p))
+    go : If (λ r. SafeParts (r .1)) (login p) → (x : Bool) → eqb b (code "/") ≡ x → (y : Bool) → isLoginByte b ≡ y → If
+        (λ r. SafeParts (r .1)) (login (lit false b p))
     go ih true e y d = rw (e, login) s
     go ih false e true d = rw (e, login, d, login) (longer-safe b (login p) ih)
     go ih false e false d = rw (e, login, d, login) tt
@@ -218,12 +247,15 @@ module _ (v homes : Pairs) (f : Fine (flat v)) (g : Fine (flat homes)) where
   tilde-safe (len x p) s = tt
   tilde-safe (ari q p) s = tt
 
-row-of-safe : (room : ℕ) (p : Parts) (v : Pairs) (o : Option (Text × Parts)) → SafeParts p → Kept room v → Housed o → Safe (SafeMade room) (rowOf room p v o)
+row-of-safe : (room : ℕ) (p : Parts) (v : Pairs) (o : Option (Text × Parts)) → SafeParts p → Kept room v → Housed o → Safe (SafeMade room)
+    (rowOf room p v o)
 unfolding rowOf
 row-of-safe room p v none s k h = expand-safe room p s L 0 v k
-row-of-safe room p v (some d) s k h = adding-safe room 0 (N ∷ marked Q (d .0)) _ (tt, marked-safe Q (d .0) (h .0)) (λ i. expand-safe room (d .1) (h .1) L i v k)
+row-of-safe room p v (some d) s k h =
+    adding-safe room 0 (N ∷ marked Q (d .0)) _ (tt, marked-safe Q (d .0) (h .0)) (λ i. expand-safe room (d .1) (h .1) L i v k)
 
-pub row-safe : (room : ℕ) (homes : Pairs) (p : Parts) (v : Pairs) → Fine (flat homes) → SafeParts p → Kept room v → Safe (SafeMade room) (wordRow room homes p v)
+pub row-safe : (room : ℕ) (homes : Pairs) (p : Parts) (v : Pairs) → Fine (flat homes) → SafeParts p → Kept room v → Safe (SafeMade room)
+    (wordRow room homes p v)
 unfolding wordRow
 row-safe room homes p v f s k = row-of-safe room p v (tilde v homes p) s k (tilde-safe v homes (k .fine) f p s)
 
@@ -245,7 +277,8 @@ or-else-safe (u ∷ l) t f z = f
 paths-for-safe : (paths : List Text) (r : Row) (p : List Element) → Fine paths → Each SafeCell r → Fine (pathsFor paths r p)
 unfolding pathsFor
 paths-for-safe paths r p f h =
-    either (active p) (λ e. rw (e, pathsFor) (or-else-safe (chosen p paths) (bytes r) (chosen-safe p paths f) (bytes-safe r h))) (λ e. rw (e, pathsFor) (bytes-safe r h, tt))
+    either (active p) (λ e. rw (e, pathsFor) (or-else-safe (chosen p paths) (bytes r) (chosen-safe p paths f) (bytes-safe r h)))
+    (λ e. rw (e, pathsFor) (bytes-safe r h, tt))
 
 pub named-safe : (paths : List Text) (rs : List Row) → Fine paths → Each (Each SafeCell) rs → Safe Fine (named paths rs)
 unfolding named

@@ -18,8 +18,49 @@ use Rattle.stages.specs.Outcome.{Outcome, refused, done}
 use Rattle.stages.specs.Images.{Pairs, lookup}
 use Rattle.stages.specs.Units.{digits, decimal}
 use Rattle.stages.specs.Constants.{fits, ranged, number, constant, minusOf, valued, nameNumber, signed}
-use Rattle.stages.specs.Arith.{Op, mul, div, rem, add, sub, lt, le, gt, ge, eq, ne, Token, stop, num, name, op, opens, shuts, Lexed, paired, token, level}
-use Rattle.stages.specs.Arith.{Tree, constantOf, nameOf, negated, binary, Grown, operand, further, Grow, Task, expression, shut, enclosed, sign, operandAt, furtherAt}
+use Rattle.stages.specs.Arith.{
+  Op,
+  mul,
+  div,
+  rem,
+  add,
+  sub,
+  lt,
+  le,
+  gt,
+  ge,
+  eq,
+  ne,
+  Token,
+  stop,
+  num,
+  name,
+  op,
+  opens,
+  shuts,
+  Lexed,
+  paired,
+  token,
+  level,
+}
+use Rattle.stages.specs.Arith.{
+  Tree,
+  constantOf,
+  nameOf,
+  negated,
+  binary,
+  Grown,
+  operand,
+  further,
+  Grow,
+  Task,
+  expression,
+  shut,
+  enclosed,
+  sign,
+  operandAt,
+  furtherAt,
+}
 use Rattle.stages.specs.Arith.{growStep, growSize, grow, whole, tree, isZero, divided, apply, withVariables, evaluate, arithmeticOf}
 use Rattle.stages.proofs.Bools.{or-right, and-both}
 use Rattle.stages.proofs.Texts.{all-append, span-join, span-more, start-name-byte}
@@ -48,7 +89,8 @@ number-safe f (some n) = ranged-safe (f n)
 valued-safe : (t : Text) → Numbered (valued t)
 unfolding valued
 valued-safe [] = gives tt
-valued-safe (b ∷ t) = safe-choose _ _ _ (number-safe minusOf (constant t)) (safe-choose _ _ _ (number-safe pos (constant t)) (number-safe pos (constant (b ∷ t))))
+valued-safe (b ∷ t) =
+    safe-choose _ _ _ (number-safe minusOf (constant t)) (safe-choose _ _ _ (number-safe pos (constant t)) (number-safe pos (constant (b ∷ t))))
 
 name-safe : (o : Option Text) → Numbered (nameNumber o)
 unfolding nameNumber
@@ -116,9 +158,11 @@ token-safe [] = gives {a = (stop, [])} (omega arith)
 token-safe (b ∷ t) =
     safe-choose _ _ _ (safe-weaker (λ p l. omega arith) (token-safe t))
     (safe-where (isDigit b) _ _
-    (λ e. safe-bind (λ z. done (num z, span isNameByte (b ∷ t) .1)) (number-safe pos (constant (span isNameByte (b ∷ t) .0))) (λ z _. gives (run-short b t (digit-name-byte b e))))
+    (λ e. safe-bind (λ z. done (num z, span isNameByte (b ∷ t) .1)) (number-safe pos (constant (span isNameByte (b ∷ t) .0)))
+    (λ z _. gives (run-short b t (digit-name-byte b e))))
     (safe-where (isNameStart b) _ _ (λ e. gives (run-short b t (start-name-byte b e)))
-    (safe-choose _ _ _ one (safe-choose _ _ _ one (safe-choose _ _ _ one (safe-choose _ _ _ one (safe-choose _ _ _ one (safe-choose _ _ _ one (safe-choose _ _ _ one
+    (safe-choose _ _ _ one
+    (safe-choose _ _ _ one (safe-choose _ _ _ one (safe-choose _ _ _ one (safe-choose _ _ _ one (safe-choose _ _ _ one (safe-choose _ _ _ one
     (safe-choose _ _ _ (paired-safe b t _ _ one) (safe-choose _ _ _ (paired-safe b t _ _ one)
     (safe-choose _ _ _ (paired-safe b t _ _ (refuses refl)) (safe-choose _ _ _ (paired-safe b t _ _ (refuses refl)) (refuses refl))))))))))))))
   where
@@ -134,7 +178,8 @@ Grows n q = length (q .1) ≤ n
 module _ (n : ℕ) (rec : Grow) (ih : (a : Task × ℕ × Text) → length (a .2) < n → Safe (Grows (length (a .2))) (rec a)) where
   pub expression-safe : (d k : ℕ) (t : Text) → length t < n → Safe (Grows (length t)) (expression rec d k t)
   expression-safe d k t h =
-      safe-bind (λ p. rec (further k (p .0), d, p .1)) (ih (operand, d, t) h) (λ p l. safe-weaker (λ q m. omega arith) (ih (further k (p .0), d, p .1) (omega arith)))
+      safe-bind (λ p. rec (further k (p .0), d, p .1)) (ih (operand, d, t) h)
+      (λ p l. safe-weaker (λ q m. omega arith) (ih (further k (p .0), d, p .1) (omega arith)))
 
   shut-safe : (i : ℕ) (l : Tree) (k : Token) (t : Text) → length t ≤ i → Safe (Grows i) (shut l (k, t))
   unfolding shut
@@ -176,7 +221,8 @@ module _ (n : ℕ) (rec : Grow) (ih : (a : Task × ℕ × Text) → length (a .2
   operand-safe d opens t h = enclosed-safe d t h
   operand-safe d shuts t h = refuses refl
 
-  binary-safe : (d k : ℕ) (l : Tree) (t : Text) (o : Op) (u : Text) → length t ≤ n → length u < length t → Safe (Grows (length t)) (furtherAt rec d k l t (op o, u))
+  binary-safe : (d k : ℕ) (l : Tree) (t : Text) (o : Op) (u : Text) → length t ≤ n → length u < length t → Safe (Grows (length t))
+      (furtherAt rec d k l t (op o, u))
   unfolding furtherAt
   binary-safe d k l t o u h j = go (leb k (level o)) refl
     where
@@ -187,7 +233,8 @@ module _ (n : ℕ) (rec : Grow) (ih : (a : Task × ℕ × Text) → length (a .2
           (λ r m. safe-weaker (λ q w. omega arith) (ih (further k (binary o l (r .0)), d, r .1) (omega arith))))
       go false e = rw (e, furtherAt) (gives {a = (l, t)} (omega arith))
 
-  further-safe : (d k : ℕ) (l : Tree) (t : Text) (s : Token) (u : Text) → length t ≤ n → length u < length t → Safe (Grows (length t)) (furtherAt rec d k l t (s, u))
+  further-safe : (d k : ℕ) (l : Tree) (t : Text) (s : Token) (u : Text) → length t ≤ n → length u < length t → Safe (Grows (length t))
+      (furtherAt rec d k l t (s, u))
   unfolding furtherAt
   further-safe d k l t stop u h j = gives {a = (l, t)} (omega arith)
   further-safe d k l t (num z) u h j = gives {a = (l, t)} (omega arith)

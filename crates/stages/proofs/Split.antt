@@ -9,7 +9,21 @@ use Rattle.stages.specs.Recur.{below-ok, fix-eq}
 use Rattle.stages.specs.Bytes.{Text, text}
 use Rattle.stages.specs.Images.{Pairs, lookup}
 use Rattle.stages.specs.Units.{Cell, Row}
-use Rattle.stages.specs.Split.{Delimiter, white, hard, other, delimiter, dropWhite, dropHard, otherRun, fieldsStep, fieldsFrom, split, ifsOr, fieldsOfRow}
+use Rattle.stages.specs.Split.{
+  Delimiter,
+  white,
+  hard,
+  other,
+  delimiter,
+  dropWhite,
+  dropHard,
+  otherRun,
+  fieldsStep,
+  fieldsFrom,
+  split,
+  ifsOr,
+  fieldsOfRow,
+}
 use Rattle.stages.proofs.Outcomes.{Each, by-fix}
 
 -- what is behind a field and its delimiters
@@ -23,7 +37,8 @@ module _ (ifs : Text) where
   run-append [] = refl
   run-append (c ∷ r) = go (delimiter ifs c) refl (run-append r)
     where
-      go : (d : Delimiter) → delimiter ifs c ≡ d → otherRun ifs r .0 ++ otherRun ifs r .1 ≡ r → otherRun ifs (c ∷ r) .0 ++ otherRun ifs (c ∷ r) .1 ≡ c ∷ r
+      go : (d : Delimiter) → delimiter ifs c ≡ d → otherRun ifs r .0 ++ otherRun ifs r .1 ≡ r → otherRun ifs (c ∷ r) .0 ++ otherRun ifs
+          (c ∷ r) .1 ≡ c ∷ r
       go white e h = rw (e, otherRun)
       go hard e h = rw (e, otherRun)
       go other e h = rw (e, otherRun) (ap {B = Row} (λ u. c ∷ u) h)
@@ -117,7 +132,8 @@ module _ (ifs : Text) where
     step-each [] rec ih h = tt
     step-each (c ∷ r) rec ih h = (
       run-each (c ∷ r) h .0,
-      ih (behindField ifs (c ∷ r)) (behind-length c r) (hard-each (dropWhite ifs (otherRun ifs (c ∷ r) .1)) (white-each (otherRun ifs (c ∷ r) .1) (run-each (c ∷ r) h .1))),
+      ih (behindField ifs (c ∷ r)) (behind-length c r)
+          (hard-each (dropWhite ifs (otherRun ifs (c ∷ r) .1)) (white-each (otherRun ifs (c ∷ r) .1) (run-each (c ∷ r) h .1))),
     )
 
     -- what holds of every unit of the row holds of every unit of its fields

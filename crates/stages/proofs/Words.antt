@@ -54,7 +54,8 @@ module _ (place b : ℕ) (t : Text) where
     rest-ok : {r : Taken} → Good (length t) r → (at place r then rest (fewer (suc (length t)))) ≡ (at place r then rest words)
     rest-ok (stays g) = refl
     rest-ok (leaves {p = p} l) =
-        ap (λ (w : Words). w then λ ws. doneAt (record { place = place; parts = p .0 } ∷ ws)) (fewer-ok (suc (length t)) (place + (suc (length t) - length (p .1)), p .1) (omega arith))
+        ap (λ (w : Words). w then λ ws. doneAt (record { place = place; parts = p .0 } ∷ ws))
+        (fewer-ok (suc (length t)) (place + (suc (length t) - length (p .1)), p .1) (omega arith))
 
     pub words-word : (isOperator b || eqb b (code "#")) ≡ false → words (place, b ∷ t) ≡ wordAt words place (b ∷ t)
     unfolding wordsStep wordAt
@@ -116,7 +117,8 @@ tail-of (refusedAt n k) f ws e = absurd (let z : _≡_ {A = ℕ} 0 1 = cc in ome
 tail-of (doneAt us) f ws e = record { left = us; is = refl; whole = cc }
 
 -- where a rest stands in a line
-rest-place : (line : Text) (from next : ℕ) (rest : Text) → drop next line ≡ rest → from ≤ length line → next ≤ length line → length rest ≤ length (drop from line)
+rest-place : (line : Text) (from next : ℕ) (rest : Text) → drop next line ≡ rest → from ≤ length line → next ≤ length line → length
+    rest ≤ length (drop from line)
     → from + (length (drop from line) - length rest) ≡ next
 rest-place line from next rest e l n g = omega (arith, length-drop from line, length-drop next line, ap length e)
 
@@ -127,7 +129,8 @@ module _ (line : Text) (from : ℕ) (l : from < length line) (e : isBlank (getD 
       words (from + (length (drop from line) - length (p .1)), p .1) then λ us.
       doneAt (record { place = from; parts = p .0 } ∷ us)
 
-  first-of : (r : Taken) → Good (length (drop from line)) r → parts word depthLimit (drop from line) ≡ r → around r ≡ doneAt ws → FirstWord line from ws
+  first-of : (r : Taken) → Good (length (drop from line)) r → parts word depthLimit (drop from line) ≡ r → around r ≡ doneAt ws →
+      FirstWord line from ws
   first-of (refused n) g h w = absurd (let z : _≡_ {A = ℕ} 0 1 = cc in omega arith)
   first-of (done p) (leaves g) h w =
       let k = tail-of (words (from + (length (drop from line) - length (p .1)), p .1)) (λ us. record { place = from; parts = p .0 } ∷ us) ws w in
@@ -137,7 +140,8 @@ module _ (line : Text) (from : ℕ) (l : from < length line) (e : isBlank (getD 
         read = h;
         tail = k .left;
         whole = k .whole;
-        more = λ next q n. ap (λ (t : Text). words (next, t)) q ∙ ap (λ (i : ℕ). words (i, p .1)) (sym (rest-place line from next (p .1) q (omega arith) n g)) ∙ k .is;
+        more = λ next q n. ap (λ (t : Text). words (next, t)) q ∙ ap (λ (i : ℕ). words (i, p .1))
+            (sym (rest-place line from next (p .1) q (omega arith) n g)) ∙ k .is;
       }
 
   starts : (y : Bool) → (isOperator (getD line from 0) || eqb (getD line from 0) (code "#")) ≡ y → words (from, drop from line) ≡ doneAt ws

@@ -1,7 +1,7 @@
 // The table tool: `tab show KIND` reads an image from standard input and writes its lines, `tab pack KIND` reads lines and writes their image. What it
 // cannot do it tells on standard error, and writes nothing else then. The work is that of `tabling` and `packing`.
 ghost use mathlib.Core.Path.{_≡_};
-ghost use Prim.Native.Nat.{_*_, _≤_};
+ghost use Prim.Native.Nat.{_+_, _*_, _≤_};
 ghost use lib.ListN.{length};
 ghost use Rattle.stages.specs.Numbers.{pathsLimit};
 ghost use Rattle.table.specs.Kinds.{inTwos};
@@ -13,19 +13,20 @@ use tab_escape::Fault;
 use tab_pack::Packed;
 use tab_show::Shown;
 use table::Kind;
+use text::numbers;
 
 // The longest image, and a byte more to see that one is longer.
-fn image_room() -> [u8; 32769]
-    ensures { λ r. ⌜ 32769 ≡ length r ⌝ }
+fn image_room() -> [u8; numbers::PATHS_KEPT]
+    ensures { λ r. ⌜ pathsLimit + 1 ≡ length r ⌝ }
 {
-    [0; 32769]
+    [0; numbers::PATHS_KEPT]
 }
 
 // Its lines.
-fn lines_room() -> [u8; 131076]
-    ensures { λ r. ⌜ 131076 ≡ length r ⌝ }
+fn lines_room() -> [u8; numbers::SHOWN_ROOM]
+    ensures { λ r. ⌜ 4 * (pathsLimit + 1) ≡ length r ⌝ }
 {
-    [0; 131076]
+    [0; numbers::SHOWN_ROOM]
 }
 
 fn say(text: &[u8]) {

@@ -23,5 +23,6 @@ module _ {two : Bool} {o : Step} {old : Text} where
   answers (takes e n k) = (ap answer.Used n ∙ ap (answerOf two) (sym e), k ∙ ap (λ (x : Step). leftOf two x old) (sym e))
   answers (stops e k) = (ap (answerOf two) (sym e), k ∙ ap (λ (x : Step). leftOf two x old) (sym e))
 
-  pub enter-line-determined : {left left′ : Text} {r s : Entered} → Enters two o old left r → Enters two o old left′ s → (r ≡ s) × (left ≡ left′)
+  pub enter-line-determined : {left left′ : Text} {r s : Entered} → Enters two o old left r → Enters two o old left′ s → (r ≡ s) ×
+      (left ≡ left′)
   enter-line-determined p q = (answers p .0 ∙ sym (answers q .0), answers p .1 ∙ sym (answers q .1))

@@ -82,7 +82,8 @@ module _ (kind : Kind) (line : Text) (e : ℕ) (f : e ≡ upTo 61 line) where
   no-equals v old h = stops {f = NoEquals} (rw (← f, le-leb (length line) e h)) refl
 
   module _ (h : e < length line) where
-    pub no-key : (v : Pairs) (old : Text) → keyFits kind [] (take e line) ≡ false → Enters true (entered true (pairOf kind line) v) old old (answer.Bad NoKey)
+    pub no-key : (v : Pairs) (old : Text) → keyFits kind [] (take e line) ≡ false → Enters true (entered true (pairOf kind line) v) old old
+        (answer.Bad NoKey)
     unfolding entered pairOf
     no-key v old k = stops {f = NoKey} (rw (← f, lt-leb (length line) e h, k)) refl
 
@@ -202,7 +203,8 @@ module _ (line : Text) {area left : Text} {r : Read} (s : Reads (readText line) 
           let w : take n left ≡ t = ap (take n) (p .leaves) ∙ take-at t (drop (length t) area) n (sym (p .counts)) in
           record { is = x ∙ ap good (sym w); long = omega (arith, p .counts, ap length (p .leaves), length-append t (drop (length t) area)) }
 
-  pub path-none : (v : Pairs) (old : Text) (n : ℕ) → r ≡ read.Len n → n ≡ 0 → Enters false (entered false (pathOf (readText line)) v) old old (answer.Bad NoKey)
+  pub path-none : (v : Pairs) (old : Text) (n : ℕ) → r ≡ read.Len n → n ≡ 0 → Enters false (entered false (pathOf (readText line)) v) old
+      old (answer.Bad NoKey)
   unfolding entered
   path-none v old n q z =
       stops {f = NoKey} (ap (λ (y : Reading). entered false (pathOf y) v) (path-good n q .is ∙ ap (λ (k : ℕ). good (take k left)) z)) refl
@@ -214,14 +216,16 @@ module _ (line : Text) {area left : Text} {r : Read} (s : Reads (readText line) 
       not-empty [] h = absurd (h refl)
       not-empty (b ∷ t) h = refl
 
-  pub path-enters : (l : List Text) (n : ℕ) → r ≡ read.Len n → (n ≡ 0 → ⊥) → (old new : Text) (d : Added) → Adds (adding pathsLimit (take n left) l) old new d
+  pub path-enters : (l : List Text) (n : ℕ) → r ≡ read.Len n → (n ≡ 0 → ⊥) → (old new : Text) (d : Added) → Adds
+      (adding pathsLimit (take n left) l) old new d
       → (a : Entered) → enteredAs d ≡ a → Enters false (entered false (pathOf (readText line)) (alone l)) old new a
   path-enters l n q z old new d w a k =
       subst (λ (x : Entry). Enters false (entered false x (alone l)) old new a) (sym (path-entry n q z)) (path-adds (take n left) l old new d w a k)
 
 -- `enter_line`
 
-pub pair-ready : (kind : Kind) {n m a b : ℕ} {t : Text} → inTwos kind ≡ true → (n ≤ limitBy (inTwos kind)) × (limitBy (inTwos kind) ≤ m) × (a ≤ b)
+pub pair-ready : (kind : Kind) {n m a b : ℕ} {t : Text} → inTwos kind ≡ true → (n ≤ limitBy (inTwos kind)) × (limitBy (inTwos kind) ≤ m)
+    × (a ≤ b)
     → TableBy (inTwos kind) t → ((n ≤ imageLimit) × (imageLimit ≤ m) × (a ≤ b)) × Table t
 pair-ready Variables e h w = (h, w)
 pair-ready Homes e h w = (h, w)

@@ -148,7 +148,8 @@ pub record Pair (kind : Kind) (line k t : Text) : Type 0 where
   pub fits : keyFits kind [] k ≡ true
   pub reads : readText (drop (suc at) line) ≡ good t
 
-valued-of : (kind : Kind) (line key k t : Text) (at : ℕ) (r : Reading) → readText (drop (suc at) line) ≡ r → take at line ≡ key → keyFits kind [] key ≡ true
+valued-of : (kind : Kind) (line key k t : Text) (at : ℕ) (r : Reading) → readText (drop (suc at) line) ≡ r → take at line ≡ key → keyFits
+    kind [] key ≡ true
     → valued key r ≡ entry k t → Pair kind line k t
 valued-of kind line key k t at (bad f u) q a h e = absurd (faulty-entry e)
 valued-of kind line key k t at (good u) q a h e =
@@ -220,7 +221,8 @@ goes-of two k t v w e = by (lookup k v) refl (leb (imageLength (textsBy two (sto
     by none q false d = absurd (stop-go (rw (q, d) at e))
     by none q true d = record { new = q; fits = leb-true (imageLength (textsBy two (stored k t v))) (limitBy two) d; is = go-same (rw (q, d) at e) }
 
-fine-by : (two : Bool) (k t : Text) (v : Pairs) → all notZero k ≡ true → all notZero t ≡ true → Fine (textsBy two v) → Fine (textsBy two (stored k t v))
+fine-by : (two : Bool) (k t : Text) (v : Pairs) → all notZero k ≡ true → all notZero t ≡ true → Fine (textsBy two v) → Fine
+    (textsBy two (stored k t v))
 fine-by true k t v h f g = fine-stored k t v h f g
 fine-by false k t v h f g = fine-keys k t v h g
 

@@ -17,6 +17,7 @@ use table::Found;
 use table::Kind;
 use table_insert::Added;
 use table_store::Stored;
+use text::numbers;
 
 // What a line's record answers.
 pub enum Entered {
@@ -25,25 +26,21 @@ pub enum Entered {
     Bad(Fault),
 }
 
-// "An image has at most 8,192 bytes, that of paths 32,768."
-const IMAGE_LIMIT: usize = 8192;
-
-const PATHS_LIMIT: usize = 32768;
-
 const EQUALS: u8 = b'=';
 
 // Enters a record of two texts at its place, if its key is new and the image has room.
 fn enter(image: &mut [u8], used: usize, key: &[u8], value: &[u8]) -> Entered
     requires { ⌜ (used ≤ imageLimit) × (imageLimit ≤ length (now image)) ⌝ }
     requires { ⌜ Table (take used (now image)) ⌝ }
-    ensures { λ r. ⌜ Enters true (entered true (entry (now (key .entry)) (now (value .entry))) (held (take used (now (image .entry))))) (now (image .entry)) (now (image .exit)) r ⌝ }
+    ensures { λ r. ⌜ Enters true (entered true (entry (now (key .entry)) (now (value .entry))) (held (take used (now (image .entry)))))
+        (now (image .entry)) (now (image .exit)) r ⌝ }
 {
     let found = table_find::look_up(&image[..used], key);
     match found {
         Found::At { from: _, to: _ } => return Entered::Bad(Fault::Twice),
         Found::Missing => {}
     }
-    let stored = table_store::store(image, used, key, value, IMAGE_LIMIT);
+    let stored = table_store::store(image, used, key, value, numbers::IMAGE_LIMIT);
     match stored {
         Stored::Used(n) => Entered::Used(n),
         Stored::Full => Entered::Bad(Fault::TooLong),
@@ -55,7 +52,8 @@ fn enter_pair(kind: Kind, line: &[u8], image: &mut [u8], used: usize, work: &mut
     requires { ⌜ inTwos kind ≡ true ⌝ }
     requires { ⌜ (used ≤ imageLimit) × (imageLimit ≤ length (now image)) × (length (now line) ≤ length (now work)) ⌝ }
     requires { ⌜ Table (take used (now image)) ⌝ }
-    ensures { λ r. ⌜ Enters true (entered true (pairOf kind (now (line .entry))) (held (take used (now (image .entry))))) (now (image .entry)) (now (image .exit)) r ⌝ }
+    ensures { λ r. ⌜ Enters true (entered true (pairOf kind (now (line .entry))) (held (take used (now (image .entry))))) (now (image .entry))
+        (now (image .exit)) r ⌝ }
 {
     let end = tab_escape::find(line, EQUALS);
     if line.len() <= end {
@@ -76,7 +74,8 @@ fn enter_pair(kind: Kind, line: &[u8], image: &mut [u8], used: usize, work: &mut
 fn enter_path(line: &[u8], image: &mut [u8], used: usize, work: &mut [u8]) -> Entered
     requires { ⌜ (used ≤ pathsLimit) × (pathsLimit ≤ length (now image)) × (length (now line) ≤ length (now work)) ⌝ }
     requires { ⌜ Column (take used (now image)) ⌝ }
-    ensures { λ r. ⌜ Enters false (entered false (pathOf (readText (now (line .entry)))) (alone (heldTexts (take used (now (image .entry)))))) (now (image .entry)) (now (image .exit)) r ⌝ }
+    ensures { λ r. ⌜ Enters false (entered false (pathOf (readText (now (line .entry)))) (alone (heldTexts (take used (now (image .entry))))))
+        (now (image .entry)) (now (image .exit)) r ⌝ }
 {
     let got = tab_escape::read_text(line, work);
     match got {
@@ -85,7 +84,7 @@ fn enter_path(line: &[u8], image: &mut [u8], used: usize, work: &mut [u8]) -> En
             if n == 0 {
                 return Entered::Bad(Fault::NoKey);
             }
-            let added = table_insert::add(image, used, &work[..n], PATHS_LIMIT);
+            let added = table_insert::add(image, used, &work[..n], numbers::PATHS_LIMIT);
             match added {
                 Added::Used(m) => Entered::Used(m),
                 Added::Twice => Entered::Bad(Fault::Twice),
@@ -106,7 +105,9 @@ pub fn enter_line(
 ) -> Entered
     requires { ⌜ (used ≤ limitBy (inTwos kind)) × (limitBy (inTwos kind) ≤ length (now image)) × (length (now line) ≤ length (now work)) ⌝ }
     requires { ⌜ TableBy (inTwos kind) (take used (now image)) ⌝ }
-    ensures { λ r. ⌜ Enters (inTwos kind) (entered (inTwos kind) (entryOf kind (now (line .entry))) (recordsBy (inTwos kind) (take used (now (image .entry))))) (now (image .entry)) (now (image .exit)) r ⌝ }
+    ensures { λ r. ⌜ Enters (inTwos kind)
+        (entered (inTwos kind) (entryOf kind (now (line .entry))) (recordsBy (inTwos kind) (take used (now (image .entry))))) (now (image .entry))
+        (now (image .exit)) r ⌝ }
 {
     match kind {
         Kind::Variables => enter_pair(kind, line, image, used, work),

@@ -46,7 +46,8 @@ module _ (b : ℕ) (u : Text) where
     unfolding readFrom
     hex-again =
         from-first 92 (120 ∷ hexDigit (b / 16) ∷ hexDigit (b % 16) ∷ u) b 3
-        (at-hex (92 ∷ 120 ∷ hexDigit (b / 16) ∷ hexDigit (b % 16) ∷ u) 0 (λ e. omega arith) refl (omega arith) (λ e. omega arith) (λ e. omega arith) refl (omega arith)
+        (at-hex (92 ∷ 120 ∷ hexDigit (b / 16) ∷ hexDigit (b % 16) ∷ u) 0 (λ e. omega arith) refl (omega arith) (λ e. omega arith)
+        (λ e. omega arith) refl (omega arith)
         (b / 16) (b % 16) (Is b 3) (sym (digit-value (b / 16) (omega arith))) (sym (digit-value (b % 16) (omega arith))) is)
       where
         sum : b / 16 * 16 + b % 16 ≡ b

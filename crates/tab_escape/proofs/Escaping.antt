@@ -16,7 +16,23 @@ use Rattle.stages.specs.Outcome.{pick}
 use Rattle.stages.specs.Call.{over}
 use Rattle.text.specs.Putting.{Puts}
 use Rattle.text.proofs.Filling.{Filling, fill-byte, fill-ends}
-use Rattle.tab_escape.specs.Escapes.{hexValue, hexByte, escapeOf, byteAt, Reading, bad, good, before, readOn, readFrom, readText, Reads, reads, fails, upTo}
+use Rattle.tab_escape.specs.Escapes.{
+  hexValue,
+  hexByte,
+  escapeOf,
+  byteAt,
+  Reading,
+  bad,
+  good,
+  before,
+  readOn,
+  readFrom,
+  readText,
+  Reads,
+  reads,
+  fails,
+  upTo,
+}
 use Rattle.tab_escape.specs.declared.Fault.{Fault}
 use Rattle.tab_escape.specs.declared.Fault.the-variants.{BadEscape, ZeroByte}
 use Rattle.tab_escape.specs.declared.Byte.{Byte}
@@ -102,7 +118,8 @@ module _ (t : Text) (i : ℕ) where
           module _ (n : getD t (i + 1) 0 ≡ 92 → ⊥) where
             pub at-other : (getD t (i + 1) 0 ≡ 120 → ⊥) → Bad BadEscape ≡ byteAt t i
             at-other e =
-                sym (by-letter ∙ rw (le-ltb (length t - i) 2 h, ne-eqb (getD t (i + 1) 0) 110 m, ne-eqb (getD t (i + 1) 0) 92 n, ne-eqb (getD t (i + 1) 0) 120 e))
+                sym (by-letter ∙ rw
+                (le-ltb (length t - i) 2 h, ne-eqb (getD t (i + 1) 0) 110 m, ne-eqb (getD t (i + 1) 0) 92 n, ne-eqb (getD t (i + 1) 0) 120 e))
 
             module _ (x : getD t (i + 1) 0 ≡ 120) where
               by-digits : byteAt t i ≡ pick (ltb (length t - i) 4) (Bad BadEscape) (hexByte (hexValue (getD t (i + 2) 0)) (hexValue (getD t (i + 3) 0)))
@@ -113,7 +130,8 @@ module _ (t : Text) (i : ℕ) where
               pub at-digit : length t - i < 4 → Bad BadEscape ≡ byteAt t i
               at-digit k = sym (by-digits ∙ rw (lt-ltb (length t - i) 4 k))
 
-              pub at-hex : 4 ≤ length t - i → (a b : ℕ) (r : Byte) → a ≡ hexValue (getD t (i + 2) 0) → b ≡ hexValue (getD t (i + 3) 0) → r ≡ hexByte a b
+              pub at-hex : 4 ≤ length t - i → (a b : ℕ) (r : Byte) → a ≡ hexValue (getD t (i + 2) 0) → b ≡ hexValue (getD t (i + 3) 0)
+                  → r ≡ hexByte a b
                   → r ≡ byteAt t i
               at-hex k a b r e f g = g ∙ rw (e, f) (sym (by-digits ∙ rw (le-ltb (length t - i) 4 k)))
 
@@ -143,7 +161,8 @@ escape-within : (n c h l : ℕ) → Within (escapeOf n c h l) n
 escape-within n c h l = by-pick (λ y. Within y n) (ltb n 2) _ _ (λ _. tt) (λ e. long (ltb-false n 2 e))
   where
     long : 2 ≤ n
-        → Within (pick (eqb c 110) (Is 10 1) (pick (eqb c 92) (Is 92 1) (pick (eqb c 120) (pick (ltb n 4) (Bad BadEscape) (hexByte (hexValue h) (hexValue l))) (Bad BadEscape)))) n
+        → Within (pick (eqb c 110) (Is 10 1)
+        (pick (eqb c 92) (Is 92 1) (pick (eqb c 120) (pick (ltb n 4) (Bad BadEscape) (hexByte (hexValue h) (hexValue l))) (Bad BadEscape)))) n
     long k =
         by-pick (λ y. Within y n) (eqb c 110) _ _ (λ _. (omega arith, omega arith))
         (λ _. by-pick (λ y. Within y n) (eqb c 92) _ _ (λ _. (omega arith, omega arith))
@@ -227,7 +246,9 @@ module _ {t old out : Text} {used i : ℕ} (f : Front t old out used i) where
   module _ {r : Byte} (h : i < length t) (e : r ≡ byteAt t i) where
     pub front-bad : (g : Fault) → r ≡ Bad g → Reads (readText t) old out (read.Bad g)
     front-bad g k =
-        fails {t = f .front} (f .is ∙ ap (onto (f .front)) (from-at t i h ∙ ap (λ (y : Byte). readOn y (λ k. readFrom k (drop (suc i) t))) (sym e ∙ k)) ∙ onto-bad (f .front) g)
+        fails {t = f .front}
+        (f .is ∙ ap (onto (f .front)) (from-at t i h ∙ ap (λ (y : Byte). readOn y (λ k. readFrom k (drop (suc i) t))) (sym e ∙ k)) ∙
+        onto-bad (f .front) g)
         (f .puts .leaves)
 
     pub front-more : (b k : ℕ) → r ≡ Is b k → Front t old (set out used b) (used + 1) (i + 1 + k)

@@ -32,7 +32,8 @@ module _ (f : ℕ → Bool) (Q : Text → Type 0) (later : (b : ℕ) (t : Text) 
       by-rest c (bad g w) h ih d = absurd (bad-good d)
       by-rest c (good w) h ih d = rw (← good-same d) (and-both h (ih w refl))
 
-      by-byte : ((k : ℕ) (w : Text) → readFrom k t ≡ good w → all f w ≡ true) → (y : Byte) → byteAt (b ∷ t) 0 ≡ y → readOn y (λ k. readFrom k t) ≡ good u
+      by-byte : ((k : ℕ) (w : Text) → readFrom k t ≡ good w → all f w ≡ true) → (y : Byte) → byteAt (b ∷ t) 0 ≡ y → readOn y
+          (λ k. readFrom k t) ≡ good u
           → all f u ≡ true
       by-byte ih (Bad g) d e = absurd (bad-good e)
       by-byte ih (Is c k) d e = by-rest c (readFrom k t) (passes b t c k q d) (ih k) e

@@ -63,7 +63,8 @@ table-by true v f r = record {
   pairs = pairs-image v f ∙ ap some (sym (held-image v f));
   rises = ap (λ (w : Pairs). rising (keys w)) (held-image v f) ∙ r;
 }
-table-by false v f r = record { table = texts-image (keys v) f ∙ ap some (sym (heldTexts-image (keys v) f)); rises = ap rising (heldTexts-image (keys v) f) ∙ r }
+table-by false v f r =
+    record { table = texts-image (keys v) f ∙ ap some (sym (heldTexts-image (keys v) f)); rises = ap rising (heldTexts-image (keys v) f) ∙ r }
 
 -- records stand as an image at the front of a buffer
 pub record Stands (kind : Kind) (v : Pairs) (old out : Text) (used : ℕ) : Type 0 where
@@ -166,7 +167,8 @@ module _ {kind : Kind} {text old out : Text} {used at line : ℕ} (g : Going kin
     module _ {left : Text} {a : Entered}
         (s : Enters (inTwos kind) (entered (inTwos kind) (entryOf kind (part text at (at + r))) (recordsBy (inTwos kind) (take used out))) out left a) where
       here : Enters (inTwos kind) (entered (inTwos kind) (entryOf kind (part text at (at + r))) (g .records)) out left a
-      here = subst (λ (v : Pairs). Enters (inTwos kind) (entered (inTwos kind) (entryOf kind (part text at (at + r))) v) out left a) (stands-held (g .stands)) s
+      here = subst (λ (v : Pairs). Enters (inTwos kind) (entered (inTwos kind) (entryOf kind (part text at (at + r))) v) out left a)
+          (stands-held (g .stands)) s
 
       pub going-bad : (x : Fault) → a ≡ answer.Bad x → Packs (inTwos kind) (packed kind 1 [] (linesOf text)) old left (told.Bad line x)
       going-bad x q = bad-of (rw q at here)

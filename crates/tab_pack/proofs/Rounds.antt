@@ -16,7 +16,24 @@ use Rattle.stages.proofs.Bools.{no, apart, either, and-left, and-right}
 use Rattle.stages.proofs.Texts.{all-take, all-drop, ltText-trans, ltText-asym}
 use Rattle.stages.proofs.Outcomes.{Each}
 use Rattle.stages.proofs.Images.{Bytes, Fine, image-canonical, heldTexts-texts, heldTexts-image, pairsOf-some, recordBytes-append, flat-append}
-use Rattle.stages.proofs.Tables.{Vars, Homes, Paths, is-some, table-fine, table-length, table-image, vars-of, variables-are, homes-of, homes-are, paths-of, paths-are, paths-image, texts-held-fine, texts-held-length}
+use Rattle.stages.proofs.Tables.{
+  Vars,
+  Homes,
+  Paths,
+  is-some,
+  table-fine,
+  table-length,
+  table-image,
+  vars-of,
+  variables-are,
+  homes-of,
+  homes-are,
+  paths-of,
+  paths-are,
+  paths-image,
+  texts-held-fine,
+  texts-held-length,
+}
 use Rattle.stages.proofs.Stores.{store-cases, store-later, lookup-later, rising-tail}
 use Rattle.table.specs.Kinds.{inTwos, wellFormed}
 use Rattle.table.specs.declared.Kind.{Kind}
@@ -30,7 +47,23 @@ use Rattle.tab_pack.specs.Packings.{Packing, whole, fault, packOn, packe
 use Rattle.tab_escape.specs.declared.Fault.{Fault}
 use Rattle.tab_pack.specs.declared.Packed.{Packed}
 use Rattle.tab_pack.specs.declared.Packed.the-variants as told
-use Rattle.tab_enter.proofs.Sounds.{keyTest, Bare, Sound, sound-none, keys-alone, bare-tail, Pair, pair-of, path-of, Goes, goes-of, stop-go, entered-faulty, faulty-entry, kept}
+use Rattle.tab_enter.proofs.Sounds.{
+  keyTest,
+  Bare,
+  Sound,
+  sound-none,
+  keys-alone,
+  bare-tail,
+  Pair,
+  pair-of,
+  path-of,
+  Goes,
+  goes-of,
+  stop-go,
+  entered-faulty,
+  faulty-entry,
+  kept,
+}
 use Rattle.tab_pack.proofs.Shown.{linesBy, lines-shown, Fit, keyed, line-again}
 use Rattle.tab_pack.proofs.Determined.{pack-determined}
 use Rattle.tab_pack.proofs.Smalls.{isByte, Small, small-of, bytes-of, read-small, lines-small, image-small}
@@ -42,7 +75,8 @@ module _ (P : Text → Type 0) where
   unfolding stored
   each-flat x t [] h k f = (h, (k, tt))
   each-flat x t (r ∷ v) h k f =
-      store-cases x t r v (λ (w : Pairs). Each P (flat w)) (λ _. (h, (k, f .1 .1))) (λ _. (h, (k, f))) (λ _ _. (f .0, (f .1 .0, each-flat x t v h k (f .1 .1))))
+      store-cases x t r v (λ (w : Pairs). Each P (flat w)) (λ _. (h, (k, f .1 .1))) (λ _. (h, (k, f)))
+      (λ _ _. (f .0, (f .1 .0, each-flat x t v h k (f .1 .1))))
 
   each-keys : (x t : Text) (v : Pairs) → P x → Each P (keys v) → Each P (keys (stored x t v))
   unfolding stored
@@ -138,7 +172,8 @@ unfolding entered
 entered-last two v p w e h = rw (lookup-last v p w e, stored-last v p w e, le-leb (imageLength (textsBy two (v ++ (p ∷ [])))) (limitBy two) h)
 
 module _ (kind : Kind) (k : keyed kind ≡ true) where
-  packed-lines : (n : ℕ) (v w : Pairs) → rising (keys (v ++ w)) ≡ true → imageLength (textsBy (inTwos kind) (v ++ w)) ≤ limitBy (inTwos kind) → Each (Fit kind) w
+  packed-lines : (n : ℕ) (v w : Pairs) → rising (keys (v ++ w)) ≡ true → imageLength (textsBy (inTwos kind) (v ++ w)) ≤ limitBy
+      (inTwos kind) → Each (Fit kind) w
       → packed kind n v (linesBy (inTwos kind) w) ≡ whole (v ++ w)
   unfolding packed
   packed-lines n v [] e h f = ap whole (sym (append-nil v))
@@ -263,7 +298,8 @@ module _ (kind : Kind) where
   packed-sound n v (t ∷ l) w s d f e =
       by (λ u x y. packed-sound (suc n) u l w (s .1) x y) (entered (inTwos kind) (entryOf kind t) v) refl e
     where
-      by : ((u : Pairs) → Sound kind u → Each Small (textsBy (inTwos kind) u) → packed kind (suc n) u l ≡ whole w → Sound kind w × Each Small (textsBy (inTwos kind) w))
+      by : ((u : Pairs) → Sound kind u → Each Small (textsBy (inTwos kind) u) → packed kind (suc n) u l ≡ whole w → Sound kind w × Each
+          Small (textsBy (inTwos kind) w))
           → (o : Step) → entered (inTwos kind) (entryOf kind t) v ≡ o → packOn o n v (λ u. packed kind (suc n) u l) ≡ whole w
           → Sound kind w × Each Small (textsBy (inTwos kind) w)
       by ih (stop g) q e = absurd (fault-whole e)

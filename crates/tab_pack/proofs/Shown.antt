@@ -169,9 +169,19 @@ pair-again : (kind : Kind) (k t : Text) → keyFits kind [] k ≡ true → all i
 unfolding pairOf
 pair-again kind k t f l h z =
     let e : shownText k ≡ k = plain-shown k (all-weaker isLoginByte isPlain (λ b d. simple-plain b (login-simple b d)) k l) in
-    let u : upTo 61 (k ++ 61 ∷ shownText t) ≡ length k = up-to k (shownText t) (all-weaker isLoginByte notEquals (λ b d. simple-other b (login-simple b d)) k l) in
+    let u : upTo 61 (k ++ 61 ∷ shownText t) ≡ length k =
+    up-to k (shownText t) (all-weaker isLoginByte notEquals (λ b d. simple-other b (login-simple b d)) k l) in
     let n : length k < length (k ++ 61 ∷ shownText t) = rw (length-append k (61 ∷ shownText t)) (omega arith) in
-    rw (e, u, lt-leb (length (k ++ 61 ∷ shownText t)) (length k) n, take-at k (61 ∷ shownText t) (length k) refl, f, behind-one k (shownText t) 61, read-shown t h z)
+    rw (
+      e,
+      u,
+      lt-leb (length (k ++ 61 ∷ shownText t)) (length k) n,
+      take-at k (61 ∷ shownText t) (length k) refl,
+      f,
+      behind-one k (shownText t)
+          61,
+      read-shown t h z,
+    )
 
 name-login : (k : Text) → isName k ≡ true → all isLoginByte k ≡ true
 unfolding isName isLoginByte

@@ -31,5 +31,6 @@ packed kind n v (line ∷ l) = packOn (entered (inTwos kind) (entryOf kind line)
 
 -- what packing answers and leaves: the image stands at the front of the old bytes, at a fault that of the records before it
 pub data Packs (two : Bool) (o : Packing) (old left : Text) : Packed → Type 0 where
-  packs : {v : Pairs} {n : ℕ} → o ≡ whole v → n ≡ length (image (textsBy two v)) → left ≡ over (image (textsBy two v)) old → Packs two o old left (told.Len n)
+  packs : {v : Pairs} {n : ℕ} → o ≡ whole v → n ≡ length (image (textsBy two v)) → left ≡ over (image (textsBy two v)) old → Packs two
+      o old left (told.Len n)
   fails : {v : Pairs} {n : ℕ} {f : Fault} → o ≡ fault n f v → left ≡ over (image (textsBy two v)) old → Packs two o old left (told.Bad n f)

@@ -10,6 +10,7 @@ ghost use Rattle.tab_pack.specs.Packings.{packed, Packs};
 use tab_enter::Entered;
 use tab_escape::Fault;
 use table::Kind;
+use text::numbers;
 
 // What packing answers.
 pub enum Packed {
@@ -19,9 +20,6 @@ pub enum Packed {
     Bad { line: usize, fault: Fault },
 }
 
-// "one version byte, 1"
-const VERSION: u8 = 1;
-
 const NEWLINE: u8 = b'\n';
 
 // Packs the lines of a text into an image of the kind at the front of a buffer. The bytes behind it stay. At a line that is no record the image of those
@@ -30,7 +28,7 @@ pub fn pack(kind: Kind, text: &[u8], image: &mut [u8], work: &mut [u8]) -> Packe
     requires { ⌜ (limitBy (inTwos kind) ≤ length (now image)) × (length (now text) ≤ length (now work)) ⌝ }
     ensures { λ r. ⌜ Packs (inTwos kind) (packed kind 1 [] (linesOf (now (text .entry)))) (now (image .entry)) (now (image .exit)) r ⌝ }
 {
-    image[0] = VERSION;
+    image[0] = numbers::VERSION;
     let mut used: usize = 1;
     let mut at: usize = 0;
     let mut line: usize = 1;

@@ -140,7 +140,8 @@ pub record Fills (two : Bool) (t : Text) (at : ℕ) (first : Bool) (old out : Te
 
 pub fills-starts : (two : Bool) (t old : Text) → texts t ≡ some (heldTexts t) → length (shownTexts two two (heldTexts t)) ≤ length old
     → Fills two t 1 two old old 0
-fills-starts two t old e h = record { left = heldTexts t; ahead = ahead-first t (heldTexts t) e; filling = fill-starts (shownTexts two two (heldTexts t)) old h }
+fills-starts two t old e h =
+    record { left = heldTexts t; ahead = ahead-first t (heldTexts t) e; filling = fill-starts (shownTexts two two (heldTexts t)) old h }
 
 module _ {two : Bool} {t : Text} {at : ℕ} {first : Bool} {old out : Text} {used : ℕ} (f : Fills two t at first old out used) {r : Piece}
     (s : r ≡ pieceAt t at) where

@@ -48,7 +48,8 @@ module _ {t key : Text} {r : Found} (s : Looked t key r) where
   unfolding value
   absent-value e = sym (ap orEmpty (is-absent e))
 
-spot-found : (key : Text) (p : ℕ) (o : Option Text) (at mid end : ℕ) → Known at mid end ≡ spotBy key p o → At (mid + 2) end ≡ foundBy (p + 4 + length key) o
+spot-found : (key : Text) (p : ℕ) (o : Option Text) (at mid end : ℕ) → Known at mid end ≡ spotBy key p o → At (mid + 2) end ≡ foundBy
+    (p + 4 + length key) o
 unfolding spotBy foundBy
 spot-found key p none at mid end e = absurd (let z : _≡_ {A = ℕ} 0 1 = cc in omega arith)
 spot-found key p (some v) at mid end e =

@@ -72,7 +72,8 @@ module _ (t : Text) (at : ℕ) where
         piece-text q = sym (by-test ∙ rw (fits, ap (all notZero) (sym inside) ∙ run-passes (part t (at + 2) (at + 2 + n)) 0 NotZero r p (q ∙ sym size)))
 
         pub piece-zero : (r ≡ n → ⊥) → Bad ≡ pieceAt t at
-        piece-zero q = sym (by-test ∙ rw (fits, ap (all notZero) (sym inside) ∙ run-fails (part t (at + 2) (at + 2 + n)) 0 NotZero r p (λ e. q (e ∙ size))))
+        piece-zero q = sym (by-test ∙ rw
+            (fits, ap (all notZero) (sym inside) ∙ run-fails (part t (at + 2) (at + 2 + n)) 0 NotZero r p (λ e. q (e ∙ size))))
 
 -- a text stands at `at` and ends at `end`
 pub record Stands (t : Text) (at end : ℕ) : Type 0 where

@@ -9,7 +9,28 @@ use lib.ListN.{length, drop, getD}
 use borrow.Author.Tests.{lt-leb, ne-eqb}
 use Rattle.stages.specs.Numbers.{imageLimit, pathsLimit}
 use Rattle.stages.specs.Bytes.{Text, part, ltText}
-use Rattle.stages.specs.Images.{Pairs, isName, isLogin, isSome, variables, homes, pathsOf, fieldsOf, textsIn, texts, pairs, pairsOf, keys, allTexts, rising, pairsChecked, pathsChecked, notEmpty, sized, push}
+use Rattle.stages.specs.Images.{
+  Pairs,
+  isName,
+  isLogin,
+  isSome,
+  variables,
+  homes,
+  pathsOf,
+  fieldsOf,
+  textsIn,
+  texts,
+  pairs,
+  pairsOf,
+  keys,
+  allTexts,
+  rising,
+  pairsChecked,
+  pathsChecked,
+  notEmpty,
+  sized,
+  push,
+}
 use Rattle.stages.proofs.Bools.{either}
 use Rattle.stages.proofs.Images.{texts-nil}
 use Rattle.stages.proofs.Tables.{sized-fits}
@@ -53,7 +74,8 @@ takes-one : (f : Text → Text → Bool) (p a : Text) (o : Option (List Text)) �
 takes-one f p a none e = refl
 takes-one f p a (some l) e = rw e
 
-takes-two : (f : Text → Text → Bool) (p a b : Text) (o : Option (List Text)) → f p a ≡ true → fineWith true f p (push a (push b o)) ≡ fineWith true f a o
+takes-two : (f : Text → Text → Bool) (p a b : Text) (o : Option (List Text)) → f p a ≡ true → fineWith true f p (push a (push b o)) ≡
+    fineWith true f a o
 takes-two f p a b none e = refl
 takes-two f p a b (some l) e = rw e
 
@@ -120,7 +142,8 @@ unfolding rising
 ones p [] = refl
 ones p (a ∷ l) = rw (ones a l) (go (ltText p a) refl)
   where
-    go : (x : Bool) → ltText p a ≡ x → (ltText p a && (allTexts notEmpty l && rising (a ∷ l))) ≡ ((notEmpty a && allTexts notEmpty l) && (ltText p a && rising (a ∷ l)))
+    go : (x : Bool) → ltText p a ≡ x → (ltText p a && (allTexts notEmpty l && rising (a ∷ l))) ≡
+        ((notEmpty a && allTexts notEmpty l) && (ltText p a && rising (a ∷ l)))
     go true q = rw (q, above p a q)
     go false q = rw q (sym (and-false (notEmpty a && allTexts notEmpty l)))
 

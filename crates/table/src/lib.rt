@@ -9,6 +9,7 @@ ghost use Rattle.table.specs.Kinds.{wellFormed, limitOf, keyFits, record
 ghost use Rattle.table.specs.Pieces.{sizeAt, pieceAt};
 use text::Class;
 use text::Order;
+use text::numbers;
 
 // The kinds of table: what their records are.
 pub enum Kind {
@@ -36,14 +37,6 @@ pub enum Found {
     At { from: usize, to: usize },
     Missing,
 }
-
-// "one version byte, 1"
-const VERSION: u8 = 1;
-
-// "An image has at most 8,192 bytes, that of paths 32,768."
-const IMAGE_LIMIT: usize = 8192;
-
-const PATHS_LIMIT: usize = 32768;
 
 // The length that the two bytes at a place say.
 pub fn size_at(image: &[u8], at: usize) -> usize
@@ -141,10 +134,10 @@ fn limit(kind: Kind) -> usize
     ensures { λ r. ⌜ r ≡ limitOf kind ⌝ }
 {
     match kind {
-        Kind::Variables => IMAGE_LIMIT,
-        Kind::Homes => IMAGE_LIMIT,
-        Kind::Paths => PATHS_LIMIT,
-        Kind::Fields => IMAGE_LIMIT,
+        Kind::Variables => numbers::IMAGE_LIMIT,
+        Kind::Homes => numbers::IMAGE_LIMIT,
+        Kind::Paths => numbers::PATHS_LIMIT,
+        Kind::Fields => numbers::IMAGE_LIMIT,
     }
 }
 
@@ -170,7 +163,7 @@ pub fn well_formed(kind: Kind, image: &[u8]) -> bool
     if image.len() == 0 {
         return false;
     }
-    if image[0] != VERSION {
+    if image[0] != numbers::VERSION {
         return false;
     }
     let mut at: usize = 1;

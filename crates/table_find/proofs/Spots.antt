@@ -86,7 +86,8 @@ module _ (t key : Text) (at : ℕ) (s : Walking t key at) where
   unfolding placeOf
   place b = rw (all-passed b) (sym (length-image (flat (s .passed))) ∙ sym (ap length (s .front)) ∙ length-take-le at t (s .within))
 
-  hole : (end : ℕ) → before key (s .rest) ≡ [] → at ≤ end → end ≤ length t → drop end t ≡ written (flat (behind key (s .rest))) → Hole t key at end
+  hole : (end : ℕ) → before key (s .rest) ≡ [] → at ≤ end → end ≤ length t → drop end t ≡ written (flat (behind key (s .rest))) →
+      Hole t key at end
   hole end b l h d = record {
     low = l;
     high = h;
@@ -132,10 +133,12 @@ module _ (t key : Text) (at : ℕ) (s : Walking t key at) where
         record-fits = omega (arith, name-size, value-size, f .value .fits)
 
         value-is : part t (at + 2 + n + 2) (at + 2 + n + 2 + m) ≡ f .front .1
-        value-is = ap (λ (x : ℕ). part t (at + 2 + x + 2) (at + 2 + x + 2 + m)) name-size ∙ ap (λ (x : ℕ). part t (at + 2 + length (f .front .0) + 2) (at + 2 + length (f .front .0) + 2 + x)) value-size ∙ f .value .is
+        value-is = ap (λ (x : ℕ). part t (at + 2 + x + 2) (at + 2 + x + 2 + m)) name-size ∙ ap
+            (λ (x : ℕ). part t (at + 2 + length (f .front .0) + 2) (at + 2 + length (f .front .0) + 2 + x)) value-size ∙ f .value .is
 
         left : drop (at + 2 + n + 2 + m) t ≡ written (flat (f .more))
-        left = ap (λ (x : ℕ). drop (at + 2 + x + 2 + m) t) name-size ∙ ap (λ (x : ℕ). drop (at + 2 + length (f .front .0) + 2 + x) t) value-size ∙ f .value .next
+        left = ap (λ (x : ℕ). drop (at + 2 + x + 2 + m) t) name-size ∙ ap (λ (x : ℕ). drop (at + 2 + length (f .front .0) + 2 + x) t)
+            value-size ∙ f .value .next
 
         pub place-less : orderOf key (part t (at + 2) (at + 2 + n)) ≡ Less → Placed t key (Fresh at)
         place-less o =
@@ -178,8 +181,10 @@ module _ (t key : Text) (at : ℕ) (s : Walking t key at) where
             ∙ take-add at (recordBytes (flat (f .front ∷ []))) t
             ∙ ap (λ (u : Text). u ++ take (recordBytes (flat (f .front ∷ []))) (drop at t)) (s .front)
             ∙ ap (λ (u : Text). image (flat (s .passed)) ++ u)
-            (ap (take (recordBytes (flat (f .front ∷ [])))) (s .ahead ∙ ap (λ (v : Pairs). written (flat v)) (f .is) ∙ written-append (flat (f .front ∷ [])) (flat (f .more)))
-            ∙ take-at (written (flat (f .front ∷ []))) (written (flat (f .more))) (recordBytes (flat (f .front ∷ []))) (length-written (flat (f .front ∷ []))))
+            (ap (take (recordBytes (flat (f .front ∷ []))))
+            (s .ahead ∙ ap (λ (v : Pairs). written (flat v)) (f .is) ∙ written-append (flat (f .front ∷ [])) (flat (f .more)))
+            ∙ take-at (written (flat (f .front ∷ []))) (written (flat (f .more))) (recordBytes (flat (f .front ∷ [])))
+            (length-written (flat (f .front ∷ []))))
             ∙ image-more (s .passed) (f .front)
 
         pub place-more : orderOf key (part t (at + 2) (at + 2 + n)) ≡ More → Walking t key (at + 2 + n + 2 + m)
@@ -192,7 +197,8 @@ module _ (t key : Text) (at : ℕ) (s : Walking t key at) where
               within = record-fits;
               front = passes;
               ahead = left;
-              below = s .below ∙ ap (λ (v : Pairs). s .passed ++ before key v) (f .is) ∙ ap (λ (v : Pairs). s .passed ++ v) (before-more key (f .front) (f .more) e) ∙ sym (append-assoc (s .passed) (f .front ∷ []) (before key (f .more)));
+              below = s .below ∙ ap (λ (v : Pairs). s .passed ++ before key v) (f .is) ∙ ap (λ (v : Pairs). s .passed ++ v)
+                  (before-more key (f .front) (f .more) e) ∙ sym (append-assoc (s .passed) (f .front ∷ []) (before key (f .more)));
               above = s .above ∙ ap (behind key) (f .is) ∙ behind-more key (f .front) (f .more) e;
               gets = s .gets ∙ ap (lookup key) (f .is) ∙ lookup-later key (f .front) (f .more) q;
               rises = rising-tail (f .front .0) (keys (f .more)) rising-ahead;

@@ -47,7 +47,8 @@ module _ (b path : Text) (used at cap : ℕ) (h : at ≤ used) (l : used ≤ cap
   pub insert-full : cap - used < length path + 2 → Writes (within cap new) b b (refused variableRoom)
   insert-full m = writes-refused variableRoom b (within-full cap new (omega (arith, new-length)))
 
-  pub insert-kept : (b1 ys : Text) {r : Outcome ℕ} → length path + 2 ≤ cap - used → b1 ≡ paste b (at + (length path + 2)) (drop at b) (used - at) → length b1 ≡ length b
+  pub insert-kept : (b1 ys : Text) {r : Outcome ℕ} → length path + 2 ≤ cap - used → b1 ≡ paste b (at + (length path + 2)) (drop at b)
+      (used - at) → length b1 ≡ length b
       → Writes (recordIn (length (midOf at (length b1 - at) b1)) path) (midOf at (length b1 - at) b1) ys r
       → Writes (within cap new) b (putMid at (length b1 - at) b1 ys) (done (used + (length path + 2)))
   insert-kept b1 ys n e long w =
@@ -107,7 +108,8 @@ module _ (b x : Text) (used at cap : ℕ) (l : used ≤ length b) (g : Gap (take
 
           yes : leb (imageLength more) cap ≡ true → Adds (adding cap x (heldTexts (take used b))) b left (Used n)
           yes d =
-              let q : given .new ≡ image more = same (sym (given .gives) ∙ within-fits cap (image more) (omega (arith, length-image more, leb-true (imageLength more) cap d))) in
+              let q : given .new ≡ image more =
+              same (sym (given .gives) ∙ within-fits cap (image more) (omega (arith, length-image more, leb-true (imageLength more) cap d))) in
               adds-more n d (given .long ∙ ap length q) (given .leaves ∙ ap (λ (t : Text). over t b) q)
 
           none : leb (imageLength more) cap ≡ false → Adds (adding cap x (heldTexts (take used b))) b left (Used n)

@@ -59,7 +59,8 @@ fn place_of(image: &[u8], path: &[u8]) -> Place
 // new end on stay.
 fn insert(image: &mut [u8], used: usize, at: usize, path: &[u8], cap: usize) -> Stored
     requires { ⌜ (at ≤ used) × (used ≤ cap) × (cap ≤ length (now image)) × (cap ≤ pathsLimit) ⌝ }
-    ensures { λ r. ⌜ Writes (within cap (spliced (now (image .entry)) used at at (framed (now (path .entry))))) (now (image .entry)) (now (image .exit)) (storedOutcome r) ⌝ }
+    ensures { λ r. ⌜ Writes (within cap (spliced (now (image .entry)) used at at (framed (now (path .entry))))) (now (image .entry))
+        (now (image .exit)) (storedOutcome r) ⌝ }
 {
     let room = cap - used;
     if room < 2 {

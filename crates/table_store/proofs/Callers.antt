@@ -62,7 +62,8 @@ module _ (room : ℕ) (t : Text) where
       small : leb (length (framed t)) room ≡ true → length t + 2 ≤ room
       small q = omega (arith, leb-true (length (framed t)) room q)
 
-      go : (a : Bool) → leb (length t) textLimit ≡ a → (b : Bool) → leb (length (framed t)) room ≡ b → (framed t ≡ new) × (length t ≤ textLimit) × (length t + 2 ≤ room)
+      go : (a : Bool) → leb (length t) textLimit ≡ a → (b : Bool) → leb (length (framed t)) room ≡ b → (framed t ≡ new) ×
+          (length t ≤ textLimit) × (length t + 2 ≤ room)
       go true p true q = (same (rw (p, q) at e), leb-true (length t) textLimit p, small q)
       go true p false q = absurd (never (sym (rw (p, q) at e)))
       go false p b q = absurd (never (sym (rw p at e)))
@@ -133,24 +134,30 @@ module _ (l : List Text) (t old out ys : Text) (used : ℕ) (r : Put) (f : Fills
   pub put-next : (n : ℕ) → r ≡ Len n → Fills (l ++ (t ∷ [])) old (putMid used (length out - used) out ys) (used + n)
   unfolding over
   put-next n e =
-      let d : (n ≡ length t + 2) × (ys ≡ over (framed t) (midOf used (length out - used) out)) × (length t + 2 ≤ length (midOf used (length out - used) out)) =
+      let d : (n ≡ length t + 2) × (ys ≡ over (framed t) (midOf used (length out - used) out)) ×
+      (length t + 2 ≤ length (midOf used (length out - used) out)) =
       put-len t (midOf used (length out - used) out) ys r w n e in
       let i : length (image (l ++ (t ∷ []))) ≡ length (image l) + length (framed t) = ap length (image-snoc l t) ∙ length-append (image l) (framed t) in
       let q : used + length (framed t) ≡ length (image (l ++ (t ∷ []))) = omega (arith, f .long, i) in
-      let m : drop (length (framed t)) (drop used old) ≡ drop (length (image (l ++ (t ∷ [])))) old = drop-drop (length (framed t)) used old ∙ ap (λ (k : ℕ). drop k old) q in
-      let y : ys ≡ framed t ++ drop (length (image (l ++ (t ∷ [])))) old = d .1 ∙ ap (λ (x : Text). framed t ++ drop (length (framed t)) x) free-is ∙ ap (λ (x : Text). framed t ++ x) m in
+      let m : drop (length (framed t)) (drop used old) ≡ drop (length (image (l ++ (t ∷ [])))) old =
+      drop-drop (length (framed t)) used old ∙ ap (λ (k : ℕ). drop k old) q in
+      let y : ys ≡ framed t ++ drop (length (image (l ++ (t ∷ [])))) old =
+      d .1 ∙ ap (λ (x : Text). framed t ++ drop (length (framed t)) x) free-is ∙ ap (λ (x : Text). framed t ++ x) m in
       let a : take used out ≡ image l = ap (take used) (f .is) ∙ take-at (image l) (drop (length (image l)) old) used (sym (f .long)) in
       let z : drop (length out - used) (drop used out) ≡ [] = rw (← length-drop used out) (drop-length (drop used out)) in
       record {
         long = omega (arith, f .long, i, d .0);
         small = omega (arith, f .small, d .0, d .2, free-length);
-        is = rw (z, append-nil ys, a, y) (sym (append-assoc (image l) (framed t) (drop (length (image (l ++ (t ∷ [])))) old)) ∙ ap (λ (x : Text). x ++ drop (length (image (l ++ (t ∷ [])))) old) (sym (image-snoc l t)));
+        is = rw (z, append-nil ys, a, y)
+            (sym (append-assoc (image l) (framed t) (drop (length (image (l ++ (t ∷ [])))) old)) ∙ ap
+            (λ (x : Text). x ++ drop (length (image (l ++ (t ∷ [])))) old) (sym (image-snoc l t)));
       }
 
   pub put-last : r ≡ NoRoom → length t ≤ textLimit → length old < imageLength (l ++ (t ∷ []))
   put-last e h =
       let d : length (midOf used (length out - used) out) < length t + 2 = put-none t (midOf used (length out - used) out) ys r w e .1 h in
-      let i : imageLength (l ++ (t ∷ [])) ≡ length (image l) + length (framed t) = sym (length-image (l ++ (t ∷ []))) ∙ ap length (image-snoc l t) ∙ length-append (image l) (framed t) in
+      let i : imageLength (l ++ (t ∷ [])) ≡ length (image l) + length (framed t) =
+      sym (length-image (l ++ (t ∷ []))) ∙ ap length (image-snoc l t) ∙ length-append (image l) (framed t) in
       omega (arith, f .long, f .small, free-length, i)
 
 -- `store`

@@ -14,7 +14,8 @@ use Rattle.table_store.specs.declared.Stored.{Stored}
 use Rattle.table_store.specs.declared.Stored.the-variants.{Used, Full}
 
 -- what is written for one stage's bytes over one buffer is one answer and one buffer
-pub writes-once : {o : Outcome Text} {old left left′ : Text} {a a′ : Outcome ℕ} → Writes o old left a → Writes o old left′ a′ → (a ≡ a′) × (left ≡ left′)
+pub writes-once : {o : Outcome Text} {old left left′ : Text} {a a′ : Outcome ℕ} → Writes o old left a → Writes o old left′ a′ →
+    (a ≡ a′) × (left ≡ left′)
 writes-once w w′ = (w .answers ∙ sym (w′ .answers), w .leaves ∙ sym (w′ .leaves))
 
 -- one outcome is that of one answer

@@ -68,11 +68,14 @@ unfolding placed
 placed-both p w v x h =
     let n : length (take p x ++ w) ≡ p + length w = simp (length-append, length-take-le p x (omega arith)) in
     let e : take p x ++ (w ++ drop (p + length w) x) ≡ (take p x ++ w) ++ drop (p + length w) x = sym (append-assoc (take p x) w (drop (p + length w) x)) in
-    let t : take (p + length w) ((take p x ++ w) ++ drop (p + length w) x) ≡ take p x ++ w = take-at (take p x ++ w) (drop (p + length w) x) (p + length w) n in
-    let d : drop (p + length w) ((take p x ++ w) ++ drop (p + length w) x) ≡ drop (p + length w) x = drop-at (take p x ++ w) (drop (p + length w) x) (p + length w) n in
+    let t : take (p + length w) ((take p x ++ w) ++ drop (p + length w) x) ≡ take p x ++ w =
+    take-at (take p x ++ w) (drop (p + length w) x) (p + length w) n in
+    let d : drop (p + length w) ((take p x ++ w) ++ drop (p + length w) x) ≡ drop (p + length w) x =
+    drop-at (take p x ++ w) (drop (p + length w) x) (p + length w) n in
     let k : p + length w + length v ≡ p + length (w ++ v) = simp length-append (omega arith) in
     rw (e, t, ← drop-drop (length v) (p + length w) ((take p x ++ w) ++ drop (p + length w) x), d, drop-drop (length v) (p + length w) x, k)
-    (append-assoc (take p x) w (v ++ drop (p + length (w ++ v)) x) ∙ ap (λ (l : Text). take p x ++ l) (sym (append-assoc w v (drop (p + length (w ++ v)) x))))
+    (append-assoc (take p x) w (v ++ drop (p + length (w ++ v)) x) ∙ ap (λ (l : Text). take p x ++ l)
+    (sym (append-assoc w v (drop (p + length (w ++ v)) x))))
 
 regroup : (x y z u : Text) → x ++ (y ++ (z ++ u)) ≡ (x ++ (y ++ z)) ++ u
 regroup x y z u = simp append-assoc
@@ -98,7 +101,8 @@ module _ (b w : Text) (used at end : ℕ) (h : at ≤ end) (k : end ≤ used) (l
     back : drop (at + size) moved ≡ part b end used ++ drop (at + size + (used - end)) b
     back =
         ap (drop (at + size)) (append-assoc (take (at + size) b) (take (used - end) (drop end b)) (drop (at + size + (used - end)) b))
-        ∙ drop-at (take (at + size) b) (take (used - end) (drop end b) ++ drop (at + size + (used - end)) b) (at + size) (length-take-le (at + size) b (omega arith))
+        ∙ drop-at (take (at + size) b) (take (used - end) (drop end b) ++ drop (at + size + (used - end)) b) (at + size)
+        (length-take-le (at + size) b (omega arith))
 
     pub splice-is : placed at w moved ≡ over (spliced b used at end w) b
     unfolding placed spliced over
@@ -110,7 +114,8 @@ module _ (b w : Text) (used at end : ℕ) (h : at ≤ end) (k : end ≤ used) (l
         ∙ regroup (take at b) w (part b end used) (drop (length (spliced b used at end w)) b)
 
 -- what `splice` answers and leaves
-module _ (b name value : Text) (used at end cap : ℕ) (p : (at ≤ end) × (end ≤ used) × (used ≤ cap) × (cap ≤ length b) × (cap ≤ imageLimit)) where
+module _ (b name value : Text) (used at end cap : ℕ)
+    (p : (at ≤ end) × (end ≤ used) × (used ≤ cap) × (cap ≤ length b) × (cap ≤ imageLimit)) where
   abbrev new : Text
   new = framed name ++ framed value
 
@@ -126,7 +131,8 @@ module _ (b name value : Text) (used at end cap : ℕ) (p : (at ≤ end) × (end
   pub splice-full : cap - (used - (end - at)) < size → Writes (within cap (spliced b used at end new)) b b (refused variableRoom)
   splice-full m = writes-refused variableRoom b (within-full cap (spliced b used at end new) (omega (arith, new-length)))
 
-  module _ (b1 ys1 : Text) {r1 : Outcome ℕ} (n : size ≤ cap - (used - (end - at))) (e : b1 ≡ paste b (at + size) (drop end b) (used - end)) (long : length b1 ≡ length b)
+  module _ (b1 ys1 : Text) {r1 : Outcome ℕ} (n : size ≤ cap - (used - (end - at))) (e : b1 ≡ paste b (at + size) (drop end b) (used - end))
+      (long : length b1 ≡ length b)
       (w1 : Writes (recordIn (length (midOf at (length b1 - at) b1)) name) (midOf at (length b1 - at) b1) ys1 r1) where
     abbrev b2 : Text
     b2 = putMid at (length b1 - at) b1 ys1
@@ -143,7 +149,8 @@ module _ (b name value : Text) (used at end cap : ℕ) (p : (at ≤ end) × (end
     behind : next ≡ at + length (framed name)
     behind = omega arith
 
-    pub splice-kept : (ys2 : Text) {r2 : Outcome ℕ} → Writes (recordIn (length (midOf next (length b2 - next) b2)) value) (midOf next (length b2 - next) b2) ys2 r2
+    pub splice-kept : (ys2 : Text) {r2 : Outcome ℕ} → Writes (recordIn (length (midOf next (length b2 - next) b2)) value)
+        (midOf next (length b2 - next) b2) ys2 r2
         → Writes (within cap (spliced b used at end new)) b (putMid next (length b2 - next) b2 ys2) (done (used - (end - at) + size))
     splice-kept ys2 w2 =
         writes-done (spliced b used at end new) b

@@ -62,7 +62,8 @@ module _ (x t : Text) (v : Pairs) where
   image-within room h = go (leb bytes room) refl
     where
       go : (b : Bool) → leb bytes room ≡ b → imageIn room x t v ≡ within room (image (flat (stored x t v)))
-      go true e = image-by room true (and-both e (le-leb bytes imageLimit (omega (arith, leb-true bytes room e)))) ∙ sym (rw (length-image (flat (stored x t v)), e))
+      go true e = image-by room true (and-both e (le-leb bytes imageLimit (omega (arith, leb-true bytes room e)))) ∙ sym
+          (rw (length-image (flat (stored x t v)), e))
       go false e = image-by room false (rw e) ∙ sym (rw (length-image (flat (stored x t v)), e))
 
   -- the lesser of a buffer and 8,192 gives what the buffer gives
@@ -90,6 +91,7 @@ module _ (b name : Text) (used at end : ℕ) (l : used ≤ length b) (h : Hole (
       → Writes (within cap (spliced b used at end (framed name ++ framed value))) b left r → Writes (imageIn cap name value (held (take used b))) b left r
   store-writes value left cap {r} k w =
       let e : spliced b used at end (framed name ++ framed value) ≡ image (flat (stored name value (held (take used b)))) =
-      splice-image b name value used at end (before name (held (take used b))) (behind name (held (take used b))) (hole-within .0) (hole-within .1) l (h .front) (h .back)
+      splice-image b name value used at end (before name (held (take used b))) (behind name (held (take used b))) (hole-within .0) (hole-within .1) l
+      (h .front) (h .back)
       ∙ ap (λ (v : Pairs). image (flat v)) (sym (stored-between name value (held (take used b)))) in
       rw (image-within name value (held (take used b)) cap k, ← e) w

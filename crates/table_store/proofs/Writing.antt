@@ -18,7 +18,8 @@ use Rattle.stages.proofs.Bools.{and-both}
 use Rattle.table_store.specs.Answers.{textLimit, recordIn, lengthOf, leftBy, Writes}
 
 -- what is written where a stage gives bytes, and where it refuses
-pub writes-done : {o : Outcome Text} (t old : Text) {left : Text} {n : ℕ} → o ≡ done t → n ≡ length t → left ≡ over t old → Writes o old left (done n)
+pub writes-done : {o : Outcome Text} (t old : Text) {left : Text} {n : ℕ} → o ≡ done t → n ≡ length t → left ≡ over t old → Writes o
+    old left (done n)
 writes-done t old e k l = record { answers = ap done k ∙ sym (ap lengthOf e); leaves = l ∙ sym (ap (λ (o : Outcome Text). leftBy o old) e) }
 
 pub writes-refused : {o : Outcome Text} (n : ℕ) (old : Text) → o ≡ refused n → Writes o old old (refused n)
@@ -51,7 +52,8 @@ module _ (t : Text) where
   part-fits (x ∷ []) h = absurd (omega arith)
   part-fits [] h = absurd (omega arith)
 
-  pub put-length : (out ys : Text) → length ys ≡ length (midOf 2 (length (headed out) - 2) (headed out)) → length (putMid 2 (length (headed out) - 2) (headed out) ys) ≡ length out
+  pub put-length : (out ys : Text) → length ys ≡ length (midOf 2 (length (headed out) - 2) (headed out)) → length
+      (putMid 2 (length (headed out) - 2) (headed out) ys) ≡ length out
   put-length out ys e = same-len-mid 2 (length (headed out) - 2) (headed out) ys e ∙ simp length-set
 
   pub put-is : (out ys : Text) → 2 ≤ length out → ys ≡ t ++ drop (length t) (midOf 2 (length (headed out) - 2) (headed out))
@@ -64,6 +66,7 @@ module _ (t : Text) where
       let q : ys ≡ t ++ drop (length t) o = e ∙ rw (k, take-all (length o) o (omega arith)) in
       rw (k, drop-length o, append-nil ys, q)
 
-  pub put-wrote : (out ys : Text) → length t ≤ textLimit → length t + 2 ≤ length out → ys ≡ t ++ drop (length t) (midOf 2 (length (headed out) - 2) (headed out))
+  pub put-wrote : (out ys : Text) → length t ≤ textLimit → length t + 2 ≤ length out → ys ≡ t ++ drop (length t)
+      (midOf 2 (length (headed out) - 2) (headed out))
       → Writes (recordIn (length out) t) out (putMid 2 (length (headed out) - 2) (headed out) ys) (done (length t + 2))
   put-wrote out ys h k e = writes-done (framed t) out (record-fits (length out) t h k) (omega arith) (put-is out ys (omega arith) e)

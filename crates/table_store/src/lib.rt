@@ -9,6 +9,7 @@ ghost use Rattle.table.specs.Places.{Table};
 ghost use Rattle.table_store.specs.Answers.{putOutcome, storedOutcome, recordIn, imageIn, Writes};
 ghost use Rattle.table_store.specs.Splice.{spliced, within, roomFor};
 use table::Spot;
+use text::numbers;
 
 // What the record writer answers.
 pub enum Put {
@@ -26,16 +27,13 @@ pub enum Stored {
     Full,
 }
 
-// The greatest length that two bytes say.
-const TEXT_LIMIT: usize = 65535;
-
 // Writes the text's record, its length in two bytes and then itself, at the front of the area, if there is room; the bytes behind it stay. If there
 // is none, all bytes stay. A caller lends the free part of its output, `&mut out[used..]`.
 pub fn put_record(out: &mut [u8], text: &[u8]) -> Put
     ensures { λ r. ⌜ Writes (recordIn (length (now (out .entry))) (now (text .entry))) (now (out .entry)) (now (out .exit)) (putOutcome r) ⌝ }
 {
     let n = text.len();
-    if TEXT_LIMIT < n {
+    if numbers::TEXT_LIMIT < n {
         return Put::NoRoom;
     }
     if out.len() < n + 2 {
@@ -72,7 +70,8 @@ fn splice(
     cap: usize,
 ) -> Stored
     requires { ⌜ (at ≤ end) × (end ≤ used) × (used ≤ cap) × (cap ≤ length (now vars)) × (cap ≤ imageLimit) ⌝ }
-    ensures { λ r. ⌜ Writes (within cap (spliced (now (vars .entry)) used at end (framed (now (name .entry)) ++ framed (now (value .entry))))) (now (vars .entry)) (now (vars .exit)) (storedOutcome r) ⌝ }
+    ensures { λ r. ⌜ Writes (within cap (spliced (now (vars .entry)) used at end (framed (now (name .entry)) ++ framed (now (value .entry)))))
+        (now (vars .entry)) (now (vars .exit)) (storedOutcome r) ⌝ }
 {
     let kept = used - (end - at);
     if !fits(name.len(), value.len(), cap - kept) {
@@ -92,7 +91,8 @@ fn splice(
 pub fn store(vars: &mut [u8], used: usize, name: &[u8], value: &[u8], cap: usize) -> Stored
     requires { ⌜ (used ≤ cap) × (cap ≤ length (now vars)) × (cap ≤ imageLimit) ⌝ }
     requires { ⌜ Table (take used (now vars)) ⌝ }
-    ensures { λ r. ⌜ Writes (imageIn cap (now (name .entry)) (now (value .entry)) (held (take used (now (vars .entry))))) (now (vars .entry)) (now (vars .exit)) (storedOutcome r) ⌝ }
+    ensures { λ r. ⌜ Writes (imageIn cap (now (name .entry)) (now (value .entry)) (held (take used (now (vars .entry))))) (now (vars .entry))
+        (now (vars .exit)) (storedOutcome r) ⌝ }
 {
     let spot = table_find::place_of(&vars[..used], name);
     match spot {

@@ -1,6 +1,7 @@
 // The words of a case: a line's words stand between single blanks, and each is a number in decimal digits or bytes in hexadecimal ones.
 ghost use Prim.Native.Nat.{_≤_, _<_};
 ghost use lib.ListN.{length};
+use text::numbers;
 
 // How many bytes a line, a table, the variables' buffer, the work area and the output may each have here.
 pub const ROOM: usize = 131072;
@@ -51,9 +52,6 @@ pub const QUOTE_LENGTH: usize = 6;
 pub const QUOTE_BYTES: usize = 7;
 
 const BLANK: u8 = b' ';
-
-// How many digits the largest number has, 18446744073709551615.
-const MOST_DIGITS: usize = 20;
 
 // The place behind the n-th blank, or the line's end.
 fn word_start(line: &[u8], n: usize) -> usize
@@ -127,7 +125,7 @@ fn is_bytes(word: &[u8]) -> bool {
 
 // Does the word write a number?
 fn is_number(word: &[u8]) -> bool {
-    if word.len() == 0 || word.len() > MOST_DIGITS {
+    if word.len() == 0 || word.len() > numbers::MOST_DIGITS {
         return false;
     }
     all_in(word, b"0123456789")

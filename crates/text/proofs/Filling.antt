@@ -62,7 +62,8 @@ module _ {whole rest old out : Text} {used : ℕ} (f : Filling whole rest old ou
     fill-fits = omega (arith, fill-next, fill-free-length)
 
   -- what is written grows by a piece
-  grown : (piece more left : Text) (next : ℕ) → rest ≡ piece ++ more → next ≡ used + length piece → left ≡ over (f .front ++ piece) old → Filling whole more old left next
+  grown : (piece more left : Text) (next : ℕ) → rest ≡ piece ++ more → next ≡ used + length piece → left ≡ over (f .front ++ piece) old
+      → Filling whole more old left next
   grown piece more left next e n k = record {
     front = f .front ++ piece;
     splits = f .splits ∙ ap (λ (x : Text). f .front ++ x) e ∙ sym (append-assoc (f .front) piece more);
@@ -83,14 +84,16 @@ module _ {whole rest old out : Text} {used : ℕ} (f : Filling whole rest old ou
       ∙ sym (rw k (append-assoc (f .front) (b ∷ []) (drop (suc (length (f .front))) old))))
 
   -- `put(&mut out[used..])`
-  pub fill-piece : (piece more ys : Text) (n next : ℕ) → rest ≡ piece ++ more → Puts piece (midOf used (length out - used) out) ys n → next ≡ used + n
+  pub fill-piece : (piece more ys : Text) (n next : ℕ) → rest ≡ piece ++ more → Puts piece (midOf used (length out - used) out) ys n → next
+      ≡ used + n
       → Filling whole more old (putMid used (length out - used) out ys) next
   unfolding over
   fill-piece piece more ys n next e p q =
       let k : length (f .front) + length piece ≡ length (f .front ++ piece) = sym (length-append (f .front) piece) in
       let m : drop (length piece) (drop used old) ≡ drop (length (f .front ++ piece)) old =
       drop-drop (length piece) used old ∙ ap (λ (j : ℕ). drop (j + length piece) old) (f .long) ∙ ap (λ (j : ℕ). drop j old) k in
-      let y : ys ≡ piece ++ drop (length (f .front ++ piece)) old = p .leaves ∙ ap (λ (x : Text). piece ++ drop (length piece) x) fill-free ∙ ap (λ (x : Text). piece ++ x) m in
+      let y : ys ≡ piece ++ drop (length (f .front ++ piece)) old =
+      p .leaves ∙ ap (λ (x : Text). piece ++ drop (length piece) x) fill-free ∙ ap (λ (x : Text). piece ++ x) m in
       let a : take used out ≡ f .front = ap (take used) (f .is) ∙ take-at (f .front) (drop (length (f .front)) old) used (sym (f .long)) in
       let z : drop (length out - used) (drop used out) ≡ [] = rw (← length-drop used out) (drop-length (drop used out)) in
       grown piece more (putMid used (length out - used) out ys) next e (omega (arith, q, p .counts))

@@ -41,7 +41,8 @@ part-more t a e h k =
     let s : e + 1 - a ≡ suc (e - a) = omega arith in
     let l : e - a < length (drop a t) = omega (arith, length-drop a t) in
     let f : a + (e - a) ≡ e = omega arith in
-    rw s (take-suc (drop a t) (e - a) 0 l ∙ ap (λ (b : ℕ). take (e - a) (drop a t) ++ (b ∷ [])) (getD-drop a t (e - a) 0 ∙ ap (λ (n : ℕ). getD t n 0) f))
+    rw s (take-suc (drop a t) (e - a) 0 l ∙ ap (λ (b : ℕ). take (e - a) (drop a t) ++ (b ∷ []))
+    (getD-drop a t (e - a) 0 ∙ ap (λ (n : ℕ). getD t n 0) f))
 
 -- a run stops at a byte that fails the test, and has one more byte where it passes
 pub span-stop : (f : ℕ → Bool) (b : ℕ) (t : Text) → f b ≡ false → span f (b ∷ t) ≡ ([], b ∷ t)
@@ -60,7 +61,8 @@ module _ (class : Class) (t : Text) (at : ℕ) where
     span-stops : i < length t → inClass class (getD t i 0) ≡ false → span (inClass class) (drop i t) ≡ ([], drop i t)
     span-stops h e = rw (drop-cons t i 0) (span-stop (inClass class) (getD t i 0) (drop (suc i) t) e)
 
-    span-goes : i < length t → inClass class (getD t i 0) ≡ true → span (inClass class) (drop i t) ≡ longer (getD t i 0) (span (inClass class) (drop (i + 1) t))
+    span-goes : i < length t → inClass class (getD t i 0) ≡ true → span (inClass class) (drop i t) ≡ longer (getD t i 0)
+        (span (inClass class) (drop (i + 1) t))
     span-goes h e = rw (drop-cons t i 0, add-one i) (stage.span-more (inClass class) (getD t i 0) (drop (suc i) t) e)
 
     span-ends : length t ≤ i → span (inClass class) (drop i t) ≡ ([], drop i t)

@@ -6,6 +6,9 @@ ghost use Rattle.stages.specs.Bytes.{isIn, eqText};
 ghost use Rattle.text.specs.Classes.{inClass, lowBytes, highBytes, upperBytes, Runs};
 ghost use Rattle.text.specs.Orders.{orderOf};
 
+pub mod marks;
+pub mod numbers;
+
 // The classes of bytes that document 01 names.
 pub enum Class {
     NotZero,

@@ -6,26 +6,44 @@ use native.Mathlib.Numerals.{add-one}
 use mathlib.Core.Path.{_≡_, refl, sym, ap, _∙_}
 use mathlib.Core.List.{List, [], _∷_, _++_, append-assoc}
 use lib.ListN.{length, take, drop, getD, set, length-set, length-drop, take-append-drop, List·getD-append}
-use lib.Seq.{paste, paste-zero, paste-suc, length-paste-head, getD-append-add, getD-drop, getD-take, length-take-le, set-append-left, take-suc-set, take-set-lt, drop-cons, take-length}
+use lib.Seq.{
+  paste,
+  paste-zero,
+  paste-suc,
+  length-paste-head,
+  getD-append-add,
+  getD-drop,
+  getD-take,
+  length-take-le,
+  set-append-left,
+  take-suc-set,
+  take-set-lt,
+  drop-cons,
+  take-length,
+}
 
 -- the bytes on the way up, j still to be moved
 unfoldable pub upOf : List ℕ → ℕ → ℕ → ℕ → ℕ → List ℕ
 upOf b from to count j = take (to + j) b ++ (take (count - j) (drop (from + j) b) ++ drop (to + count) b)
 
 -- behind what has been written, what was there
-later : (b : List ℕ) (to : ℕ) (s : List ℕ) (i k : ℕ) → to + i ≤ length b → i ≤ length s → to + i ≤ k → getD (paste b to s i) k 0 ≡ getD b k 0
+later : (b : List ℕ) (to : ℕ) (s : List ℕ) (i k : ℕ) → to + i ≤ length b → i ≤ length s → to + i ≤ k → getD (paste b to s i) k 0
+    ≡ getD b k 0
 later b to s i k h j l =
     let n : length (take to b ++ take i s) ≡ to + i = length-paste-head b to s i (omega arith) j in
     let e : k ≡ length (take to b ++ take i s) + (k - (to + i)) = omega arith in
     let f : to + i + (k - (to + i)) ≡ k = omega arith in
-    ap (λ (m : ℕ). getD (paste b to s i) m 0) e ∙ getD-append-add (take to b ++ take i s) (drop (to + i) b) (k - (to + i)) 0 ∙ getD-drop (to + i) b (k - (to + i)) 0 ∙ ap (λ (m : ℕ). getD b m 0) f
+    ap (λ (m : ℕ). getD (paste b to s i) m 0) e ∙ getD-append-add (take to b ++ take i s) (drop (to + i) b) (k - (to + i)) 0 ∙ getD-drop
+    (to + i) b (k - (to + i)) 0 ∙ ap (λ (m : ℕ). getD b m 0) f
 
 module _ (b : List ℕ) (from to count : ℕ) (hf : from + count ≤ length b) (ht : to + count ≤ length b) where
   -- down: from the front
-  pub down-more : (i : ℕ) → to ≤ from → i < count → set (paste b to (drop from b) i) (to + i) (getD (paste b to (drop from b) i) (from + i) 0) ≡ paste b to (drop from b) (i + 1)
+  pub down-more : (i : ℕ) → to ≤ from → i < count → set (paste b to (drop from b) i) (to + i)
+      (getD (paste b to (drop from b) i) (from + i) 0) ≡ paste b to (drop from b) (i + 1)
   down-more i d l =
       let n : length (drop from b) ≡ length b - from = length-drop from b in
-      ap (set (paste b to (drop from b) i) (to + i)) (later b to (drop from b) i (from + i) (omega arith) (omega arith) (omega arith) ∙ sym (getD-drop from b i 0))
+      ap (set (paste b to (drop from b) i) (to + i))
+      (later b to (drop from b) i (from + i) (omega arith) (omega arith) (omega arith) ∙ sym (getD-drop from b i 0))
       ∙ paste-suc b to (drop from b) i 0 (omega arith) (omega arith)
       ∙ rw (add-one i)
 
@@ -40,7 +58,8 @@ module _ (b : List ℕ) (from to count : ℕ) (hf : from + count ≤ length b) (
   one-less : (i : ℕ) → i < count → count - i ≡ suc (count - suc i)
   one-less i l = omega arith
 
-  up-more : (i : ℕ) → from ≤ to → i < count → set (upOf b from to count (suc i)) (to + i) (getD (upOf b from to count (suc i)) (from + i) 0) ≡ upOf b from to count i
+  up-more : (i : ℕ) → from ≤ to → i < count → set (upOf b from to count (suc i)) (to + i) (getD (upOf b from to count (suc i)) (from + i) 0)
+      ≡ upOf b from to count i
   unfolding upOf
   up-more i d l =
       let n : length (take (suc (to + i)) b) ≡ suc (to + i) = length-take-le (suc (to + i)) b (omega arith) in
@@ -58,7 +77,8 @@ module _ (b : List ℕ) (from to count : ℕ) (hf : from + count ≤ length b) (
       ∙ append-assoc (take (to + i) b) (getD b (from + i) 0 ∷ []) (take (count - suc i) (drop (suc (from + i)) b) ++ drop (to + count) b)
       ∙ sym (rw (one-less i l, drop-cons b (from + i) 0 h)))
 
-  pub up-step : (j : ℕ) → from ≤ to → 0 < j → j ≤ count → set (upOf b from to count j) (to + (j - 1)) (getD (upOf b from to count j) (from + (j - 1)) 0) ≡ upOf b from to count (j - 1)
+  pub up-step : (j : ℕ) → from ≤ to → 0 < j → j ≤ count → set (upOf b from to count j) (to + (j - 1))
+      (getD (upOf b from to count j) (from + (j - 1)) 0) ≡ upOf b from to count (j - 1)
   up-step j d p l =
       let e : j ≡ suc (j - 1) = omega arith in
       ap (λ (k : ℕ). set (upOf b from to count k) (to + (j - 1)) (getD (upOf b from to count k) (from + (j - 1)) 0)) e ∙ up-more (j - 1) d (omega arith)
@@ -103,7 +123,8 @@ module _ (b : List ℕ) (from to count : ℕ) (hf : from + count ≤ length b) (
     up-ends s l = let e : i ≡ 0 = omega arith in s .is ∙ ap (upOf b from to count) e ∙ up-end b from to count hf ht
 
 -- copying to the front
-pub copy-step : (d s : List ℕ) (i : ℕ) → i < length s → length s ≤ length d → set (take i s ++ drop i d) i (getD s i 0) ≡ take (i + 1) s ++ drop (i + 1) d
+pub copy-step : (d s : List ℕ) (i : ℕ) → i < length s → length s ≤ length d → set (take i s ++ drop i d) i (getD s i 0) ≡ take (i + 1) s
+    ++ drop (i + 1) d
 copy-step d s i h k =
     let l : 0 + i < length d = omega arith in
     let z : 0 + i ≡ i = omega arith in

@@ -4,9 +4,7 @@ ghost use lib.ListN.{length};
 ghost use Rattle.stages.specs.Units.{digits, decimal};
 ghost use Rattle.stages.specs.Constants.{signed};
 ghost use Rattle.text.specs.Putting.{Puts};
-
-// No number of 64 bits has more digits.
-const MOST_DIGITS: usize = 20;
+use text::numbers;
 
 // Writes the decimal digits of n, of which it has at most k.
 fn put_digits(out: &mut [u8], n: u64, k: usize) -> usize
@@ -30,7 +28,7 @@ pub fn put_decimal(out: &mut [u8], n: u64) -> usize
     requires { ⌜ 20 ≤ length (now out) ⌝ }
     ensures { λ r. ⌜ Puts (decimal n) (now (out .entry)) (now (out .exit)) r ⌝ }
 {
-    put_digits(out, n, MOST_DIGITS)
+    put_digits(out, n, numbers::MOST_DIGITS)
 }
 
 // Writes the shortest decimal text of z, with `-` in front below zero, and returns its length.
@@ -41,8 +39,8 @@ pub fn put_signed(out: &mut [u8], z: i64) -> usize
     let m = arith_int::magnitude(z);
     if z < 0 {
         out[0] = b'-';
-        let used = put_digits(&mut out[1..], m, MOST_DIGITS);
+        let used = put_digits(&mut out[1..], m, numbers::MOST_DIGITS);
         return used + 1;
     }
-    put_digits(out, m, MOST_DIGITS)
+    put_digits(out, m, numbers::MOST_DIGITS)
 }

@@ -22,7 +22,9 @@ shared-slice-read-if3 c = search needs
 
 returns-2 : tie.Need-returns-2
 returns-2 c =
-    let s = c .before .before .before .before .before in mark-alone (s .args .limit) (s .args .text .now) (⊎-elim (λ w. inl (w .taken)) (λ w. inr (eqb-true _ _ (w .2 .taken))) (c .before .if2 .came)) (c .if4 .taken)
+    let s = c .before .before .before .before .before in
+    mark-alone (s .args .limit) (s .args .text .now) (⊎-elim (λ w. inl (w .taken)) (λ w. inr (eqb-true _ _ (w .2 .taken))) (c .before .if2 .came))
+    (c .if4 .taken)
 
 sub-in-base : tie.Need-sub-in-base
 sub-in-base c = search needs
@@ -41,7 +43,9 @@ returns-3 c =
     let s = c .before .before .before .before .before .before .before in
     let t = s .args .text .now in
     c .in-base .ensures ∙ ap (λ (u : Text). within (s .args .limit) (inBase 16 0 u)) (lent 1 t)
-    ∙ ap (within (s .args .limit)) (hexadecimal t (⊎-elim (λ w. inl (w .taken)) (λ w. inr (eqb-true _ _ (w .2 .taken))) (c .before .before .before .if2 .came)) (c .before .before .before .before .before .if1 .left) (c .before .before .if4 .left))
+    ∙ ap (within (s .args .limit))
+    (hexadecimal t (⊎-elim (λ w. inl (w .taken)) (λ w. inr (eqb-true _ _ (w .2 .taken))) (c .before .before .before .if2 .came))
+    (c .before .before .before .before .before .if1 .left) (c .before .before .if4 .left))
 
 in-base-requires-2 : tie.Need-in-base-requires-2
 in-base-requires-2 c κs = search needs
@@ -49,7 +53,9 @@ in-base-requires-2 c κs = search needs
 returns-4 : tie.Need-returns-4
 returns-4 c =
     let s = c .before .before .before .before .before .before .before in
-    c .in-base2 .ensures ∙ ap (within (s .args .limit)) (octal (s .args .text .now) (c .before .before .before .before .before .if1 .left) (c .before .before .before .if2 .left) (eqb-false _ _ (c .before .if3 .left)))
+    c .in-base2 .ensures ∙ ap (within (s .args .limit))
+    (octal (s .args .text .now) (c .before .before .before .before .before .if1 .left) (c .before .before .before .if2 .left)
+    (eqb-false _ _ (c .before .if3 .left)))
 
 pub behind-zero-spec : {M : Type 1} → statement M
 behind-zero-spec =

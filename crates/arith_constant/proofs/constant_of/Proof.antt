@@ -55,7 +55,9 @@ returns-4 : tie.Need-returns-4
 returns-4 c =
     let s = c .before .before .before .before .before .before .before .before .before in
     c .in-base .ensures
-    ∙ ap (within (s .args .limit)) (digit-first (s .args .text .now) (c .before .before .before .before .before .before .before .if1 .left) (c .before .before .before .before .before .if2 .left) (c .before .before .before .if3 .left) (ltb-false _ _ (c .before .if4 .left)))
+    ∙ ap (within (s .args .limit))
+    (digit-first (s .args .text .now) (c .before .before .before .before .before .before .before .if1 .left)
+    (c .before .before .before .before .before .if2 .left) (c .before .before .before .if3 .left) (ltb-false _ _ (c .before .if4 .left)))
 
 pub constant-of-spec : {M : Type 1} → statement M
 constant-of-spec =

@@ -22,13 +22,15 @@ of-magnitude-requires c κs = search needs
 returns : tie.Need-returns
 returns c =
     let s = c .before .before .before .before .before in
-    sign-refused (s .args .below) (constant (s .args .text .now)) _ (sym (ap counted (c .before .got .given .1)) ∙ c .before .before .before .constant-of .ensures)
+    sign-refused (s .args .below) (constant (s .args .text .now)) _
+    (sym (ap counted (c .before .got .given .1)) ∙ c .before .before .before .constant-of .ensures)
 
 returns-2 : tie.Need-returns-2
 returns-2 c =
     let s = c .before .before .before .before .before .before in
     c .of-magnitude .ensures
-    ∙ sign-given (s .args .below) (constant (s .args .text .now)) _ (sym (ap counted (c .before .before .got2 .given .1)) ∙ c .before .before .before .before .constant-of .ensures)
+    ∙ sign-given (s .args .below) (constant (s .args .text .now)) _
+    (sym (ap counted (c .before .before .got2 .given .1)) ∙ c .before .before .before .before .constant-of .ensures)
 
 pub number-of-spec : {M : Type 1} → statement M
 number-of-spec =

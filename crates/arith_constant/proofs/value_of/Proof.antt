@@ -30,7 +30,8 @@ number-of-requires c κs = search needs
 returns-2 : tie.Need-returns-2
 returns-2 c =
     let t = c .before .before .before .before .before .before .args .text .now in
-    c .number-of .ensures ∙ ap (λ (u : Text). number minusOf (constant u)) (lent 1 t) ∙ minus-first t (c .before .before .before .before .if1 .left) (c .before .before .if2 .taken)
+    c .number-of .ensures ∙ ap (λ (u : Text). number minusOf (constant u)) (lent 1 t) ∙ minus-first t
+    (c .before .before .before .before .if1 .left) (c .before .before .if2 .taken)
 
 shared-slice-read-if3 : tie.Need-shared-slice-read-if3
 shared-slice-read-if3 c = search needs
@@ -50,7 +51,8 @@ number-of-requires-2 c κs = search needs
 returns-3 : tie.Need-returns-3
 returns-3 c =
     let t = c .before .before .before .before .before .before .before .before .args .text .now in
-    c .number-of2 .ensures ∙ ap (λ (u : Text). number pos (constant u)) (lent 1 t) ∙ plus-first t (c .before .before .before .before .before .before .if1 .left) (c .before .before .if3 .taken)
+    c .number-of2 .ensures ∙ ap (λ (u : Text). number pos (constant u)) (lent 1 t) ∙ plus-first t
+    (c .before .before .before .before .before .before .if1 .left) (c .before .before .if3 .taken)
 
 number-of-requires-3 : tie.Need-number-of-requires-3
 number-of-requires-3 c κs = search needs
@@ -58,7 +60,8 @@ number-of-requires-3 c κs = search needs
 returns-4 : tie.Need-returns-4
 returns-4 c =
     let t = c .before .before .before .before .before .before .before .args .text .now in
-    c .number-of3 .ensures ∙ no-sign-first t (c .before .before .before .before .before .if1 .left) (c .before .before .before .if2 .left) (c .before .if3 .left)
+    c .number-of3 .ensures ∙ no-sign-first t (c .before .before .before .before .before .if1 .left) (c .before .before .before .if2 .left)
+    (c .before .if3 .left)
 
 pub value-of-spec : {M : Type 1} → statement M
 value-of-spec =

@@ -33,38 +33,47 @@ enum-told-6 c = search needs
 returns : tie.Need-returns
 unfolding whole
 returns c =
-    let s = c .before .before .before .before .before in λ l. ends-by (s .args .text .now) (s .args .at) _ (token-shown (c .before .before .before .token-at .ensures) (c .before .token .given .1)) l
+    let s = c .before .before .before .before .before in
+    λ l. ends-by (s .args .text .now) (s .args .at) _ (token-shown (c .before .before .before .token-at .ensures) (c .before .token .given .1)) l
 
 returns-2 : tie.Need-returns-2
 unfolding whole
 returns-2 c =
-    let s = c .before .before .before .before in
-    (held (s .args .value) (s .fits .value), λ l. ends-by (s .args .text .now) (s .args .at) _ (token-shown (c .before .before .token-at .ensures) (c .enum-told .given .1)) l)
+    let s = c .before .before .before .before in (
+      held (s .args .value) (s .fits .value),
+      λ l. ends-by (s .args .text .now) (s .args .at) _
+          (token-shown (c .before .before .token-at .ensures) (c .enum-told .given .1)) l,
+    )
 
 returns-3 : tie.Need-returns-3
 unfolding whole
 returns-3 c =
-    let s = c .before .before .before .before in λ l. ends-by (s .args .text .now) (s .args .at) _ (token-shown (c .before .before .token-at .ensures) (c .enum-told2 .given .1)) l
+    let s = c .before .before .before .before in
+    λ l. ends-by (s .args .text .now) (s .args .at) _ (token-shown (c .before .before .token-at .ensures) (c .enum-told2 .given .1)) l
 
 returns-4 : tie.Need-returns-4
 unfolding whole
 returns-4 c =
-    let s = c .before .before .before .before in λ l. ends-by (s .args .text .now) (s .args .at) _ (token-shown (c .before .before .token-at .ensures) (c .enum-told3 .given .1)) l
+    let s = c .before .before .before .before in
+    λ l. ends-by (s .args .text .now) (s .args .at) _ (token-shown (c .before .before .token-at .ensures) (c .enum-told3 .given .1)) l
 
 returns-5 : tie.Need-returns-5
 unfolding whole
 returns-5 c =
-    let s = c .before .before .before .before in λ l. ends-by (s .args .text .now) (s .args .at) _ (token-shown (c .before .before .token-at .ensures) (c .enum-told4 .given .1)) l
+    let s = c .before .before .before .before in
+    λ l. ends-by (s .args .text .now) (s .args .at) _ (token-shown (c .before .before .token-at .ensures) (c .enum-told4 .given .1)) l
 
 returns-6 : tie.Need-returns-6
 unfolding whole
 returns-6 c =
-    let s = c .before .before .before .before in λ l. ends-by (s .args .text .now) (s .args .at) _ (token-shown (c .before .before .token-at .ensures) (c .enum-told5 .given .1)) l
+    let s = c .before .before .before .before in
+    λ l. ends-by (s .args .text .now) (s .args .at) _ (token-shown (c .before .before .token-at .ensures) (c .enum-told5 .given .1)) l
 
 returns-7 : tie.Need-returns-7
 unfolding whole
 returns-7 c =
-    let s = c .before .before .before .before in λ l. ends-by (s .args .text .now) (s .args .at) _ (token-shown (c .before .before .token-at .ensures) (c .enum-told6 .given .1)) l
+    let s = c .before .before .before .before in
+    λ l. ends-by (s .args .text .now) (s .args .at) _ (token-shown (c .before .before .token-at .ensures) (c .enum-told6 .given .1)) l
 
 pub ended-spec : {M : Type 1} → statement M
 ended-spec =

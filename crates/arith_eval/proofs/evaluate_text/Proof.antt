@@ -20,11 +20,15 @@ once-requires-2 c κs = search needs
 
 returns : tie.Need-returns
 returns c =
-    let a = c .before .before .before .before .before .before .args in first-refused (a .text .now) (held (a .vars .now)) _ (answers-shown (held (a .vars .now)) false _ (c .before .before .before .once .ensures) (c .before .read .given .1))
+    let a = c .before .before .before .before .before .before .args in
+    first-refused (a .text .now) (held (a .vars .now)) _
+    (answers-shown (held (a .vars .now)) false _ (c .before .before .before .once .ensures) (c .before .read .given .1))
 
 returns-2 : tie.Need-returns-2
 returns-2 c =
-    let a = c .before .before .before .before .before .before .args in second-says (a .text .now) (held (a .vars .now)) _ (c .once2 .result) (answers-shown (held (a .vars .now)) false _ (c .before .before .before .once .ensures) (c .before .enum-told .given .1)) (c .once2 .ensures)
+    let a = c .before .before .before .before .before .before .args in
+    second-says (a .text .now) (held (a .vars .now)) _ (c .once2 .result)
+    (answers-shown (held (a .vars .now)) false _ (c .before .before .before .once .ensures) (c .before .enum-told .given .1)) (c .once2 .ensures)
 
 pub evaluate-text-spec : {M : Type 1} → statement M
 evaluate-text-spec =

@@ -33,7 +33,8 @@ enum-told c = search needs
 returns : tie.Need-returns
 unfolding nameNumber
 returns c =
-    c .value-of .ensures ∙ sym (ap nameNumber (is-shown (c .before .before .before .before .before .look-up .ensures) _ _ (c .before .before .before .found .given .1) .gets))
+    c .value-of .ensures ∙ sym
+    (ap nameNumber (is-shown (c .before .before .before .before .before .look-up .ensures) _ _ (c .before .before .before .found .given .1) .gets))
 
 returns-2 : tie.Need-returns-2
 unfolding nameNumber

@@ -18,16 +18,21 @@ enum-known-got-2 c = search needs
 
 ended-requires : tie.Need-ended-requires
 ended-requires c κs =
-    let a = c .before .before .before .before .before .before .args in (says-shown (a .text .now) 0 (held (a .vars .now)) (a .counts) _ (c .before .before .before .expression .ensures) (c .before .got2 .given .1)) .within
+    let a = c .before .before .before .before .before .before .args in
+    (says-shown (a .text .now) 0 (held (a .vars .now)) (a .counts) _ (c .before .before .before .expression .ensures) (c .before .got2 .given .1)) .within
 
 returns : tie.Need-returns
 returns c =
-    let a = c .before .before .before .before .before .before .args in once-fails (a .text .now) (held (a .vars .now)) (a .counts) _ (says-shown (a .text .now) 0 (held (a .vars .now)) (a .counts) _ (c .before .before .before .expression .ensures) (c .before .got .given .1))
+    let a = c .before .before .before .before .before .before .args in
+    once-fails (a .text .now) (held (a .vars .now)) (a .counts) _
+    (says-shown (a .text .now) 0 (held (a .vars .now)) (a .counts) _ (c .before .before .before .expression .ensures) (c .before .got .given .1))
 
 returns-2 : tie.Need-returns-2
 returns-2 c =
     let a = c .before .before .before .before .before .before .before .args in
-    once-says (a .text .now) (held (a .vars .now)) (a .counts) _ _ (c .ended .result) (says-shown (a .text .now) 0 (held (a .vars .now)) (a .counts) _ (c .before .before .before .before .expression .ensures) (c .before .before .got2 .given .1))
+    once-says (a .text .now) (held (a .vars .now)) (a .counts) _ _ (c .ended .result)
+    (says-shown (a .text .now) 0 (held (a .vars .now)) (a .counts) _ (c .before .before .before .before .expression .ensures)
+    (c .before .before .got2 .given .1))
     (rw (kept (c .before .before .got2 .given .0 .0) (c .before .known-told2 .given .0 .1)) at (c .ended .ensures))
 
 pub once-spec : {M : Type 1} → statement M

@@ -23,16 +23,20 @@ sub-m : tie.Need-sub-m
 sub-m c = let s = c .before in rw (held (s .args .a) (s .fits .a), mirror (s .args .a) (test c)) (small c)
 
 cast-result : tie.Need-cast-result
-cast-result c = let s = c .before in rw (held (s .args .a) (s .fits .a), mirror (s .args .a) (test c), held (pos (mag (s .args .a))) (small c)) (let f = s .fits .a .sfits in (tt, omega arith))
+cast-result c = let s = c .before in
+    rw (held (s .args .a) (s .fits .a), mirror (s .args .a) (test c), held (pos (mag (s .args .a))) (small c)) (let f = s .fits .a .sfits in (tt, omega arith))
 
 add-result : tie.Need-add-result
-add-result c = let s = c .before in rw (held (s .args .a) (s .fits .a), mirror (s .args .a) (test c), held (pos (mag (s .args .a))) (small c)) (let f = s .fits .a .sfits in omega arith)
+add-result c = let s = c .before in
+    rw (held (s .args .a) (s .fits .a), mirror (s .args .a) (test c), held (pos (mag (s .args .a))) (small c)) (let f = s .fits .a .sfits in omega arith)
 
 returns : tie.Need-returns
-returns c = let s = c .before in rw (held (s .args .a) (s .fits .a), mirror (s .args .a) (test c), held (pos (mag (s .args .a))) (small c)) (abs-below (s .args .a) (test c))
+returns c = let s = c .before in
+    rw (held (s .args .a) (s .fits .a), mirror (s .args .a) (test c), held (pos (mag (s .args .a))) (small c)) (abs-below (s .args .a) (test c))
 
 cast-result-2 : tie.Need-cast-result-2
-cast-result-2 c = let s = c .before in rw (held (s .args .a) (s .fits .a)) (not-below (s .args .a) (rw (held (s .args .a) (s .fits .a)) at (c .if1 .left)), fits-natAbs tt (s .fits .a))
+cast-result-2 c = let s = c .before in
+    rw (held (s .args .a) (s .fits .a)) (not-below (s .args .a) (rw (held (s .args .a) (s .fits .a)) at (c .if1 .left)), fits-natAbs tt (s .fits .a))
 
 returns-2 : tie.Need-returns-2
 returns-2 c = search needs

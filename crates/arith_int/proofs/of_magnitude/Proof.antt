@@ -34,7 +34,14 @@ sub-t7 c =
 returns-3 : tie.Need-returns-3
 returns-3 c =
     let s = c .before .before .before in
-    rw (held-pos (s .args .m - 1) (c .if3 .left), mirrored (s .args .m - 1), held (negsuc (s .args .m - 1)) (low c), c .before .if2 .taken, sign-suc (s .args .m) (c .before .before .if1 .left))
+    rw (
+      held-pos (s .args .m - 1) (c .if3 .left),
+      mirrored (s .args .m - 1),
+      held (negsuc (s .args .m - 1)) (low c),
+      c .before .if2 .taken,
+      sign-suc
+          (s .args .m) (c .before .before .if1 .left),
+    )
     (value (negsuc (s .args .m - 1)) (low c))
 
 returns-4 : tie.Need-returns-4

@@ -39,7 +39,10 @@ returns-2 c =
     mul-over (s .args .a) (s .args .b) (rw (← x) (omega arith)) (rw (x, ay (c .before .before)) at (c .if2 .taken))
 
 mul-z : tie.Need-mul-z
-mul-z c = record { fits = omega (arith, mul-room (c .before .before .before .magnitude .result) (c .before .before .magnitude2 .result) (omega arith) (c .if2 .left)) }
+mul-z c = record {
+  fits =
+      omega (arith, mul-room (c .before .before .before .magnitude .result) (c .before .before .magnitude2 .result) (omega arith) (c .if2 .left));
+}
 
 of-magnitude-requires : tie.Need-of-magnitude-requires
 of-magnitude-requires c κs = search needs
@@ -48,7 +51,9 @@ returns-3 : tie.Need-returns-3
 returns-3 c =
     let d = c .before .before .before in
     let s = d .before .before .before .before in
-    c .of-magnitude .ensures ∙ rw (ax (d .before .before .before), ay (d .before .before)) (ap ranged (signs (s .args .a) (s .args .b) true true (rw (held (s .args .a) (s .fits .a)) at (c .before .before .if3 .taken)) (rw (held (s .args .b) (s .fits .b)) at (c .before .if4 .taken))))
+    c .of-magnitude .ensures ∙ rw (ax (d .before .before .before), ay (d .before .before))
+    (ap ranged (signs (s .args .a) (s .args .b) true true (rw (held (s .args .a) (s .fits .a)) at (c .before .before .if3 .taken))
+    (rw (held (s .args .b) (s .fits .b)) at (c .before .if4 .taken))))
 
 of-magnitude-requires-2 : tie.Need-of-magnitude-requires-2
 of-magnitude-requires-2 c κs = search needs
@@ -57,7 +62,9 @@ returns-4 : tie.Need-returns-4
 returns-4 c =
     let d = c .before .before .before in
     let s = d .before .before .before .before in
-    c .of-magnitude2 .ensures ∙ rw (ax (d .before .before .before), ay (d .before .before)) (ap ranged (signs (s .args .a) (s .args .b) true false (rw (held (s .args .a) (s .fits .a)) at (c .before .before .if3 .taken)) (rw (held (s .args .b) (s .fits .b)) at (c .before .if4 .left))))
+    c .of-magnitude2 .ensures ∙ rw (ax (d .before .before .before), ay (d .before .before))
+    (ap ranged (signs (s .args .a) (s .args .b) true false (rw (held (s .args .a) (s .fits .a)) at (c .before .before .if3 .taken))
+    (rw (held (s .args .b) (s .fits .b)) at (c .before .if4 .left))))
 
 of-magnitude-requires-3 : tie.Need-of-magnitude-requires-3
 of-magnitude-requires-3 c κs = search needs
@@ -66,7 +73,8 @@ returns-5 : tie.Need-returns-5
 returns-5 c =
     let d = c .before .before in
     let s = d .before .before .before .before in
-    c .of-magnitude3 .ensures ∙ rw (ax (d .before .before .before), ay (d .before .before), held (s .args .b) (s .fits .b)) (ap ranged (signs (s .args .a) (s .args .b) false (ltZ (s .args .b) (pos 0)) (rw (held (s .args .a) (s .fits .a)) at (c .before .if3 .left)) refl))
+    c .of-magnitude3 .ensures ∙ rw (ax (d .before .before .before), ay (d .before .before), held (s .args .b) (s .fits .b))
+    (ap ranged (signs (s .args .a) (s .args .b) false (ltZ (s .args .b) (pos 0)) (rw (held (s .args .a) (s .fits .a)) at (c .before .if3 .left)) refl))
 
 pub product-spec : {M : Type 1} → statement M
 product-spec =

@@ -25,13 +25,23 @@ returns : tie.Need-returns
 returns c =
     let s = c .before .before in
     low-over (s .args .a) (s .args .b) (s .fits .a) (s .fits .b) (minus (c .before))
-    (rw (held (s .args .a) (s .fits .a), held (s .args .b) (s .fits .b), held (least -ℤ s .args .b) (low-room (s .args .a) (s .args .b) (s .fits .a) (s .fits .b) (minus (c .before)))) at (c .if2 .taken))
+    (rw (
+      held (s .args .a) (s .fits .a),
+      held (s .args .b) (s .fits .b),
+      held (least -ℤ s .args .b)
+          (low-room (s .args .a) (s .args .b) (s .fits .a) (s .fits .b) (minus (c .before))),
+    ) at (c .if2 .taken))
 
 low : (c : tie.Else2) → SFits w64 (c .before .before .args .a +ℤ c .before .before .args .b)
 low c =
     let s = c .before .before in
     low-fits (s .args .a) (s .args .b) (s .fits .a) (s .fits .b) (minus (c .before))
-    (rw (held (s .args .a) (s .fits .a), held (s .args .b) (s .fits .b), held (least -ℤ s .args .b) (low-room (s .args .a) (s .args .b) (s .fits .a) (s .fits .b) (minus (c .before)))) at (c .if2 .left))
+    (rw (
+      held (s .args .a) (s .fits .a),
+      held (s .args .b) (s .fits .b),
+      held (least -ℤ s .args .b)
+          (low-room (s .args .a) (s .args .b) (s .fits .a) (s .fits .b) (minus (c .before))),
+    ) at (c .if2 .left))
 
 add-t4 : tie.Need-add-t4
 add-t4 c = let s = c .before .before in rw (held (s .args .a) (s .fits .a), held (s .args .b) (s .fits .b)) (low c)
@@ -50,13 +60,23 @@ returns-3 : tie.Need-returns-3
 returns-3 c =
     let s = c .before .before in
     high-over (s .args .a) (s .args .b) (s .fits .a) (s .fits .b) (plus (c .before))
-    (rw (held (s .args .a) (s .fits .a), held (s .args .b) (s .fits .b), held (most -ℤ s .args .b) (high-room (s .args .a) (s .args .b) (s .fits .a) (s .fits .b) (plus (c .before)))) at (c .if3 .taken))
+    (rw (
+      held (s .args .a) (s .fits .a),
+      held (s .args .b) (s .fits .b),
+      held (most -ℤ s .args .b)
+          (high-room (s .args .a) (s .args .b) (s .fits .a) (s .fits .b) (plus (c .before))),
+    ) at (c .if3 .taken))
 
 high : (c : tie.Else3) → SFits w64 (c .before .before .args .a +ℤ c .before .before .args .b)
 high c =
     let s = c .before .before in
     high-fits (s .args .a) (s .args .b) (s .fits .a) (s .fits .b) (plus (c .before))
-    (rw (held (s .args .a) (s .fits .a), held (s .args .b) (s .fits .b), held (most -ℤ s .args .b) (high-room (s .args .a) (s .args .b) (s .fits .a) (s .fits .b) (plus (c .before)))) at (c .if3 .left))
+    (rw (
+      held (s .args .a) (s .fits .a),
+      held (s .args .b) (s .fits .b),
+      held (most -ℤ s .args .b)
+          (high-room (s .args .a) (s .args .b) (s .fits .a) (s .fits .b) (plus (c .before))),
+    ) at (c .if3 .left))
 
 add-t6 : tie.Need-add-t6
 add-t6 c = let s = c .before .before in rw (held (s .args .a) (s .fits .a), held (s .args .b) (s .fits .b)) (high c)
@@ -64,7 +84,8 @@ add-t6 c = let s = c .before .before in rw (held (s .args .a) (s .fits .a), held
 returns-4 : tie.Need-returns-4
 returns-4 c =
     let s = c .before .before in
-    rw (held (s .args .a) (s .fits .a), held (s .args .b) (s .fits .b), held (s .args .a +ℤ s .args .b) (high c)) (value (s .args .a +ℤ s .args .b) (high c))
+    rw (held (s .args .a) (s .fits .a), held (s .args .b) (s .fits .b), held (s .args .a +ℤ s .args .b) (high c))
+    (value (s .args .a +ℤ s .args .b) (high c))
 
 pub sum-spec : {M : Type 1} → statement M
 sum-spec = tie.close (tie.spec sub-if2 returns add-t4 returns-2 sub-if3 returns-3 add-t6 returns-4)

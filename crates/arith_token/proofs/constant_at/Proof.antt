@@ -31,14 +31,16 @@ enum-known-got-2 c = search needs
 returns : tie.Need-returns
 returns c =
     let s = c .before .before .before .before .before .before .before in
-    bad-constant (s .args .text .now) (s .args .at) (c .before .before .before .before .before .run-end .result) (s .pre .within) (c .before .before .before .before .before .run-end .ensures) (s .pre .bare) (s .pre .is) _
+    bad-constant (s .args .text .now) (s .args .at) (c .before .before .before .before .before .run-end .result) (s .pre .within)
+    (c .before .before .before .before .before .run-end .ensures) (s .pre .bare) (s .pre .is) _
     (sym (ap numbered (c .before .got .given .1)) ∙ c .before .before .before .number-of .ensures)
 
 returns-2 : tie.Need-returns-2
 returns-2 c =
     let s = c .before .before .before .before .before .before .before in
     rw (kept (c .before .got2 .given .0 .0) (c .known-told2 .given .0 .1))
-    (good-constant (s .args .text .now) (s .args .at) (c .before .before .before .before .before .run-end .result) (s .pre .within) (c .before .before .before .before .before .run-end .ensures) (s .pre .bare) (s .pre .is) _
+    (good-constant (s .args .text .now) (s .args .at) (c .before .before .before .before .before .run-end .result) (s .pre .within)
+    (c .before .before .before .before .before .run-end .ensures) (s .pre .bare) (s .pre .is) _
     (sym (ap numbered (c .before .got2 .given .1)) ∙ c .before .before .before .number-of .ensures))
 
 pub constant-at-spec : {M : Type 1} → statement M

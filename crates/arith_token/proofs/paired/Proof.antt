@@ -19,7 +19,8 @@ returns c =
 
 returns-2 : tie.Need-returns-2
 returns-2 c =
-    let s = c .before .before .before in let a = s .args in without-equals (a .text .now) (a .at) (a .alone) (a .both) (c .before .before .if1 .taken) (c .if2 .left) (s .pre .1)
+    let s = c .before .before .before in let a = s .args in
+    without-equals (a .text .now) (a .at) (a .alone) (a .both) (c .before .before .if1 .taken) (c .if2 .left) (s .pre .1)
 
 returns-3 : tie.Need-returns-3
 returns-3 c =

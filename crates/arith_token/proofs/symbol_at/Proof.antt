@@ -29,37 +29,44 @@ paired-requires-4 c κs = search needs
 returns : tie.Need-returns
 unfolding token choose isBlank isDigit isNameStart isLetter
 returns c =
-    let s = c .before .before .before in let a = s .args in single (a .text .now) (a .at) 40 _ (s .pre) (c .match .keys1) refl (next-place (a .text .now) (a .at) (s .pre .within))
+    let s = c .before .before .before in let a = s .args in
+    single (a .text .now) (a .at) 40 _ (s .pre) (c .match .keys1) refl (next-place (a .text .now) (a .at) (s .pre .within))
 
 returns-2 : tie.Need-returns-2
 unfolding token choose isBlank isDigit isNameStart isLetter
 returns-2 c =
-    let s = c .before .before .before in let a = s .args in single (a .text .now) (a .at) 41 _ (s .pre) (c .match .keys2) refl (next-place (a .text .now) (a .at) (s .pre .within))
+    let s = c .before .before .before in let a = s .args in
+    single (a .text .now) (a .at) 41 _ (s .pre) (c .match .keys2) refl (next-place (a .text .now) (a .at) (s .pre .within))
 
 returns-3 : tie.Need-returns-3
 unfolding token choose isBlank isDigit isNameStart isLetter
 returns-3 c =
-    let s = c .before .before .before in let a = s .args in single (a .text .now) (a .at) 42 _ (s .pre) (c .match .keys3) refl (next-place (a .text .now) (a .at) (s .pre .within))
+    let s = c .before .before .before in let a = s .args in
+    single (a .text .now) (a .at) 42 _ (s .pre) (c .match .keys3) refl (next-place (a .text .now) (a .at) (s .pre .within))
 
 returns-4 : tie.Need-returns-4
 unfolding token choose isBlank isDigit isNameStart isLetter
 returns-4 c =
-    let s = c .before .before .before in let a = s .args in single (a .text .now) (a .at) 47 _ (s .pre) (c .match .keys4) refl (next-place (a .text .now) (a .at) (s .pre .within))
+    let s = c .before .before .before in let a = s .args in
+    single (a .text .now) (a .at) 47 _ (s .pre) (c .match .keys4) refl (next-place (a .text .now) (a .at) (s .pre .within))
 
 returns-5 : tie.Need-returns-5
 unfolding token choose isBlank isDigit isNameStart isLetter
 returns-5 c =
-    let s = c .before .before .before in let a = s .args in single (a .text .now) (a .at) 37 _ (s .pre) (c .match .keys5) refl (next-place (a .text .now) (a .at) (s .pre .within))
+    let s = c .before .before .before in let a = s .args in
+    single (a .text .now) (a .at) 37 _ (s .pre) (c .match .keys5) refl (next-place (a .text .now) (a .at) (s .pre .within))
 
 returns-6 : tie.Need-returns-6
 unfolding token choose isBlank isDigit isNameStart isLetter
 returns-6 c =
-    let s = c .before .before .before in let a = s .args in single (a .text .now) (a .at) 43 _ (s .pre) (c .match .keys6) refl (next-place (a .text .now) (a .at) (s .pre .within))
+    let s = c .before .before .before in let a = s .args in
+    single (a .text .now) (a .at) 43 _ (s .pre) (c .match .keys6) refl (next-place (a .text .now) (a .at) (s .pre .within))
 
 returns-7 : tie.Need-returns-7
 unfolding token choose isBlank isDigit isNameStart isLetter
 returns-7 c =
-    let s = c .before .before .before in let a = s .args in single (a .text .now) (a .at) 45 _ (s .pre) (c .match .keys7) refl (next-place (a .text .now) (a .at) (s .pre .within))
+    let s = c .before .before .before in let a = s .args in
+    single (a .text .now) (a .at) 45 _ (s .pre) (c .match .keys7) refl (next-place (a .text .now) (a .at) (s .pre .within))
 
 returns-8 : tie.Need-returns-8
 unfolding token choose isBlank isDigit isNameStart isLetter
@@ -88,7 +95,10 @@ returns-11 c =
 returns-12 : tie.Need-returns-12
 returns-12 c =
     let s = c .before .before .before in let a = s .args in
-    no-token (a .text .now) (a .at) (s .pre) (c .match .rest .0 .0 .0 .0 .0 .0 .0 .0 .0 .0 .1) (c .match .rest .0 .0 .0 .0 .0 .0 .0 .0 .0 .1) (c .match .rest .0 .0 .0 .0 .0 .0 .0 .0 .1) (c .match .rest .0 .0 .0 .0 .0 .0 .0 .1) (c .match .rest .0 .0 .0 .0 .0 .0 .1) (c .match .rest .0 .0 .0 .0 .0 .1) (c .match .rest .0 .0 .0 .0 .1) (c .match .rest .0 .0 .0 .1) (c .match .rest .0 .0 .1) (c .match .rest .0 .1) (c .match .rest .1)
+    no-token (a .text .now) (a .at) (s .pre) (c .match .rest .0 .0 .0 .0 .0 .0 .0 .0 .0 .0 .1) (c .match .rest .0 .0 .0 .0 .0 .0 .0 .0 .0 .1)
+    (c .match .rest .0 .0 .0 .0 .0 .0 .0 .0 .1) (c .match .rest .0 .0 .0 .0 .0 .0 .0 .1) (c .match .rest .0 .0 .0 .0 .0 .0 .1)
+    (c .match .rest .0 .0 .0 .0 .0 .1) (c .match .rest .0 .0 .0 .0 .1) (c .match .rest .0 .0 .0 .1) (c .match .rest .0 .0 .1) (c .match .rest .0 .1)
+    (c .match .rest .1)
 
 pub symbol-at-spec : {M : Type 1} → statement M
 symbol-at-spec =

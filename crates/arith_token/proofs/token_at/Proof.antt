@@ -29,11 +29,17 @@ constant-at-requires : tie.Need-constant-at-requires
 constant-at-requires c κs =
     let a = c .before .before .before .before .before .before .args in
     let h = short (c .before .before .before) in
-    record { within = h; bare = not-blank (a .text .now) (a .at) _ (c .before .before .before .before .run-end .ensures) h; is = sym (c .before .in-class .ensures) ∙ c .if2 .taken }
+    record {
+      within = h;
+      bare = not-blank (a .text .now) (a .at) _ (c .before .before .before .before .run-end .ensures) h;
+      is =
+          sym (c .before .in-class .ensures) ∙ c .if2 .taken;
+    }
 
 returns-2 : tie.Need-returns-2
 returns-2 c =
-    let a = c .before .before .before .before .before .before .before .args in behind-blanks (a .text .now) (a .at) _ (c .before .before .before .before .before .run-end .ensures) _ (c .constant-at .ensures)
+    let a = c .before .before .before .before .before .before .before .args in
+    behind-blanks (a .text .now) (a .at) _ (c .before .before .before .before .before .run-end .ensures) _ (c .constant-at .ensures)
 
 shared-slice-read-in-class-2 : tie.Need-shared-slice-read-in-class-2
 shared-slice-read-in-class-2 c = search needs
@@ -49,8 +55,10 @@ returns-3 c =
     let a = c .before .before .before .before .before .before .before .before .before .before .args in
     let h = short (c .before .before .before .before .before .before .before) in
     behind-blanks (a .text .now) (a .at) _ (c .before .before .before .before .before .before .before .before .run-end .ensures) _
-    (name-at (a .text .now) _ (c .run-end2 .result) h (c .run-end2 .ensures) (not-blank (a .text .now) (a .at) _ (c .before .before .before .before .before .before .before .before .run-end .ensures) h)
-    (sym (c .before .before .before .before .before .in-class .ensures) ∙ c .before .before .before .before .if2 .left) (sym (c .before .before .in-class2 .ensures) ∙ c .before .if3 .taken))
+    (name-at (a .text .now) _ (c .run-end2 .result) h (c .run-end2 .ensures)
+    (not-blank (a .text .now) (a .at) _ (c .before .before .before .before .before .before .before .before .run-end .ensures) h)
+    (sym (c .before .before .before .before .before .in-class .ensures) ∙ c .before .before .before .before .if2 .left)
+    (sym (c .before .before .in-class2 .ensures) ∙ c .before .if3 .taken))
 
 symbol-at-requires : tie.Need-symbol-at-requires
 symbol-at-requires c κs =
@@ -65,7 +73,8 @@ symbol-at-requires c κs =
 
 returns-4 : tie.Need-returns-4
 returns-4 c =
-    let a = c .before .before .before .before .before .before .before .before .before .before .args in behind-blanks (a .text .now) (a .at) _ (c .before .before .before .before .before .before .before .before .run-end .ensures) _ (c .symbol-at .ensures)
+    let a = c .before .before .before .before .before .before .before .before .before .before .args in
+    behind-blanks (a .text .now) (a .at) _ (c .before .before .before .before .before .before .before .before .run-end .ensures) _ (c .symbol-at .ensures)
 
 pub token-at-spec : {M : Type 1} → statement M
 token-at-spec =

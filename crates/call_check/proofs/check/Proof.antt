@@ -29,7 +29,9 @@ refuse-requires-3 : tie.Need-refuse-requires-3
 refuse-requires-3 c κs = search needs
 
 returns-3 : tie.Need-returns-3
-returns-3 c = refuses _ _ (c .refuse3 .ensures) (variables-bad _ _ (c .before .before .before .before .before .if1 .left) (c .before .before .before .before .if2 .left) (sym (c .before .before .well-formed .ensures) ∙ not-true _ (c .before .if3 .taken)))
+returns-3 c = refuses _ _ (c .refuse3 .ensures)
+    (variables-bad _ _ (c .before .before .before .before .before .if1 .left) (c .before .before .before .before .if2 .left)
+    (sym (c .before .before .well-formed .ensures) ∙ not-true _ (c .before .if3 .taken)))
 
 well-formed-requires-2 : tie.Need-well-formed-requires-2
 well-formed-requires-2 c κs = search needs
@@ -40,7 +42,10 @@ refuse-requires-4 c κs = search needs
 returns-4 : tie.Need-returns-4
 returns-4 c =
     refuses _ _ (c .refuse4 .ensures)
-    (homes-bad _ _ (c .before .before .before .before .before .before .before .if1 .left) (c .before .before .before .before .before .before .if2 .left) (sym (c .before .before .before .before .well-formed .ensures) ∙ not-false _ (c .before .before .before .if3 .left)) (sym (c .before .before .well-formed2 .ensures) ∙ not-true _ (c .before .if4 .taken)))
+    (homes-bad _ _ (c .before .before .before .before .before .before .before .if1 .left)
+    (c .before .before .before .before .before .before .if2 .left)
+    (sym (c .before .before .before .before .well-formed .ensures) ∙ not-false _ (c .before .before .before .if3 .left))
+    (sym (c .before .before .well-formed2 .ensures) ∙ not-true _ (c .before .if4 .taken)))
 
 well-formed-requires-3 : tie.Need-well-formed-requires-3
 well-formed-requires-3 c κs = search needs
@@ -51,7 +56,11 @@ refuse-requires-5 c κs = search needs
 returns-5 : tie.Need-returns-5
 returns-5 c =
     refuses _ _ (c .refuse5 .ensures)
-    (paths-bad _ _ (c .before .before .before .before .before .before .before .before .before .if1 .left) (c .before .before .before .before .before .before .before .before .if2 .left) (sym (c .before .before .before .before .before .before .well-formed .ensures) ∙ not-false _ (c .before .before .before .before .before .if3 .left)) (sym (c .before .before .before .before .well-formed2 .ensures) ∙ not-false _ (c .before .before .before .if4 .left))
+    (paths-bad _ _ (c .before .before .before .before .before .before .before .before .before .if1 .left)
+    (c .before .before .before .before .before .before .before .before .if2 .left)
+    (sym (c .before .before .before .before .before .before .well-formed .ensures) ∙ not-false _
+    (c .before .before .before .before .before .if3 .left))
+    (sym (c .before .before .before .before .well-formed2 .ensures) ∙ not-false _ (c .before .before .before .if4 .left))
     (sym (c .before .before .well-formed3 .ensures) ∙ not-true _ (c .before .if5 .taken)))
 
 check-line-requires : tie.Need-check-line-requires

@@ -19,7 +19,9 @@ refuse-requires-2 : tie.Need-refuse-requires-2
 refuse-requires-2 c κs = search needs
 
 returns-2 : tie.Need-returns-2
-returns-2 c = refuses _ _ (c .refuse2 .ensures) (line-zero _ _ (c .before .before .before .before .before .before .before .before .before .before .pre) (c .before .before .before .if1 .left) (sym (c .before .before .is-in .ensures) ∙ c .before .if2 .taken))
+returns-2 c = refuses _ _ (c .refuse2 .ensures)
+    (line-zero _ _ (c .before .before .before .before .before .before .before .before .before .before .pre) (c .before .before .before .if1 .left)
+    (sym (c .before .before .is-in .ensures) ∙ c .before .if2 .taken))
 
 read-line-requires : tie.Need-read-line-requires
 read-line-requires c κs = search needs
@@ -39,17 +41,25 @@ refuse-requires-3 c κs = search needs
 returns-3 : tie.Need-returns-3
 returns-3 c =
     refuses _ _ (c .refuse3 .ensures)
-    (room-none _ _ (c .before .before .before .before .before .before .before .before .before .before .before .before .before .before .before .pre) (c .before .before .before .before .before .before .before .before .if1 .left) (sym (c .before .before .before .before .before .before .before .is-in .ensures) ∙ c .before .before .before .before .before .before .if2 .left) (accepted _ (read-as (c .before .before .before .before .before .read-line .ensures) (c .before .before .before .enum-told .given .1)))
+    (room-none _ _ (c .before .before .before .before .before .before .before .before .before .before .before .before .before .before .before .pre)
+    (c .before .before .before .before .before .before .before .before .if1 .left)
+    (sym (c .before .before .before .before .before .before .before .is-in .ensures) ∙ c .before .before .before .before .before .before .if2 .left)
+    (accepted _ (read-as (c .before .before .before .before .before .read-line .ensures) (c .before .before .before .enum-told .given .1)))
     (sym (c .before .before .room .ensures) ∙ c .before .if3 .taken))
 
 returns-4 : tie.Need-returns-4
 returns-4 c =
-    line-refused _ _ (c .before .before .before .before .before .before .before .before .before .before .before .before .before .pre) (c .before .before .before .before .before .before .if1 .left) (sym (c .before .before .before .before .before .is-in .ensures) ∙ c .before .before .before .before .if2 .left) _ _
+    line-refused _ _ (c .before .before .before .before .before .before .before .before .before .before .before .before .before .pre)
+    (c .before .before .before .before .before .before .if1 .left)
+    (sym (c .before .before .before .before .before .is-in .ensures) ∙ c .before .before .before .before .if2 .left) _ _
     (refused-line _ _ _ (read-as (c .before .before .before .read-line .ensures) (c .before .read .given .1)))
 
 returns-5 : tie.Need-returns-5
 returns-5 c =
-    room-some _ _ (c .before .before .before .before .before .before .before .before .before .before .before .before .before .before .pre) (c .before .before .before .before .before .before .before .if1 .left) (sym (c .before .before .before .before .before .before .is-in .ensures) ∙ c .before .before .before .before .before .if2 .left) (accepted _ (read-as (c .before .before .before .before .read-line .ensures) (c .before .before .enum-told .given .1)))
+    room-some _ _ (c .before .before .before .before .before .before .before .before .before .before .before .before .before .before .pre)
+    (c .before .before .before .before .before .before .before .if1 .left)
+    (sym (c .before .before .before .before .before .before .is-in .ensures) ∙ c .before .before .before .before .before .if2 .left)
+    (accepted _ (read-as (c .before .before .before .before .read-line .ensures) (c .before .before .enum-told .given .1)))
     (λ e. c .if3 .left (c .before .room .ensures ∙ e))
 
 pub check-line-spec : {M : Type 1} → statement M

@@ -16,7 +16,8 @@ enum-told c = search needs
 copy-in-requires : tie.Need-copy-in-requires
 copy-in-requires c κs =
     let a = c .before .before .before .before .before .args in
-    subst (λ (j : Job). length (a .image .now) ≤ roomOf j (length (a .out .now))) (c .before .enum-told .given .1) (c .before .before .before .before .before .pre)
+    subst (λ (j : Job). length (a .image .now) ≤ roomOf j (length (a .out .now))) (c .before .enum-told .given .1)
+    (c .before .before .before .before .before .pre)
 
 enum-told-2 : tie.Need-enum-told-2
 enum-told-2 c = search needs
@@ -30,7 +31,8 @@ same-length c = search needs
 returns : tie.Need-returns
 returns c =
     let a = c .before .before .before .before .before .before .before .before .args in
-    copied-over _ _ _ (c .before .before .copy-in .ensures) ∙ ap (λ (j : Job). writingOf j (a .image .now) (a .out .now)) (sym (c .before .before .before .before .enum-told .given .1))
+    copied-over _ _ _ (c .before .before .copy-in .ensures) ∙ ap (λ (j : Job). writingOf j (a .image .now) (a .out .now))
+    (sym (c .before .before .before .before .enum-told .given .1))
 
 same-length-2 : tie.Need-same-length-2
 same-length-2 c = search needs
@@ -38,7 +40,8 @@ same-length-2 c = search needs
 returns-2 : tie.Need-returns-2
 returns-2 c =
     let a = c .before .before .before .before .before .before .before .before .args in
-    c .before .before .quote-fields .ensures ∙ ap (λ (j : Job). writingOf j (a .image .now) (a .out .now)) (sym (c .before .before .before .before .enum-told2 .given .1))
+    c .before .before .quote-fields .ensures ∙ ap (λ (j : Job). writingOf j (a .image .now) (a .out .now))
+    (sym (c .before .before .before .before .enum-told2 .given .1))
 
 pub deliver-spec : {M : Type 1} → statement M
 deliver-spec =

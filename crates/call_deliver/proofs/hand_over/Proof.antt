@@ -36,7 +36,8 @@ returns : tie.Need-returns
 returns c =
     let a = c .before .before .before .before .before .before .before .before .before .before .before .before .before .before .before .args in
     let d = c .before .before .before .before .before .before .before .before .before .deliver in
-    handed-both (a .kept .now) (a .vars .now) (a .used) (quoted-as (d .last .1 .1 .0) (d .ensures) (c .before .before .before .before .before .written .given .1)) (c .before .before .copy-in .ensures)
+    handed-both (a .kept .now) (a .vars .now) (a .used)
+    (quoted-as (d .last .1 .1 .0) (d .ensures) (c .before .before .before .before .before .written .given .1)) (c .before .before .copy-in .ensures)
 
 same-length-3 : tie.Need-same-length-3
 same-length-3 c = search needs
@@ -45,7 +46,8 @@ returns-2 : tie.Need-returns-2
 returns-2 c =
     let a = c .before .before .before .before .before .before .before .before .before .before .before .args in
     let d = c .before .before .before .before .before .deliver in
-    handed-none (a .kept .now) (a .vars .now) (a .used) (d .last .1 .1 .0) refl (quoted-as (d .last .1 .1 .0) (d .ensures) (c .before .enum-told .given .1)) (c .refuse .ensures)
+    handed-none (a .kept .now) (a .vars .now) (a .used) (d .last .1 .1 .0) refl
+    (quoted-as (d .last .1 .1 .0) (d .ensures) (c .before .enum-told .given .1)) (c .refuse .ensures)
 
 same-length-4 : tie.Need-same-length-4
 same-length-4 c = search needs
@@ -54,7 +56,8 @@ returns-3 : tie.Need-returns-3
 returns-3 c =
     let a = c .before .before .before .before .before .before .before .before .before .before .before .args in
     let d = c .before .before .before .before .before .deliver in
-    handed-none (a .kept .now) (a .vars .now) (a .used) (d .last .1 .1 .0) refl (quoted-as (d .last .1 .1 .0) (d .ensures) (c .before .enum-told2 .given .1)) (c .refuse2 .ensures)
+    handed-none (a .kept .now) (a .vars .now) (a .used) (d .last .1 .1 .0) refl
+    (quoted-as (d .last .1 .1 .0) (d .ensures) (c .before .enum-told2 .given .1)) (c .refuse2 .ensures)
 
 pub hand-over-spec : {M : Type 1} → statement M
 hand-over-spec =

@@ -30,7 +30,10 @@ same-length-3 : tie.Need-same-length-3
 same-length-3 c = search needs
 
 returns : tie.Need-returns
-returns c = answer-refused (c .before .before .before .before .before .before .before .before .before .before .before .before .before .before .args .job) _ (check-refused (c .before .before .before .before .before .before .before .before .before .before .before .before .before .before .args .job) _ (c .before .before .before .before .check .ensures) (c .before .before .checked .given .1)) (c .refuse .ensures)
+returns c = answer-refused
+    (c .before .before .before .before .before .before .before .before .before .before .before .before .before .before .args .job) _
+    (check-refused (c .before .before .before .before .before .before .before .before .before .before .before .before .before .before .args .job) _
+    (c .before .before .before .before .check .ensures) (c .before .before .checked .given .1)) (c .refuse .ensures)
 
 same-length-4 : tie.Need-same-length-4
 same-length-4 c = search needs

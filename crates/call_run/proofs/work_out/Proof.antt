@@ -13,19 +13,26 @@ slice-aggregate-copy-in : tie.Need-slice-aggregate-copy-in
 slice-aggregate-copy-in c = sym (length-take-le _ _ (c .before .before .before .before .before .before .before .before .before .pre .0 .tables .inside))
 
 copy-in-requires : tie.Need-copy-in-requires
-copy-in-requires c κs = copy-fits (c .before .before .before .before .before .before .before .before .before .before .pre .0) (c .before .before .before .before .before .before .before .before .before .before .args .copy .now) (c .before .before .before .before .before .before .before .before .before .before .pre .1 .0)
+copy-in-requires c κs =
+    copy-fits (c .before .before .before .before .before .before .before .before .before .before .pre .0)
+    (c .before .before .before .before .before .before .before .before .before .before .args .copy .now)
+    (c .before .before .before .before .before .before .before .before .before .before .pre .1 .0)
 
 room-requires : tie.Need-room-requires
 room-requires c κs = search needs
 
 slice-relend-prefix-expand-line : tie.Need-slice-relend-prefix-expand-line
-slice-relend-prefix-expand-line c = size-within (c .before .before .before .before .before .before .before .before .before .before .before .before .before .before .before .before .pre .0) (c .before .before .before .before .before .before .before .before .before .before .before .before .before .before .before .before .args .copy .now) (c .before .before .before .before .before .copy-in .last .1 .0) (c .before .before .before .before .before .before .before .before .before .before .before .before .before .before .before .before .args .image .now) (c .before .before .before .before .before .before .before .before .before .before .before .before .before .before .before .before .pre .1 .0) (c .before .before .before .before .before .before .before .before .before .before .before .before .before .before .before .before .pre .1 .1) (c .before .before .before .before .before .copy-in .ensures) (c .before .before .room .result) (c .before .before .room .ensures)
+slice-relend-prefix-expand-line c =
+    size-within (c .before .before .before .before .before .before .before .before .before .before .before .before .before .before .before .before .pre .0) (c .before .before .before .before .before .before .before .before .before .before .before .before .before .before .before .before .args .copy .now) (c .before .before .before .before .before .copy-in .last .1 .0) (c .before .before .before .before .before .before .before .before .before .before .before .before .before .before .before .before .args .image .now) (c .before .before .before .before .before .before .before .before .before .before .before .before .before .before .before .before .pre .1 .0) (c .before .before .before .before .before .before .before .before .before .before .before .before .before .before .before .before .pre .1 .1) (c .before .before .before .before .before .copy-in .ensures) (c .before .before .room .result) (c .before .before .room .ensures)
 
 slice-aggregate-expand-line : tie.Need-slice-aggregate-expand-line
-slice-aggregate-expand-line c = sym (length-take-le _ _ (size-within (c .before .before .before .before .before .before .before .before .before .before .before .before .before .before .before .before .before .pre .0) (c .before .before .before .before .before .before .before .before .before .before .before .before .before .before .before .before .before .args .copy .now) (c .before .before .before .before .before .before .copy-in .last .1 .0) (c .before .before .before .before .before .before .before .before .before .before .before .before .before .before .before .before .before .args .image .now) (c .before .before .before .before .before .before .before .before .before .before .before .before .before .before .before .before .before .pre .1 .0) (c .before .before .before .before .before .before .before .before .before .before .before .before .before .before .before .before .before .pre .1 .1) (c .before .before .before .before .before .before .copy-in .ensures) (c .before .before .before .room .result) (c .before .before .before .room .ensures)))
+slice-aggregate-expand-line c =
+    sym (length-take-le _ _
+    (size-within (c .before .before .before .before .before .before .before .before .before .before .before .before .before .before .before .before .before .pre .0) (c .before .before .before .before .before .before .before .before .before .before .before .before .before .before .before .before .before .args .copy .now) (c .before .before .before .before .before .before .copy-in .last .1 .0) (c .before .before .before .before .before .before .before .before .before .before .before .before .before .before .before .before .before .args .image .now) (c .before .before .before .before .before .before .before .before .before .before .before .before .before .before .before .before .before .pre .1 .0) (c .before .before .before .before .before .before .before .before .before .before .before .before .before .before .before .before .before .pre .1 .1) (c .before .before .before .before .before .before .copy-in .ensures) (c .before .before .before .room .result) (c .before .before .before .room .ensures)))
 
 expand-line-requires : tie.Need-expand-line-requires
-expand-line-requires c κs = line-ready (c .before .before .before .before .before .before .before .before .before .before .before .before .before .before .before .before .before .pre .0) (c .before .before .before .before .before .before .before .before .before .before .before .before .before .before .before .before .before .args .copy .now) (c .before .before .before .before .before .before .copy-in .last .1 .0) (c .before .before .before .before .before .before .before .before .before .before .before .before .before .before .before .before .before .args .image .now) (c .before .before .before .before .before .before .before .before .before .before .before .before .before .before .before .before .before .pre .1 .0) (c .before .before .before .before .before .before .before .before .before .before .before .before .before .before .before .before .before .pre .1 .1) (c .before .before .before .before .before .before .copy-in .ensures) (c .before .before .before .room .result) (c .before .before .before .room .ensures)
+expand-line-requires c κs =
+    line-ready (c .before .before .before .before .before .before .before .before .before .before .before .before .before .before .before .before .before .pre .0) (c .before .before .before .before .before .before .before .before .before .before .before .before .before .before .before .before .before .args .copy .now) (c .before .before .before .before .before .before .copy-in .last .1 .0) (c .before .before .before .before .before .before .before .before .before .before .before .before .before .before .before .before .before .args .image .now) (c .before .before .before .before .before .before .before .before .before .before .before .before .before .before .before .before .before .pre .1 .0) (c .before .before .before .before .before .before .before .before .before .before .before .before .before .before .before .before .before .pre .1 .1) (c .before .before .before .before .before .before .copy-in .ensures) (c .before .before .before .room .result) (c .before .before .before .room .ensures)
 
 enum-known-got : tie.Need-enum-known-got
 enum-known-got c = search needs
@@ -44,7 +51,8 @@ slice-reshare-prefix-hand-over c =
 slice-aggregate-hand-over : tie.Need-slice-aggregate-hand-over
 slice-aggregate-hand-over c =
     let e = c .before .before .before .before .before .before .before .before .before .before .expand-line in
-    sym (length-take-le _ _ (len-within (c .before .before .before .before .before .before .before .before .before .before .before .before .before .before .before .before .before .before .before .before .before .before .before .before .before .before .before .before .pre .0) (c .before .before .before .before .before .before .before .before .before .before .before .before .before .before .before .before .before .before .before .before .before .before .before .before .before .before .before .before .args .copy .now) (c .before .before .before .before .before .before .before .before .before .before .before .before .before .before .before .before .before .copy-in .last .1 .0) (c .before .before .before .before .before .before .before .before .before .before .before .before .before .before .before .before .before .before .before .before .before .before .before .before .before .before .before .before .args .image .now) (c .before .before .before .before .before .before .before .before .before .before .before .before .before .before .before .before .before .before .before .before .before .before .before .before .before .before .before .before .pre .1 .0) (c .before .before .before .before .before .before .before .before .before .before .before .before .before .before .before .before .before .before .before .before .before .before .before .before .before .before .before .before .pre .1 .1) (c .before .before .before .before .before .before .before .before .before .before .before .before .before .before .before .before .before .copy-in .ensures) (c .before .before .before .before .before .before .before .before .before .before .before .before .before .before .room .result) (c .before .before .before .before .before .before .before .before .before .before .before .before .before .before .room .ensures) (e .last .1 .0) (e .last .1 .1 .1 .1 .1 .1 .1 .0) (e .result) (e .kept .1 .1 .1 .1 .1 .1 .1 .0) (e .ensures) (c .before .before .got2 .given .1)))
+    sym (length-take-le _ _
+    (len-within (c .before .before .before .before .before .before .before .before .before .before .before .before .before .before .before .before .before .before .before .before .before .before .before .before .before .before .before .before .pre .0) (c .before .before .before .before .before .before .before .before .before .before .before .before .before .before .before .before .before .before .before .before .before .before .before .before .before .before .before .before .args .copy .now) (c .before .before .before .before .before .before .before .before .before .before .before .before .before .before .before .before .before .copy-in .last .1 .0) (c .before .before .before .before .before .before .before .before .before .before .before .before .before .before .before .before .before .before .before .before .before .before .before .before .before .before .before .before .args .image .now) (c .before .before .before .before .before .before .before .before .before .before .before .before .before .before .before .before .before .before .before .before .before .before .before .before .before .before .before .before .pre .1 .0) (c .before .before .before .before .before .before .before .before .before .before .before .before .before .before .before .before .before .before .before .before .before .before .before .before .before .before .before .before .pre .1 .1) (c .before .before .before .before .before .before .before .before .before .before .before .before .before .before .before .before .before .copy-in .ensures) (c .before .before .before .before .before .before .before .before .before .before .before .before .before .before .room .result) (c .before .before .before .before .before .before .before .before .before .before .before .before .before .before .room .ensures) (e .last .1 .0) (e .last .1 .1 .1 .1 .1 .1 .1 .0) (e .result) (e .kept .1 .1 .1 .1 .1 .1 .1 .0) (e .ensures) (c .before .before .got2 .given .1)))
 
 slice-reshare-prefix-hand-over-2 : tie.Need-slice-reshare-prefix-hand-over-2
 slice-reshare-prefix-hand-over-2 c =
@@ -54,7 +62,8 @@ slice-reshare-prefix-hand-over-2 c =
 slice-aggregate-hand-over-2 : tie.Need-slice-aggregate-hand-over-2
 slice-aggregate-hand-over-2 c =
     let e = c .before .before .before .before .before .before .before .before .before .before .before .expand-line in
-    sym (length-take-le _ _ (have-within (c .before .before .before .before .before .before .before .before .before .before .before .before .before .before .before .before .before .before .before .before .before .before .before .before .before .before .before .before .before .pre .0) (c .before .before .before .before .before .before .before .before .before .before .before .before .before .before .before .before .before .before .before .before .before .before .before .before .before .before .before .before .before .args .copy .now) (c .before .before .before .before .before .before .before .before .before .before .before .before .before .before .before .before .before .before .copy-in .last .1 .0) (c .before .before .before .before .before .before .before .before .before .before .before .before .before .before .before .before .before .before .before .before .before .before .before .before .before .before .before .before .before .args .image .now) (c .before .before .before .before .before .before .before .before .before .before .before .before .before .before .before .before .before .before .before .before .before .before .before .before .before .before .before .before .before .pre .1 .0) (c .before .before .before .before .before .before .before .before .before .before .before .before .before .before .before .before .before .before .before .before .before .before .before .before .before .before .before .before .before .pre .1 .1) (c .before .before .before .before .before .before .before .before .before .before .before .before .before .before .before .before .before .before .copy-in .ensures) (c .before .before .before .before .before .before .before .before .before .before .before .before .before .before .before .room .result) (c .before .before .before .before .before .before .before .before .before .before .before .before .before .before .before .room .ensures) (e .last .1 .0) (e .last .1 .1 .1 .1 .1 .1 .1 .0) (e .result) (e .kept .1 .1 .1 .1 .1 .1 .1 .0) (e .ensures) (c .before .before .before .got2 .given .1)))
+    sym (length-take-le _ _
+    (have-within (c .before .before .before .before .before .before .before .before .before .before .before .before .before .before .before .before .before .before .before .before .before .before .before .before .before .before .before .before .before .pre .0) (c .before .before .before .before .before .before .before .before .before .before .before .before .before .before .before .before .before .before .before .before .before .before .before .before .before .before .before .before .before .args .copy .now) (c .before .before .before .before .before .before .before .before .before .before .before .before .before .before .before .before .before .before .copy-in .last .1 .0) (c .before .before .before .before .before .before .before .before .before .before .before .before .before .before .before .before .before .before .before .before .before .before .before .before .before .before .before .before .before .args .image .now) (c .before .before .before .before .before .before .before .before .before .before .before .before .before .before .before .before .before .before .before .before .before .before .before .before .before .before .before .before .before .pre .1 .0) (c .before .before .before .before .before .before .before .before .before .before .before .before .before .before .before .before .before .before .before .before .before .before .before .before .before .before .before .before .before .pre .1 .1) (c .before .before .before .before .before .before .before .before .before .before .before .before .before .before .before .before .before .before .copy-in .ensures) (c .before .before .before .before .before .before .before .before .before .before .before .before .before .before .before .room .result) (c .before .before .before .before .before .before .before .before .before .before .before .before .before .before .before .room .ensures) (e .last .1 .0) (e .last .1 .1 .1 .1 .1 .1 .1 .0) (e .result) (e .kept .1 .1 .1 .1 .1 .1 .1 .0) (e .ensures) (c .before .before .before .got2 .given .1)))
 
 hand-over-requires : tie.Need-hand-over-requires
 hand-over-requires c κs =

@@ -22,19 +22,22 @@ same-length : tie.Need-same-length
 same-length c = search needs
 
 returns : tie.Need-returns
-returns c = let q = c .before .before .before .before .before .quote-fields in quotes _ (Len _) (q .last .1 .0) (quoted-as (q .last .1 .0) (q .ensures) (c .before .quoted .given .1))
+returns c = let q = c .before .before .before .before .before .quote-fields in
+    quotes _ (Len _) (q .last .1 .0) (quoted-as (q .last .1 .0) (q .ensures) (c .before .quoted .given .1))
 
 same-length-2 : tie.Need-same-length-2
 same-length-2 c = search needs
 
 returns-2 : tie.Need-returns-2
-returns-2 c = let q = c .before .before .before .before .quote-fields in quotes _ Malformed (q .last .1 .0) (quoted-as (q .last .1 .0) (q .ensures) (c .enum-told .given .1))
+returns-2 c = let q = c .before .before .before .before .quote-fields in
+    quotes _ Malformed (q .last .1 .0) (quoted-as (q .last .1 .0) (q .ensures) (c .enum-told .given .1))
 
 same-length-3 : tie.Need-same-length-3
 same-length-3 c = search needs
 
 returns-3 : tie.Need-returns-3
-returns-3 c = let q = c .before .before .before .before .quote-fields in quotes _ NoRoom (q .last .1 .0) (quoted-as (q .last .1 .0) (q .ensures) (c .enum-told2 .given .1))
+returns-3 c = let q = c .before .before .before .before .quote-fields in
+    quotes _ NoRoom (q .last .1 .0) (quoted-as (q .last .1 .0) (q .ensures) (c .enum-told2 .given .1))
 
 pub quote-spec : {M : Type 1} → statement M
 quote-spec =

@@ -18,7 +18,10 @@ same-length : tie.Need-same-length
 same-length c = search needs
 
 returns : tie.Need-returns
-returns c = adds-marked (c .before .before .before .before .before .before .before .args .used) (c .before .before .before .give-signed .last .1 .1 .1 .1 .0) (c .before .before .before .give-signed .result) refl (ap signed (toZ-ofZ w64 (c .before .before .before .before .before .before .before .args .z) (c .before .before .before .before .before .before .before .fits .z))) (c .before .before .before .give-signed .ensures)
+returns c = adds-marked (c .before .before .before .before .before .before .before .args .used)
+    (c .before .before .before .give-signed .last .1 .1 .1 .1 .0) (c .before .before .before .give-signed .result) refl
+    (ap signed (toZ-ofZ w64 (c .before .before .before .before .before .before .before .args .z)
+    (c .before .before .before .before .before .before .before .fits .z))) (c .before .before .before .give-signed .ensures)
 
 pub give-number-spec : {M : Type 1} → statement M
 give-number-spec = tie.close (tie.spec slice-aggregate-give-signed give-signed-requires same-length returns)

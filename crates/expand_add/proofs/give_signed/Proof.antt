@@ -17,7 +17,9 @@ slice-reshare-prefix-give-text : tie.Need-slice-reshare-prefix-give-text
 slice-reshare-prefix-give-text c = puts-inside (c .before .before .put-signed .ensures)
 
 slice-aggregate-give-text : tie.Need-slice-aggregate-give-text
-slice-aggregate-give-text c = sym (length-take-le (c .before .before .before .put-signed .result) (c .before .before .before .put-signed .last .0) (puts-inside (c .before .before .before .put-signed .ensures)))
+slice-aggregate-give-text c =
+    sym (length-take-le (c .before .before .before .put-signed .result) (c .before .before .before .put-signed .last .0)
+    (puts-inside (c .before .before .before .put-signed .ensures)))
 
 expanded-mark-requires : tie.Need-expanded-mark-requires
 expanded-mark-requires c κs = search needs
@@ -32,7 +34,14 @@ same-length-2 : tie.Need-same-length-2
 same-length-2 c = search needs
 
 returns : tie.Need-returns
-returns c = adds-marked (c .before .before .before .before .before .before .before .before .before .before .before .before .args .used) (c .before .before .give-text .last .1 .1 .1 .0) (c .before .before .give-text .result) (c .before .before .before .before .expanded-mark .ensures) (puts-front (c .before .before .before .before .before .before .before .before .put-signed .ensures) ∙ ap signed (toZ-ofZ w64 (c .before .before .before .before .before .before .before .before .before .before .before .before .args .z) (c .before .before .before .before .before .before .before .before .before .before .before .before .fits .z))) (c .before .before .give-text .ensures)
+returns c = adds-marked (c .before .before .before .before .before .before .before .before .before .before .before .before .args .used)
+    (c .before .before .give-text .last .1 .1 .1 .0) (c .before .before .give-text .result)
+    (c .before .before .before .before .expanded-mark .ensures)
+    (puts-front (c .before .before .before .before .before .before .before .before .put-signed .ensures) ∙ ap signed
+    (toZ-ofZ w64 (c .before .before .before .before .before .before .before .before .before .before .before .before .args .z)
+    (c .before .before .before .before .before .before .before .before .before .before .before .before .fits .z))) (c .before .before .give-text .ensures)
 
 pub give-signed-spec : {M : Type 1} → statement M
-give-signed-spec = tie.close (tie.spec put-signed-requires slice-reshare-prefix-give-text slice-aggregate-give-text expanded-mark-requires give-text-requires same-length same-length-2 returns)
+give-signed-spec = tie.close
+    (tie.spec put-signed-requires slice-reshare-prefix-give-text slice-aggregate-give-text expanded-mark-requires give-text-requires same-length
+    same-length-2 returns)

@@ -24,7 +24,8 @@ same-length c = search needs
 returns-2 : tie.Need-returns-2
 returns-2 c =
     let a = c .before .before .before .before .before .before .before .args in
-    fronted-fits (a .used) _ (marked (markOf (a .mark)) (a .text .now)) (a .area .now) _ (marked-count (markOf (a .mark)) (a .text .now)) (omega arith) (c .before .before .put-marked .ensures)
+    fronted-fits (a .used) _ (marked (markOf (a .mark)) (a .text .now)) (a .area .now) _ (marked-count (markOf (a .mark)) (a .text .now))
+    (omega arith) (c .before .before .put-marked .ensures)
 
 pub give-text-spec : {M : Type 1} → statement M
 give-text-spec = tie.close (tie.spec sub-room returns put-marked-requires same-length returns-2)

@@ -17,7 +17,10 @@ same-length : tie.Need-same-length
 same-length c = search needs
 
 returns : tie.Need-returns
-returns c = adds-marked (c .before .before .before .before .before .before .before .before .before .args .used) (c .before .before .give-text .last .1 .1 .1 .0) (c .before .before .give-text .result) (c .before .before .before .before .expanded-mark .ensures) (c .before .before .before .before .before .value-of .ensures) (c .before .before .give-text .ensures)
+returns c = adds-marked (c .before .before .before .before .before .before .before .before .before .args .used)
+    (c .before .before .give-text .last .1 .1 .1 .0) (c .before .before .give-text .result)
+    (c .before .before .before .before .expanded-mark .ensures) (c .before .before .before .before .before .value-of .ensures)
+    (c .before .before .give-text .ensures)
 
 pub give-value-spec : {M : Type 1} → statement M
 give-value-spec = tie.close (tie.spec value-of-requires expanded-mark-requires give-text-requires same-length returns)

@@ -65,4 +65,7 @@ returns-10 : tie.Need-returns-10
 returns-10 c = rw (c .before .form6 .given .1)
 
 pub plan-of-spec : {M : Type 1} → statement M
-plan-of-spec = tie.close (tie.spec enum-known-form is-missing-requires returns enum-known-form-2 is-missing-requires-2 returns-2 enum-known-form-3 is-missing-requires-3 returns-3 enum-known-form-4 is-missing-requires-4 returns-4 enum-known-form-5 enum-known-form-6 returns-5 returns-6 returns-7 returns-8 returns-9 returns-10)
+plan-of-spec = tie.close
+    (tie.spec enum-known-form is-missing-requires returns enum-known-form-2 is-missing-requires-2 returns-2 enum-known-form-3 is-missing-requires-3
+    returns-3 enum-known-form-4 is-missing-requires-4 returns-4 enum-known-form-5 enum-known-form-6 returns-5 returns-6 returns-7 returns-8 returns-9
+    returns-10)

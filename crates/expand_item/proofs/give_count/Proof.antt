@@ -14,7 +14,9 @@ slice-reshare-prefix-give-text : tie.Need-slice-reshare-prefix-give-text
 slice-reshare-prefix-give-text c = puts-inside (c .before .before .put-decimal .ensures)
 
 slice-aggregate-give-text : tie.Need-slice-aggregate-give-text
-slice-aggregate-give-text c = sym (length-take-le (c .before .before .before .put-decimal .result) (c .before .before .before .put-decimal .last .0) (puts-inside (c .before .before .before .put-decimal .ensures)))
+slice-aggregate-give-text c =
+    sym (length-take-le (c .before .before .before .put-decimal .result) (c .before .before .before .put-decimal .last .0)
+    (puts-inside (c .before .before .before .put-decimal .ensures)))
 
 expanded-mark-requires : tie.Need-expanded-mark-requires
 expanded-mark-requires c κs = search needs
@@ -29,7 +31,12 @@ same-length-2 : tie.Need-same-length-2
 same-length-2 c = search needs
 
 returns : tie.Need-returns
-returns c = adds-marked (c .before .before .before .before .before .before .before .before .before .before .before .before .args .used) (c .before .before .give-text .last .1 .1 .1 .0) (c .before .before .give-text .result) (c .before .before .before .before .expanded-mark .ensures) (puts-front (c .before .before .before .before .before .before .before .before .put-decimal .ensures)) (c .before .before .give-text .ensures)
+returns c = adds-marked (c .before .before .before .before .before .before .before .before .before .before .before .before .args .used)
+    (c .before .before .give-text .last .1 .1 .1 .0) (c .before .before .give-text .result)
+    (c .before .before .before .before .expanded-mark .ensures)
+    (puts-front (c .before .before .before .before .before .before .before .before .put-decimal .ensures)) (c .before .before .give-text .ensures)
 
 pub give-count-spec : {M : Type 1} → statement M
-give-count-spec = tie.close (tie.spec put-decimal-requires slice-reshare-prefix-give-text slice-aggregate-give-text expanded-mark-requires give-text-requires same-length same-length-2 returns)
+give-count-spec = tie.close
+    (tie.spec put-decimal-requires slice-reshare-prefix-give-text slice-aggregate-give-text expanded-mark-requires give-text-requires same-length
+    same-length-2 returns)

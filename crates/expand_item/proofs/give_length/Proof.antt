@@ -21,7 +21,10 @@ same-length : tie.Need-same-length
 same-length c = search needs
 
 returns : tie.Need-returns
-returns c = adds-marked (c .before .before .before .before .before .before .before .before .before .before .args .used) (c .before .before .before .give-count .last .1 .1 .1 .1 .0) (c .before .before .before .give-count .result) refl (ap (λ (t : Text). decimal (length t)) (c .before .before .before .before .before .before .value-of .ensures)) (c .before .before .before .give-count .ensures)
+returns c = adds-marked (c .before .before .before .before .before .before .before .before .before .before .args .used)
+    (c .before .before .before .give-count .last .1 .1 .1 .1 .0) (c .before .before .before .give-count .result) refl
+    (ap (λ (t : Text). decimal (length t)) (c .before .before .before .before .before .before .value-of .ensures))
+    (c .before .before .before .give-count .ensures)
 
 pub give-length-spec : {M : Type 1} → statement M
 give-length-spec = tie.close (tie.spec value-of-requires slice-aggregate-give-count give-count-requires same-length returns)

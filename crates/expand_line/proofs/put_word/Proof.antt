@@ -31,7 +31,8 @@ slice-relend-prefix-put-word-fields c =
 slice-aggregate-put-word-fields : tie.Need-slice-aggregate-put-word-fields
 slice-aggregate-put-word-fields c =
     let e = c .before .before .before .before .before .before .before .before .expand-word in
-    sym (length-take-le _ _ (row-within (there (c .before .before .before .before .before .before .before .before .before .before .before .before .before .before .before .before .before .pre) (e .last .1 .1 .1 .1 .1 .1 .0) (e .last .1 .1 .0) (e .result) (e .ensures) (c .before .before .got2 .given .1))))
+    sym (length-take-le _ _
+    (row-within (there (c .before .before .before .before .before .before .before .before .before .before .before .before .before .before .before .before .before .pre) (e .last .1 .1 .1 .1 .1 .1 .0) (e .last .1 .1 .0) (e .result) (e .ensures) (c .before .before .got2 .given .1))))
 
 put-word-fields-requires : tie.Need-put-word-fields-requires
 put-word-fields-requires c κs =

@@ -29,7 +29,8 @@ slice-reshare-prefix-has-class c = dropped-inside _ (c .before .before .drop-emp
 slice-aggregate-has-class : tie.Need-slice-aggregate-has-class
 slice-aggregate-has-class c =
     let a = c .before .before .before .before .before .before .before .before .args in
-    sym (length-take-le (c .before .before .before .drop-empty .result) (c .before .before .before .drop-empty .last .0 ++ drop (2 * a .units) (a .work .now)) (dropped-inside _ (c .before .before .before .drop-empty .ensures)))
+    sym (length-take-le (c .before .before .before .drop-empty .result)
+    (c .before .before .before .drop-empty .last .0 ++ drop (2 * a .units) (a .work .now)) (dropped-inside _ (c .before .before .before .drop-empty .ensures)))
 
 has-class-requires : tie.Need-has-class-requires
 has-class-requires c κs = search needs
@@ -40,7 +41,10 @@ same-length c = search needs
 returns : tie.Need-returns
 returns c =
     let a = c .before .before .before .before .before .before .before .before .before .before .args in
-    cut-class (a .suffix) (a .long) (a .name .now) (markOf (a .mark)) (held (a .vars .now)) _ _ (dropped-front _ _ _ _ (c .before .before .before .before .before .drop-empty .ensures)) (a .used) (c .before .before .before .before .before .drop-empty .last .0 ++ drop (2 * a .units) (a .work .now)) (sym (c .before .has-class .ensures) ∙ c .if1 .taken)
+    cut-class (a .suffix) (a .long) (a .name .now) (markOf (a .mark)) (held (a .vars .now)) _ _
+    (dropped-front _ _ _ _ (c .before .before .before .before .before .drop-empty .ensures)) (a .used)
+    (c .before .before .before .before .before .drop-empty .last .0 ++ drop (2 * a .units) (a .work .now))
+    (sym (c .before .has-class .ensures) ∙ c .if1 .taken)
 
 value-of-requires : tie.Need-value-of-requires
 value-of-requires c κs = search needs
@@ -51,7 +55,9 @@ slice-reshare-prefix-removed c = dropped-inside _ (c .before .before .before .be
 slice-aggregate-removed : tie.Need-slice-aggregate-removed
 slice-aggregate-removed c =
     let a = c .before .before .before .before .before .before .before .before .before .before .before .before .args in
-    sym (length-take-le (c .before .before .before .before .before .before .before .drop-empty .result) (c .before .before .before .before .before .before .before .drop-empty .last .0 ++ drop (2 * a .units) (a .work .now)) (dropped-inside _ (c .before .before .before .before .before .before .before .drop-empty .ensures)))
+    sym (length-take-le (c .before .before .before .before .before .before .before .drop-empty .result)
+    (c .before .before .before .before .before .before .before .drop-empty .last .0 ++ drop (2 * a .units) (a .work .now))
+    (dropped-inside _ (c .before .before .before .before .before .before .before .drop-empty .ensures)))
 
 removed-requires : tie.Need-removed-requires
 removed-requires c κs = search needs
@@ -68,7 +74,17 @@ same-length-2 c = search needs
 returns-2 : tie.Need-returns-2
 returns-2 c =
     let a = c .before .before .before .before .before .before .before .before .before .before .before .before .before .before .before .before .before .before .args in
-    cut-given (a .suffix) (a .long) (a .name .now) (markOf (a .mark)) (held (a .vars .now)) _ _ (dropped-front _ _ _ _ (c .before .before .before .before .before .before .before .before .before .before .before .before .before .drop-empty .ensures)) (a .used) (c .before .before .give-text .last .1 .1 .1 .0) (c .before .before .give-text .result) (sym (c .before .before .before .before .before .before .before .before .before .has-class .ensures) ∙ c .before .before .before .before .before .before .before .before .if1 .left) (c .before .before .before .before .before .before .before .value-of .ensures) (c .before .before .before .before .before .removed .ensures) (c .before .before .before .before .expanded-mark .ensures) (c .before .before .give-text .ensures)
+    cut-given (a .suffix) (a .long) (a .name .now) (markOf (a .mark)) (held (a .vars .now)) _ _
+    (dropped-front _ _ _ _
+    (c .before .before .before .before .before .before .before .before .before .before .before .before .before .drop-empty .ensures)) (a .used)
+    (c .before .before .give-text .last .1 .1 .1 .0) (c .before .before .give-text .result)
+    (sym (c .before .before .before .before .before .before .before .before .before .has-class .ensures) ∙
+    c .before .before .before .before .before .before .before .before .if1 .left)
+    (c .before .before .before .before .before .before .before .value-of .ensures) (c .before .before .before .before .before .removed .ensures)
+    (c .before .before .before .before .expanded-mark .ensures) (c .before .before .give-text .ensures)
 
 pub cut-spec : {M : Type 1} → statement M
-cut-spec = tie.close (tie.spec mul-end slice-relend-prefix-drop-empty slice-aggregate-drop-empty drop-empty-requires slice-reshare-prefix-has-class slice-aggregate-has-class has-class-requires same-length returns value-of-requires slice-reshare-prefix-removed slice-aggregate-removed removed-requires expanded-mark-requires give-text-requires same-length-2 returns-2)
+cut-spec = tie.close
+    (tie.spec mul-end slice-relend-prefix-drop-empty slice-aggregate-drop-empty drop-empty-requires slice-reshare-prefix-has-class
+    slice-aggregate-has-class has-class-requires same-length returns value-of-requires slice-reshare-prefix-removed slice-aggregate-removed
+    removed-requires expanded-mark-requires give-text-requires same-length-2 returns-2)

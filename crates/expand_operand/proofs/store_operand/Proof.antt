@@ -29,7 +29,9 @@ slice-reshare-prefix-store c = stripped-inside _ (c .before .before .before .str
 slice-aggregate-store : tie.Need-slice-aggregate-store
 slice-aggregate-store c =
     let a = c .before .before .before .before .before .before .before .before .before .args in
-    sym (length-take-le (c .before .before .before .before .strip-marks .result) (c .before .before .before .before .strip-marks .last .0 ++ drop (2 * a .units) (a .work .now)) (stripped-inside _ (c .before .before .before .before .strip-marks .ensures)))
+    sym (length-take-le (c .before .before .before .before .strip-marks .result)
+    (c .before .before .before .before .strip-marks .last .0 ++ drop (2 * a .units) (a .work .now))
+    (stripped-inside _ (c .before .before .before .before .strip-marks .ensures)))
 
 cap-of-requires : tie.Need-cap-of-requires
 cap-of-requires c κs = search needs
@@ -38,8 +40,11 @@ store-requires : tie.Need-store-requires
 store-requires c κs =
     let a = c .before .before .before .before .before .before .before .before .before .before .args in
     let w = c .before .before .before .before .before .before .before .before .before .before .pre .1 in
-    let e = c .cap-of .ensures in
-    (omega (arith, w .fits, w .long, cap-limit (a .room), cap-least (a .room) (a .have) (w .fits) (have-limit w)), table-held (a .room) (a .vars .now) (a .have) w)
+    let e = c .cap-of .ensures in (
+      omega (arith, w .fits, w .long, cap-limit (a .room), cap-least (a .room) (a .have) (w .fits) (have-limit w)),
+      table-held (a .room) (a .vars .now)
+          (a .have) w,
+    )
 
 same-length : tie.Need-same-length
 same-length c = search needs
@@ -52,7 +57,11 @@ returns c =
     let a = c .before .before .before .before .before .before .before .before .before .before .before .before .before .args in
     let w = c .before .before .before .before .before .before .before .before .before .before .before .before .before .pre .1 in
     let p = c .before .before .before .before .before .before .before .before .before .before .before .before .before .pre .0 in
-    stored-operand (a .room) (a .have) (a .name .now) (a .work .now) (a .units) (a .vars .now) _ w p (c .before .before .before .cap-of .ensures) (stripped-front _ _ _ _ (c .before .before .before .before .before .before .before .before .strip-marks .ensures)) (c .before .before .store .result) (c .before .before .store .ensures) (search needs)
+    stored-operand (a .room) (a .have) (a .name .now) (a .work .now) (a .units) (a .vars .now) _ w p (c .before .before .before .cap-of .ensures)
+    (stripped-front _ _ _ _ (c .before .before .before .before .before .before .before .before .strip-marks .ensures))
+    (c .before .before .store .result) (c .before .before .store .ensures) (search needs)
 
 pub store-operand-spec : {M : Type 1} → statement M
-store-operand-spec = tie.close (tie.spec mul-end slice-relend-prefix-strip-marks slice-aggregate-strip-marks strip-marks-requires slice-reshare-prefix-store slice-aggregate-store cap-of-requires store-requires same-length same-length-2 returns)
+store-operand-spec =
+    tie.close (tie.spec mul-end slice-relend-prefix-strip-marks slice-aggregate-strip-marks strip-marks-requires slice-reshare-prefix-store
+    slice-aggregate-store cap-of-requires store-requires same-length same-length-2 returns)

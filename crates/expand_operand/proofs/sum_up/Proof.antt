@@ -32,7 +32,9 @@ slice-reshare-prefix-evaluate-text c = stripped-inside _ (c .before .before .str
 slice-aggregate-evaluate-text : tie.Need-slice-aggregate-evaluate-text
 slice-aggregate-evaluate-text c =
     let a = c .before .before .before .before .before .before .before .args in
-    sym (length-take-le (c .before .before .before .strip-marks .result) (c .before .before .before .strip-marks .last .0 ++ drop (2 * a .units) (a .work .now)) (stripped-inside _ (c .before .before .before .strip-marks .ensures)))
+    sym (length-take-le (c .before .before .before .strip-marks .result)
+    (c .before .before .before .strip-marks .last .0 ++ drop (2 * a .units) (a .work .now))
+    (stripped-inside _ (c .before .before .before .strip-marks .ensures)))
 
 evaluate-text-requires : tie.Need-evaluate-text-requires
 evaluate-text-requires c κs = c .before .before .before .before .before .before .before .pre .0
@@ -44,7 +46,23 @@ enum-known-got-2 : tie.Need-enum-known-got-2
 enum-known-got-2 c = search needs
 
 give-number-requires : tie.Need-give-number-requires
-give-number-requires c κs = (c .before .before .before .before .before .before .before .before .before .before .before .before .pre .2, omega (arith, c .before .before .before .before .before .before .before .before .before .before .before .before .pre .3, c .before .before .before .before .before .before .before .before .before .before .before .before .pre .1, c .before .before .before .before .before .before .before .before .strip-marks .kept .0, length-append (c .before .before .before .before .before .before .before .before .strip-marks .last .0) (drop (2 * c .before .before .before .before .before .before .before .before .before .before .before .before .args .units) (c .before .before .before .before .before .before .before .before .before .before .before .before .args .work .now)), length-drop (2 * c .before .before .before .before .before .before .before .before .before .before .before .before .args .units) (c .before .before .before .before .before .before .before .before .before .before .before .before .args .work .now), length-take-le (2 * c .before .before .before .before .before .before .before .before .before .before .before .before .args .units) (c .before .before .before .before .before .before .before .before .before .before .before .before .args .work .now) (c .before .before .before .before .before .before .before .before .before .before .before .before .pre .1)))
+give-number-requires c κs = (
+  c .before .before .before .before .before .before .before .before .before .before .before .before .pre .2,
+  omega (
+    arith,
+    c .before .before .before .before .before .before .before .before .before .before .before .before .pre .3,
+    c .before .before .before .before .before .before .before .before .before .before .before .before .pre .1,
+    c .before .before .before .before .before .before .before .before .strip-marks .kept .0,
+    length-append (c .before .before .before .before .before .before .before .before .strip-marks .last .0)
+        (drop (2 * c .before .before .before .before .before .before .before .before .before .before .before .before .args .units)
+        (c .before .before .before .before .before .before .before .before .before .before .before .before .args .work .now)),
+    length-drop (2 * c .before .before .before .before .before .before .before .before .before .before .before .before .args .units)
+        (c .before .before .before .before .before .before .before .before .before .before .before .before .args .work .now),
+    length-take-le (2 * c .before .before .before .before .before .before .before .before .before .before .before .before .args .units)
+        (c .before .before .before .before .before .before .before .before .before .before .before .before .args .work .now)
+        (c .before .before .before .before .before .before .before .before .before .before .before .before .pre .1),
+  ),
+)
 
 same-length : tie.Need-same-length
 same-length c = search needs
@@ -52,7 +70,10 @@ same-length c = search needs
 returns : tie.Need-returns
 returns c =
     let a = c .before .before .before .before .before .before .before .before .before .before .before .args in
-    sum-refuses (markOf (a .mark)) (rowOf (take (2 * a .units) (a .work .now))) (held (a .vars .now)) _ (stripped-front _ _ _ _ (c .before .before .before .before .before .before .before .strip-marks .ensures)) (c .before .before .before .evaluate-text .result) (c .before .before .before .evaluate-text .ensures) (a .used) (c .before .before .before .before .before .before .before .strip-marks .last .0 ++ drop (2 * a .units) (a .work .now)) (c .before .got .given .1)
+    sum-refuses (markOf (a .mark)) (rowOf (take (2 * a .units) (a .work .now))) (held (a .vars .now)) _
+    (stripped-front _ _ _ _ (c .before .before .before .before .before .before .before .strip-marks .ensures))
+    (c .before .before .before .evaluate-text .result) (c .before .before .before .evaluate-text .ensures) (a .used)
+    (c .before .before .before .before .before .before .before .strip-marks .last .0 ++ drop (2 * a .units) (a .work .now)) (c .before .got .given .1)
 
 same-length-2 : tie.Need-same-length-2
 same-length-2 c = search needs
@@ -60,7 +81,15 @@ same-length-2 c = search needs
 returns-2 : tie.Need-returns-2
 returns-2 c =
     let a = c .before .before .before .before .before .before .before .before .before .before .before .before .before .before .before .args in
-    sum-gives (markOf (a .mark)) (rowOf (take (2 * a .units) (a .work .now))) (held (a .vars .now)) _ (stripped-front _ _ _ _ (c .before .before .before .before .before .before .before .before .before .before .before .strip-marks .ensures)) (c .before .before .before .before .before .before .before .evaluate-text .result) (c .before .before .before .before .before .before .before .evaluate-text .ensures) (a .used) (c .before .before .give-number .last .1 .1 .1 .0) (c .before .before .give-number .result) (c .before .before .before .before .before .got2 .given .1) (kept (c .before .before .before .before .before .got2 .given .0 .0) (c .before .before .before .before .known-told2 .given .0 .1)) (c .before .before .give-number .ensures)
+    sum-gives (markOf (a .mark)) (rowOf (take (2 * a .units) (a .work .now))) (held (a .vars .now)) _
+    (stripped-front _ _ _ _ (c .before .before .before .before .before .before .before .before .before .before .before .strip-marks .ensures))
+    (c .before .before .before .before .before .before .before .evaluate-text .result)
+    (c .before .before .before .before .before .before .before .evaluate-text .ensures) (a .used) (c .before .before .give-number .last .1 .1 .1 .0)
+    (c .before .before .give-number .result) (c .before .before .before .before .before .got2 .given .1)
+    (kept (c .before .before .before .before .before .got2 .given .0 .0) (c .before .before .before .before .known-told2 .given .0 .1))
+    (c .before .before .give-number .ensures)
 
 pub sum-up-spec : {M : Type 1} → statement M
-sum-up-spec = tie.close (tie.spec mul-end slice-relend-prefix-strip-marks slice-aggregate-strip-marks strip-marks-requires slice-reshare-prefix-evaluate-text slice-aggregate-evaluate-text evaluate-text-requires enum-known-got enum-known-got-2 give-number-requires same-length returns same-length-2 returns-2)
+sum-up-spec = tie.close
+    (tie.spec mul-end slice-relend-prefix-strip-marks slice-aggregate-strip-marks strip-marks-requires slice-reshare-prefix-evaluate-text
+    slice-aggregate-evaluate-text evaluate-text-requires enum-known-got enum-known-got-2 give-number-requires same-length returns same-length-2 returns-2)

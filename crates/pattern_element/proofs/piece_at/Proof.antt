@@ -19,7 +19,8 @@ is-live-requires-2 c κs = search needs
 returns-2 : tie.Need-returns-2
 returns-2 c =
     let a = c .before .before .before .before .before .args in
-    piece-one (a .path) (a .pattern .now) (a .at) (c .before .before .before .before .before .pre) (sym (c .before .before .before .is-live .ensures) ∙ c .before .before .if1 .left) (sym (c .before .is-live2 .ensures) ∙ c .if2 .taken)
+    piece-one (a .path) (a .pattern .now) (a .at) (c .before .before .before .before .before .pre)
+    (sym (c .before .before .before .is-live .ensures) ∙ c .before .before .if1 .left) (sym (c .before .is-live2 .ensures) ∙ c .if2 .taken)
 
 is-live-requires-3 : tie.Need-is-live-requires-3
 is-live-requires-3 c κs = search needs
@@ -33,7 +34,11 @@ bracket-at-requires c κs = search needs
 returns-3 : tie.Need-returns-3
 returns-3 c =
     let a = c .before .before .before .before .before .before .before .before .args in
-    c .bracket-at .ensures ∙ piece-bracket (a .path) (a .pattern .now) (a .at) (c .before .before .before .before .before .before .before .before .pre) (sym (c .before .before .before .before .before .before .is-live .ensures) ∙ c .before .before .before .before .before .if1 .left) (sym (c .before .before .before .before .is-live2 .ensures) ∙ c .before .before .before .if2 .left) (sym (c .before .before .is-live3 .ensures) ∙ c .before .if3 .taken)
+    c .bracket-at .ensures ∙ piece-bracket (a .path) (a .pattern .now) (a .at)
+    (c .before .before .before .before .before .before .before .before .pre)
+    (sym (c .before .before .before .before .before .before .is-live .ensures) ∙ c .before .before .before .before .before .if1 .left)
+    (sym (c .before .before .before .before .is-live2 .ensures) ∙ c .before .before .before .if2 .left)
+    (sym (c .before .before .is-live3 .ensures) ∙ c .before .if3 .taken)
 
 shared-slice-read-t9 : tie.Need-shared-slice-read-t9
 shared-slice-read-t9 c = search needs
@@ -41,7 +46,10 @@ shared-slice-read-t9 c = search needs
 returns-4 : tie.Need-returns-4
 returns-4 c =
     let a = c .before .before .before .before .before .before .before .before .args in
-    piece-byte (a .path) (a .pattern .now) (a .at) (c .before .before .before .before .before .before .before .before .pre) (sym (c .before .before .before .before .before .before .is-live .ensures) ∙ c .before .before .before .before .before .if1 .left) (sym (c .before .before .before .before .is-live2 .ensures) ∙ c .before .before .before .if2 .left) (sym (c .before .before .is-live3 .ensures) ∙ c .before .if3 .left)
+    piece-byte (a .path) (a .pattern .now) (a .at) (c .before .before .before .before .before .before .before .before .pre)
+    (sym (c .before .before .before .before .before .before .is-live .ensures) ∙ c .before .before .before .before .before .if1 .left)
+    (sym (c .before .before .before .before .is-live2 .ensures) ∙ c .before .before .before .if2 .left)
+    (sym (c .before .before .is-live3 .ensures) ∙ c .before .if3 .left)
 
 pub piece-at-spec : {M : Type 1} → statement M
 piece-at-spec =

@@ -32,7 +32,8 @@ returns : tie.Need-returns Inv-loop μ-loop
 returns c =
     let a = c .before .before .before .before .before .args in
     let l = c .before .before .before .loop in
-    sym (l .inv .1 ∙ sought-close (a .units .now) (a .path) (l .first) (l .at) (c .before .before .loop-test .taken) (sym (c .before .closes .ensures) ∙ c .if1 .taken))
+    sym (l .inv .1 ∙ sought-close (a .units .now) (a .path) (l .first) (l .at) (c .before .before .loop-test .taken)
+    (sym (c .before .closes .ensures) ∙ c .if1 .taken))
 
 bars-requires : tie.Need-bars-requires Inv-loop μ-loop
 bars-requires c κs = search needs
@@ -41,7 +42,8 @@ returns-2 : tie.Need-returns-2 Inv-loop μ-loop
 returns-2 c =
     let a = c .before .before .before .before .before .before .before .args in
     let l = c .before .before .before .before .before .loop in
-    sym (l .inv .1 ∙ sought-bar (a .units .now) (a .path) (l .first) (l .at) (c .before .before .before .before .loop-test .taken) (sym (c .before .before .before .closes .ensures) ∙ c .before .before .if1 .left) (sym (c .before .bars .ensures) ∙ c .if2 .taken))
+    sym (l .inv .1 ∙ sought-bar (a .units .now) (a .path) (l .first) (l .at) (c .before .before .before .before .loop-test .taken)
+    (sym (c .before .before .before .closes .ensures) ∙ c .before .before .if1 .left) (sym (c .before .bars .ensures) ∙ c .if2 .taken))
 
 opens-class-requires : tie.Need-opens-class-requires Inv-loop μ-loop
 opens-class-requires c κs = search needs
@@ -50,7 +52,9 @@ returns-3 : tie.Need-returns-3 Inv-loop μ-loop
 returns-3 c =
     let a = c .before .before .before .before .before .before .before .before .before .args in
     let l = c .before .before .before .before .before .before .before .loop in
-    sym (l .inv .1 ∙ sought-class (a .units .now) (a .path) (l .first) (l .at) (c .before .before .before .before .before .before .loop-test .taken) (sym (c .before .before .before .before .before .closes .ensures) ∙ c .before .before .before .before .if1 .left) (sym (c .before .before .before .bars .ensures) ∙ c .before .before .if2 .left) (sym (c .before .opens-class .ensures) ∙ c .if3 .taken))
+    sym (l .inv .1 ∙ sought-class (a .units .now) (a .path) (l .first) (l .at) (c .before .before .before .before .before .before .loop-test .taken)
+    (sym (c .before .before .before .before .before .closes .ensures) ∙ c .before .before .before .before .if1 .left)
+    (sym (c .before .before .before .bars .ensures) ∙ c .before .before .if2 .left) (sym (c .before .opens-class .ensures) ∙ c .if3 .taken))
 
 add-at : tie.Need-add-at Inv-loop μ-loop
 add-at c = search needs
@@ -61,8 +65,13 @@ loop-less c = search needs
 loop-again : tie.Need-loop-again Inv-loop μ-loop
 loop-again c =
     let a = c .before .before .before .before .before .before .before .before .before .args in
-    let l = c .before .before .before .before .before .before .before .loop in
-    (omega arith, l .inv .1 ∙ sought-on (a .units .now) (a .path) (l .first) (l .at) (c .before .before .before .before .before .before .loop-test .taken) (sym (c .before .before .before .before .before .closes .ensures) ∙ c .before .before .before .before .if1 .left) (sym (c .before .before .before .bars .ensures) ∙ c .before .before .if2 .left) (sym (c .before .opens-class .ensures) ∙ c .if3 .left))
+    let l = c .before .before .before .before .before .before .before .loop in (
+      omega arith,
+      l .inv .1 ∙ sought-on (a .units .now) (a .path) (l .first) (l .at)
+          (c .before .before .before .before .before .before .loop-test .taken)
+          (sym (c .before .before .before .before .before .closes .ensures) ∙ c .before .before .before .before .if1 .left)
+          (sym (c .before .before .before .bars .ensures) ∙ c .before .before .if2 .left) (sym (c .before .opens-class .ensures) ∙ c .if3 .left),
+    )
 
 returns-4 : tie.Need-returns-4 Inv-loop μ-loop
 returns-4 c =

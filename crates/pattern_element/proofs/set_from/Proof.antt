@@ -41,17 +41,20 @@ add-t12 c =
 returns : tie.Need-returns
 returns c =
     let a = c .before .before .before .before .before .args in
-    met-class (a .negative) (a .from) (find (a .path) true (signsOf (drop (a .from) (a .pattern .now)))) (rw (to-end (a .pattern .now) (a .from)) at (c .before .before .search-end .ensures)) (c .enum-told .given .1)
+    met-class (a .negative) (a .from) (find (a .path) true (signsOf (drop (a .from) (a .pattern .now))))
+    (rw (to-end (a .pattern .now) (a .from)) at (c .before .before .search-end .ensures)) (c .enum-told .given .1)
 
 returns-2 : tie.Need-returns-2
 returns-2 c =
     let a = c .before .before .before .before .before .args in
-    met-none (a .negative) (a .from) (find (a .path) true (signsOf (drop (a .from) (a .pattern .now)))) (rw (to-end (a .pattern .now) (a .from)) at (c .before .before .search-end .ensures)) (c .enum-told2 .given .1)
+    met-none (a .negative) (a .from) (find (a .path) true (signsOf (drop (a .from) (a .pattern .now))))
+    (rw (to-end (a .pattern .now) (a .from)) at (c .before .before .search-end .ensures)) (c .enum-told2 .given .1)
 
 returns-3 : tie.Need-returns-3
 returns-3 c =
     let a = c .before .before .before .before .before .before .args in
-    met-end (a .negative) (a .from) (find (a .path) true (signsOf (drop (a .from) (a .pattern .now)))) (rw (to-end (a .pattern .now) (a .from)) at (c .before .before .before .search-end .ensures)) (c .before .n .given .1)
+    met-end (a .negative) (a .from) (find (a .path) true (signsOf (drop (a .from) (a .pattern .now))))
+    (rw (to-end (a .pattern .now) (a .from)) at (c .before .before .before .search-end .ensures)) (c .before .n .given .1)
 
 pub set-from-spec : {M : Type 1} → statement M
 set-from-spec =

@@ -1,4 +1,5 @@
--- The answer for the whole is that for the last star, from where it stands on: a star that is met becomes the last one, and where a run fails the last star takes
+-- The answer for the whole is that for the last star, from where it stands on: a star that is met becomes the last one, and where a run fails the
+-- last star takes
 -- one byte more. Either the pattern left or the text left gets shorter.
 use Prim.Native.Nat.{_+_, _-_, _≤_}
 use mathlib.Core.Path.{_≡_, refl, sym, _∙_}
@@ -67,7 +68,8 @@ returns-3 : tie.Need-returns-3 Inv-loop μ-loop
 returns-3 c =
     let a = c .before .before .before .before .before .before .before .before .before .before .args in
     let l = c .before .before .before .before .before .before .before .loop in
-    sym (l .inv .2 ∙ end-bars (a .path) (a .pattern .now) (l .at) (l .first) (a .text .now) (l .k) (failed (c .before .before .before .before)) (c .before .before .before .if1 .left)
+    sym (l .inv .2 ∙ end-bars (a .path) (a .pattern .now) (l .at) (l .first) (a .text .now) (l .k) (failed (c .before .before .before .before))
+    (c .before .before .before .if1 .left)
     (sym (c .before .passes-byte .ensures) ∙ not-true _ (c .if2 .taken)))
 
 add-k : tie.Need-add-k Inv-loop μ-loop
@@ -82,7 +84,8 @@ loop-again c =
     let l = c .before .before .before .before .before .before .before .loop in (
       l .inv .0,
       omega arith,
-      l .inv .2 ∙ end-on (a .path) (a .pattern .now) (l .at) (l .first) (a .text .now) (l .k) (failed (c .before .before .before .before)) (c .before .before .before .if1 .left)
+      l .inv .2 ∙ end-on (a .path) (a .pattern .now) (l .at) (l .first) (a .text .now) (l .k) (failed (c .before .before .before .before))
+          (c .before .before .before .if1 .left)
           (sym (c .before .passes-byte .ensures) ∙ not-false _ (c .if2 .left)),
     )
 
@@ -93,14 +96,16 @@ loop-less-2 : tie.Need-loop-less-2 Inv-loop μ-loop
 loop-less-2 c =
     let a = c .before .before .before .before .before .before .before .args in
     let l = c .before .before .before .before .loop in
-    let m = says-star (a .path) (a .pattern .now) (a .text .now) (l .at) (l .k) false (l .first) (c .before .before .before .run-to-star .ensures) (c .before .next .given .1) in
+    let m = says-star (a .path) (a .pattern .now) (a .text .now) (l .at) (l .k) false (l .first) (c .before .before .before .run-to-star .ensures)
+    (c .before .next .given .1) in
     omega (arith, m .further, m .inside, m .beyond, m .within)
 
 loop-again-2 : tie.Need-loop-again-2 Inv-loop μ-loop
 loop-again-2 c =
     let a = c .before .before .before .before .before .before .before .args in
     let l = c .before .before .before .before .loop in
-    let m = says-star (a .path) (a .pattern .now) (a .text .now) (l .at) (l .k) false (l .first) (c .before .before .before .run-to-star .ensures) (c .before .next .given .1) in
+    let m = says-star (a .path) (a .pattern .now) (a .text .now) (l .at) (l .k) false (l .first) (c .before .before .before .run-to-star .ensures)
+    (c .before .next .given .1) in
     (m .inside, m .within, l .inv .2 ∙ last-star (a .path) (a .pattern .now) (a .text .now) (l .at) (l .k) (l .first) m)
 
 pub behind-star-spec : {M : Type 1} → statement M

@@ -41,7 +41,8 @@ returns-3 : tie.Need-returns-3
 unfolding matches
 returns-3 c =
     let a = c .before .before .before .before .before .before .before .args in
-    let m = says-star (a .path) (a .pattern .now) (a .text .now) 0 0 true true (c .before .before .before .before .run-to-star .ensures) (c .before .before .at .given .1) in
+    let m = says-star (a .path) (a .pattern .now) (a .text .now) 0 0 true true (c .before .before .before .before .run-to-star .ensures)
+    (c .before .before .at .given .1) in
     c .behind-star .ensures ∙ sym (m .says)
 
 pub matches-spec : {M : Type 1} → statement M

@@ -59,8 +59,10 @@ returns c =
     let a = c .before .before .before .before .before .before .before .before .args in
     let l = c .before .before .before .before .before .loop in
     record {
-      says = l .inv .4 ∙ run-star (stands (c .before .before)) (l .head) (l .first) (a .text .now) (l .k) (sym (c .before .is-star .ensures) ∙ c .if1 .taken);
-      keeps = λ z. star-met (stands (c .before .before)) (l .head) (l .first) (a .text .now) (l .k) (sym (c .before .is-star .ensures) ∙ c .if1 .taken) (l .inv .5 z);
+      says = l .inv .4 ∙ run-star (stands (c .before .before)) (l .head) (l .first) (a .text .now) (l .k)
+          (sym (c .before .is-star .ensures) ∙ c .if1 .taken);
+      keeps = λ z. star-met (stands (c .before .before)) (l .head) (l .first) (a .text .now) (l .k)
+          (sym (c .before .is-star .ensures) ∙ c .if1 .taken) (l .inv .5 z);
       further = omega (arith, piece-further (stands (c .before .before)));
       inside = piece-inside (stands (c .before .before));
       beyond = l .inv .3;
@@ -71,7 +73,8 @@ returns-2 : tie.Need-returns-2 Inv-loop μ-loop
 returns-2 c =
     let a = c .before .before .before .before .before .before .before .before .before .args in
     let l = c .before .before .before .before .before .before .loop in
-    l .inv .4 ∙ run-short (stands (c .before .before .before)) (l .head) (l .first) (a .text .now) (l .k) (sym (c .before .before .is-star .ensures) ∙ c .before .if1 .left) (c .if2 .taken)
+    l .inv .4 ∙ run-short (stands (c .before .before .before)) (l .head) (l .first) (a .text .now) (l .k)
+    (sym (c .before .before .is-star .ensures) ∙ c .before .if1 .left) (c .if2 .taken)
 
 shared-slice-read-takes-one : tie.Need-shared-slice-read-takes-one Inv-loop μ-loop
 shared-slice-read-takes-one c = omega arith
@@ -84,7 +87,8 @@ returns-3 c =
     let a = c .before .before .before .before .before .before .before .before .before .before .before .before .args in
     let l = c .before .before .before .before .before .before .before .before .before .loop in
     l .inv .4 ∙ run-fails (stands (c .before .before .before .before .before .before)) (l .head) (l .first) (a .text .now) (l .k)
-    (sym (c .before .before .before .before .before .is-star .ensures) ∙ c .before .before .before .before .if1 .left) (c .before .before .before .if2 .left) (sym (c .before .takes-one .ensures) ∙ not-true _ (c .if3 .taken))
+    (sym (c .before .before .before .before .before .is-star .ensures) ∙ c .before .before .before .before .if1 .left)
+    (c .before .before .before .if2 .left) (sym (c .before .takes-one .ensures) ∙ not-true _ (c .if3 .taken))
 
 is-slash-requires : tie.Need-is-slash-requires Inv-loop μ-loop
 is-slash-requires c κs = search needs

@@ -26,13 +26,23 @@ returns-4 : tie.Need-returns-4
 unfolding takes
 returns-4 c =
     let a = c .before .before .before .before .args in
-    rw (eq-eqb (a .c) (a .b) (c .before .before .before .if1 .left), not-false (a .path) (c .before .before .if2 .left), c .before .if3 .left, not-true (a .first) (c .if4 .taken))
+    rw (
+      eq-eqb (a .c) (a .b) (c .before .before .before .if1 .left),
+      not-false (a .path) (c .before .before .if2 .left),
+      c .before .if3 .left,
+      not-true (a .first) (c .if4 .taken),
+    )
 
 returns-5 : tie.Need-returns-5
 unfolding takes
 returns-5 c =
     let a = c .before .before .before .before .args in
-    rw (eq-eqb (a .c) (a .b) (c .before .before .before .if1 .left), not-false (a .path) (c .before .before .if2 .left), c .before .if3 .left, not-false (a .first) (c .if4 .left))
+    rw (
+      eq-eqb (a .c) (a .b) (c .before .before .before .if1 .left),
+      not-false (a .path) (c .before .before .if2 .left),
+      c .before .if3 .left,
+      not-false (a .first) (c .if4 .left),
+    )
 
 pub takes-byte-spec : {M : Type 1} → statement M
 takes-byte-spec = tie.close (tie.spec returns returns-2 returns-3 returns-4 returns-5)

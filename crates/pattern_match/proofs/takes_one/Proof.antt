@@ -60,26 +60,31 @@ returns-2 : tie.Need-returns-2
 unfolding takesOne elementOf
 returns-2 c =
     let a = c .before .before .before .before .args in
-    c .passes-byte .ensures ∙ sym (ap (λ (q : Piece). takesOne (a .path) (a .head) (a .first) (elementOf (a .pattern .now) q) (a .b)) (c .before .enum-told2 .given .1))
+    c .passes-byte .ensures ∙ sym
+    (ap (λ (q : Piece). takesOne (a .path) (a .head) (a .first) (elementOf (a .pattern .now) q) (a .b)) (c .before .enum-told2 .given .1))
 
 returns-3 : tie.Need-returns-3
 unfolding takesOne elementOf
 returns-3 c =
     let a = c .before .before .before .before .before .args in
-    c .takes-byte .ensures ∙ sym (ap (λ (q : Piece). takesOne (a .path) (a .head) (a .first) (elementOf (a .pattern .now) q) (a .b)) (c .before .before .piece .given .1))
+    c .takes-byte .ensures ∙ sym
+    (ap (λ (q : Piece). takesOne (a .path) (a .head) (a .first) (elementOf (a .pattern .now) q) (a .b)) (c .before .before .piece .given .1))
 
 returns-4 : tie.Need-returns-4
 unfolding takesOne elementOf
 returns-4 c =
     let a = c .before .before .before .before .args in
-    c .takes-byte2 .ensures ∙ sym (ap (λ (q : Piece). takesOne (a .path) (a .head) (a .first) (elementOf (a .pattern .now) q) (a .b)) (c .before .enum-told3 .given .1))
+    c .takes-byte2 .ensures ∙ sym
+    (ap (λ (q : Piece). takesOne (a .path) (a .head) (a .first) (elementOf (a .pattern .now) q) (a .b)) (c .before .enum-told3 .given .1))
 
 returns-5 : tie.Need-returns-5
 unfolding takesOne elementOf
 returns-5 c =
     let a = c .before .before .before .before .before .before .before .args in
-    c .takes-member .ensures ∙ ap (λ (x : Bool). passes (a .path) (a .first) (a .b) && x) (c .before .set-of .ensures (a .b) (c .before .before .before .before .before .before .before .fits .b .fits))
-    ∙ sym (ap (λ (q : Piece). takesOne (a .path) (a .head) (a .first) (elementOf (a .pattern .now) q) (a .b)) (c .before .before .before .before .piece2 .given .1))
+    c .takes-member .ensures ∙ ap (λ (x : Bool). passes (a .path) (a .first) (a .b) && x)
+    (c .before .set-of .ensures (a .b) (c .before .before .before .before .before .before .before .fits .b .fits))
+    ∙ sym (ap (λ (q : Piece). takesOne (a .path) (a .head) (a .first) (elementOf (a .pattern .now) q) (a .b))
+    (c .before .before .before .before .piece2 .given .1))
 
 pub takes-one-spec : {M : Type 1} → statement M
 takes-one-spec =

@@ -44,7 +44,12 @@ enum-known-end c = search needs
 add-start : tie.Need-add-start Inv-loop μ-loop
 add-start c =
     let l = c .before .before .before .before .loop in
-    omega (arith, text-low (l .inv) (c .before .before .before .text-at .ensures) (c .before .end .given .1), text-high (l .inv) (c .before .before .before .text-at .ensures) (c .before .end .given .1))
+    omega (
+      arith,
+      text-low (l .inv) (c .before .before .before .text-at .ensures) (c .before .end .given .1),
+      text-high (l .inv)
+          (c .before .before .before .text-at .ensures) (c .before .end .given .1),
+    )
 
 sub-matches : tie.Need-sub-matches Inv-loop μ-loop
 sub-matches c =
@@ -67,17 +72,24 @@ matches-requires c κs = search needs
 returns-3 : tie.Need-returns-3 Inv-loop μ-loop
 returns-3 c =
     let l = c .before .before .before .before .before .before .before .loop in
-    passing-found (l .inv) (c .before .before .before .before .before .before .text-at .ensures) (c .before .before .before .before .end .given .1) (sym (c .before .matches .ensures) ∙ c .if1 .taken)
+    passing-found (l .inv) (c .before .before .before .before .before .before .text-at .ensures) (c .before .before .before .before .end .given .1)
+    (sym (c .before .matches .ensures) ∙ c .if1 .taken)
 
 loop-less : tie.Need-loop-less Inv-loop μ-loop
 loop-less c =
     let l = c .before .before .before .before .before .before .before .loop in
-    omega (arith, text-low (l .inv) (c .before .before .before .before .before .before .text-at .ensures) (c .before .before .before .before .end .given .1), text-high (l .inv) (c .before .before .before .before .before .before .text-at .ensures) (c .before .before .before .before .end .given .1))
+    omega (
+      arith,
+      text-low (l .inv) (c .before .before .before .before .before .before .text-at .ensures)
+          (c .before .before .before .before .end .given .1),
+      text-high (l .inv) (c .before .before .before .before .before .before .text-at .ensures) (c .before .before .before .before .end .given .1),
+    )
 
 loop-again : tie.Need-loop-again Inv-loop μ-loop
 loop-again c =
     let l = c .before .before .before .before .before .before .before .loop in
-    passing-on (l .inv) (c .before .before .before .before .before .before .text-at .ensures) (c .before .before .before .before .end .given .1) (sym (c .before .matches .ensures) ∙ c .if1 .left)
+    passing-on (l .inv) (c .before .before .before .before .before .before .text-at .ensures) (c .before .before .before .before .end .given .1)
+    (sym (c .before .matches .ensures) ∙ c .if1 .left)
 
 pub next-path-spec : {M : Type 1} → statement M
 next-path-spec =

@@ -31,8 +31,10 @@ returns c =
     let a = c .before .before .before .before .before .before .before .args in
     let l = c .before .before .before .before .loop in
     cuts-at (a .suffix) (a .down) (a .pattern .now) (a .value .now)
-    (cut-here (a .suffix) (a .down) (a .pattern .now) (a .value .now) (l .i) (c .before .before .before .loop-test .taken) (c .before .before .cut-at .ensures) (sym (c .before .drops-match .ensures) ∙ c .if1 .taken) ∙ sym (l .inv .2))
-    (cut-within (a .suffix) (a .down) (a .pattern .now) (a .value .now) (l .i) (c .before .before .before .loop-test .taken) (c .before .before .cut-at .ensures))
+    (cut-here (a .suffix) (a .down) (a .pattern .now) (a .value .now) (l .i) (c .before .before .before .loop-test .taken)
+    (c .before .before .cut-at .ensures) (sym (c .before .drops-match .ensures) ∙ c .if1 .taken) ∙ sym (l .inv .2))
+    (cut-within (a .suffix) (a .down) (a .pattern .now) (a .value .now) (l .i) (c .before .before .before .loop-test .taken)
+    (c .before .before .cut-at .ensures))
 
 add-i : tie.Need-add-i Inv-loop μ-loop
 add-i c = omega arith
@@ -46,7 +48,8 @@ loop-again c =
     let l = c .before .before .before .before .loop in (
       refl,
       omega arith,
-      l .inv .2 ∙ cut-on (a .suffix) (a .down) (a .pattern .now) (a .value .now) (l .i) (c .before .before .before .loop-test .taken) (c .before .before .cut-at .ensures) (sym (c .before .drops-match .ensures) ∙ c .if1 .left),
+      l .inv .2 ∙ cut-on (a .suffix) (a .down) (a .pattern .now) (a .value .now) (l .i) (c .before .before .before .loop-test .taken)
+          (c .before .before .cut-at .ensures) (sym (c .before .drops-match .ensures) ∙ c .if1 .left),
     )
 
 returns-2 : tie.Need-returns-2 Inv-loop μ-loop

@@ -26,8 +26,10 @@ returns : tie.Need-returns
 unfolding removed
 returns c =
     let a = c .before .before .before .before .before .before .args in
-    ap (λ (k : ℕ). take k (a .value .now)) (cut-is (a .suffix) (a .long) (a .pattern .now) (a .value .now) (c .before .before .before .from-end .ensures) (c .before .before .cut-place .ensures))
-    ∙ ap (λ (s : Bool). left s (a .value .now) (cut (a .suffix) (a .long) (elements false 0 (signsOf (a .pattern .now))) (a .value .now))) (sym (c .before .if1 .taken))
+    ap (λ (k : ℕ). take k (a .value .now))
+    (cut-is (a .suffix) (a .long) (a .pattern .now) (a .value .now) (c .before .before .before .from-end .ensures) (c .before .before .cut-place .ensures))
+    ∙ ap (λ (s : Bool). left s (a .value .now) (cut (a .suffix) (a .long) (elements false 0 (signsOf (a .pattern .now))) (a .value .now)))
+    (sym (c .before .if1 .taken))
 
 sub-result : tie.Need-sub-result
 sub-result c = search needs
@@ -43,8 +45,10 @@ unfolding removed
 returns-2 c =
     let a = c .before .before .before .before .before .before .args in
     to-end (a .value .now) (c .before .before .cut-place .result)
-    ∙ ap (λ (k : ℕ). drop k (a .value .now)) (cut-is (a .suffix) (a .long) (a .pattern .now) (a .value .now) (c .before .before .before .from-end .ensures) (c .before .before .cut-place .ensures))
-    ∙ ap (λ (s : Bool). left s (a .value .now) (cut (a .suffix) (a .long) (elements false 0 (signsOf (a .pattern .now))) (a .value .now))) (sym (c .before .if1 .left))
+    ∙ ap (λ (k : ℕ). drop k (a .value .now))
+    (cut-is (a .suffix) (a .long) (a .pattern .now) (a .value .now) (c .before .before .before .from-end .ensures) (c .before .before .cut-place .ensures))
+    ∙ ap (λ (s : Bool). left s (a .value .now) (cut (a .suffix) (a .long) (elements false 0 (signsOf (a .pattern .now))) (a .value .now)))
+    (sym (c .before .if1 .left))
 
 pub removed-spec : {M : Type 1} → statement M
 removed-spec =

@@ -71,7 +71,8 @@ loop-again c =
     let at = l .at in
     let y = sym (c .before .before .before .is-range .ensures) ∙ c .before .before .if1 .taken in (
       omega (arith, range-inside p at y),
-      λ k h. gathered _ (has (l .set .on) k) (listed (signsOf (drop (at + 6) p)) k) (between (getD p at 0) k (getD p (at + 4) 0)) _ (l .inv .1 k h) (lists-range p at k y) (c .with-range .ensures k h),
+      λ k h. gathered _ (has (l .set .on) k) (listed (signsOf (drop (at + 6) p)) k) (between (getD p at 0) k (getD p (at + 4) 0)) _ (l .inv .1 k h)
+          (lists-range p at k y) (c .with-range .ensures k h),
     )
 
 with-member-requires : tie.Need-with-member-requires Inv-loop μ-loop
@@ -91,14 +92,16 @@ loop-again-2 c =
     let at = l .at in (
       omega arith,
       λ k h. gathered _ (has (l .set .on) k) (listed (signsOf (drop (at + 2) p)) k) (eqb (getD p at 0) k) _ (l .inv .1 k h)
-          (lists-member p at k (c .before .before .before .before .loop-test .taken) (sym (c .before .before .is-range .ensures) ∙ c .before .if1 .left)) (c .with-member .ensures k h),
+          (lists-member p at k (c .before .before .before .before .loop-test .taken)
+          (sym (c .before .before .is-range .ensures) ∙ c .before .if1 .left)) (c .with-member .ensures k h),
     )
 
 returns : tie.Need-returns Inv-loop μ-loop
 returns c =
     let a = c .before .before .before .before .args in
     let l = c .before .loop in
-    λ k h. sym (l .inv .1 k h ∙ ap (λ b. has (l .set .on) k || b) (lists-none (a .units .now) (l .at) k (c .loop-test .left)) ∙ or-false (has (l .set .on) k))
+    λ k h. sym (l .inv .1 k h ∙ ap (λ b. has (l .set .on) k || b) (lists-none (a .units .now) (l .at) k (c .loop-test .left)) ∙ or-false
+    (has (l .set .on) k))
 
 pub members-spec : {M : Type 1} → statement M
 members-spec =

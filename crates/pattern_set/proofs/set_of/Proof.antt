@@ -17,12 +17,14 @@ others-requires c κs = search needs
 returns : tie.Need-returns
 returns c =
     let a = c .before .before .before .before .args in
-    λ k h. in-others (signsOf (a .units .now)) k (c .before .before .members .ensures k h) (c .others .ensures k h) ∙ ap (λ (b : Bool). inSet b (signsOf (a .units .now)) k) (sym (c .before .if1 .taken))
+    λ k h. in-others (signsOf (a .units .now)) k (c .before .before .members .ensures k h) (c .others .ensures k h) ∙ ap
+    (λ (b : Bool). inSet b (signsOf (a .units .now)) k) (sym (c .before .if1 .taken))
 
 returns-2 : tie.Need-returns-2
 returns-2 c =
     let a = c .before .before .before .args in
-    λ k h. in-members (signsOf (a .units .now)) k (c .before .members .ensures k h) ∙ ap (λ (b : Bool). inSet b (signsOf (a .units .now)) k) (sym (c .if1 .left))
+    λ k h. in-members (signsOf (a .units .now)) k (c .before .members .ensures k h) ∙ ap (λ (b : Bool). inSet b (signsOf (a .units .now)) k)
+    (sym (c .if1 .left))
 
 pub set-of-spec : {M : Type 1} → statement M
 set-of-spec = tie.close (tie.spec members-requires others-requires returns returns-2)

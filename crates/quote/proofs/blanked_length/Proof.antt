@@ -81,7 +81,11 @@ add-n-2 c =
     let s = c .before .before .before .before .before .text-at .ensures in
     let e = c .before .before .before .piece .given .1 in
     let f = c .field-length in
-    omega (arith, counts-more (c .before .before .before .before .before .before .loop .inv) s (f .result) e (f .ensures) (c .before .before .before .before .before .before .before .before .pre) .bound)
+    omega (
+      arith,
+      counts-more (c .before .before .before .before .before .before .loop .inv) s (f .result) e (f .ensures)
+          (c .before .before .before .before .before .before .before .before .pre) .bound,
+    )
 
 loop-less : tie.Need-loop-less Inv-loop μ-loop
 loop-less c =
@@ -95,7 +99,8 @@ loop-again c =
     let s = c .before .before .before .before .before .text-at .ensures in
     let e = c .before .before .before .piece .given .1 in
     let f = c .field-length in
-    counts-more (c .before .before .before .before .before .before .loop .inv) s (f .result) e (f .ensures) (c .before .before .before .before .before .before .before .before .pre)
+    counts-more (c .before .before .before .before .before .before .loop .inv) s (f .result) e (f .ensures)
+    (c .before .before .before .before .before .before .before .before .pre)
 
 pub blanked-length-spec : {M : Type 1} → statement M
 blanked-length-spec =

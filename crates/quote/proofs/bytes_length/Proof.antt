@@ -23,7 +23,8 @@ byte-length-requires : tie.Need-byte-length-requires Inv-loop μ-loop
 byte-length-requires c κs = search needs
 
 -- the count of one byte more
-more : (c : tie.After-byte-length Inv-loop μ-loop) → Counted (c .before .before .before .before .before .args .field .now) (c .before .before .before .loop .n + c .byte-length .result) (c .before .before .before .loop .i + 1)
+more : (c : tie.After-byte-length Inv-loop μ-loop) → Counted (c .before .before .before .before .before .args .field .now)
+    (c .before .before .before .loop .n + c .byte-length .result) (c .before .before .before .loop .i + 1)
 more c = counted-more (c .before .before .before .loop .inv) (c .byte-length .result) (c .before .before .loop-test .taken) (c .byte-length .ensures)
 
 add-n : tie.Need-add-n Inv-loop μ-loop

@@ -46,13 +46,15 @@ field-length-requires c κs =
 blanked-length-requires : tie.Need-blanked-length-requires
 blanked-length-requires c κs =
     let a = c .before .before .before .before .before .before .before in
-    let t = line-rest (a .args .fields .now) (a .pre) (c .before .before .before .before .before .text-at .ensures) (c .before .before .before .first .given .1) in
+    let t = line-rest (a .args .fields .now) (a .pre) (c .before .before .before .before .before .text-at .ensures)
+    (c .before .before .before .first .given .1) in
     t
 
 add-result : tie.Need-add-result
 add-result c =
     let a = c .before .before .before .before .before .before .before .before in
-    let t = line-bound (a .args .fields .now) (a .pre) (c .before .before .before .before .before .before .text-at .ensures) (c .before .before .before .before .first .given .1) in
+    let t = line-bound (a .args .fields .now) (a .pre) (c .before .before .before .before .before .before .text-at .ensures)
+    (c .before .before .before .before .first .given .1) in
     omega (arith, c .before .field-length .ensures, c .blanked-length .ensures, t)
 
 returns : tie.Need-returns
@@ -68,7 +70,8 @@ returns-2 c =
 returns-3 : tie.Need-returns-3
 returns-3 c =
     let a = c .before .before .before .before .before .before .before .before in
-    let t = line-length (a .args .fields .now) (a .pre) (c .before .before .before .before .before .before .text-at .ensures) (c .before .before .before .before .first .given .1) in
+    let t = line-length (a .args .fields .now) (a .pre) (c .before .before .before .before .before .before .text-at .ensures)
+    (c .before .before .before .before .first .given .1) in
     omega (arith, c .before .field-length .ensures, c .blanked-length .ensures, t)
 
 pub line-length-spec : {M : Type 1} → statement M

@@ -110,7 +110,12 @@ add-used : tie.Need-add-used Inv-loop μ-loop
 add-used c =
     let s = c .before .before .before .before .before .before .before .before .text-at .ensures in
     let e = c .before .before .before .before .before .before .piece .given .1 in
-    omega (arith, c .before .before .put-field .ensures .counts, fills-next (c .before .before .before .before .before .before .before .before .before .loop .inv) s e)
+    omega (
+      arith,
+      c .before .before .put-field .ensures .counts,
+      fills-next
+          (c .before .before .before .before .before .before .before .before .before .loop .inv) s e,
+    )
 
 loop-less : tie.Need-loop-less Inv-loop μ-loop
 loop-less c =

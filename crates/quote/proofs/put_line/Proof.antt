@@ -39,21 +39,24 @@ part-put-field-end c =
 put-field-requires : tie.Need-put-field-requires
 put-field-requires c κs =
     let a = c .before .before .before .before .before .before .before .before in
-    let t = line-length (a .args .fields .now) (a .pre .0) (c .before .before .before .before .before .text-at .ensures) (c .before .before .before .first .given .1) in
+    let t = line-length (a .args .fields .now) (a .pre .0) (c .before .before .before .before .before .text-at .ensures)
+    (c .before .before .before .first .given .1) in
     omega (arith, t, a .pre .1)
 
 sub-put-blanked : tie.Need-sub-put-blanked
 sub-put-blanked c =
     let a = c .before .before .before .before .before .before .before .before .before .before .before in
     let p = c .before .before .put-field in
-    let f = line-first (a .args .fields .now) (a .pre .0) (c .before .before .before .before .before .before .before .before .text-at .ensures) (c .before .before .before .before .before .before .first .given .1) (a .args .out .now) (p .last .1 .0) (p .result) (a .pre .1) (p .ensures) in
+    let f = line-first (a .args .fields .now) (a .pre .0) (c .before .before .before .before .before .before .before .before .text-at .ensures)
+    (c .before .before .before .before .before .before .first .given .1) (a .args .out .now) (p .last .1 .0) (p .result) (a .pre .1) (p .ensures) in
     omega (arith, fill-room f, fill-length f)
 
 part-put-blanked-start : tie.Need-part-put-blanked-start
 part-put-blanked-start c =
     let a = c .before .before .before .before .before .before .before .before .before .before .before in
     let p = c .before .before .put-field in
-    let f = line-first (a .args .fields .now) (a .pre .0) (c .before .before .before .before .before .before .before .before .text-at .ensures) (c .before .before .before .before .before .before .first .given .1) (a .args .out .now) (p .last .1 .0) (p .result) (a .pre .1) (p .ensures) in
+    let f = line-first (a .args .fields .now) (a .pre .0) (c .before .before .before .before .before .before .before .before .text-at .ensures)
+    (c .before .before .before .before .before .before .first .given .1) (a .args .out .now) (p .last .1 .0) (p .result) (a .pre .1) (p .ensures) in
     omega (arith, fill-room f, fill-length f)
 
 part-put-blanked-end : tie.Need-part-put-blanked-end
@@ -63,14 +66,19 @@ put-blanked-requires : tie.Need-put-blanked-requires
 put-blanked-requires c κs =
     let a = c .before .before .before .before .before .before .before .before .before .before .before .before in
     let p = c .before .before .before .put-field in
-    let f = line-first (a .args .fields .now) (a .pre .0) (c .before .before .before .before .before .before .before .before .before .text-at .ensures) (c .before .before .before .before .before .before .before .first .given .1) (a .args .out .now) (p .last .1 .0) (p .result) (a .pre .1) (p .ensures) in
-    let t = line-rest (a .args .fields .now) (a .pre .0) (c .before .before .before .before .before .before .before .before .before .text-at .ensures) (c .before .before .before .before .before .before .before .first .given .1) in
+    let f = line-first (a .args .fields .now) (a .pre .0)
+    (c .before .before .before .before .before .before .before .before .before .text-at .ensures)
+    (c .before .before .before .before .before .before .before .first .given .1) (a .args .out .now) (p .last .1 .0) (p .result) (a .pre .1) (p .ensures) in
+    let t = line-rest (a .args .fields .now) (a .pre .0) (c .before .before .before .before .before .before .before .before .before .text-at .ensures)
+    (c .before .before .before .before .before .before .before .first .given .1) in
     (t, omega (arith, fill-room f, fill-free-length f))
 
 add-result : tie.Need-add-result
 add-result c =
     let a = c .before .before .before .before .before .before .before .before .before .before .before .before .before .before .before in
-    let t = line-length (a .args .fields .now) (a .pre .0) (c .before .before .before .before .before .before .before .before .before .before .before .before .text-at .ensures) (c .before .before .before .before .before .before .before .before .before .before .first .given .1) in
+    let t = line-length (a .args .fields .now) (a .pre .0)
+    (c .before .before .before .before .before .before .before .before .before .before .before .before .text-at .ensures)
+    (c .before .before .before .before .before .before .before .before .before .before .first .given .1) in
     omega (arith, c .before .before .before .before .before .before .put-field .ensures .counts, c .before .before .put-blanked .ensures .counts, t, a .pre .1)
 
 returns : tie.Need-returns
@@ -91,7 +99,9 @@ returns-3 c =
     let a = c .before .before .before .before .before .before .before .before .before .before .before .before .before .before .before in
     let p = c .before .before .before .before .before .before .put-field in
     let q = c .before .before .put-blanked in
-    line-whole (a .args .fields .now) (a .pre .0) (c .before .before .before .before .before .before .before .before .before .before .before .before .text-at .ensures) (c .before .before .before .before .before .before .before .before .before .before .first .given .1)
+    line-whole (a .args .fields .now) (a .pre .0)
+    (c .before .before .before .before .before .before .before .before .before .before .before .before .text-at .ensures)
+    (c .before .before .before .before .before .before .before .before .before .before .first .given .1)
     (a .args .out .now) (p .last .1 .0) (q .last .1 .1 .0) (p .result) (q .result) (a .pre .1) (p .ensures) (q .ensures)
 
 pub put-line-spec : {M : Type 1} → statement M

@@ -30,14 +30,16 @@ returns-2 c =
 returns-3 : tie.Need-returns-3
 returns-3 c =
     let a = c .before .before .before .before .before .before .before .args in
-    let h = fields-here (a .fields .now) (sym (c .before .before .before .before .well-formed .ensures) ∙ not-false _ (c .before .before .before .if1 .left)) in
+    let h = fields-here (a .fields .now)
+    (sym (c .before .before .before .before .well-formed .ensures) ∙ not-false _ (c .before .before .before .if1 .left)) in
     let n = c .before .before .line-length .ensures in
     no-room (a .fields .now) (a .out .now) h (line-full _ _ (omega (arith, n, c .before .if2 .left)) (omega (arith, n, c .if3 .taken)))
 
 put-line-requires : tie.Need-put-line-requires
 put-line-requires c κs =
     let a = c .before .before .before .before .before .before .before .before .args in
-    let h = fields-here (a .fields .now) (sym (c .before .before .before .before .before .well-formed .ensures) ∙ not-false _ (c .before .before .before .before .if1 .left)) in
+    let h = fields-here (a .fields .now)
+    (sym (c .before .before .before .before .before .well-formed .ensures) ∙ not-false _ (c .before .before .before .before .if1 .left)) in
     (h, omega (arith, c .before .before .before .line-length .ensures, c .before .if3 .left))
 
 same-length : tie.Need-same-length
@@ -46,10 +48,13 @@ same-length c = search needs
 returns-4 : tie.Need-returns-4
 returns-4 c =
     let a = c .before .before .before .before .before .before .before .before .before .before .before .args in
-    let h = fields-here (a .fields .now) (sym (c .before .before .before .before .before .before .before .before .well-formed .ensures) ∙ not-false _ (c .before .before .before .before .before .before .before .if1 .left)) in
+    let h = fields-here (a .fields .now)
+    (sym (c .before .before .before .before .before .before .before .before .well-formed .ensures) ∙ not-false _
+    (c .before .before .before .before .before .before .before .if1 .left)) in
     let n = c .before .before .before .before .before .before .line-length .ensures in
     let p = c .before .before .put-line in
-    wrote (a .fields .now) (a .out .now) h (p .last .1 .0) (p .result) (omega (arith, n, c .before .before .before .before .before .if2 .left)) (omega (arith, n, c .before .before .before .before .if3 .left)) (p .ensures)
+    wrote (a .fields .now) (a .out .now) h (p .last .1 .0) (p .result) (omega (arith, n, c .before .before .before .before .before .if2 .left))
+    (omega (arith, n, c .before .before .before .before .if3 .left)) (p .ensures)
 
 pub quote-fields-spec : {M : Type 1} → statement M
 quote-fields-spec =

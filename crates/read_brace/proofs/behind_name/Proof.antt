@@ -29,7 +29,11 @@ add-t13 c = search needs
 returns-2 : tie.Need-returns-2
 returns-2 c =
     let a = c .before .before .before .before .args in
-    shows-value (a .text .now) (a .at) (a .depth) (a .to + 1) (a .to - a .at) (omega (arith, c .before .before .before .before .pre .0)) (omega (arith, c .before .before .if1 .left)) (a .at + 2) (a .to) (c .before .before .before .before .pre .0) (c .before .before .before .before .pre .1) (braced-name (a .at) (a .to) (c .before .before .before .before .pre .0)) (name-close (modeOf (a .mode)) (a .text .now) (part (a .text .now) (a .at + 2) (a .to)) (a .to - a .at) (a .to) (omega (arith, c .before .before .if1 .left)) (c .if2 .taken))
+    shows-value (a .text .now) (a .at) (a .depth) (a .to + 1) (a .to - a .at) (omega (arith, c .before .before .before .before .pre .0))
+    (omega (arith, c .before .before .if1 .left)) (a .at + 2) (a .to) (c .before .before .before .before .pre .0)
+    (c .before .before .before .before .pre .1) (braced-name (a .at) (a .to) (c .before .before .before .before .pre .0))
+    (name-close (modeOf (a .mode)) (a .text .now) (part (a .text .now) (a .at + 2) (a .to)) (a .to - a .at) (a .to)
+    (omega (arith, c .before .before .if1 .left)) (c .if2 .taken))
 
 behind-colon-requires : tie.Need-behind-colon-requires
 behind-colon-requires c κs = search needs
@@ -37,7 +41,11 @@ behind-colon-requires c κs = search needs
 returns-3 : tie.Need-returns-3
 returns-3 c =
     let a = c .before .before .before .before .before .before .args in
-    same-item (a .text .now) (a .at) (a .depth) (c .behind-colon .result) (name-colon (modeOf (a .mode)) (a .text .now) (part (a .text .now) (a .at + 2) (a .to)) (a .to - a .at) (a .to) (omega (arith, c .before .before .before .before .if1 .left)) (c .before .before .if2 .left) (c .before .if3 .taken) ∙ colon-place (modeOf (a .mode)) (part (a .text .now) (a .at + 2) (a .to)) (a .text .now) (a .at) (a .to) (omega (arith, c .before .before .before .before .before .before .pre .0))) (c .behind-colon .ensures)
+    same-item (a .text .now) (a .at) (a .depth) (c .behind-colon .result)
+    (name-colon (modeOf (a .mode)) (a .text .now) (part (a .text .now) (a .at + 2) (a .to)) (a .to - a .at) (a .to)
+    (omega (arith, c .before .before .before .before .if1 .left)) (c .before .before .if2 .left) (c .before .if3 .taken) ∙ colon-place
+    (modeOf (a .mode)) (part (a .text .now) (a .at + 2) (a .to)) (a .text .now) (a .at) (a .to)
+    (omega (arith, c .before .before .before .before .before .before .pre .0))) (c .behind-colon .ensures)
 
 slice-aggregate-is-in : tie.Need-slice-aggregate-is-in
 slice-aggregate-is-in c = search needs
@@ -60,8 +68,17 @@ add-t20 c = search needs
 returns-4 : tie.Need-returns-4
 returns-4 c =
     let a = c .before .before .before .before .before .before .before .before .before .before .args in
-    shows-inner (a .text .now) (a .at) (a .depth) (a .to + 1) (a .to - a .at) (omega (arith, c .before .before .before .before .before .before .before .before .before .before .pre .0)) (omega (arith, c .before .before .before .before .before .before .before .before .if1 .left)) (a .at + 2) (a .to) (c .before .before .before .before .before .before .before .before .before .before .pre .0) (c .before .before .before .before .before .before .before .before .before .before .pre .1) refl (c .before .sign-form .result) (c .operand-mode .result) (c .before .before .before .before .before .before .before .before .before .before .pre .2) (c .operand-mode .ensures .closed)
-    (name-sign (modeOf (a .mode)) (a .text .now) (part (a .text .now) (a .at + 2) (a .to)) (a .to - a .at) (a .to) (omega (arith, c .before .before .before .before .before .before .before .before .if1 .left)) (c .before .before .before .before .before .before .if2 .left) (c .before .before .before .before .before .if3 .left) (sym (c .before .before .before .is-in .ensures) ∙ c .before .before .if4 .taken) ∙ inner-same (part (a .text .now) (a .at + 2) (a .to)) (a .to - a .at) (sym (c .before .sign-form .ensures)) (sym (c .operand-mode .ensures .is)))
+    shows-inner (a .text .now) (a .at) (a .depth) (a .to + 1) (a .to - a .at)
+    (omega (arith, c .before .before .before .before .before .before .before .before .before .before .pre .0))
+    (omega (arith, c .before .before .before .before .before .before .before .before .if1 .left)) (a .at + 2) (a .to)
+    (c .before .before .before .before .before .before .before .before .before .before .pre .0)
+    (c .before .before .before .before .before .before .before .before .before .before .pre .1) refl (c .before .sign-form .result)
+    (c .operand-mode .result) (c .before .before .before .before .before .before .before .before .before .before .pre .2) (c .operand-mode .ensures .closed)
+    (name-sign (modeOf (a .mode)) (a .text .now) (part (a .text .now) (a .at + 2) (a .to)) (a .to - a .at) (a .to)
+    (omega (arith, c .before .before .before .before .before .before .before .before .if1 .left))
+    (c .before .before .before .before .before .before .if2 .left) (c .before .before .before .before .before .if3 .left)
+    (sym (c .before .before .before .is-in .ensures) ∙ c .before .before .if4 .taken) ∙ inner-same (part (a .text .now) (a .at + 2) (a .to))
+    (a .to - a .at) (sym (c .before .sign-form .ensures)) (sym (c .operand-mode .ensures .is)))
 
 removal-at-requires : tie.Need-removal-at-requires
 removal-at-requires c κs = search needs
@@ -69,7 +86,12 @@ removal-at-requires c κs = search needs
 returns-5 : tie.Need-returns-5
 returns-5 c =
     let a = c .before .before .before .before .before .before .before .before .before .before .args in
-    same-item (a .text .now) (a .at) (a .depth) (c .removal-at .result) (name-suffix (modeOf (a .mode)) (a .text .now) (part (a .text .now) (a .at + 2) (a .to)) (a .to - a .at) (a .to) (omega (arith, c .before .before .before .before .before .before .before .before .if1 .left)) (c .before .before .before .before .before .before .if2 .left) (c .before .before .before .before .before .if3 .left) (sym (c .before .before .before .is-in .ensures) ∙ c .before .before .if4 .left) (c .before .if5 .taken) ∙ removal-place (part (a .text .now) (a .at + 2) (a .to)) suffix (getD (a .text .now) (a .to) 0) (a .to - a .at) (a .to) (a .text .now)) (c .removal-at .ensures)
+    same-item (a .text .now) (a .at) (a .depth) (c .removal-at .result)
+    (name-suffix (modeOf (a .mode)) (a .text .now) (part (a .text .now) (a .at + 2) (a .to)) (a .to - a .at) (a .to)
+    (omega (arith, c .before .before .before .before .before .before .before .before .if1 .left))
+    (c .before .before .before .before .before .before .if2 .left) (c .before .before .before .before .before .if3 .left)
+    (sym (c .before .before .before .is-in .ensures) ∙ c .before .before .if4 .left) (c .before .if5 .taken) ∙ removal-place
+    (part (a .text .now) (a .at + 2) (a .to)) suffix (getD (a .text .now) (a .to) 0) (a .to - a .at) (a .to) (a .text .now)) (c .removal-at .ensures)
 
 removal-at-requires-2 : tie.Need-removal-at-requires-2
 removal-at-requires-2 c κs = search needs
@@ -77,7 +99,13 @@ removal-at-requires-2 c κs = search needs
 returns-6 : tie.Need-returns-6
 returns-6 c =
     let a = c .before .before .before .before .before .before .before .before .before .before .before .args in
-    same-item (a .text .now) (a .at) (a .depth) (c .removal-at2 .result) (name-prefix (modeOf (a .mode)) (a .text .now) (part (a .text .now) (a .at + 2) (a .to)) (a .to - a .at) (a .to) (omega (arith, c .before .before .before .before .before .before .before .before .before .if1 .left)) (c .before .before .before .before .before .before .before .if2 .left) (c .before .before .before .before .before .before .if3 .left) (sym (c .before .before .before .before .is-in .ensures) ∙ c .before .before .before .if4 .left) (c .before .before .if5 .left) (c .before .if6 .taken) ∙ removal-place (part (a .text .now) (a .at + 2) (a .to)) prefix (getD (a .text .now) (a .to) 0) (a .to - a .at) (a .to) (a .text .now)) (c .removal-at2 .ensures)
+    same-item (a .text .now) (a .at) (a .depth) (c .removal-at2 .result)
+    (name-prefix (modeOf (a .mode)) (a .text .now) (part (a .text .now) (a .at + 2) (a .to)) (a .to - a .at) (a .to)
+    (omega (arith, c .before .before .before .before .before .before .before .before .before .if1 .left))
+    (c .before .before .before .before .before .before .before .if2 .left) (c .before .before .before .before .before .before .if3 .left)
+    (sym (c .before .before .before .before .is-in .ensures) ∙ c .before .before .before .if4 .left) (c .before .before .if5 .left)
+    (c .before .if6 .taken) ∙ removal-place (part (a .text .now) (a .at + 2) (a .to)) prefix (getD (a .text .now) (a .to) 0) (a .to - a .at) (a .to)
+    (a .text .now)) (c .removal-at2 .ensures)
 
 wrong-byte-requires : tie.Need-wrong-byte-requires
 wrong-byte-requires c κs = search needs
@@ -85,7 +113,11 @@ wrong-byte-requires c κs = search needs
 returns-7 : tie.Need-returns-7
 returns-7 c =
     let a = c .before .before .before .before .before .before .before .before .before .before .before .args in
-    name-wrong (modeOf (a .mode)) (a .text .now) (part (a .text .now) (a .at + 2) (a .to)) (a .to - a .at) (a .to) (omega (arith, c .before .before .before .before .before .before .before .before .before .if1 .left)) (c .before .before .before .before .before .before .before .if2 .left) (c .before .before .before .before .before .before .if3 .left) (sym (c .before .before .before .before .is-in .ensures) ∙ c .before .before .before .if4 .left) (c .before .before .if5 .left) (c .before .if6 .left) (c .wrong-byte .ensures)
+    name-wrong (modeOf (a .mode)) (a .text .now) (part (a .text .now) (a .at + 2) (a .to)) (a .to - a .at) (a .to)
+    (omega (arith, c .before .before .before .before .before .before .before .before .before .if1 .left))
+    (c .before .before .before .before .before .before .before .if2 .left) (c .before .before .before .before .before .before .if3 .left)
+    (sym (c .before .before .before .before .is-in .ensures) ∙ c .before .before .before .if4 .left) (c .before .before .if5 .left)
+    (c .before .if6 .left) (c .wrong-byte .ensures)
 
 pub behind-name-spec : {M : Type 1} → statement M
 behind-name-spec =

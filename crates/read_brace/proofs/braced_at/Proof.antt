@@ -33,7 +33,9 @@ length-at-requires c κs = search needs
 returns-3 : tie.Need-returns-3
 returns-3 c =
     let a = c .before .before .before .before .before .before .args in
-    same-item (a .text .now) (a .at) (a .depth) (c .length-at .result) (brace-length (modeOf (a .mode)) (a .depth) (a .text .now) (a .at) (c .before .before .before .before .if1 .left) (omega (arith, c .before .before .before .if2 .left)) (c .before .if3 .taken)) (c .length-at .ensures)
+    same-item (a .text .now) (a .at) (a .depth) (c .length-at .result)
+    (brace-length (modeOf (a .mode)) (a .depth) (a .text .now) (a .at) (c .before .before .before .before .if1 .left)
+    (omega (arith, c .before .before .before .if2 .left)) (c .before .if3 .taken)) (c .length-at .ensures)
 
 in-class-requires : tie.Need-in-class-requires
 in-class-requires c κs = search needs
@@ -50,7 +52,10 @@ behind-name-requires c κs = search needs
 returns-4 : tie.Need-returns-4
 returns-4 c =
     let a = c .before .before .before .before .before .before .before .before .before .args in
-    same-item (a .text .now) (a .at) (a .depth) (c .behind-name .result) (brace-named (modeOf (a .mode)) (a .depth) (a .text .now) (a .at) (c .before .before .before .before .before .before .before .if1 .left) (omega (arith, c .before .before .before .before .before .before .if2 .left)) (c .before .before .before .before .if3 .left) (sym (c .before .before .before .in-class .ensures) ∙ c .before .before .if4 .taken) _ (c .before .run-end .ensures)) (c .behind-name .ensures)
+    same-item (a .text .now) (a .at) (a .depth) (c .behind-name .result)
+    (brace-named (modeOf (a .mode)) (a .depth) (a .text .now) (a .at) (c .before .before .before .before .before .before .before .if1 .left)
+    (omega (arith, c .before .before .before .before .before .before .if2 .left)) (c .before .before .before .before .if3 .left)
+    (sym (c .before .before .before .in-class .ensures) ∙ c .before .before .if4 .taken) _ (c .before .run-end .ensures)) (c .behind-name .ensures)
 
 wrong-byte-requires : tie.Need-wrong-byte-requires
 wrong-byte-requires c κs = search needs
@@ -58,7 +63,9 @@ wrong-byte-requires c κs = search needs
 returns-5 : tie.Need-returns-5
 returns-5 c =
     let a = c .before .before .before .before .before .before .before .before .args in
-    brace-wrong (modeOf (a .mode)) (a .depth) (a .text .now) (a .at) (c .before .before .before .before .before .before .if1 .left) (omega (arith, c .before .before .before .before .before .if2 .left)) (c .before .before .before .if3 .left) (sym (c .before .before .in-class .ensures) ∙ c .before .if4 .left) (c .wrong-byte .ensures)
+    brace-wrong (modeOf (a .mode)) (a .depth) (a .text .now) (a .at) (c .before .before .before .before .before .before .if1 .left)
+    (omega (arith, c .before .before .before .before .before .if2 .left)) (c .before .before .before .if3 .left)
+    (sym (c .before .before .in-class .ensures) ∙ c .before .if4 .left) (c .wrong-byte .ensures)
 
 pub braced-at-spec : {M : Type 1} → statement M
 braced-at-spec =

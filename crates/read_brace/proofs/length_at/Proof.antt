@@ -36,7 +36,9 @@ behind-length-requires c κs = search needs
 returns-2 : tie.Need-returns-2
 returns-2 c =
     let a = c .before .before .before .before .before .before .before .args in
-    same-item (a .text .now) (a .at) (a .depth) (c .behind-length .result) (counted-name (a .text .now) (a .at) (omega (arith, c .before .before .before .before .before .if1 .left)) (sym (c .before .before .before .in-class .ensures) ∙ c .before .before .if2 .taken) _ (c .before .run-end .ensures)) (c .behind-length .ensures)
+    same-item (a .text .now) (a .at) (a .depth) (c .behind-length .result)
+    (counted-name (a .text .now) (a .at) (omega (arith, c .before .before .before .before .before .if1 .left))
+    (sym (c .before .before .before .in-class .ensures) ∙ c .before .before .if2 .taken) _ (c .before .run-end .ensures)) (c .behind-length .ensures)
 
 wrong-byte-requires : tie.Need-wrong-byte-requires
 wrong-byte-requires c κs = search needs
@@ -44,7 +46,8 @@ wrong-byte-requires c κs = search needs
 returns-3 : tie.Need-returns-3
 returns-3 c =
     let a = c .before .before .before .before .before .before .args in
-    counted-wrong (a .text .now) (a .at) (omega (arith, c .before .before .before .before .if1 .left)) (sym (c .before .before .in-class .ensures) ∙ c .before .if2 .left) (c .wrong-byte .ensures)
+    counted-wrong (a .text .now) (a .at) (omega (arith, c .before .before .before .before .if1 .left))
+    (sym (c .before .before .in-class .ensures) ∙ c .before .if2 .left) (c .wrong-byte .ensures)
 
 pub length-at-spec : {M : Type 1} → statement M
 length-at-spec =

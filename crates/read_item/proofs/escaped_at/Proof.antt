@@ -36,7 +36,9 @@ add-t12 c = search needs
 returns-3 : tie.Need-returns-3
 returns-3 c =
     let a = c .before .before .before .before .before .before .args in
-    shows-byte (a .text .now) (a .at) (a .depth) _ 1 (omega arith) (omega (arith, c .before .before .before .before .if1 .left)) _ _ (escape-byte (modeOf (a .mode)) (a .text .now) (a .at) (omega (arith, c .before .before .before .before .if1 .left)) (c .before .before .if2 .left) (sym (c .before .is-quotable .ensures) ∙ c .if3 .taken))
+    shows-byte (a .text .now) (a .at) (a .depth) _ 1 (omega arith) (omega (arith, c .before .before .before .before .if1 .left)) _ _
+    (escape-byte (modeOf (a .mode)) (a .text .now) (a .at) (omega (arith, c .before .before .before .before .if1 .left))
+    (c .before .before .if2 .left) (sym (c .before .is-quotable .ensures) ∙ c .if3 .taken))
 
 add-t7 : tie.Need-add-t7
 add-t7 c = search needs
@@ -44,7 +46,9 @@ add-t7 c = search needs
 returns-4 : tie.Need-returns-4
 returns-4 c =
     let a = c .before .before .before .before .before .before .args in
-    shows-byte (a .text .now) (a .at) (a .depth) _ 0 (omega arith) (omega (arith, c .before .before .before .before .if1 .left)) _ _ (escape-plain (modeOf (a .mode)) (a .text .now) (a .at) (omega (arith, c .before .before .before .before .if1 .left)) (c .before .before .if2 .left) (sym (c .before .is-quotable .ensures) ∙ c .if3 .left))
+    shows-byte (a .text .now) (a .at) (a .depth) _ 0 (omega arith) (omega (arith, c .before .before .before .before .if1 .left)) _ _
+    (escape-plain (modeOf (a .mode)) (a .text .now) (a .at) (omega (arith, c .before .before .before .before .if1 .left))
+    (c .before .before .if2 .left) (sym (c .before .is-quotable .ensures) ∙ c .if3 .left))
 
 pub escaped-at-spec : {M : Type 1} → statement M
 escaped-at-spec =

@@ -26,8 +26,12 @@ add-t7 c = search needs
 returns-2 : tie.Need-returns-2
 returns-2 c =
     let a = c .before .before .before .before .args in
-    let w = at-within 40 (a .at + 2) (a .text .now) (sym (c .before .before .is-at .ensures) ∙ c .before .if1 .taken) in
-    (paren-opens (a .depth) (drop (a .at + 2) (a .text .now)) (sym (c .before .before .is-at .ensures) ∙ c .before .if1 .taken) (c .if2 .left), refl, omega arith, omega (arith, c .if2 .left))
+    let w = at-within 40 (a .at + 2) (a .text .now) (sym (c .before .before .is-at .ensures) ∙ c .before .if1 .taken) in (
+      paren-opens (a .depth) (drop (a .at + 2) (a .text .now)) (sym (c .before .before .is-at .ensures) ∙ c .before .if1 .taken) (c .if2 .left),
+      refl,
+      omega arith,
+      omega (arith, c .if2 .left),
+    )
 
 returns-3 : tie.Need-returns-3
 returns-3 c =

@@ -6,7 +6,24 @@ use lib.ListN.{length, drop}
 use denote.Ref.{now}
 use Rattle.stages.specs.Read.{parts}
 use Rattle.read_mode.specs.Modes.{modeOf}
-use Rattle.read_line.proofs.Turns.{shown, turn-shown, turn-fault, turn-stop, turn-byte, turn-paren, turn-value, turn-count, turn-quote, turn-inner, turn-sum, Reads, reads-start, reads-fault, reads-end, reads-next}
+use Rattle.read_line.proofs.Turns.{
+  shown,
+  turn-shown,
+  turn-fault,
+  turn-stop,
+  turn-byte,
+  turn-paren,
+  turn-value,
+  turn-count,
+  turn-quote,
+  turn-inner,
+  turn-sum,
+  Reads,
+  reads-start,
+  reads-fault,
+  reads-end,
+  reads-next,
+}
 use borrow.Author.Needs.{needs}
 use native.Mathlib.Omega.{arith}
 use borrow.Fn.Kinds.{In}
@@ -124,47 +141,62 @@ module _ (t : ℕ) where
   read-item-returns : read-item-lts.Need-returns (read-item-callees t) (read-item-at t) read-item.Post
   read-item-returns c =
       let a = c .before .before .before .before .before .args in
-      turn-fault (a .text .now) (a .at) (a .depth) (a .mode) (omega (arith, c .before .before .before .before .before .pre)) (c .before .before .before .item-at .ensures) (c .before .item .given .1)
+      turn-fault (a .text .now) (a .at) (a .depth) (a .mode) (omega (arith, c .before .before .before .before .before .pre))
+      (c .before .before .before .item-at .ensures) (c .before .item .given .1)
 
   read-item-returns-2 : read-item-lts.Need-returns-2 (read-item-callees t) (read-item-at t) read-item.Post
   read-item-returns-2 c =
       let a = c .before .before .before .before .before .args in
-      turn-stop (a .text .now) (a .at) (a .depth) (a .mode) (omega (arith, c .before .before .before .before .before .pre)) (c .before .before .before .item-at .ensures) (c .before .item2 .given .1)
+      turn-stop (a .text .now) (a .at) (a .depth) (a .mode) (omega (arith, c .before .before .before .before .before .pre))
+      (c .before .before .before .item-at .ensures) (c .before .item2 .given .1)
 
   read-item-returns-3 : read-item-lts.Need-returns-3 (read-item-callees t) (read-item-at t) read-item.Post
   read-item-returns-3 c =
       let a = c .before .before .before .before .before .args in
-      turn-byte (a .text .now) (a .at) (a .depth) (a .mode) (omega (arith, c .before .before .before .before .before .pre)) (c .before .before .before .item-at .ensures) (c .before .item3 .given .1)
+      turn-byte (a .text .now) (a .at) (a .depth) (a .mode) (omega (arith, c .before .before .before .before .before .pre))
+      (c .before .before .before .item-at .ensures) (c .before .item3 .given .1)
 
   read-item-returns-4 : read-item-lts.Need-returns-4 (read-item-callees t) (read-item-at t) read-item.Post
   read-item-returns-4 c =
       let a = c .before .before .before .before .before .args in
-      turn-paren (a .text .now) (a .at) (a .depth) (a .mode) (omega (arith, c .before .before .before .before .before .pre)) (c .before .before .before .item-at .ensures) (c .before .item4 .given .1)
+      turn-paren (a .text .now) (a .at) (a .depth) (a .mode) (omega (arith, c .before .before .before .before .before .pre))
+      (c .before .before .before .item-at .ensures) (c .before .item4 .given .1)
 
   read-item-returns-5 : read-item-lts.Need-returns-5 (read-item-callees t) (read-item-at t) read-item.Post
   read-item-returns-5 c =
       let a = c .before .before .before .before .before .args in
-      turn-value (a .text .now) (a .at) (a .depth) (a .mode) (omega (arith, c .before .before .before .before .before .pre)) (c .before .before .before .item-at .ensures) (c .before .item5 .given .1)
+      turn-value (a .text .now) (a .at) (a .depth) (a .mode) (omega (arith, c .before .before .before .before .before .pre))
+      (c .before .before .before .item-at .ensures) (c .before .item5 .given .1)
 
   read-item-returns-6 : read-item-lts.Need-returns-6 (read-item-callees t) (read-item-at t) read-item.Post
   read-item-returns-6 c =
       let a = c .before .before .before .before .before .args in
-      turn-count (a .text .now) (a .at) (a .depth) (a .mode) (omega (arith, c .before .before .before .before .before .pre)) (c .before .before .before .item-at .ensures) (c .before .item6 .given .1)
+      turn-count (a .text .now) (a .at) (a .depth) (a .mode) (omega (arith, c .before .before .before .before .before .pre))
+      (c .before .before .before .item-at .ensures) (c .before .item6 .given .1)
 
   read-item-returns-7 : read-item-lts.Need-returns-7 (read-item-callees t) (read-item-at t) read-item.Post
   read-item-returns-7 c =
       let a = c .before .before .before .before .before .before .before .args in
-      turn-shown (a .text .now) (a .at) (a .depth) _ (turn-quote (a .text .now) (a .at) (a .depth) (a .mode) (omega (arith, c .before .before .before .before .before .before .before .pre)) (c .before .before .before .before .before .item-at .ensures) (c .before .before .before .item7 .given .1) (c .before .read-text .result) (c .before .read-text .ensures)) (sym (c .behind .ensures))
+      turn-shown (a .text .now) (a .at) (a .depth) _
+      (turn-quote (a .text .now) (a .at) (a .depth) (a .mode) (omega (arith, c .before .before .before .before .before .before .before .pre))
+      (c .before .before .before .before .before .item-at .ensures) (c .before .before .before .item7 .given .1) (c .before .read-text .result)
+      (c .before .read-text .ensures)) (sym (c .behind .ensures))
 
   read-item-returns-8 : read-item-lts.Need-returns-8 (read-item-callees t) (read-item-at t) read-item.Post
   read-item-returns-8 c =
       let a = c .before .before .before .before .before .before .before .args in
-      turn-shown (a .text .now) (a .at) (a .depth) _ (turn-inner (a .text .now) (a .at) (a .depth) (a .mode) (omega (arith, c .before .before .before .before .before .before .before .pre)) (c .before .before .before .before .before .item-at .ensures) (c .before .before .before .item8 .given .1) (c .before .read-text2 .result) (c .before .read-text2 .ensures)) (sym (c .behind2 .ensures))
+      turn-shown (a .text .now) (a .at) (a .depth) _
+      (turn-inner (a .text .now) (a .at) (a .depth) (a .mode) (omega (arith, c .before .before .before .before .before .before .before .pre))
+      (c .before .before .before .before .before .item-at .ensures) (c .before .before .before .item8 .given .1) (c .before .read-text2 .result)
+      (c .before .read-text2 .ensures)) (sym (c .behind2 .ensures))
 
   read-item-returns-9 : read-item-lts.Need-returns-9 (read-item-callees t) (read-item-at t) read-item.Post
   read-item-returns-9 c =
       let a = c .before .before .before .before .before .before .before .args in
-      turn-shown (a .text .now) (a .at) (a .depth) _ (turn-sum (a .text .now) (a .at) (a .depth) (a .mode) (omega (arith, c .before .before .before .before .before .before .before .pre)) (c .before .before .before .before .before .item-at .ensures) (c .before .before .before .item9 .given .1) (c .before .read-text3 .result) (c .before .read-text3 .ensures)) (sym (c .behind3 .ensures))
+      turn-shown (a .text .now) (a .at) (a .depth) _
+      (turn-sum (a .text .now) (a .at) (a .depth) (a .mode) (omega (arith, c .before .before .before .before .before .before .before .pre))
+      (c .before .before .before .before .before .item-at .ensures) (c .before .before .before .item9 .given .1) (c .before .read-text3 .result)
+      (c .before .read-text3 .ensures)) (sym (c .behind3 .ensures))
 
 abbrev read-text-callees : ℕ → read-text-lts.Claims
 read-text-callees t = (read-item-below t, read-item.Post)
@@ -181,7 +213,8 @@ module _ (t : ℕ) where
       let a = c .before .args in
       reads-start (a .text .now) (a .at) (a .depth) (a .mode) (omega (arith, c .before .pre)) (omega (arith, c .before .pre))
 
-  read-text-read-item-requires : read-text-lts.Need-read-item-requires (read-text-callees t) (read-text-at t) read-text.Post read-text-Inv-loop read-text-μ-loop
+  read-text-read-item-requires : read-text-lts.Need-read-item-requires (read-text-callees t) (read-text-at t) read-text.Post read-text-Inv-loop
+      read-text-μ-loop
   read-text-read-item-requires c κs =
       omega (arith, c .before .before .pre, c .loop .inv .onward, c .loop .inv .within, c .loop .inv .few)
 
@@ -190,14 +223,16 @@ module _ (t : ℕ) where
 
   read-text-returns : read-text-lts.Need-returns (read-text-callees t) (read-text-at t) read-text.Post read-text-Inv-loop read-text-μ-loop
   read-text-returns c =
-      reads-fault _ _ _ _ _ _ (c .before .before .before .before .loop .inv) (turn-shown _ _ _ _ (c .before .before .before .read-item .ensures) (c .before .got .given .1))
+      reads-fault _ _ _ _ _ _ (c .before .before .before .before .loop .inv)
+      (turn-shown _ _ _ _ (c .before .before .before .read-item .ensures) (c .before .got .given .1))
 
   read-text-enum-known-got-2 : read-text-lts.Need-enum-known-got-2 (read-text-callees t) (read-text-at t) read-text.Post read-text-Inv-loop read-text-μ-loop
   read-text-enum-known-got-2 c = search needs
 
   read-text-returns-2 : read-text-lts.Need-returns-2 (read-text-callees t) (read-text-at t) read-text.Post read-text-Inv-loop read-text-μ-loop
   read-text-returns-2 c =
-      reads-end _ _ _ _ _ _ (c .before .before .before .before .loop .inv) (turn-shown _ _ _ _ (c .before .before .before .read-item .ensures) (c .before .got2 .given .1))
+      reads-end _ _ _ _ _ _ (c .before .before .before .before .loop .inv)
+      (turn-shown _ _ _ _ (c .before .before .before .read-item .ensures) (c .before .got2 .given .1))
 
   read-text-enum-known-got-3 : read-text-lts.Need-enum-known-got-3 (read-text-callees t) (read-text-at t) read-text.Post read-text-Inv-loop read-text-μ-loop
   read-text-enum-known-got-3 c = search needs
@@ -209,7 +244,8 @@ module _ (t : ℕ) where
 
   read-text-loop-again : read-text-lts.Need-loop-again (read-text-callees t) (read-text-at t) read-text.Post read-text-Inv-loop read-text-μ-loop
   read-text-loop-again c =
-      reads-next _ _ _ _ _ _ (c .before .before .before .before .loop .inv) (turn-shown _ _ _ _ (c .before .before .before .read-item .ensures) (c .before .got3 .given .1))
+      reads-next _ _ _ _ _ _ (c .before .before .before .before .loop .inv)
+      (turn-shown _ _ _ _ (c .before .before .before .read-item .ensures) (c .before .got3 .given .1))
 
 pub +read-item+read-text-spec : {M : Type 1} → statement M
 +read-item+read-text-spec = close μ-read-item μ-read-text (λ t. read-item-lts.spec (read-item-callees t) (read-item-at t)

@@ -39,20 +39,25 @@ enum-known-got c = search needs
 
 returns-2 : tie.Need-returns-2 Inv-loop μ-loop
 returns-2 c =
-    walks-fault _ _ (c .before .before .before .before .before .before .before .before .loop .inv) (next-shown _ _ (c .before .before .before .before .before .before .before .next-word .ensures) (c .before .before .before .before .before .word .given .1)) (word-shown _ _ (c .before .before .before .read-word .ensures) (c .before .got .given .1))
+    walks-fault _ _ (c .before .before .before .before .before .before .before .before .loop .inv)
+    (next-shown _ _ (c .before .before .before .before .before .before .before .next-word .ensures)
+    (c .before .before .before .before .before .word .given .1)) (word-shown _ _ (c .before .before .before .read-word .ensures) (c .before .got .given .1))
 
 enum-known-got-2 : tie.Need-enum-known-got-2 Inv-loop μ-loop
 enum-known-got-2 c = search needs
 
 loop-less : tie.Need-loop-less Inv-loop μ-loop
 loop-less c =
-    let p = (next-shown _ _ (c .before .before .before .before .before .before .before .next-word .ensures) (c .before .before .before .before .before .word .given .1)) in
+    let p = (next-shown _ _ (c .before .before .before .before .before .before .before .next-word .ensures)
+    (c .before .before .before .before .before .word .given .1)) in
     let w = (word-shown _ _ (c .before .before .before .read-word .ensures) (c .before .got2 .given .1)) in
     omega (arith, p .onward, w .onward, w .within)
 
 loop-again : tie.Need-loop-again Inv-loop μ-loop
 loop-again c =
-    walks-next _ _ (c .before .before .before .before .before .before .before .before .loop .inv) (next-shown _ _ (c .before .before .before .before .before .before .before .next-word .ensures) (c .before .before .before .before .before .word .given .1)) (word-shown _ _ (c .before .before .before .read-word .ensures) (c .before .got2 .given .1))
+    walks-next _ _ (c .before .before .before .before .before .before .before .before .loop .inv)
+    (next-shown _ _ (c .before .before .before .before .before .before .before .next-word .ensures)
+    (c .before .before .before .before .before .word .given .1)) (word-shown _ _ (c .before .before .before .read-word .ensures) (c .before .got2 .given .1))
 
 pub read-line-spec : {M : Type 1} → statement M
 read-line-spec =

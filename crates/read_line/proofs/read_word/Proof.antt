@@ -14,12 +14,14 @@ in-class-requires c κs = search needs
 returns : tie.Need-returns
 returns c =
     let a = c .before .before .before .before .args in
-    word-operator (a .line .now) (a .place) (c .before .before .before .before .pre .0) (c .before .before .before .before .pre .1) (sym (c .before .in-class .ensures) ∙ c .if1 .taken)
+    word-operator (a .line .now) (a .place) (c .before .before .before .before .pre .0) (c .before .before .before .before .pre .1)
+    (sym (c .before .in-class .ensures) ∙ c .if1 .taken)
 
 returns-2 : tie.Need-returns-2
 returns-2 c =
     let a = c .before .before .before .before .before .args in
-    word-hash (a .line .now) (a .place) (c .before .before .before .before .before .pre .0) (c .before .before .before .before .before .pre .1) (sym (c .before .before .in-class .ensures) ∙ c .before .if1 .left) (c .if2 .taken)
+    word-hash (a .line .now) (a .place) (c .before .before .before .before .before .pre .0) (c .before .before .before .before .before .pre .1)
+    (sym (c .before .before .in-class .ensures) ∙ c .before .if1 .left) (c .if2 .taken)
 
 read-text-requires : tie.Need-read-text-requires
 read-text-requires c κs = search needs
@@ -27,7 +29,9 @@ read-text-requires c κs = search needs
 returns-3 : tie.Need-returns-3
 returns-3 c =
     let a = c .before .before .before .before .before .before .args in
-    word-read (a .line .now) (a .place) (c .before .before .before .before .before .before .pre .0) (c .before .before .before .before .before .before .pre .1) (sym (c .before .before .before .in-class .ensures) ∙ c .before .before .if1 .left) (c .before .if2 .left) (c .read-text .result) (c .read-text .ensures)
+    word-read (a .line .now) (a .place) (c .before .before .before .before .before .before .pre .0)
+    (c .before .before .before .before .before .before .pre .1) (sym (c .before .before .before .in-class .ensures) ∙ c .before .before .if1 .left)
+    (c .before .if2 .left) (c .read-text .result) (c .read-text .ensures)
 
 pub read-word-spec : {M : Type 1} → statement M
 read-word-spec =

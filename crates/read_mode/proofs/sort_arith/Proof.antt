@@ -24,22 +24,58 @@ returns-2 c =
 returns-3 : tie.Need-returns-3
 unfolding sort closerLength
 returns-3 c =
-    record { is = rw (ne-eqb _ _ (c .before .before .before .before .if1 .left), sym (c .before .before .is-in .ensures) ∙ c .before .if2 .left, eq-eqb _ _ (c .if3 .taken)); carries = refl }
+    record {
+      is = rw (
+        ne-eqb _ _ (c .before .before .before .before .if1 .left),
+        sym (c .before .before .is-in .ensures) ∙ c .before .if2 .left,
+        eq-eqb _ _ (c .if3 .taken),
+      );
+      carries = refl;
+    }
 
 returns-4 : tie.Need-returns-4
 unfolding sort closerLength
 returns-4 c =
-    record { is = rw (ne-eqb _ _ (c .before .before .before .before .before .if1 .left), sym (c .before .before .before .is-in .ensures) ∙ c .before .before .if2 .left, ne-eqb _ _ (c .before .if3 .left), eq-eqb _ _ (c .if4 .taken)); carries = refl }
+    record {
+      is = rw (
+        ne-eqb _ _ (c .before .before .before .before .before .if1 .left),
+        sym (c .before .before .before .is-in .ensures) ∙
+            c .before .before .if2 .left,
+        ne-eqb _ _ (c .before .if3 .left),
+        eq-eqb _ _ (c .if4 .taken),
+      );
+      carries = refl;
+    }
 
 returns-5 : tie.Need-returns-5
 unfolding sort closerLength
 returns-5 c =
-    record { is = rw (ne-eqb _ _ (c .before .before .before .before .before .before .if1 .left), sym (c .before .before .before .before .is-in .ensures) ∙ c .before .before .before .if2 .left, ne-eqb _ _ (c .before .before .if3 .left), ne-eqb _ _ (c .before .if4 .left), eq-eqb _ _ (c .if5 .taken)); carries = tt }
+    record {
+      is = rw (
+        ne-eqb _ _ (c .before .before .before .before .before .before .if1 .left),
+        sym
+            (c .before .before .before .before .is-in .ensures) ∙ c .before .before .before .if2 .left,
+        ne-eqb _ _ (c .before .before .if3 .left),
+        ne-eqb _ _ (c .before .if4 .left),
+        eq-eqb _ _ (c .if5 .taken),
+      );
+      carries = tt;
+    }
 
 returns-6 : tie.Need-returns-6
 unfolding sort closerLength
 returns-6 c =
-    record { is = rw (ne-eqb _ _ (c .before .before .before .before .before .before .if1 .left), sym (c .before .before .before .before .is-in .ensures) ∙ c .before .before .before .if2 .left, ne-eqb _ _ (c .before .before .if3 .left), ne-eqb _ _ (c .before .if4 .left), ne-eqb _ _ (c .if5 .left)); carries = tt }
+    record {
+      is = rw (
+        ne-eqb _ _ (c .before .before .before .before .before .before .if1 .left),
+        sym
+            (c .before .before .before .before .is-in .ensures) ∙ c .before .before .before .if2 .left,
+        ne-eqb _ _ (c .before .before .if3 .left),
+        ne-eqb _ _ (c .before .if4 .left),
+        ne-eqb _ _ (c .if5 .left),
+      );
+      carries = tt;
+    }
 
 pub sort-arith-spec : {M : Type 1} → statement M
 sort-arith-spec =

@@ -23,7 +23,11 @@ sort-quotes-requires c κs = search needs
 returns-3 : tie.Need-returns-3
 unfolding sort quotesSort plainSort closerLength
 returns-3 c =
-    record { is = rw (ne-eqb _ _ (c .before .before .if1 .left), ne-eqb _ _ (c .before .if2 .left)) (c .sort-quotes .ensures .is); carries = c .sort-quotes .ensures .carries bare }
+    record {
+      is = rw (ne-eqb _ _ (c .before .before .if1 .left), ne-eqb _ _ (c .before .if2 .left)) (c .sort-quotes .ensures .is);
+      carries =
+          c .sort-quotes .ensures .carries bare;
+    }
 
 pub sort-bare-spec : {M : Type 1} → statement M
 sort-bare-spec = tie.close (tie.spec returns returns-2 sort-quotes-requires returns-3)

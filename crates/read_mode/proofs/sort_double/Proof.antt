@@ -23,7 +23,11 @@ sort-plain-requires c κs = search needs
 returns-3 : tie.Need-returns-3
 unfolding sort plainSort closerLength
 returns-3 c =
-    record { is = rw (ne-eqb _ _ (c .before .before .if1 .left), ne-eqb _ _ (c .before .if2 .left)) (c .sort-plain .ensures .is); carries = c .sort-plain .ensures .carries double }
+    record {
+      is = rw (ne-eqb _ _ (c .before .before .if1 .left), ne-eqb _ _ (c .before .if2 .left)) (c .sort-plain .ensures .is);
+      carries =
+          c .sort-plain .ensures .carries double;
+    }
 
 pub sort-double-spec : {M : Type 1} → statement M
 sort-double-spec = tie.close (tie.spec returns returns-2 sort-plain-requires returns-3)

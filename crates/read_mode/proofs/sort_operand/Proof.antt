@@ -28,7 +28,11 @@ sort-plain-requires c κs = search needs
 returns-4 : tie.Need-returns-4
 unfolding sort plainSort closerLength
 returns-4 c =
-    record { is = rw (ne-eqb _ _ (c .before .before .before .if1 .left), ne-eqb _ _ (c .before .before .if2 .left), ne-eqb _ _ (c .before .if3 .left)) (c .sort-plain .ensures .is); carries = c .sort-plain .ensures .carries operand }
+    record {
+      is = rw (ne-eqb _ _ (c .before .before .before .if1 .left), ne-eqb _ _ (c .before .before .if2 .left), ne-eqb _ _ (c .before .if3 .left))
+          (c .sort-plain .ensures .is);
+      carries = c .sort-plain .ensures .carries operand;
+    }
 
 pub sort-operand-spec : {M : Type 1} → statement M
 sort-operand-spec = tie.close (tie.spec returns returns-2 returns-3 sort-plain-requires returns-4)

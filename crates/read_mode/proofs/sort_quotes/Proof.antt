@@ -19,7 +19,11 @@ sort-plain-requires c κs = search needs
 returns-3 : tie.Need-returns-3
 unfolding quotesSort
 returns-3 c =
-    record { is = rw (ne-eqb _ _ (c .before .before .if1 .left), ne-eqb _ _ (c .before .if2 .left)) (c .sort-plain .ensures .is); carries = c .sort-plain .ensures .carries }
+    record {
+      is = rw (ne-eqb _ _ (c .before .before .if1 .left), ne-eqb _ _ (c .before .if2 .left)) (c .sort-plain .ensures .is);
+      carries =
+          c .sort-plain .ensures .carries;
+    }
 
 pub sort-quotes-spec : {M : Type 1} → statement M
 sort-quotes-spec = tie.close (tie.spec returns returns-2 sort-plain-requires returns-3)

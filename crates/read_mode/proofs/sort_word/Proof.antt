@@ -26,7 +26,15 @@ in-class-requires-2 c κs = search needs
 returns-3 : tie.Need-returns-3
 unfolding sort quotesSort plainSort closerLength
 returns-3 c =
-    record { is = rw (ne-eqb _ _ (c .before .before .before .before .if1 .left), sym (c .before .before .before .in-class .ensures) ∙ c .before .before .if2 .left, sym (c .before .in-class2 .ensures) ∙ c .if3 .taken); carries = tt }
+    record {
+      is = rw (
+        ne-eqb _ _ (c .before .before .before .before .if1 .left),
+        sym (c .before .before .before .in-class .ensures) ∙
+            c .before .before .if2 .left,
+        sym (c .before .in-class2 .ensures) ∙ c .if3 .taken,
+      );
+      carries = tt;
+    }
 
 sort-quotes-requires : tie.Need-sort-quotes-requires
 sort-quotes-requires c κs = search needs
@@ -34,7 +42,15 @@ sort-quotes-requires c κs = search needs
 returns-4 : tie.Need-returns-4
 unfolding sort quotesSort plainSort closerLength
 returns-4 c =
-    record { is = rw (ne-eqb _ _ (c .before .before .before .before .before .if1 .left), sym (c .before .before .before .before .in-class .ensures) ∙ c .before .before .before .if2 .left, sym (c .before .before .in-class2 .ensures) ∙ c .before .if3 .left) (c .sort-quotes .ensures .is); carries = c .sort-quotes .ensures .carries word }
+    record {
+      is = rw (
+        ne-eqb _ _ (c .before .before .before .before .before .if1 .left),
+        sym (c .before .before .before .before .in-class .ensures)
+            ∙ c .before .before .before .if2 .left,
+        sym (c .before .before .in-class2 .ensures) ∙ c .before .if3 .left,
+      ) (c .sort-quotes .ensures .is);
+      carries = c .sort-quotes .ensures .carries word;
+    }
 
 pub sort-word-spec : {M : Type 1} → statement M
 sort-word-spec =

@@ -75,19 +75,43 @@ slice-relend-prefix-answer-with : tie.Need-slice-relend-prefix-answer-with
 slice-relend-prefix-answer-with c = search needs
 
 slice-aggregate-answer-with : tie.Need-slice-aggregate-answer-with
-slice-aggregate-answer-with c = sym (length-take-le 8192 (c .before .before .before .before .before .before .before .before .before .before .before .before .before .before .before .before .before .before .before .before .before .before .load .last .1 .0) (omega arith))
+slice-aggregate-answer-with c =
+    sym (length-take-le 8192
+    (c .before .before .before .before .before .before .before .before .before .before .before .before .before .before .before .before .before .before .before .before .before .before .load .last .1 .0) (omega arith))
 
 slice-reshare-prefix-answer-with : tie.Need-slice-reshare-prefix-answer-with
-slice-reshare-prefix-answer-with c = omega (arith, loads-inside (length (c .before .before .before .before .before .before .before .before .before .before .before .before .before .before .before .before .before .before .before .before .before .before .before .before .before .before .before .before .args .homes .now)) (c .before .before .before .before .before .before .before .before .before .before .before .before .before .before .load2 .result) (c .before .before .before .before .before .before .before .before .before .before .h .given .1) (c .before .before .before .before .before .before .before .before .before .before .before .before .before .before .load2 .ensures))
+slice-reshare-prefix-answer-with c =
+    omega (
+      arith,
+      loads-inside
+          (length (c .before .before .before .before .before .before .before .before .before .before .before .before .before .before .before .before .before .before .before .before .before .before .before .before .before .before .before .before .args .homes .now)) (c .before .before .before .before .before .before .before .before .before .before .before .before .before .before .load2 .result) (c .before .before .before .before .before .before .before .before .before .before .h .given .1) (c .before .before .before .before .before .before .before .before .before .before .before .before .before .before .load2 .ensures),
+    )
 
 slice-aggregate-answer-with-2 : tie.Need-slice-aggregate-answer-with-2
-slice-aggregate-answer-with-2 c = sym (length-take-le _ _ (omega (arith, loads-inside (length (c .before .before .before .before .before .before .before .before .before .before .before .before .before .before .before .before .before .before .before .before .before .before .before .before .before .before .before .before .before .args .homes .now)) (c .before .before .before .before .before .before .before .before .before .before .before .before .before .before .before .load2 .result) (c .before .before .before .before .before .before .before .before .before .before .before .h .given .1) (c .before .before .before .before .before .before .before .before .before .before .before .before .before .before .before .load2 .ensures))))
+slice-aggregate-answer-with-2 c =
+    sym (length-take-le _ _
+    (omega (
+      arith,
+      loads-inside
+          (length (c .before .before .before .before .before .before .before .before .before .before .before .before .before .before .before .before .before .before .before .before .before .before .before .before .before .before .before .before .before .args .homes .now)) (c .before .before .before .before .before .before .before .before .before .before .before .before .before .before .before .load2 .result) (c .before .before .before .before .before .before .before .before .before .before .before .h .given .1) (c .before .before .before .before .before .before .before .before .before .before .before .before .before .before .before .load2 .ensures),
+    )))
 
 slice-reshare-prefix-answer-with-2 : tie.Need-slice-reshare-prefix-answer-with-2
-slice-reshare-prefix-answer-with-2 c = omega (arith, loads-inside (length (c .before .before .before .before .before .before .before .before .before .before .before .before .before .before .before .before .before .before .before .before .before .before .before .before .before .before .before .before .before .args .paths .now)) (c .before .before .before .before .before .before .before .load3 .result) (c .before .before .before .p .given .1) (c .before .before .before .before .before .before .before .load3 .ensures))
+slice-reshare-prefix-answer-with-2 c =
+    omega (
+      arith,
+      loads-inside
+          (length (c .before .before .before .before .before .before .before .before .before .before .before .before .before .before .before .before .before .before .before .before .before .before .before .before .before .before .before .before .before .args .paths .now)) (c .before .before .before .before .before .before .before .load3 .result) (c .before .before .before .p .given .1) (c .before .before .before .before .before .before .before .load3 .ensures),
+    )
 
 slice-aggregate-answer-with-3 : tie.Need-slice-aggregate-answer-with-3
-slice-aggregate-answer-with-3 c = sym (length-take-le _ _ (omega (arith, loads-inside (length (c .before .before .before .before .before .before .before .before .before .before .before .before .before .before .before .before .before .before .before .before .before .before .before .before .before .before .before .before .before .before .args .paths .now)) (c .before .before .before .before .before .before .before .before .load3 .result) (c .before .before .before .before .p .given .1) (c .before .before .before .before .before .before .before .before .load3 .ensures))))
+slice-aggregate-answer-with-3 c =
+    sym (length-take-le _ _
+    (omega (
+      arith,
+      loads-inside
+          (length (c .before .before .before .before .before .before .before .before .before .before .before .before .before .before .before .before .before .before .before .before .before .before .before .before .before .before .before .before .before .before .args .paths .now)) (c .before .before .before .before .before .before .before .before .load3 .result) (c .before .before .before .before .p .given .1) (c .before .before .before .before .before .before .before .before .load3 .ensures),
+    )))
 
 answer-with-requires : tie.Need-answer-with-requires
 answer-with-requires c κs = search needs

@@ -14,17 +14,22 @@ normalise-requires c κs = search needs
 slice-reshare-prefix-put-answer : tie.Need-slice-reshare-prefix-put-answer
 slice-reshare-prefix-put-answer c =
     let a = c .before .before .before .before .before .before .before .before .before .before .before .before .before .before .before .before .before .args in
-    out-inside (given (a .line .now) (a .vars .now) (a .used) (a .homes .now) (a .paths .now) (a .work .now) (a .out .now)) (c .before .before .before .before .before .before .normalise .ensures)
+    out-inside (given (a .line .now) (a .vars .now) (a .used) (a .homes .now) (a .paths .now) (a .work .now) (a .out .now))
+    (c .before .before .before .before .before .before .normalise .ensures)
 
 slice-aggregate-put-answer : tie.Need-slice-aggregate-put-answer
 slice-aggregate-put-answer c =
     let a = c .before .before .before .before .before .before .before .before .before .before .before .before .before .before .before .before .before .before .args in
-    sym (length-take-le _ _ (out-inside (given (a .line .now) (a .vars .now) (a .used) (a .homes .now) (a .paths .now) (a .work .now) (a .out .now)) (c .before .before .before .before .before .before .before .normalise .ensures)))
+    sym (length-take-le _ _
+    (out-inside (given (a .line .now) (a .vars .now) (a .used) (a .homes .now) (a .paths .now) (a .work .now) (a .out .now))
+    (c .before .before .before .before .before .before .before .normalise .ensures)))
 
 put-answer-requires : tie.Need-put-answer-requires
 put-answer-requires c κs =
     let a = c .before .before .before .before .before .before .before .before .before .before .before .before .before .before .before .before .before .before .before .args in
-    room-fits (given (a .line .now) (a .vars .now) (a .used) (a .homes .now) (a .paths .now) (a .work .now) (a .out .now)) (c .before .before .before .before .before .before .before .before .normalise .ensures) (length (a .said .now)) (c .before .before .before .before .before .before .before .before .before .before .before .before .before .before .before .before .before .before .before .pre .2)
+    room-fits (given (a .line .now) (a .vars .now) (a .used) (a .homes .now) (a .paths .now) (a .work .now) (a .out .now))
+    (c .before .before .before .before .before .before .before .before .normalise .ensures) (length (a .said .now))
+    (c .before .before .before .before .before .before .before .before .before .before .before .before .before .before .before .before .before .before .before .pre .2)
 
 same-length : tie.Need-same-length
 same-length c = search needs

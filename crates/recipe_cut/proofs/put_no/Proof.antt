@@ -82,7 +82,8 @@ add-end c =
     let p = c .before .before .before .before .before .before .before .before .before .before .copy-in in
     let q = c .before .before .before .before .before .before .put-decimal in
     let u = c .before .before .put-decimal2 in
-    let f = no-place (a .args .number) (a .args .place) (a .args .out .now) (p .last .1 .0) (a .pre) (p .ensures) (q .last .0) (q .result) (q .ensures) (u .last .0) (u .result) (u .ensures) in
+    let f = no-place (a .args .number) (a .args .place) (a .args .out .now) (p .last .1 .0) (a .pre) (p .ensures) (q .last .0) (q .result)
+    (q .ensures) (u .last .0) (u .result) (u .ensures) in
     omega (arith, fill-room f)
 
 slice-write-out-2 : tie.Need-slice-write-out-2
@@ -91,7 +92,8 @@ slice-write-out-2 c =
     let p = c .before .before .before .before .before .before .before .before .before .before .copy-in in
     let q = c .before .before .before .before .before .before .put-decimal in
     let u = c .before .before .put-decimal2 in
-    let f = no-place (a .args .number) (a .args .place) (a .args .out .now) (p .last .1 .0) (a .pre) (p .ensures) (q .last .0) (q .result) (q .ensures) (u .last .0) (u .result) (u .ensures) in
+    let f = no-place (a .args .number) (a .args .place) (a .args .out .now) (p .last .1 .0) (a .pre) (p .ensures) (q .last .0) (q .result)
+    (q .ensures) (u .last .0) (u .result) (u .ensures) in
     omega (arith, fill-room f, fill-length f)
 
 add-result : tie.Need-add-result
@@ -100,7 +102,8 @@ add-result c =
     let p = c .before .before .before .before .before .before .before .before .before .before .copy-in in
     let q = c .before .before .before .before .before .before .put-decimal in
     let u = c .before .before .put-decimal2 in
-    let f = no-ended (a .args .number) (a .args .place) (a .args .out .now) (p .last .1 .0) (a .pre) (p .ensures) (q .last .0) (q .result) (q .ensures) (u .last .0) (u .result) (u .ensures) in
+    let f = no-ended (a .args .number) (a .args .place) (a .args .out .now) (p .last .1 .0) (a .pre) (p .ensures) (q .last .0) (q .result)
+    (q .ensures) (u .last .0) (u .result) (u .ensures) in
     omega (arith, fill-room f)
 
 same-length : tie.Need-same-length
@@ -109,7 +112,8 @@ same-length c =
     let p = c .before .before .before .before .before .before .before .before .before .before .copy-in in
     let q = c .before .before .before .before .before .before .put-decimal in
     let u = c .before .before .put-decimal2 in
-    let f = no-ended (a .args .number) (a .args .place) (a .args .out .now) (p .last .1 .0) (a .pre) (p .ensures) (q .last .0) (q .result) (q .ensures) (u .last .0) (u .result) (u .ensures) in
+    let f = no-ended (a .args .number) (a .args .place) (a .args .out .now) (p .last .1 .0) (a .pre) (p .ensures) (q .last .0) (q .result)
+    (q .ensures) (u .last .0) (u .result) (u .ensures) in
     fill-length f
 
 returns : tie.Need-returns
@@ -118,7 +122,8 @@ returns c =
     let p = c .before .before .before .before .before .before .before .before .before .before .copy-in in
     let q = c .before .before .before .before .before .before .put-decimal in
     let u = c .before .before .put-decimal2 in
-    let f = no-ended (a .args .number) (a .args .place) (a .args .out .now) (p .last .1 .0) (a .pre) (p .ensures) (q .last .0) (q .result) (q .ensures) (u .last .0) (u .result) (u .ensures) in
+    let f = no-ended (a .args .number) (a .args .place) (a .args .out .now) (p .last .1 .0) (a .pre) (p .ensures) (q .last .0) (q .result)
+    (q .ensures) (u .last .0) (u .result) (u .ensures) in
     fill-ends f refl
 
 pub put-no-spec : {M : Type 1} → statement M

@@ -48,7 +48,10 @@ same-length : tie.Need-same-length Inv-loop μ-loop
 same-length c = search needs
 
 returns : tie.Need-returns Inv-loop μ-loop
-returns c = ends-loads (length (c .before .before .before .before .before .before .before .before .before .before .before .before .before .args .buffer .now)) (c .before .before .before .before .before .before .before .before .before .before .loop .done) (c .end-of-file .result) (omega (arith, c .before .before .before .before .before .before .before .before .before .before .loop .inv)) (c .end-of-file .ensures)
+returns c = ends-loads
+    (length (c .before .before .before .before .before .before .before .before .before .before .before .before .before .args .buffer .now))
+    (c .before .before .before .before .before .before .before .before .before .before .loop .done) (c .end-of-file .result)
+    (omega (arith, c .before .before .before .before .before .before .before .before .before .before .loop .inv)) (c .end-of-file .ensures)
 
 add-done : tie.Need-add-done Inv-loop μ-loop
 add-done c = search needs

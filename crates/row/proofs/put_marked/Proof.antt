@@ -20,7 +20,8 @@ again : (i m : ℕ) (v w area : Text) → i < length v → 2 * i + 1 < length w 
     → set (set area (2 * i) (getD v i 0)) (2 * i + 1) m ≡ units m (take (i + 1) v) ++ drop (2 * (i + 1)) w
 again i m v w area l h q = rw (add-one i, q) (units-more i m v w l h)
 
-whole : (i m : ℕ) (k : Mark) (v w area : Text) → i ≡ length v → m ≡ markByte k → area ≡ units m (take i v) ++ drop (2 * i) w → area ≡ fronted (rowBytes (marked k v)) w
+whole : (i m : ℕ) (k : Mark) (v w area : Text) → i ≡ length v → m ≡ markByte k → area ≡ units m (take i v) ++ drop (2 * i) w → area
+    ≡ fronted (rowBytes (marked k v)) w
 whole i m k v w area e f q =
     q ∙ ap (λ (j : ℕ). units m (take j v) ++ drop (2 * j) w) e
     ∙ ap (λ (t : Text). units m t ++ drop (2 * length v) w) (take-length v)

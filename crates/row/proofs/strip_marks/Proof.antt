@@ -38,7 +38,8 @@ slice-read-row : tie.Need-slice-read-row Inv-loop μ-loop
 slice-read-row c = omega (arith, strip-length (c .before .before .before .before .before .loop .inv))
 
 slice-write-row : tie.Need-slice-write-row Inv-loop μ-loop
-slice-write-row c = omega (arith, strip-length (c .before .before .before .before .before .loop .inv), c .before .before .before .before .before .loop .inv .behind)
+slice-write-row c = omega
+    (arith, strip-length (c .before .before .before .before .before .loop .inv), c .before .before .before .before .before .loop .inv .behind)
 
 add-kept : tie.Need-add-kept Inv-loop μ-loop
 add-kept c = omega (arith, c .before .before .before .before .before .loop .inv .behind, c .before .before .before .before .before .loop .inv .within)

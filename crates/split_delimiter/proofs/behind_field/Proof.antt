@@ -22,19 +22,23 @@ add-skip-white : tie.Need-add-skip-white
 add-skip-white c = search needs
 
 skip-white-requires-2 : tie.Need-skip-white-requires-2
-skip-white-requires-2 c κs = behind-fits _ (c .before .before .before .skip-white .ensures) (sym (c .before .before .delimiter-at .ensures) ∙ ap delimiterOf (c .enum-told2 .given .1))
+skip-white-requires-2 c κs =
+    behind-fits _ (c .before .before .before .skip-white .ensures) (sym (c .before .before .delimiter-at .ensures) ∙ ap delimiterOf (c .enum-told2 .given .1))
 
 enum-told-3 : tie.Need-enum-told-3
 enum-told-3 c = search needs
 
 returns : tie.Need-returns
-returns c = behind-white _ (c .before .before .before .skip-white .ensures) (sym (c .before .before .delimiter-at .ensures) ∙ ap delimiterOf (c .enum-told .given .1))
+returns c = behind-white _ (c .before .before .before .skip-white .ensures)
+    (sym (c .before .before .delimiter-at .ensures) ∙ ap delimiterOf (c .enum-told .given .1))
 
 returns-2 : tie.Need-returns-2
-returns-2 c = behind-hard _ (c .before .before .before .before .skip-white .ensures) (sym (c .before .before .before .delimiter-at .ensures) ∙ ap delimiterOf (c .before .enum-told2 .given .1)) (c .skip-white2 .ensures)
+returns-2 c = behind-hard _ (c .before .before .before .before .skip-white .ensures)
+    (sym (c .before .before .before .delimiter-at .ensures) ∙ ap delimiterOf (c .before .enum-told2 .given .1)) (c .skip-white2 .ensures)
 
 returns-3 : tie.Need-returns-3
-returns-3 c = behind-other _ (c .before .before .before .skip-white .ensures) (sym (c .before .before .delimiter-at .ensures) ∙ ap delimiterOf (c .enum-told3 .given .1))
+returns-3 c = behind-other _ (c .before .before .before .skip-white .ensures)
+    (sym (c .before .before .delimiter-at .ensures) ∙ ap delimiterOf (c .enum-told3 .given .1))
 
 pub behind-field-spec : {M : Type 1} → statement M
 behind-field-spec =

@@ -34,7 +34,8 @@ is-in-requires c κs = search needs
 returns-3 : tie.Need-returns-3
 returns-3 c =
     let a = c .before .before .before .before .before .before .before .before .args in
-    place-outside (a .ifs .now) (a .row .now) (a .at) (c .before .before .before .before .before .if1 .left) (c .before .before .before .if2 .left) (sym (c .before .is-in .ensures) ∙ not-true _ (c .if3 .taken))
+    place-outside (a .ifs .now) (a .row .now) (a .at) (c .before .before .before .before .before .if1 .left) (c .before .before .before .if2 .left)
+    (sym (c .before .is-in .ensures) ∙ not-true _ (c .if3 .taken))
 
 in-class-requires : tie.Need-in-class-requires
 in-class-requires c κs = search needs
@@ -42,12 +43,16 @@ in-class-requires c κs = search needs
 returns-4 : tie.Need-returns-4
 returns-4 c =
     let a = c .before .before .before .before .before .before .before .before .before .before .args in
-    place-white (a .ifs .now) (a .row .now) (a .at) (c .before .before .before .before .before .before .before .if1 .left) (c .before .before .before .before .before .if2 .left) (sym (c .before .before .before .is-in .ensures) ∙ not-false _ (c .before .before .if3 .left)) (sym (c .before .in-class .ensures) ∙ c .if4 .taken)
+    place-white (a .ifs .now) (a .row .now) (a .at) (c .before .before .before .before .before .before .before .if1 .left)
+    (c .before .before .before .before .before .if2 .left)
+    (sym (c .before .before .before .is-in .ensures) ∙ not-false _ (c .before .before .if3 .left)) (sym (c .before .in-class .ensures) ∙ c .if4 .taken)
 
 returns-5 : tie.Need-returns-5
 returns-5 c =
     let a = c .before .before .before .before .before .before .before .before .before .before .args in
-    place-hard (a .ifs .now) (a .row .now) (a .at) (c .before .before .before .before .before .before .before .if1 .left) (c .before .before .before .before .before .if2 .left) (sym (c .before .before .before .is-in .ensures) ∙ not-false _ (c .before .before .if3 .left)) (sym (c .before .in-class .ensures) ∙ c .if4 .left)
+    place-hard (a .ifs .now) (a .row .now) (a .at) (c .before .before .before .before .before .before .before .if1 .left)
+    (c .before .before .before .before .before .if2 .left)
+    (sym (c .before .before .before .is-in .ensures) ∙ not-false _ (c .before .before .if3 .left)) (sym (c .before .in-class .ensures) ∙ c .if4 .left)
 
 pub delimiter-at-spec : {M : Type 1} → statement M
 delimiter-at-spec =

@@ -30,17 +30,20 @@ enum-told-3 c = search needs
 returns-2 : tie.Need-returns-2
 returns-2 c =
     let a = c .before .before .before .before .before .before .args in
-    goes-unit (a .ifs .now) (a .row .now) (a .at) white (c .before .before .before .if1 .left) (sym (ap delimiterOf (c .enum-told .given .1)) ∙ c .before .before .delimiter-at .ensures)
+    goes-unit (a .ifs .now) (a .row .now) (a .at) white (c .before .before .before .if1 .left)
+    (sym (ap delimiterOf (c .enum-told .given .1)) ∙ c .before .before .delimiter-at .ensures)
 
 returns-3 : tie.Need-returns-3
 returns-3 c =
     let a = c .before .before .before .before .before .before .args in
-    goes-unit (a .ifs .now) (a .row .now) (a .at) hard (c .before .before .before .if1 .left) (sym (ap delimiterOf (c .enum-told2 .given .1)) ∙ c .before .before .delimiter-at .ensures)
+    goes-unit (a .ifs .now) (a .row .now) (a .at) hard (c .before .before .before .if1 .left)
+    (sym (ap delimiterOf (c .enum-told2 .given .1)) ∙ c .before .before .delimiter-at .ensures)
 
 returns-4 : tie.Need-returns-4
 returns-4 c =
     let a = c .before .before .before .before .before .before .args in
-    goes-unit (a .ifs .now) (a .row .now) (a .at) other (c .before .before .before .if1 .left) (sym (ap delimiterOf (c .enum-told3 .given .1)) ∙ c .before .before .delimiter-at .ensures)
+    goes-unit (a .ifs .now) (a .row .now) (a .at) other (c .before .before .before .if1 .left)
+    (sym (ap delimiterOf (c .enum-told3 .given .1)) ∙ c .before .before .delimiter-at .ensures)
 
 pub goes-on-spec : {M : Type 1} → statement M
 goes-on-spec =

@@ -25,10 +25,18 @@ enum-told : tie.Need-enum-told Inv-loop μ-loop
 enum-told c = search needs
 
 add-to : tie.Need-add-to Inv-loop μ-loop
-add-to c = omega (arith, skip-fits _ (c .before .before .before .loop .inv) (sym (c .before .before .delimiter-at .ensures) ∙ ap delimiterOf (c .enum-told .given .1)))
+add-to c = omega (
+  arith,
+  skip-fits _ (c .before .before .before .loop .inv)
+      (sym (c .before .before .delimiter-at .ensures) ∙ ap delimiterOf (c .enum-told .given .1)),
+)
 
 loop-less : tie.Need-loop-less Inv-loop μ-loop
-loop-less c = omega (arith, skip-fits _ (c .before .before .before .loop .inv) (sym (c .before .before .delimiter-at .ensures) ∙ ap delimiterOf (c .enum-told .given .1)))
+loop-less c = omega (
+  arith,
+  skip-fits _ (c .before .before .before .loop .inv)
+      (sym (c .before .before .delimiter-at .ensures) ∙ ap delimiterOf (c .enum-told .given .1)),
+)
 
 loop-again : tie.Need-loop-again Inv-loop μ-loop
 loop-again c = skip-on _ (c .before .before .before .loop .inv) (sym (c .before .before .delimiter-at .ensures) ∙ ap delimiterOf (c .enum-told .given .1))

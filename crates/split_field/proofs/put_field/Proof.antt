@@ -18,7 +18,8 @@ slice-reshare-prefix-has-class c =
 slice-aggregate-has-class : tie.Need-slice-aggregate-has-class
 slice-aggregate-has-class c =
     let a = c .before .before .before .before .before .before .before .before .args in
-    sym (length-take-le _ _ (field-fits (heldTexts (a .paths .now)) (c .before .before .before .drop-empty .ensures) (c .before .before .before .drop-empty .kept .0)))
+    sym (length-take-le _ _
+    (field-fits (heldTexts (a .paths .now)) (c .before .before .before .drop-empty .ensures) (c .before .before .before .drop-empty .kept .0)))
 
 has-class-requires : tie.Need-has-class-requires
 has-class-requires c κs = search needs
@@ -29,17 +30,21 @@ same-length c = search needs
 returns : tie.Need-returns
 returns c =
     let a = c .before .before .before .before .before .before .before .before .before .before .args in
-    field-class (heldTexts (a .paths .now)) (c .before .before .before .before .before .drop-empty .ensures) (sym (c .before .has-class .ensures) ∙ c .if1 .taken)
+    field-class (heldTexts (a .paths .now)) (c .before .before .before .before .before .drop-empty .ensures)
+    (sym (c .before .has-class .ensures) ∙ c .if1 .taken)
 
 slice-relend-prefix-put-paths-or-own : tie.Need-slice-relend-prefix-put-paths-or-own
 slice-relend-prefix-put-paths-or-own c =
     let a = c .before .before .before .before .before .before .before .before .before .before .args in
-    field-fits (heldTexts (a .paths .now)) (c .before .before .before .before .before .drop-empty .ensures) (c .before .before .before .before .before .drop-empty .kept .0)
+    field-fits (heldTexts (a .paths .now)) (c .before .before .before .before .before .drop-empty .ensures)
+    (c .before .before .before .before .before .drop-empty .kept .0)
 
 slice-aggregate-put-paths-or-own : tie.Need-slice-aggregate-put-paths-or-own
 slice-aggregate-put-paths-or-own c =
     let a = c .before .before .before .before .before .before .before .before .before .before .before .args in
-    sym (length-take-le _ _ (field-fits (heldTexts (a .paths .now)) (c .before .before .before .before .before .before .drop-empty .ensures) (c .before .before .before .before .before .before .drop-empty .kept .0)))
+    sym (length-take-le _ _
+    (field-fits (heldTexts (a .paths .now)) (c .before .before .before .before .before .before .drop-empty .ensures)
+    (c .before .before .before .before .before .before .drop-empty .kept .0)))
 
 put-paths-or-own-requires : tie.Need-put-paths-or-own-requires
 put-paths-or-own-requires c κs = search needs
@@ -53,7 +58,10 @@ same-length-3 c = search needs
 returns-2 : tie.Need-returns-2
 returns-2 c =
     let a = c .before .before .before .before .before .before .before .before .before .before .before .before .before .before .before .before .before .args in
-    field-named (heldTexts (a .paths .now)) (c .before .before .before .before .before .before .before .before .before .before .before .before .drop-empty .ensures) (sym (c .before .before .before .before .before .before .before .before .has-class .ensures) ∙ c .before .before .before .before .before .before .before .if1 .left) (c .before .before .before .before .put-paths-or-own .ensures)
+    field-named (heldTexts (a .paths .now))
+    (c .before .before .before .before .before .before .before .before .before .before .before .before .drop-empty .ensures)
+    (sym (c .before .before .before .before .before .before .before .before .has-class .ensures) ∙
+    c .before .before .before .before .before .before .before .if1 .left) (c .before .before .before .before .put-paths-or-own .ensures)
 
 pub put-field-spec : {M : Type 1} → statement M
 put-field-spec =

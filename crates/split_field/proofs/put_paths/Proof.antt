@@ -45,8 +45,11 @@ part-put-text-end c = (is-path (c .before .before .before .next-path .ensures) (
 
 put-text-requires : tie.Need-put-text-requires Inv-loop μ-loop
 put-text-requires c κs =
-    let f = c .before .before .before .before .before .before .loop .inv .filled in
-    (omega (arith, f .room, filled-length f), omega (arith, c .before .before .before .before .before .before .before .before .before .before .pre .0 .1, filled-length f))
+    let f = c .before .before .before .before .before .before .loop .inv .filled in (
+      omega (arith, f .room, filled-length f),
+      omega
+          (arith, c .before .before .before .before .before .before .before .before .before .before .pre .0 .1, filled-length f),
+    )
 
 enum-known-n : tie.Need-enum-known-n Inv-loop μ-loop
 enum-known-n c = search needs
@@ -54,37 +57,43 @@ enum-known-n c = search needs
 loop-less : tie.Need-loop-less Inv-loop μ-loop
 loop-less c =
     let g = c .before .before .before .before .before .before .before .before .before .before .before .before .loop .inv in
-    let f = is-path (c .before .before .before .before .before .before .before .before .before .before .before .next-path .ensures) (c .before .before .before .before .before .before .before .before .before .from .given .1) in
+    let f = is-path (c .before .before .before .before .before .before .before .before .before .before .before .next-path .ensures)
+    (c .before .before .before .before .before .before .before .before .before .from .given .1) in
     choosing-falls g f
 
 loop-again : tie.Need-loop-again Inv-loop μ-loop
 loop-again c =
     let g = c .before .before .before .before .before .before .before .before .before .before .before .before .loop .inv in
-    let f = is-path (c .before .before .before .before .before .before .before .before .before .before .before .next-path .ensures) (c .before .before .before .before .before .before .before .before .before .from .given .1) in
+    let f = is-path (c .before .before .before .before .before .before .before .before .before .before .before .next-path .ensures)
+    (c .before .before .before .before .before .before .before .before .before .from .given .1) in
     choosing-on g f (c .before .before .before .before .before .put-text .ensures) (c .before .n .given .1)
 
 enum-told-2 : tie.Need-enum-told-2 Inv-loop μ-loop
 enum-told-2 c = search needs
 
 same-length-2 : tie.Need-same-length-2 Inv-loop μ-loop
-same-length-2 c = c .before .before .before .before .put-text .kept .1 .0 ∙ filled-length (c .before .before .before .before .before .before .before .before .before .before .before .loop .inv .filled)
+same-length-2 c = c .before .before .before .before .put-text .kept .1 .0 ∙ filled-length
+    (c .before .before .before .before .before .before .before .before .before .before .before .loop .inv .filled)
 
 returns-2 : tie.Need-returns-2 Inv-loop μ-loop
 returns-2 c =
     let g = c .before .before .before .before .before .before .before .before .before .before .before .loop .inv in
-    let f = is-path (c .before .before .before .before .before .before .before .before .before .before .next-path .ensures) (c .before .before .before .before .before .before .before .before .from .given .1) in
+    let f = is-path (c .before .before .before .before .before .before .before .before .before .before .next-path .ensures)
+    (c .before .before .before .before .before .before .before .before .from .given .1) in
     absurd (choosing-class g f (c .before .before .before .before .put-text .ensures) (c .enum-told2 .given .1))
 
 enum-told-3 : tie.Need-enum-told-3 Inv-loop μ-loop
 enum-told-3 c = search needs
 
 same-length-3 : tie.Need-same-length-3 Inv-loop μ-loop
-same-length-3 c = c .before .before .before .before .put-text .kept .1 .0 ∙ filled-length (c .before .before .before .before .before .before .before .before .before .before .before .loop .inv .filled)
+same-length-3 c = c .before .before .before .before .put-text .kept .1 .0 ∙ filled-length
+    (c .before .before .before .before .before .before .before .before .before .before .before .loop .inv .filled)
 
 returns-3 : tie.Need-returns-3 Inv-loop μ-loop
 returns-3 c =
     let g = c .before .before .before .before .before .before .before .before .before .before .before .loop .inv in
-    let f = is-path (c .before .before .before .before .before .before .before .before .before .before .next-path .ensures) (c .before .before .before .before .before .before .before .before .from .given .1) in
+    let f = is-path (c .before .before .before .before .before .before .before .before .before .before .next-path .ensures)
+    (c .before .before .before .before .before .before .before .before .from .given .1) in
     choosing-full g f (c .before .before .before .before .put-text .ensures) (c .enum-told3 .given .1)
 
 pub put-paths-spec : {M : Type 1} → statement M

@@ -25,7 +25,8 @@ same-length-2 c = search needs
 returns : tie.Need-returns
 returns c =
     let a = c .before .before .before .before .before .before .before .before .before .before .before .before .before .args in
-    let e = sym (c .before .before .before .before .before .before .before .before .is-active .ensures) ∙ not-true _ (c .before .before .before .before .before .before .before .if1 .taken) in
+    let e = sym (c .before .before .before .before .before .before .before .before .is-active .ensures) ∙ not-true _
+    (c .before .before .before .before .before .before .before .if1 .taken) in
     own-only (heldTexts (a .paths .now)) (rowOf (a .field .now)) (pathElements (a .field .now)) e (c .before .before .before .before .put-own .ensures)
 
 put-paths-requires : tie.Need-put-paths-requires
@@ -47,7 +48,10 @@ returns-2 : tie.Need-returns-2
 returns-2 c =
     let a = c .before .before .before .before .before .before .before .before .before .before .before .before .before .before .before .before .before .before .before .before .before .before .args in
     let e = sym (c .before .before .before .before .before .before .before .before .before .before .before .before .before .before .before .before .before .is-active .ensures) ∙ not-false _ (c .before .before .before .before .before .before .before .before .before .before .before .before .before .before .before .before .if1 .left) in
-    own-instead (heldTexts (a .paths .now)) (rowOf (a .field .now)) (pathElements (a .field .now)) e (c .before .before .before .before .before .before .before .before .before .before .before .before .before .put-paths .ensures) (c .before .before .before .before .before .before .before .before .before .len .given .1 ∙ ap Len (c .before .before .before .before .before .before .before .if2 .taken)) (c .before .before .before .before .put-own2 .ensures)
+    own-instead (heldTexts (a .paths .now)) (rowOf (a .field .now)) (pathElements (a .field .now)) e
+    (c .before .before .before .before .before .before .before .before .before .before .before .before .before .put-paths .ensures)
+    (c .before .before .before .before .before .before .before .before .before .len .given .1 ∙ ap Len
+    (c .before .before .before .before .before .before .before .if2 .taken)) (c .before .before .before .before .put-own2 .ensures)
 
 enum-told : tie.Need-enum-told
 enum-told c = search needs
@@ -64,8 +68,10 @@ same-length-6 c = search needs
 returns-3 : tie.Need-returns-3
 returns-3 c =
     let a = c .before .before .before .before .before .before .before .before .before .before .before .before .before .before .before .args in
-    let e = sym (c .before .before .before .before .before .before .before .before .before .before .is-active .ensures) ∙ not-false _ (c .before .before .before .before .before .before .before .before .before .if1 .left) in
-    paths-written (heldTexts (a .paths .now)) (rowOf (a .field .now)) (pathElements (a .field .now)) e (c .before .before .before .before .before .before .put-paths .ensures) (c .before .before .len .given .1) (c .if2 .left)
+    let e = sym (c .before .before .before .before .before .before .before .before .before .before .is-active .ensures) ∙ not-false _
+    (c .before .before .before .before .before .before .before .before .before .if1 .left) in
+    paths-written (heldTexts (a .paths .now)) (rowOf (a .field .now)) (pathElements (a .field .now)) e
+    (c .before .before .before .before .before .before .put-paths .ensures) (c .before .before .len .given .1) (c .if2 .left)
 
 same-length-7 : tie.Need-same-length-7
 same-length-7 c = search needs
@@ -76,8 +82,10 @@ same-length-8 c = search needs
 returns-4 : tie.Need-returns-4
 returns-4 c =
     let a = c .before .before .before .before .before .before .before .before .before .before .before .before .before .args in
-    let e = sym (c .before .before .before .before .before .before .before .before .is-active .ensures) ∙ not-false _ (c .before .before .before .before .before .before .before .if1 .left) in
-    absurd (paths-class (heldTexts (a .paths .now)) (rowOf (a .field .now)) (pathElements (a .field .now)) e (c .before .before .before .before .put-paths .ensures) (c .enum-told .given .1))
+    let e = sym (c .before .before .before .before .before .before .before .before .is-active .ensures) ∙ not-false _
+    (c .before .before .before .before .before .before .before .if1 .left) in
+    absurd (paths-class (heldTexts (a .paths .now)) (rowOf (a .field .now)) (pathElements (a .field .now)) e
+    (c .before .before .before .before .put-paths .ensures) (c .enum-told .given .1))
 
 same-length-9 : tie.Need-same-length-9
 same-length-9 c = search needs
@@ -88,8 +96,11 @@ same-length-10 c = search needs
 returns-5 : tie.Need-returns-5
 returns-5 c =
     let a = c .before .before .before .before .before .before .before .before .before .before .before .before .before .args in
-    let e = sym (c .before .before .before .before .before .before .before .before .is-active .ensures) ∙ not-false _ (c .before .before .before .before .before .before .before .if1 .left) in
-    paths-full (heldTexts (a .paths .now)) (rowOf (a .field .now)) (pathElements (a .field .now)) e (c .before .before .before .before .put-paths .ensures) (c .before .before .before .before .before .before .before .before .before .before .before .before .before .pre .0 .0) (c .enum-told2 .given .1)
+    let e = sym (c .before .before .before .before .before .before .before .before .is-active .ensures) ∙ not-false _
+    (c .before .before .before .before .before .before .before .if1 .left) in
+    paths-full (heldTexts (a .paths .now)) (rowOf (a .field .now)) (pathElements (a .field .now)) e
+    (c .before .before .before .before .put-paths .ensures)
+    (c .before .before .before .before .before .before .before .before .before .before .before .before .before .pre .0 .0) (c .enum-told2 .given .1)
 
 pub put-paths-or-own-spec : {M : Type 1} → statement M
 put-paths-or-own-spec =

@@ -24,7 +24,12 @@ add-t11 : tie.Need-add-t11
 add-t11 c =
     let a = c .before .before .before .before .before .before .before .before .before .args in
     let p = c .before .before .before .before .before .put-record in
-    omega (arith, text-fits (a .text .now) (a .used) (a .out .now) (p .last .0) (p .result) (c .before .before .before .before .before .before .before .before .before .pre .0) (c .before .before .before .before .before .before .before .before .before .pre .1) (p .ensures) (c .before .put .given .1))
+    omega (
+      arith,
+      text-fits (a .text .now) (a .used) (a .out .now) (p .last .0) (p .result)
+          (c .before .before .before .before .before .before .before .before .before .pre .0)
+          (c .before .before .before .before .before .before .before .before .before .pre .1) (p .ensures) (c .before .put .given .1),
+    )
 
 enum-told : tie.Need-enum-told
 enum-told c = search needs
@@ -33,13 +38,17 @@ same-length : tie.Need-same-length
 same-length c = search needs
 
 returns : tie.Need-returns
-returns c = text-put _ _ _ _ _ (c .before .before .before .before .before .before .before .before .before .pre .0) (c .before .before .before .before .before .before .before .before .before .pre .1) (c .before .before .before .before .before .put-record .ensures) (c .before .put .given .1)
+returns c = text-put _ _ _ _ _ (c .before .before .before .before .before .before .before .before .before .pre .0)
+    (c .before .before .before .before .before .before .before .before .before .pre .1)
+    (c .before .before .before .before .before .put-record .ensures) (c .before .put .given .1)
 
 same-length-2 : tie.Need-same-length-2
 same-length-2 c = search needs
 
 returns-2 : tie.Need-returns-2
-returns-2 c = text-full _ _ _ _ _ (c .before .before .before .before .before .before .before .before .pre .0) (c .before .before .before .before .before .before .before .before .pre .1) (c .before .before .before .before .put-record .ensures) (c .enum-told .given .1)
+returns-2 c = text-full _ _ _ _ _ (c .before .before .before .before .before .before .before .before .pre .0)
+    (c .before .before .before .before .before .before .before .before .pre .1) (c .before .before .before .before .put-record .ensures)
+    (c .enum-told .given .1)
 
 pub put-text-spec : {M : Type 1} → statement M
 put-text-spec =

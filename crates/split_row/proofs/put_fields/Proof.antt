@@ -33,13 +33,17 @@ turn : (c : tie.After-slice-known4 Inv-loop2 μ-loop2 Inv-loop μ-loop) →
     let a = c .before .before .before .before .before .before .before .before .before .before .before .before .before .before .before .before .before .before .before .before .before .args in
     let l = c .before .before .before .before .before .before .before .before .before .before .before .before .before .before .loop in
     let p = c .before .before .before .before .put-field in
-    Taken (heldTexts (a .paths .now)) (a .ifs .now) (named (heldTexts (a .paths .now)) (split (a .ifs .now) (rowOf (a .row .now)))) (a .used) (a .out .now) (length (a .row .now))
-    (l .row) (l .at) (l .len) (l .full) (l .out) (c .before .before .before .before .before .before .before .before .before .before .before .before .loop2 .end) (c .before .before .before .before .before .before .before .behind-field .result) (p .last .0) (p .last .1 .1 .0) (p .result)
+    Taken (heldTexts (a .paths .now)) (a .ifs .now) (named (heldTexts (a .paths .now)) (split (a .ifs .now) (rowOf (a .row .now)))) (a .used)
+    (a .out .now) (length (a .row .now))
+    (l .row) (l .at) (l .len) (l .full) (l .out)
+    (c .before .before .before .before .before .before .before .before .before .before .before .before .loop2 .end)
+    (c .before .before .before .before .before .before .before .behind-field .result) (p .last .0) (p .last .1 .1 .0) (p .result)
 turn c = record {
   walk = c .before .before .before .before .before .before .before .before .before .before .before .before .before .before .loop .inv;
   more = c .before .before .before .before .before .before .before .before .before .before .before .before .before .loop-test .taken;
   run = c .before .before .before .before .before .before .before .before .before .before .before .before .loop2 .inv;
-  stops = sym (c .before .before .before .before .before .before .before .before .before .before .goes-on .ensures) ∙ not-true _ (c .before .before .before .before .before .before .before .before .before .if1 .taken);
+  stops = sym (c .before .before .before .before .before .before .before .before .before .before .goes-on .ensures) ∙ not-true _
+      (c .before .before .before .before .before .before .before .before .before .if1 .taken);
   behind = c .before .before .before .before .before .before .before .behind-field .ensures;
   says = c .before .before .before .before .put-field .ensures;
   units = c .before .before .before .before .put-field .kept .0;
@@ -98,7 +102,8 @@ same-length : tie.Need-same-length Inv-loop2 μ-loop2 Inv-loop μ-loop
 same-length c = left-sized (turn (c .before .before))
 
 same-length-2 : tie.Need-same-length-2 Inv-loop2 μ-loop2 Inv-loop μ-loop
-same-length-2 c = c .before .before .before .before .before .before .put-field .kept .1 .1 .0 ∙ c .before .before .before .before .before .before .before .before .before .before .before .before .before .before .before .before .loop .inv .same
+same-length-2 c = c .before .before .before .before .before .before .put-field .kept .1 .1 .0 ∙
+    c .before .before .before .before .before .before .before .before .before .before .before .before .before .before .before .before .loop .inv .same
 
 returns : tie.Need-returns Inv-loop2 μ-loop2 Inv-loop μ-loop
 returns c = walk-class (turn (c .before .before)) (c .enum-told .given .1)

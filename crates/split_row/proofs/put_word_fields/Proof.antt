@@ -30,7 +30,8 @@ same-length-2 c = search needs
 returns : tie.Need-returns
 returns c =
     let a = c .before .before .before .before .before .before .before .before .before .before .before .before .before .before .args in
-    word-puts (held (take (a .have) (a .vars .now))) (heldTexts (a .paths .now)) (rowOf (a .row .now)) (c .before .before .before .before .before .before .before .ifs-of .ensures) (c .before .before .before .before .put-fields .ensures)
+    word-puts (held (take (a .have) (a .vars .now))) (heldTexts (a .paths .now)) (rowOf (a .row .now))
+    (c .before .before .before .before .before .before .before .ifs-of .ensures) (c .before .before .before .before .put-fields .ensures)
 
 pub put-word-fields-spec : {M : Type 1} → statement M
 put-word-fields-spec =

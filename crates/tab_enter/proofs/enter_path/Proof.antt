@@ -21,13 +21,19 @@ same-length : tie.Need-same-length
 same-length c = search needs
 
 returns : tie.Need-returns
-returns c = path-none (c .before .before .before .before .before .before .before .before .before .before .before .args .line .now) (c .before .before .before .before .before .before .read-text .ensures) _ _ _ (c .before .before .got2 .given .1) (c .if1 .taken)
+returns c = path-none (c .before .before .before .before .before .before .before .before .before .before .before .args .line .now)
+    (c .before .before .before .before .before .before .read-text .ensures) _ _ _ (c .before .before .got2 .given .1) (c .if1 .taken)
 
 slice-reshare-prefix-add : tie.Need-slice-reshare-prefix-add
-slice-reshare-prefix-add c = path-good (c .before .before .before .before .before .before .before .before .before .before .before .before .args .line .now) (c .before .before .before .before .before .before .before .read-text .ensures) _ (c .before .before .before .got2 .given .1) .long
+slice-reshare-prefix-add c =
+    path-good (c .before .before .before .before .before .before .before .before .before .before .before .before .args .line .now)
+    (c .before .before .before .before .before .before .before .read-text .ensures) _ (c .before .before .before .got2 .given .1) .long
 
 slice-aggregate-add : tie.Need-slice-aggregate-add
-slice-aggregate-add c = sym (length-take-le _ (c .before .before .before .before .before .before .before .before .read-text .last .1 .0) (path-good (c .before .before .before .before .before .before .before .before .before .before .before .before .before .args .line .now) (c .before .before .before .before .before .before .before .before .read-text .ensures) _ (c .before .before .before .before .got2 .given .1) .long))
+slice-aggregate-add c =
+    sym (length-take-le _ (c .before .before .before .before .before .before .before .before .read-text .last .1 .0)
+    (path-good (c .before .before .before .before .before .before .before .before .before .before .before .before .before .args .line .now)
+    (c .before .before .before .before .before .before .before .before .read-text .ensures) _ (c .before .before .before .before .got2 .given .1) .long))
 
 add-requires : tie.Need-add-requires
 add-requires c κs = search needs
@@ -45,7 +51,8 @@ same-length-2 : tie.Need-same-length-2
 same-length-2 c = search needs
 
 returns-2 : tie.Need-returns-2
-returns-2 c = path-bad (c .before .before .before .before .before .before .before .before .before .before .args .line .now) (c .before .before .before .before .before .read-text .ensures) _ _ _ (c .before .got .given .1)
+returns-2 c = path-bad (c .before .before .before .before .before .before .before .before .before .before .args .line .now)
+    (c .before .before .before .before .before .read-text .ensures) _ _ _ (c .before .got .given .1)
 
 same-length-3 : tie.Need-same-length-3
 same-length-3 c = search needs
@@ -54,7 +61,8 @@ same-length-4 : tie.Need-same-length-4
 same-length-4 c = search needs
 
 returns-3 : tie.Need-returns-3
-returns-3 c = path-enters (c .before .before .before .before .before .before .before .before .before .before .before .before .before .before .before .before .before .before .before .args .line .now) (c .before .before .before .before .before .before .before .before .before .before .before .before .before .before .read-text .ensures) (heldTexts (take (c .before .before .before .before .before .before .before .before .before .before .before .before .before .before .before .before .before .before .before .args .used) (c .before .before .before .before .before .before .before .before .before .before .before .before .before .before .before .before .before .before .before .args .image .now))) _ (c .before .before .before .before .before .before .before .before .before .before .got2 .given .1) (c .before .before .before .before .before .before .before .before .if1 .left) (c .before .before .before .before .before .before .before .before .before .before .before .before .before .before .before .before .before .before .before .args .image .now) (c .before .before .before .before .before .add .last .0) (c .before .before .before .before .before .add .result) (c .before .before .before .before .before .add .ensures) _ (ap enteredAs (c .before .added .given .1))
+returns-3 c = path-enters
+    (c .before .before .before .before .before .before .before .before .before .before .before .before .before .before .before .before .before .before .before .args .line .now) (c .before .before .before .before .before .before .before .before .before .before .before .before .before .before .read-text .ensures) (heldTexts (take (c .before .before .before .before .before .before .before .before .before .before .before .before .before .before .before .before .before .before .before .args .used) (c .before .before .before .before .before .before .before .before .before .before .before .before .before .before .before .before .before .before .before .args .image .now))) _ (c .before .before .before .before .before .before .before .before .before .before .got2 .given .1) (c .before .before .before .before .before .before .before .before .if1 .left) (c .before .before .before .before .before .before .before .before .before .before .before .before .before .before .before .before .before .before .before .args .image .now) (c .before .before .before .before .before .add .last .0) (c .before .before .before .before .before .add .result) (c .before .before .before .before .before .add .ensures) _ (ap enteredAs (c .before .added .given .1))
 
 same-length-5 : tie.Need-same-length-5
 same-length-5 c = search needs
@@ -63,7 +71,8 @@ same-length-6 : tie.Need-same-length-6
 same-length-6 c = search needs
 
 returns-4 : tie.Need-returns-4
-returns-4 c = path-enters (c .before .before .before .before .before .before .before .before .before .before .before .before .before .before .before .before .before .before .args .line .now) (c .before .before .before .before .before .before .before .before .before .before .before .before .before .read-text .ensures) (heldTexts (take (c .before .before .before .before .before .before .before .before .before .before .before .before .before .before .before .before .before .before .args .used) (c .before .before .before .before .before .before .before .before .before .before .before .before .before .before .before .before .before .before .args .image .now))) _ (c .before .before .before .before .before .before .before .before .before .got2 .given .1) (c .before .before .before .before .before .before .before .if1 .left) (c .before .before .before .before .before .before .before .before .before .before .before .before .before .before .before .before .before .before .args .image .now) (c .before .before .before .before .add .last .0) (c .before .before .before .before .add .result) (c .before .before .before .before .add .ensures) _ (ap enteredAs (c .enum-told .given .1))
+returns-4 c = path-enters
+    (c .before .before .before .before .before .before .before .before .before .before .before .before .before .before .before .before .before .before .args .line .now) (c .before .before .before .before .before .before .before .before .before .before .before .before .before .read-text .ensures) (heldTexts (take (c .before .before .before .before .before .before .before .before .before .before .before .before .before .before .before .before .before .before .args .used) (c .before .before .before .before .before .before .before .before .before .before .before .before .before .before .before .before .before .before .args .image .now))) _ (c .before .before .before .before .before .before .before .before .before .got2 .given .1) (c .before .before .before .before .before .before .before .if1 .left) (c .before .before .before .before .before .before .before .before .before .before .before .before .before .before .before .before .before .before .args .image .now) (c .before .before .before .before .add .last .0) (c .before .before .before .before .add .result) (c .before .before .before .before .add .ensures) _ (ap enteredAs (c .enum-told .given .1))
 
 same-length-7 : tie.Need-same-length-7
 same-length-7 c = search needs
@@ -72,7 +81,8 @@ same-length-8 : tie.Need-same-length-8
 same-length-8 c = search needs
 
 returns-5 : tie.Need-returns-5
-returns-5 c = path-enters (c .before .before .before .before .before .before .before .before .before .before .before .before .before .before .before .before .before .before .args .line .now) (c .before .before .before .before .before .before .before .before .before .before .before .before .before .read-text .ensures) (heldTexts (take (c .before .before .before .before .before .before .before .before .before .before .before .before .before .before .before .before .before .before .args .used) (c .before .before .before .before .before .before .before .before .before .before .before .before .before .before .before .before .before .before .args .image .now))) _ (c .before .before .before .before .before .before .before .before .before .got2 .given .1) (c .before .before .before .before .before .before .before .if1 .left) (c .before .before .before .before .before .before .before .before .before .before .before .before .before .before .before .before .before .before .args .image .now) (c .before .before .before .before .add .last .0) (c .before .before .before .before .add .result) (c .before .before .before .before .add .ensures) _ (ap enteredAs (c .enum-told2 .given .1))
+returns-5 c = path-enters
+    (c .before .before .before .before .before .before .before .before .before .before .before .before .before .before .before .before .before .before .args .line .now) (c .before .before .before .before .before .before .before .before .before .before .before .before .before .read-text .ensures) (heldTexts (take (c .before .before .before .before .before .before .before .before .before .before .before .before .before .before .before .before .before .before .args .used) (c .before .before .before .before .before .before .before .before .before .before .before .before .before .before .before .before .before .before .args .image .now))) _ (c .before .before .before .before .before .before .before .before .before .got2 .given .1) (c .before .before .before .before .before .before .before .if1 .left) (c .before .before .before .before .before .before .before .before .before .before .before .before .before .before .before .before .before .before .args .image .now) (c .before .before .before .before .add .last .0) (c .before .before .before .before .add .result) (c .before .before .before .before .add .ensures) _ (ap enteredAs (c .enum-told2 .given .1))
 
 pub enter-path-spec : {M : Type 1} → statement M
 enter-path-spec =

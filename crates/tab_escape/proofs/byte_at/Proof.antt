@@ -17,7 +17,8 @@ sub-left : tie.Need-sub-left
 sub-left c = search needs
 
 returns-3 : tie.Need-returns-3
-returns-3 c = at-short (c .before .before .before .before .before .args .text .now) (c .before .before .before .before .before .args .at) (c .before .before .if1 .left) (c .before .if2 .left) (c .if3 .taken)
+returns-3 c = at-short (c .before .before .before .before .before .args .text .now) (c .before .before .before .before .before .args .at)
+    (c .before .before .if1 .left) (c .before .if2 .left) (c .if3 .taken)
 
 add-c : tie.Need-add-c
 add-c c = search needs
@@ -26,16 +27,27 @@ shared-slice-read-c : tie.Need-shared-slice-read-c
 shared-slice-read-c c = search needs
 
 returns-4 : tie.Need-returns-4
-returns-4 c = at-newline (c .before .before .before .before .before .before .before .args .text .now) (c .before .before .before .before .before .before .before .args .at) (c .before .before .before .before .if1 .left) (c .before .before .before .if2 .left) (c .before .before .if3 .left) (c .if4 .taken)
+returns-4 c = at-newline (c .before .before .before .before .before .before .before .args .text .now)
+    (c .before .before .before .before .before .before .before .args .at) (c .before .before .before .before .if1 .left)
+    (c .before .before .before .if2 .left) (c .before .before .if3 .left) (c .if4 .taken)
 
 returns-5 : tie.Need-returns-5
-returns-5 c = at-backslash (c .before .before .before .before .before .before .before .before .args .text .now) (c .before .before .before .before .before .before .before .before .args .at) (c .before .before .before .before .before .if1 .left) (c .before .before .before .before .if2 .left) (c .before .before .before .if3 .left) (c .before .if4 .left) (c .if5 .taken)
+returns-5 c = at-backslash (c .before .before .before .before .before .before .before .before .args .text .now)
+    (c .before .before .before .before .before .before .before .before .args .at) (c .before .before .before .before .before .if1 .left)
+    (c .before .before .before .before .if2 .left) (c .before .before .before .if3 .left) (c .before .if4 .left) (c .if5 .taken)
 
 returns-6 : tie.Need-returns-6
-returns-6 c = at-other (c .before .before .before .before .before .before .before .before .before .args .text .now) (c .before .before .before .before .before .before .before .before .before .args .at) (c .before .before .before .before .before .before .if1 .left) (c .before .before .before .before .before .if2 .left) (c .before .before .before .before .if3 .left) (c .before .before .if4 .left) (c .before .if5 .left) (c .if6 .taken)
+returns-6 c = at-other (c .before .before .before .before .before .before .before .before .before .args .text .now)
+    (c .before .before .before .before .before .before .before .before .before .args .at)
+    (c .before .before .before .before .before .before .if1 .left) (c .before .before .before .before .before .if2 .left)
+    (c .before .before .before .before .if3 .left) (c .before .before .if4 .left) (c .before .if5 .left) (c .if6 .taken)
 
 returns-7 : tie.Need-returns-7
-returns-7 c = at-digit (c .before .before .before .before .before .before .before .before .before .before .args .text .now) (c .before .before .before .before .before .before .before .before .before .before .args .at) (c .before .before .before .before .before .before .before .if1 .left) (c .before .before .before .before .before .before .if2 .left) (c .before .before .before .before .before .if3 .left) (c .before .before .before .if4 .left) (c .before .before .if5 .left) (c .before .if6 .left) (c .if7 .taken)
+returns-7 c = at-digit (c .before .before .before .before .before .before .before .before .before .before .args .text .now)
+    (c .before .before .before .before .before .before .before .before .before .before .args .at)
+    (c .before .before .before .before .before .before .before .if1 .left) (c .before .before .before .before .before .before .if2 .left)
+    (c .before .before .before .before .before .if3 .left) (c .before .before .before .if4 .left) (c .before .before .if5 .left)
+    (c .before .if6 .left) (c .if7 .taken)
 
 add-hex-value : tie.Need-add-hex-value
 add-hex-value c = search needs
@@ -59,7 +71,15 @@ hex-byte-requires : tie.Need-hex-byte-requires
 hex-byte-requires c κs = search needs
 
 returns-8 : tie.Need-returns-8
-returns-8 c = at-hex (c .before .before .before .before .before .before .before .before .before .before .before .before .before .before .before .args .text .now) (c .before .before .before .before .before .before .before .before .before .before .before .before .before .before .before .args .at) (c .before .before .before .before .before .before .before .before .before .before .before .before .if1 .left) (c .before .before .before .before .before .before .before .before .before .before .before .if2 .left) (c .before .before .before .before .before .before .before .before .before .before .if3 .left) (c .before .before .before .before .before .before .before .before .if4 .left) (c .before .before .before .before .before .before .before .if5 .left) (c .before .before .before .before .before .before .if6 .left) (c .before .before .before .before .before .if7 .left) _ _ _ (c .before .before .before .hex-value .ensures) (c .before .hex-value2 .ensures) (c .hex-byte .ensures)
+returns-8 c = at-hex
+    (c .before .before .before .before .before .before .before .before .before .before .before .before .before .before .before .args .text .now)
+    (c .before .before .before .before .before .before .before .before .before .before .before .before .before .before .before .args .at)
+    (c .before .before .before .before .before .before .before .before .before .before .before .before .if1 .left)
+    (c .before .before .before .before .before .before .before .before .before .before .before .if2 .left)
+    (c .before .before .before .before .before .before .before .before .before .before .if3 .left)
+    (c .before .before .before .before .before .before .before .before .if4 .left)
+    (c .before .before .before .before .before .before .before .if5 .left) (c .before .before .before .before .before .before .if6 .left)
+    (c .before .before .before .before .before .if7 .left) _ _ _ (c .before .before .before .hex-value .ensures) (c .before .hex-value2 .ensures) (c .hex-byte .ensures)
 
 pub byte-at-spec : {M : Type 1} → statement M
 byte-at-spec =

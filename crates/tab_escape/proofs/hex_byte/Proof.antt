@@ -17,10 +17,12 @@ add-b : tie.Need-add-b
 add-b c = search needs
 
 returns-3 : tie.Need-returns-3
-returns-3 c = byte-zero (c .before .before .before .args .high) (c .before .before .before .args .low) (c .before .before .if1 .left) (c .before .if2 .left) (c .if3 .taken)
+returns-3 c = byte-zero (c .before .before .before .args .high) (c .before .before .before .args .low) (c .before .before .if1 .left)
+    (c .before .if2 .left) (c .if3 .taken)
 
 returns-4 : tie.Need-returns-4
-returns-4 c = byte-is (c .before .before .before .args .high) (c .before .before .before .args .low) (c .before .before .if1 .left) (c .before .if2 .left) (c .if3 .left)
+returns-4 c = byte-is (c .before .before .before .args .high) (c .before .before .before .args .low) (c .before .before .if1 .left)
+    (c .before .if2 .left) (c .if3 .left)
 
 pub hex-byte-spec : {M : Type 1} → statement M
 hex-byte-spec = tie.close (tie.spec returns returns-2 mul-b add-b returns-3 returns-4)

@@ -17,19 +17,23 @@ sub-result : tie.Need-sub-result
 sub-result c = search needs
 
 returns-4 : tie.Need-returns-4
-returns-4 c = value-4 (c .before .before .before .before .args .b) (c .before .before .before .if1 .left) (c .before .before .if2 .left) (c .before .if3 .left) (c .if4 .taken)
+returns-4 c = value-4 (c .before .before .before .before .args .b) (c .before .before .before .if1 .left) (c .before .before .if2 .left)
+    (c .before .if3 .left) (c .if4 .taken)
 
 returns-5 : tie.Need-returns-5
-returns-5 c = value-5 (c .before .before .before .before .before .args .b) (c .before .before .before .before .if1 .left) (c .before .before .before .if2 .left) (c .before .before .if3 .left) (c .before .if4 .left) (c .if5 .taken)
+returns-5 c = value-5 (c .before .before .before .before .before .args .b) (c .before .before .before .before .if1 .left)
+    (c .before .before .before .if2 .left) (c .before .before .if3 .left) (c .before .if4 .left) (c .if5 .taken)
 
 sub-result-2 : tie.Need-sub-result-2
 sub-result-2 c = search needs
 
 returns-6 : tie.Need-returns-6
-returns-6 c = value-6 (c .before .before .before .before .before .before .args .b) (c .before .before .before .before .before .if1 .left) (c .before .before .before .before .if2 .left) (c .before .before .before .if3 .left) (c .before .before .if4 .left) (c .before .if5 .left) (c .if6 .taken)
+returns-6 c = value-6 (c .before .before .before .before .before .before .args .b) (c .before .before .before .before .before .if1 .left)
+    (c .before .before .before .before .if2 .left) (c .before .before .before .if3 .left) (c .before .before .if4 .left) (c .before .if5 .left) (c .if6 .taken)
 
 returns-7 : tie.Need-returns-7
-returns-7 c = value-7 (c .before .before .before .before .before .before .args .b) (c .before .before .before .before .before .if1 .left) (c .before .before .before .before .if2 .left) (c .before .before .before .if3 .left) (c .before .before .if4 .left) (c .before .if5 .left) (c .if6 .left)
+returns-7 c = value-7 (c .before .before .before .before .before .before .args .b) (c .before .before .before .before .before .if1 .left)
+    (c .before .before .before .before .if2 .left) (c .before .before .before .if3 .left) (c .before .before .if4 .left) (c .before .if5 .left) (c .if6 .left)
 
 pub hex-value-spec : {M : Type 1} → statement M
 hex-value-spec =

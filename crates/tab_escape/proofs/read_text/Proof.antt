@@ -26,28 +26,49 @@ same-length : tie.Need-same-length Inv-loop μ-loop
 same-length c = front-length (c .before .before .before .before .before .loop .inv)
 
 returns : tie.Need-returns Inv-loop μ-loop
-returns c = front-bad (c .before .before .before .before .before .loop .inv) (c .before .before .before .before .loop-test .taken) (c .before .before .before .byte-at .ensures) _ (c .before .byte .given .1)
+returns c = front-bad (c .before .before .before .before .before .loop .inv) (c .before .before .before .before .loop-test .taken)
+    (c .before .before .before .byte-at .ensures) _ (c .before .byte .given .1)
 
 enum-known-byte-2 : tie.Need-enum-known-byte-2 Inv-loop μ-loop
 enum-known-byte-2 c = search needs
 
 slice-write-out : tie.Need-slice-write-out Inv-loop μ-loop
-slice-write-out c = omega (arith, front-length (c .before .before .before .before .before .loop .inv), c .before .before .before .before .before .loop .inv .short, c .before .before .before .before .before .loop .inv .room, c .before .before .before .before .loop-test .taken)
+slice-write-out c = omega (
+  arith,
+  front-length (c .before .before .before .before .before .loop .inv),
+  c .before .before .before .before .before .loop .inv .short,
+  c .before .before .before .before .before .loop .inv .room,
+  c .before .before .before .before .loop-test .taken,
+)
 
 add-used : tie.Need-add-used Inv-loop μ-loop
-add-used c = omega (arith, front-length (c .before .before .before .before .before .loop .inv), c .before .before .before .before .before .loop .inv .short, c .before .before .before .before .loop-test .taken)
+add-used c = omega (
+  arith,
+  front-length (c .before .before .before .before .before .loop .inv),
+  c .before .before .before .before .before .loop .inv .short,
+  c .before .before .before .before .loop-test .taken,
+)
 
 add-i : tie.Need-add-i Inv-loop μ-loop
 add-i c = omega (arith, c .before .before .before .before .loop-test .taken)
 
 add-i-2 : tie.Need-add-i-2 Inv-loop μ-loop
-add-i-2 c = omega (arith, front-more (c .before .before .before .before .before .loop .inv) (c .before .before .before .before .loop-test .taken) (c .before .before .before .byte-at .ensures) _ _ (c .before .byte2 .given .1) .within)
+add-i-2 c = omega (
+  arith,
+  front-more (c .before .before .before .before .before .loop .inv) (c .before .before .before .before .loop-test .taken)
+      (c .before .before .before .byte-at .ensures) _ _ (c .before .byte2 .given .1) .within,
+)
 
 loop-less : tie.Need-loop-less Inv-loop μ-loop
-loop-less c = omega (arith, front-more (c .before .before .before .before .before .loop .inv) (c .before .before .before .before .loop-test .taken) (c .before .before .before .byte-at .ensures) _ _ (c .before .byte2 .given .1) .within)
+loop-less c = omega (
+  arith,
+  front-more (c .before .before .before .before .before .loop .inv) (c .before .before .before .before .loop-test .taken)
+      (c .before .before .before .byte-at .ensures) _ _ (c .before .byte2 .given .1) .within,
+)
 
 loop-again : tie.Need-loop-again Inv-loop μ-loop
-loop-again c = front-more (c .before .before .before .before .before .loop .inv) (c .before .before .before .before .loop-test .taken) (c .before .before .before .byte-at .ensures) _ _ (c .before .byte2 .given .1)
+loop-again c = front-more (c .before .before .before .before .before .loop .inv) (c .before .before .before .before .loop-test .taken)
+    (c .before .before .before .byte-at .ensures) _ _ (c .before .byte2 .given .1)
 
 same-length-2 : tie.Need-same-length-2 Inv-loop μ-loop
 same-length-2 c = front-length (c .before .loop .inv)

@@ -44,7 +44,12 @@ add-used : tie.Need-add-used Inv-loop μ-loop
 add-used c =
     let l = c .before .before .before .before .before .before .loop in
     let t = c .before .before .before .before .before .before .before .before .before .args .text .now in
-    omega (arith, c .before .before .put-byte .ensures .counts, fill-next (l .inv .1) (shownByte (getD t (l .i) 0)) (shownText (drop (l .i + 1) t)) (bytes-at t (l .i) (c .before .before .before .before .before .loop-test .taken)))
+    omega (
+      arith,
+      c .before .before .put-byte .ensures .counts,
+      fill-next (l .inv .1) (shownByte (getD t (l .i) 0)) (shownText (drop (l .i + 1) t))
+          (bytes-at t (l .i) (c .before .before .before .before .before .loop-test .taken)),
+    )
 
 add-i : tie.Need-add-i Inv-loop μ-loop
 add-i c = omega arith

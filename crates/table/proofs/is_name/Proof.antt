@@ -22,7 +22,8 @@ run-end-requires : tie.Need-run-end-requires
 run-end-requires c κs = search needs
 
 returns-3 : tie.Need-returns-3
-returns-3 c = name-is _ _ (c .before .before .before .before .if1 .left) (sym (c .before .before .in-class .ensures) ∙ not-false _ (c .before .if2 .left)) (c .run-end .ensures)
+returns-3 c = name-is _ _ (c .before .before .before .before .if1 .left)
+    (sym (c .before .before .in-class .ensures) ∙ not-false _ (c .before .if2 .left)) (c .run-end .ensures)
 
 pub is-name-spec : {M : Type 1} → statement M
 is-name-spec =

@@ -18,13 +18,16 @@ enum-told-3 : tie.Need-enum-told-3
 enum-told-3 c = search needs
 
 returns : tie.Need-returns
-returns c = sym (order-below (c .before .before .before .before .before .args .last .now) (c .before .before .before .before .before .args .key .now) (sym (c .before .before .compare .ensures) ∙ c .enum-told .given .1))
+returns c = sym (order-below (c .before .before .before .before .before .args .last .now) (c .before .before .before .before .before .args .key .now)
+    (sym (c .before .before .compare .ensures) ∙ c .enum-told .given .1))
 
 returns-2 : tie.Need-returns-2
-returns-2 c = sym (equal-not-below (c .before .before .before .before .before .args .last .now) (c .before .before .before .before .before .args .key .now) (sym (c .before .before .compare .ensures) ∙ c .enum-told2 .given .1))
+returns-2 c = sym (equal-not-below (c .before .before .before .before .before .args .last .now)
+    (c .before .before .before .before .before .args .key .now) (sym (c .before .before .compare .ensures) ∙ c .enum-told2 .given .1))
 
 returns-3 : tie.Need-returns-3
-returns-3 c = sym (above-not-below (c .before .before .before .before .before .args .last .now) (c .before .before .before .before .before .args .key .now) (sym (c .before .before .compare .ensures) ∙ c .enum-told3 .given .1))
+returns-3 c = sym (above-not-below (c .before .before .before .before .before .args .last .now)
+    (c .before .before .before .before .before .args .key .now) (sym (c .before .before .compare .ensures) ∙ c .enum-told3 .given .1))
 
 pub rises-spec : {M : Type 1} → statement M
 rises-spec =

@@ -21,7 +21,8 @@ sub-if3 : tie.Need-sub-if3
 sub-if3 c = search needs
 
 returns-3 : tie.Need-returns-3
-returns-3 c = piece-long (c .before .before .before .before .before .args .image .now) (c .before .before .before .before .before .args .at) _ (c .before .size-at .ensures) (omega arith) (c .if3 .taken)
+returns-3 c = piece-long (c .before .before .before .before .before .args .image .now) (c .before .before .before .before .before .args .at) _
+    (c .before .size-at .ensures) (omega arith) (c .if3 .taken)
 
 add-start : tie.Need-add-start
 add-start c = search needs
@@ -42,10 +43,14 @@ run-end-requires : tie.Need-run-end-requires
 run-end-requires c κs = search needs
 
 returns-4 : tie.Need-returns-4
-returns-4 c = piece-text (c .before .before .before .before .before .before .before .before .args .image .now) (c .before .before .before .before .before .before .before .before .args .at) _ (c .before .before .before .before .size-at .ensures) (omega arith) (omega arith) _ (c .before .run-end .ensures) (c .if4 .taken)
+returns-4 c = piece-text (c .before .before .before .before .before .before .before .before .args .image .now)
+    (c .before .before .before .before .before .before .before .before .args .at) _ (c .before .before .before .before .size-at .ensures)
+    (omega arith) (omega arith) _ (c .before .run-end .ensures) (c .if4 .taken)
 
 returns-5 : tie.Need-returns-5
-returns-5 c = piece-zero (c .before .before .before .before .before .before .before .before .args .image .now) (c .before .before .before .before .before .before .before .before .args .at) _ (c .before .before .before .before .size-at .ensures) (omega arith) (omega arith) _ (c .before .run-end .ensures) (c .if4 .left)
+returns-5 c = piece-zero (c .before .before .before .before .before .before .before .before .args .image .now)
+    (c .before .before .before .before .before .before .before .before .args .at) _ (c .before .before .before .before .size-at .ensures)
+    (omega arith) (omega arith) _ (c .before .run-end .ensures) (c .if4 .left)
 
 pub text-at-spec : {M : Type 1} → statement M
 text-at-spec =

@@ -12,7 +12,12 @@ enum-known-spot : tie.Need-enum-known-spot
 enum-known-spot c = search needs
 
 add-t7 : tie.Need-add-t7
-add-t7 c = omega (arith, is-known (c .before .before .before .place-of .ensures) _ _ _ (c .before .spot .given .1) .1 .low, is-known (c .before .before .before .place-of .ensures) _ _ _ (c .before .spot .given .1) .1 .high)
+add-t7 c = omega (
+  arith,
+  is-known (c .before .before .before .place-of .ensures) _ _ _ (c .before .spot .given .1) .1 .low,
+  is-known
+      (c .before .before .before .place-of .ensures) _ _ _ (c .before .spot .given .1) .1 .high,
+)
 
 enum-told : tie.Need-enum-told
 enum-told c = search needs

@@ -33,16 +33,30 @@ size-at-requires-2 : tie.Need-size-at-requires-2 Inv-loop μ-loop
 size-at-requires-2 c κs = omega (arith, name-fits _ _ _ (c .before .before .loop .inv) (c .before .loop-test .taken) _ (c .size-at .ensures))
 
 add-end-2 : tie.Need-add-end-2 Inv-loop μ-loop
-add-end-2 c = omega (arith, record-fits _ _ _ (c .before .before .before .loop .inv) (c .before .before .loop-test .taken) _ (c .before .size-at .ensures) _ (c .size-at2 .ensures))
+add-end-2 c = omega (
+  arith,
+  record-fits _ _ _ (c .before .before .before .loop .inv) (c .before .before .loop-test .taken) _
+      (c .before .size-at .ensures) _ (c .size-at2 .ensures),
+)
 
 sub-compare : tie.Need-sub-compare Inv-loop μ-loop
 sub-compare c = omega arith
 
 part-compare-start : tie.Need-part-compare-start Inv-loop μ-loop
-part-compare-start c = omega (arith, record-fits _ _ _ (c .before .before .before .loop .inv) (c .before .before .loop-test .taken) _ (c .before .size-at .ensures) _ (c .size-at2 .ensures))
+part-compare-start c =
+    omega (
+      arith,
+      record-fits _ _ _ (c .before .before .before .loop .inv) (c .before .before .loop-test .taken) _ (c .before .size-at .ensures) _
+          (c .size-at2 .ensures),
+    )
 
 part-compare-end : tie.Need-part-compare-end Inv-loop μ-loop
-part-compare-end c = omega (arith, record-fits _ _ _ (c .before .before .before .loop .inv) (c .before .before .loop-test .taken) _ (c .before .size-at .ensures) _ (c .size-at2 .ensures))
+part-compare-end c =
+    omega (
+      arith,
+      record-fits _ _ _ (c .before .before .before .loop .inv) (c .before .before .loop-test .taken) _ (c .before .size-at .ensures) _
+          (c .size-at2 .ensures),
+    )
 
 compare-requires : tie.Need-compare-requires Inv-loop μ-loop
 compare-requires c κs = tt
@@ -51,22 +65,33 @@ enum-told : tie.Need-enum-told Inv-loop μ-loop
 enum-told c = search needs
 
 returns : tie.Need-returns Inv-loop μ-loop
-returns c = place-less _ _ _ (c .before .before .before .before .before .before .before .loop .inv) (c .before .before .before .before .before .before .loop-test .taken) _ (c .before .before .before .before .before .size-at .ensures) _ (c .before .before .before .before .size-at2 .ensures) (sym (c .before .before .compare .ensures) ∙ c .enum-told .given .1)
+returns c = place-less _ _ _ (c .before .before .before .before .before .before .before .loop .inv)
+    (c .before .before .before .before .before .before .loop-test .taken) _ (c .before .before .before .before .before .size-at .ensures) _
+    (c .before .before .before .before .size-at2 .ensures) (sym (c .before .before .compare .ensures) ∙ c .enum-told .given .1)
 
 enum-told-2 : tie.Need-enum-told-2 Inv-loop μ-loop
 enum-told-2 c = search needs
 
 returns-2 : tie.Need-returns-2 Inv-loop μ-loop
-returns-2 c = place-same _ _ _ (c .before .before .before .before .before .before .before .loop .inv) (c .before .before .before .before .before .before .loop-test .taken) _ (c .before .before .before .before .before .size-at .ensures) _ (c .before .before .before .before .size-at2 .ensures) (sym (c .before .before .compare .ensures) ∙ c .enum-told2 .given .1)
+returns-2 c = place-same _ _ _ (c .before .before .before .before .before .before .before .loop .inv)
+    (c .before .before .before .before .before .before .loop-test .taken) _ (c .before .before .before .before .before .size-at .ensures) _
+    (c .before .before .before .before .size-at2 .ensures) (sym (c .before .before .compare .ensures) ∙ c .enum-told2 .given .1)
 
 enum-told-3 : tie.Need-enum-told-3 Inv-loop μ-loop
 enum-told-3 c = search needs
 
 loop-less : tie.Need-loop-less Inv-loop μ-loop
-loop-less c = omega (arith, record-fits _ _ _ (c .before .before .before .before .before .before .before .loop .inv) (c .before .before .before .before .before .before .loop-test .taken) _ (c .before .before .before .before .before .size-at .ensures) _ (c .before .before .before .before .size-at2 .ensures))
+loop-less c = omega (
+  arith,
+  record-fits _ _ _ (c .before .before .before .before .before .before .before .loop .inv)
+      (c .before .before .before .before .before .before .loop-test .taken) _ (c .before .before .before .before .before .size-at .ensures) _
+      (c .before .before .before .before .size-at2 .ensures),
+)
 
 loop-again : tie.Need-loop-again Inv-loop μ-loop
-loop-again c = place-more _ _ _ (c .before .before .before .before .before .before .before .loop .inv) (c .before .before .before .before .before .before .loop-test .taken) _ (c .before .before .before .before .before .size-at .ensures) _ (c .before .before .before .before .size-at2 .ensures) (sym (c .before .before .compare .ensures) ∙ c .enum-told3 .given .1)
+loop-again c = place-more _ _ _ (c .before .before .before .before .before .before .before .loop .inv)
+    (c .before .before .before .before .before .before .loop-test .taken) _ (c .before .before .before .before .before .size-at .ensures) _
+    (c .before .before .before .before .size-at2 .ensures) (sym (c .before .before .compare .ensures) ∙ c .enum-told3 .given .1)
 
 returns-3 : tie.Need-returns-3 Inv-loop μ-loop
 returns-3 c = place-end _ _ _ (c .before .loop .inv) (c .loop-test .left)

@@ -11,7 +11,9 @@ slice-reshare-prefix-place-of : tie.Need-slice-reshare-prefix-place-of
 slice-reshare-prefix-place-of c = search needs
 
 slice-aggregate-place-of : tie.Need-slice-aggregate-place-of
-slice-aggregate-place-of c = sym (length-take-le (c .before .before .before .args .used) (c .before .before .before .args .image .now) (omega (arith, c .before .before .before .pre .0)))
+slice-aggregate-place-of c =
+    sym (length-take-le (c .before .before .before .args .used) (c .before .before .before .args .image .now)
+    (omega (arith, c .before .before .before .pre .0)))
 
 place-of-requires : tie.Need-place-of-requires
 place-of-requires c κs = search needs
@@ -23,7 +25,17 @@ enum-known-place : tie.Need-enum-known-place
 enum-known-place c = search needs
 
 insert-requires : tie.Need-insert-requires
-insert-requires c κs = (gap-within (c .before .before .before .before .before .before .before .before .args .image .now) (c .before .before .before .before .before .before .before .before .args .path .now) (c .before .before .before .before .before .before .before .before .args .used) _ (c .before .before .before .before .before .before .before .before .args .cap) (omega (arith, c .before .before .before .before .before .before .before .before .pre .0)) (is-free (c .before .before .before .before .place-of .ensures) _ (c .before .before .place .given .1)), c .before .before .before .before .before .before .before .before .pre .0 .0, c .before .before .before .before .before .before .before .before .pre .0 .1, c .before .before .before .before .before .before .before .before .pre .0 .2)
+insert-requires c κs = (
+  gap-within (c .before .before .before .before .before .before .before .before .args .image .now)
+      (c .before .before .before .before .before .before .before .before .args .path .now)
+      (c .before .before .before .before .before .before .before .before .args .used) _
+      (c .before .before .before .before .before .before .before .before .args .cap)
+      (omega (arith, c .before .before .before .before .before .before .before .before .pre .0))
+      (is-free (c .before .before .before .before .place-of .ensures) _ (c .before .before .place .given .1)),
+  c .before .before .before .before .before .before .before .before .pre .0 .0,
+  c .before .before .before .before .before .before .before .before .pre .0 .1,
+  c .before .before .before .before .before .before .before .before .pre .0 .2,
+)
 
 enum-known-stored : tie.Need-enum-known-stored
 enum-known-stored c = search needs
@@ -35,19 +47,35 @@ same-length : tie.Need-same-length
 same-length c = search needs
 
 returns : tie.Need-returns
-returns c = add-taken (c .before .before .place-of .ensures) (c .before .before .before .before .before .before .args .cap) (c .before .before .before .before .before .before .args .image .now) (c .enum-told .given .1)
+returns c = add-taken (c .before .before .place-of .ensures) (c .before .before .before .before .before .before .args .cap)
+    (c .before .before .before .before .before .before .args .image .now) (c .enum-told .given .1)
 
 same-length-2 : tie.Need-same-length-2
 same-length-2 c = search needs
 
 returns-2 : tie.Need-returns-2
-returns-2 c = add-used (c .before .before .before .before .before .before .before .before .before .before .before .before .before .before .args .image .now) (c .before .before .before .before .before .before .before .before .before .before .before .before .before .before .args .path .now) (c .before .before .before .before .before .before .before .before .before .before .before .before .before .before .args .used) _ (c .before .before .before .before .before .before .before .before .before .before .before .before .before .before .args .cap) (omega (arith, c .before .before .before .before .before .before .before .before .before .before .before .before .before .before .pre .0)) (is-free (c .before .before .before .before .before .before .before .before .before .before .place-of .ensures) _ (c .before .before .before .before .before .before .before .before .place .given .1)) (c .before .before .before .before .before .insert .result) (c .before .before .before .before .before .insert .ensures) _ (c .before .stored .given .1)
+returns-2 c = add-used
+    (c .before .before .before .before .before .before .before .before .before .before .before .before .before .before .args .image .now)
+    (c .before .before .before .before .before .before .before .before .before .before .before .before .before .before .args .path .now)
+    (c .before .before .before .before .before .before .before .before .before .before .before .before .before .before .args .used) _
+    (c .before .before .before .before .before .before .before .before .before .before .before .before .before .before .args .cap)
+    (omega (arith, c .before .before .before .before .before .before .before .before .before .before .before .before .before .before .pre .0))
+    (is-free (c .before .before .before .before .before .before .before .before .before .before .place-of .ensures) _
+    (c .before .before .before .before .before .before .before .before .place .given .1)) (c .before .before .before .before .before .insert .result)
+    (c .before .before .before .before .before .insert .ensures) _ (c .before .stored .given .1)
 
 same-length-3 : tie.Need-same-length-3
 same-length-3 c = search needs
 
 returns-3 : tie.Need-returns-3
-returns-3 c = add-full (c .before .before .before .before .before .before .before .before .before .before .before .before .before .args .image .now) (c .before .before .before .before .before .before .before .before .before .before .before .before .before .args .path .now) (c .before .before .before .before .before .before .before .before .before .before .before .before .before .args .used) _ (c .before .before .before .before .before .before .before .before .before .before .before .before .before .args .cap) (omega (arith, c .before .before .before .before .before .before .before .before .before .before .before .before .before .pre .0)) (is-free (c .before .before .before .before .before .before .before .before .before .place-of .ensures) _ (c .before .before .before .before .before .before .before .place .given .1)) (c .before .before .before .before .insert .result) (c .before .before .before .before .insert .ensures) (c .enum-told2 .given .1)
+returns-3 c = add-full (c .before .before .before .before .before .before .before .before .before .before .before .before .before .args .image .now)
+    (c .before .before .before .before .before .before .before .before .before .before .before .before .before .args .path .now)
+    (c .before .before .before .before .before .before .before .before .before .before .before .before .before .args .used) _
+    (c .before .before .before .before .before .before .before .before .before .before .before .before .before .args .cap)
+    (omega (arith, c .before .before .before .before .before .before .before .before .before .before .before .before .before .pre .0))
+    (is-free (c .before .before .before .before .before .before .before .before .before .place-of .ensures) _
+    (c .before .before .before .before .before .before .before .place .given .1)) (c .before .before .before .before .insert .result)
+    (c .before .before .before .before .insert .ensures) (c .enum-told2 .given .1)
 
 pub add-spec : {M : Type 1} → statement M
 add-spec =

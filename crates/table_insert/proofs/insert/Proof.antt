@@ -9,10 +9,14 @@ sub-room : tie.Need-sub-room
 sub-room c = search needs
 
 returns : tie.Need-returns
-returns c = insert-full (c .before .before .before .args .image .now) (c .before .before .before .args .path .now) (c .before .before .before .args .used) (c .before .before .before .args .at) (c .before .before .before .args .cap) (omega arith) (omega arith) (omega arith) (omega arith) (omega (arith, c .if1 .taken))
+returns c = insert-full (c .before .before .before .args .image .now) (c .before .before .before .args .path .now)
+    (c .before .before .before .args .used) (c .before .before .before .args .at) (c .before .before .before .args .cap) (omega arith) (omega arith)
+    (omega arith) (omega arith) (omega (arith, c .if1 .taken))
 
 returns-2 : tie.Need-returns-2
-returns-2 c = insert-full (c .before .before .before .before .args .image .now) (c .before .before .before .before .args .path .now) (c .before .before .before .before .args .used) (c .before .before .before .before .args .at) (c .before .before .before .before .args .cap) (omega arith) (omega arith) (omega arith) (omega arith) (omega (arith, c .before .if1 .left, c .if2 .taken))
+returns-2 c = insert-full (c .before .before .before .before .args .image .now) (c .before .before .before .before .args .path .now)
+    (c .before .before .before .before .args .used) (c .before .before .before .before .args .at) (c .before .before .before .before .args .cap)
+    (omega arith) (omega arith) (omega arith) (omega arith) (omega (arith, c .before .if1 .left, c .if2 .taken))
 
 add-size : tie.Need-add-size
 add-size c = search needs
@@ -45,7 +49,18 @@ same-length : tie.Need-same-length
 same-length c = search needs
 
 returns-3 : tie.Need-returns-3
-returns-3 c = insert-kept (c .before .before .before .before .before .before .before .before .before .before .before .before .args .image .now) (c .before .before .before .before .before .before .before .before .before .before .before .before .args .path .now) (c .before .before .before .before .before .before .before .before .before .before .before .before .args .used) (c .before .before .before .before .before .before .before .before .before .before .before .before .args .at) (c .before .before .before .before .before .before .before .before .before .before .before .before .args .cap) (omega arith) (omega arith) (omega arith) (omega arith) (c .before .before .before .before .before .before .shift .last .0) (c .before .before .put-record .last .0) (omega (arith, c .before .before .before .before .before .before .before .before .before .if1 .left, c .before .before .before .before .before .before .before .before .if2 .left)) (c .before .before .before .before .before .before .shift .ensures) (c .before .before .before .before .before .before .shift .kept .0) (c .before .before .put-record .ensures)
+returns-3 c = insert-kept (c .before .before .before .before .before .before .before .before .before .before .before .before .args .image .now)
+    (c .before .before .before .before .before .before .before .before .before .before .before .before .args .path .now)
+    (c .before .before .before .before .before .before .before .before .before .before .before .before .args .used)
+    (c .before .before .before .before .before .before .before .before .before .before .before .before .args .at)
+    (c .before .before .before .before .before .before .before .before .before .before .before .before .args .cap) (omega arith) (omega arith)
+    (omega arith) (omega arith) (c .before .before .before .before .before .before .shift .last .0) (c .before .before .put-record .last .0)
+    (omega (
+      arith,
+      c .before .before .before .before .before .before .before .before .before .if1 .left,
+      c .before .before .before .before .before .before .before .before .if2 .left,
+    )) (c .before .before .before .before .before .before .shift .ensures) (c .before .before .before .before .before .before .shift .kept .0)
+    (c .before .before .put-record .ensures)
 
 pub insert-spec : {M : Type 1} → statement M
 insert-spec =

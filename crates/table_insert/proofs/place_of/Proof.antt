@@ -36,7 +36,9 @@ enum-known-piece : tie.Need-enum-known-piece Inv-loop μ-loop
 enum-known-piece c = search needs
 
 add-start : tie.Need-add-start Inv-loop μ-loop
-add-start c = let n = next (c .before .before .before .before .loop .inv) (c .before .before .before .text-at .ensures) (c .before .piece .given .1) in omega (arith, n .low, n .ahead .within)
+add-start c = let n =
+    next (c .before .before .before .before .loop .inv) (c .before .before .before .text-at .ensures) (c .before .piece .given .1) in
+    omega (arith, n .low, n .ahead .within)
 
 sub-compare : tie.Need-sub-compare Inv-loop μ-loop
 sub-compare c = next (c .before .before .before .before .loop .inv) (c .before .before .before .text-at .ensures) (c .before .piece .given .1) .low
@@ -45,7 +47,8 @@ part-compare-start : tie.Need-part-compare-start Inv-loop μ-loop
 part-compare-start c = next (c .before .before .before .before .loop .inv) (c .before .before .before .text-at .ensures) (c .before .piece .given .1) .low
 
 part-compare-end : tie.Need-part-compare-end Inv-loop μ-loop
-part-compare-end c = next (c .before .before .before .before .loop .inv) (c .before .before .before .text-at .ensures) (c .before .piece .given .1) .ahead .within
+part-compare-end c =
+    next (c .before .before .before .before .loop .inv) (c .before .before .before .text-at .ensures) (c .before .piece .given .1) .ahead .within
 
 compare-requires : tie.Need-compare-requires Inv-loop μ-loop
 compare-requires c κs = tt
@@ -54,22 +57,31 @@ enum-told-3 : tie.Need-enum-told-3 Inv-loop μ-loop
 enum-told-3 c = search needs
 
 returns-3 : tie.Need-returns-3 Inv-loop μ-loop
-returns-3 c = place-less (c .before .before .before .before .before .before .before .before .loop .inv) (c .before .before .before .before .before .before .before .text-at .ensures) (c .before .before .before .before .before .piece .given .1) (sym (c .before .before .compare .ensures) ∙ c .enum-told3 .given .1)
+returns-3 c = place-less (c .before .before .before .before .before .before .before .before .loop .inv)
+    (c .before .before .before .before .before .before .before .text-at .ensures) (c .before .before .before .before .before .piece .given .1)
+    (sym (c .before .before .compare .ensures) ∙ c .enum-told3 .given .1)
 
 enum-told-4 : tie.Need-enum-told-4 Inv-loop μ-loop
 enum-told-4 c = search needs
 
 returns-4 : tie.Need-returns-4 Inv-loop μ-loop
-returns-4 c = place-same (c .before .before .before .before .before .before .before .before .loop .inv) (c .before .before .before .before .before .before .before .text-at .ensures) (c .before .before .before .before .before .piece .given .1) (sym (c .before .before .compare .ensures) ∙ c .enum-told4 .given .1)
+returns-4 c = place-same (c .before .before .before .before .before .before .before .before .loop .inv)
+    (c .before .before .before .before .before .before .before .text-at .ensures) (c .before .before .before .before .before .piece .given .1)
+    (sym (c .before .before .compare .ensures) ∙ c .enum-told4 .given .1)
 
 enum-told-5 : tie.Need-enum-told-5 Inv-loop μ-loop
 enum-told-5 c = search needs
 
 loop-less : tie.Need-loop-less Inv-loop μ-loop
-loop-less c = let n = next (c .before .before .before .before .before .before .before .before .loop .inv) (c .before .before .before .before .before .before .before .text-at .ensures) (c .before .before .before .before .before .piece .given .1) in omega (arith, n .low, n .ahead .within)
+loop-less c = let n =
+    next (c .before .before .before .before .before .before .before .before .loop .inv)
+    (c .before .before .before .before .before .before .before .text-at .ensures) (c .before .before .before .before .before .piece .given .1) in
+    omega (arith, n .low, n .ahead .within)
 
 loop-again : tie.Need-loop-again Inv-loop μ-loop
-loop-again c = place-more (c .before .before .before .before .before .before .before .before .loop .inv) (c .before .before .before .before .before .before .before .text-at .ensures) (c .before .before .before .before .before .piece .given .1) (sym (c .before .before .compare .ensures) ∙ c .enum-told5 .given .1)
+loop-again c = place-more (c .before .before .before .before .before .before .before .before .loop .inv)
+    (c .before .before .before .before .before .before .before .text-at .ensures) (c .before .before .before .before .before .piece .given .1)
+    (sym (c .before .before .compare .ensures) ∙ c .enum-told5 .given .1)
 
 pub place-of-spec : {M : Type 1} → statement M
 place-of-spec =

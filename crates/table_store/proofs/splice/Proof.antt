@@ -37,7 +37,8 @@ sub-shift : tie.Need-sub-shift
 sub-shift c = omega (arith, c .before .before .before .before .before .before .pre)
 
 shift-requires : tie.Need-shift-requires
-shift-requires c κs = omega (arith, c .before .before .before .before .before .before .pre, has-room _ _ _ _ (c .before .before .fits2 .ensures) (c .before .if1 .left))
+shift-requires c κs =
+    omega (arith, c .before .before .before .before .before .before .pre, has-room _ _ _ _ (c .before .before .fits2 .ensures) (c .before .if1 .left))
 
 sub-put-record : tie.Need-sub-put-record
 sub-put-record c = omega (arith, c .before .before .before .before .before .before .before .before .before .pre, c .before .before .shift .kept .0)
@@ -55,13 +56,28 @@ add-next : tie.Need-add-next
 add-next c = omega (arith, c .before .before .before .before .before .before .before .before .before .before .before .before .before .pre)
 
 add-next-2 : tie.Need-add-next-2
-add-next-2 c = let tested = c .before .before .before .before .before .before .before .before in omega (arith, tested .before .before .before .before .before .pre, has-room _ _ _ _ (tested .before .fits2 .ensures) (tested .if1 .left))
+add-next-2 c = let tested = c .before .before .before .before .before .before .before .before in
+    omega (arith, tested .before .before .before .before .before .pre, has-room _ _ _ _ (tested .before .fits2 .ensures) (tested .if1 .left))
 
 sub-put-record-2 : tie.Need-sub-put-record-2
-sub-put-record-2 c = let tested = c .before .before .before .before .before .before .before .before in omega (arith, tested .before .before .before .before .before .pre, c .before .before .before .before .before .before .shift .kept .0, c .before .vars2 .given, has-room _ _ _ _ (tested .before .fits2 .ensures) (tested .if1 .left))
+sub-put-record-2 c = let tested = c .before .before .before .before .before .before .before .before in
+    omega (
+      arith,
+      tested .before .before .before .before .before .pre,
+      c .before .before .before .before .before .before .shift .kept .0,
+      c .before .vars2 .given,
+      has-room _ _ _ _ (tested .before .fits2 .ensures) (tested .if1 .left),
+    )
 
 part-put-record-start-2 : tie.Need-part-put-record-start-2
-part-put-record-start-2 c = let tested = c .before .before .before .before .before .before .before .before in omega (arith, tested .before .before .before .before .before .pre, c .before .before .before .before .before .before .shift .kept .0, c .before .vars2 .given, has-room _ _ _ _ (tested .before .fits2 .ensures) (tested .if1 .left))
+part-put-record-start-2 c = let tested = c .before .before .before .before .before .before .before .before in
+    omega (
+      arith,
+      tested .before .before .before .before .before .pre,
+      c .before .before .before .before .before .before .shift .kept .0,
+      c .before .vars2 .given,
+      has-room _ _ _ _ (tested .before .fits2 .ensures) (tested .if1 .left),
+    )
 
 part-put-record-end-2 : tie.Need-part-put-record-end-2
 part-put-record-end-2 c = search needs
@@ -70,7 +86,8 @@ put-record-requires-2 : tie.Need-put-record-requires-2
 put-record-requires-2 c κs = search needs
 
 add-t14 : tie.Need-add-t14
-add-t14 c = let tested = c .before .before .before .before .before .before .before .before .before .before .before .before in omega (arith, tested .before .before .before .before .before .pre, has-room _ _ _ _ (tested .before .fits2 .ensures) (tested .if1 .left))
+add-t14 c = let tested = c .before .before .before .before .before .before .before .before .before .before .before .before in
+    omega (arith, tested .before .before .before .before .before .pre, has-room _ _ _ _ (tested .before .fits2 .ensures) (tested .if1 .left))
 
 same-length : tie.Need-same-length
 same-length c = search needs
@@ -84,7 +101,8 @@ returns-2 c =
     let start = tested .before .before .before .before .before in
     let a = start .args in
     splice-kept (a .vars .now) (a .name .now) (a .value .now) (a .used) (a .at) (a .end) (a .cap) (start .pre)
-    (moved .shift .last .0) (first .put-record .last .0) (has-room _ _ _ _ (tested .before .fits2 .ensures) (tested .if1 .left)) (moved .shift .ensures) (moved .shift .kept .0) (first .put-record .ensures)
+    (moved .shift .last .0) (first .put-record .last .0) (has-room _ _ _ _ (tested .before .fits2 .ensures) (tested .if1 .left))
+    (moved .shift .ensures) (moved .shift .kept .0) (first .put-record .ensures)
     (second .put-record2 .last .0) (second .put-record2 .ensures)
 
 pub splice-spec : {M : Type 1} → statement M

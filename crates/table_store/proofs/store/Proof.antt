@@ -13,7 +13,8 @@ slice-reshare-prefix-place-of : tie.Need-slice-reshare-prefix-place-of
 slice-reshare-prefix-place-of c = search needs
 
 slice-aggregate-place-of : tie.Need-slice-aggregate-place-of
-slice-aggregate-place-of c = sym (length-take-le (c .before .before .before .before .args .used) (c .before .before .before .before .args .vars .now) (omega arith))
+slice-aggregate-place-of c =
+    sym (length-take-le (c .before .before .before .before .args .used) (c .before .before .before .before .args .vars .now) (omega arith))
 
 place-of-requires : tie.Need-place-of-requires
 place-of-requires c κs = search needs
@@ -25,7 +26,11 @@ splice-requires : tie.Need-splice-requires
 splice-requires c κs =
     let a = c .before .before .before .before .before .before .before .before .before .args in
     let g = c .before .before .spot .given in
-    omega (arith, hole-within (a .vars .now) (a .name .now) (a .used) _ _ (omega arith) (is-known (c .before .before .before .before .place-of .ensures) _ _ _ (g .1) .0))
+    omega (
+      arith,
+      hole-within (a .vars .now) (a .name .now) (a .used) _ _ (omega arith)
+          (is-known (c .before .before .before .before .place-of .ensures) _ _ _ (g .1) .0),
+    )
 
 enum-known-spot-2 : tie.Need-enum-known-spot-2
 enum-known-spot-2 c = search needs
@@ -34,7 +39,11 @@ splice-requires-2 : tie.Need-splice-requires-2
 splice-requires-2 c κs =
     let a = c .before .before .before .before .before .before .before .before .before .args in
     let g = c .before .before .spot2 .given in
-    omega (arith, hole-within (a .vars .now) (a .name .now) (a .used) _ _ (omega arith) (is-fresh (c .before .before .before .before .place-of .ensures) _ (g .1) .0))
+    omega (
+      arith,
+      hole-within (a .vars .now) (a .name .now) (a .used) _ _ (omega arith)
+          (is-fresh (c .before .before .before .before .place-of .ensures) _ (g .1) .0),
+    )
 
 same-length : tie.Need-same-length
 same-length c = search needs
@@ -43,7 +52,8 @@ returns : tie.Need-returns
 returns c =
     let a = c .before .before .before .before .before .before .before .before .before .before .before .before .args in
     let g = c .before .before .before .before .before .spot .given in
-    store-writes (a .vars .now) (a .name .now) (a .used) _ _ (omega arith) (is-known (c .before .before .before .before .before .before .before .place-of .ensures) _ _ _ (g .1) .0)
+    store-writes (a .vars .now) (a .name .now) (a .used) _ _ (omega arith)
+    (is-known (c .before .before .before .before .before .before .before .place-of .ensures) _ _ _ (g .1) .0)
     (a .value .now) _ (a .cap) (omega arith) (c .before .before .splice .ensures)
 
 same-length-2 : tie.Need-same-length-2
@@ -53,7 +63,8 @@ returns-2 : tie.Need-returns-2
 returns-2 c =
     let a = c .before .before .before .before .before .before .before .before .before .before .before .before .args in
     let g = c .before .before .before .before .before .spot2 .given in
-    store-writes (a .vars .now) (a .name .now) (a .used) _ _ (omega arith) (is-fresh (c .before .before .before .before .before .before .before .place-of .ensures) _ (g .1) .0)
+    store-writes (a .vars .now) (a .name .now) (a .used) _ _ (omega arith)
+    (is-fresh (c .before .before .before .before .before .before .before .place-of .ensures) _ (g .1) .0)
     (a .value .now) _ (a .cap) (omega arith) (c .before .before .splice2 .ensures)
 
 pub store-spec : {M : Type 1} → statement M

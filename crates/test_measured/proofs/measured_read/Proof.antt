@@ -30,7 +30,8 @@ returns : tie.Need-returns
 returns c = told (readLine (c .before .before .before .before .args .line .now)) _ _ (c .before .before .read-line .ensures) (c .enum-told .given .1)
 
 returns-2 : tie.Need-returns-2
-returns-2 c = told (readLine (c .before .before .before .before .before .args .line .now)) _ _ (c .before .before .before .read-line .ensures) (c .before .read .given .1)
+returns-2 c = told (readLine (c .before .before .before .before .before .args .line .now)) _ _ (c .before .before .before .read-line .ensures)
+    (c .before .read .given .1)
 
 pub measured-read-spec : {M : Type 1} → statement M
 measured-read-spec = tie.close (tie.spec read-line-requires enum-told enum-known-read returns returns-2)

@@ -13,7 +13,8 @@ shr-result : tie.Need-shr-result
 shr-result c = search needs
 
 returns : tie.Need-returns
-returns c = ap (λ n. bitAt n (c .before .before .args .b)) (c .low-bytes .ensures) ∙ low-bit (c .before .before .args .class) (c .before .before .args .b) (c .before .if1 .taken)
+returns c = ap (λ n. bitAt n (c .before .before .args .b)) (c .low-bytes .ensures) ∙ low-bit (c .before .before .args .class)
+    (c .before .before .args .b) (c .before .if1 .taken)
 
 high-bytes-requires : tie.Need-high-bytes-requires
 high-bytes-requires c κs = search needs
@@ -25,13 +26,15 @@ shr-result-2 : tie.Need-shr-result-2
 shr-result-2 c = search needs
 
 returns-2 : tie.Need-returns-2
-returns-2 c = ap (λ n. bitAt n (c .before .before .before .args .b - 64)) (c .high-bytes .ensures) ∙ high-bit (c .before .before .before .args .class) (c .before .before .before .args .b) (c .before .before .if1 .left) (c .before .if2 .taken)
+returns-2 c = ap (λ n. bitAt n (c .before .before .before .args .b - 64)) (c .high-bytes .ensures) ∙ high-bit
+    (c .before .before .before .args .class) (c .before .before .before .args .b) (c .before .before .if1 .left) (c .before .if2 .taken)
 
 upper-bytes-requires : tie.Need-upper-bytes-requires
 upper-bytes-requires c κs = search needs
 
 returns-3 : tie.Need-returns-3
-returns-3 c = c .upper-bytes .ensures ∙ upper-bit (c .before .before .before .args .class) (c .before .before .before .args .b) (c .before .if2 .left) (search needs)
+returns-3 c = c .upper-bytes .ensures ∙ upper-bit (c .before .before .before .args .class) (c .before .before .before .args .b)
+    (c .before .if2 .left) (search needs)
 
 pub in-class-spec : {M : Type 1} → statement M
 in-class-spec =

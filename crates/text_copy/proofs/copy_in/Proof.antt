@@ -32,8 +32,12 @@ loop-less c = omega arith
 loop-again : tie.Need-loop-again Inv-loop μ-loop
 loop-again c =
     let l = c .before .before .loop in
-    let a = c .before .before .before .args in
-    (omega arith, ap (λ (s : List ℕ). set s (l .i) (getD (a .from .now) (l .i) 0)) (l .inv .1) ∙ copy-step (a .to .now) (a .from .now) (l .i) (omega arith) (omega arith), simp length-set (l .inv .2))
+    let a = c .before .before .before .args in (
+      omega arith,
+      ap (λ (s : List ℕ). set s (l .i) (getD (a .from .now) (l .i) 0)) (l .inv .1) ∙ copy-step (a .to .now) (a .from .now) (l .i)
+          (omega arith) (omega arith),
+      simp length-set (l .inv .2),
+    )
 
 same-length : tie.Need-same-length Inv-loop μ-loop
 same-length c = c .before .loop .inv .2

@@ -166,7 +166,12 @@ put-digits-returns-3 t c =
     let p = simp (more, length-append) at (s .pre .1) in
     let call = c .before .before .put-digits in
     let is = call .ensures in
-    record { counts = rw (more, length-append, is .counts); leaves = rw (is .leaves, more) (put-last (digits (a .k - 1) (a .n / 10)) (a .out .now) (48 + a .n % 10) (call .result) (sym (is .counts)) (omega (arith, is .counts))) }
+    record {
+      counts = rw (more, length-append, is .counts);
+      leaves =
+          rw (is .leaves, more)
+          (put-last (digits (a .k - 1) (a .n / 10)) (a .out .now) (48 + a .n % 10) (call .result) (sym (is .counts)) (omega (arith, is .counts)));
+    }
 
 pub +put-digits-spec : {M : Type 1} → statement M
 +put-digits-spec = close μ-put-digits λ t. put-digits-lts.spec (

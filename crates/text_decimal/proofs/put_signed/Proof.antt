@@ -50,7 +50,8 @@ add-result c =
 same-length : tie.Need-same-length
 same-length c =
     let o = c .before .before .before .before .before .before .before .args .out .now in
-    same-len-mid 1 (length (set o 0 45) - 1) (set o 0 45) (c .before .before .put-digits .last .0) (c .before .before .put-digits .kept .0) ∙ length-set o 0 45
+    same-len-mid 1 (length (set o 0 45) - 1) (set o 0 45) (c .before .before .put-digits .last .0) (c .before .before .put-digits .kept .0) ∙
+    length-set o 0 45
 
 returns : tie.Need-returns
 unfolding decimal

@@ -33,7 +33,8 @@ enum-told-5 c = search needs
 returns : tie.Need-returns
 unfolding shut
 returns c =
-    let s = c .before .before .before .before .before in λ l. closes-by (s .args .text .now) (s .args .at) _ (token-shown (c .before .before .before .token-at .ensures) (c .before .token .given .1)) l
+    let s = c .before .before .before .before .before in
+    λ l. closes-by (s .args .text .now) (s .args .at) _ (token-shown (c .before .before .before .token-at .ensures) (c .before .token .given .1)) l
 
 returns-2 : tie.Need-returns-2
 unfolding shut
@@ -45,27 +46,32 @@ returns-2 c =
 returns-3 : tie.Need-returns-3
 unfolding shut
 returns-3 c =
-    let s = c .before .before .before .before in λ l. closes-by (s .args .text .now) (s .args .at) _ (token-shown (c .before .before .token-at .ensures) (c .enum-told .given .1)) l
+    let s = c .before .before .before .before in
+    λ l. closes-by (s .args .text .now) (s .args .at) _ (token-shown (c .before .before .token-at .ensures) (c .enum-told .given .1)) l
 
 returns-4 : tie.Need-returns-4
 unfolding shut
 returns-4 c =
-    let s = c .before .before .before .before in λ l. closes-by (s .args .text .now) (s .args .at) _ (token-shown (c .before .before .token-at .ensures) (c .enum-told2 .given .1)) l
+    let s = c .before .before .before .before in
+    λ l. closes-by (s .args .text .now) (s .args .at) _ (token-shown (c .before .before .token-at .ensures) (c .enum-told2 .given .1)) l
 
 returns-5 : tie.Need-returns-5
 unfolding shut
 returns-5 c =
-    let s = c .before .before .before .before in λ l. closes-by (s .args .text .now) (s .args .at) _ (token-shown (c .before .before .token-at .ensures) (c .enum-told3 .given .1)) l
+    let s = c .before .before .before .before in
+    λ l. closes-by (s .args .text .now) (s .args .at) _ (token-shown (c .before .before .token-at .ensures) (c .enum-told3 .given .1)) l
 
 returns-6 : tie.Need-returns-6
 unfolding shut
 returns-6 c =
-    let s = c .before .before .before .before in λ l. closes-by (s .args .text .now) (s .args .at) _ (token-shown (c .before .before .token-at .ensures) (c .enum-told4 .given .1)) l
+    let s = c .before .before .before .before in
+    λ l. closes-by (s .args .text .now) (s .args .at) _ (token-shown (c .before .before .token-at .ensures) (c .enum-told4 .given .1)) l
 
 returns-7 : tie.Need-returns-7
 unfolding shut
 returns-7 c =
-    let s = c .before .before .before .before in λ l. closes-by (s .args .text .now) (s .args .at) _ (token-shown (c .before .before .token-at .ensures) (c .enum-told5 .given .1)) l
+    let s = c .before .before .before .before in
+    λ l. closes-by (s .args .text .now) (s .args .at) _ (token-shown (c .before .before .token-at .ensures) (c .enum-told5 .given .1)) l
 
 pub closed-spec : {M : Type 1} → statement M
 closed-spec =

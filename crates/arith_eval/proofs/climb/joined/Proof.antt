@@ -29,14 +29,16 @@ returns-2 c =
     let s = c .before .before .before .before .before in
     rw (not-false (s .args .counts) (c .before .before .before .before .if1 .left))
     (ap (λ (o : Outcome ℤ). turning o (s .args .next))
-    (sym (ap numbered (c .before .got .given .1)) ∙ (rw (held (s .args .left) (s .fits .left), held (s .args .right) (s .fits .right)) at (c .before .before .before .operate .ensures))))
+    (sym (ap numbered (c .before .got .given .1)) ∙
+    (rw (held (s .args .left) (s .fits .left), held (s .args .right) (s .fits .right)) at (c .before .before .before .operate .ensures))))
 
 returns-3 : tie.Need-returns-3
 returns-3 c =
     let s = c .before .before .before .before .before in
     rw (not-false (s .args .counts) (c .before .before .before .before .if1 .left), kept (c .before .got2 .given .0 .0) (c .known-told2 .given .0 .1))
     (ap (λ (o : Outcome ℤ). turning o (s .args .next))
-    (sym (ap numbered (c .before .got2 .given .1)) ∙ (rw (held (s .args .left) (s .fits .left), held (s .args .right) (s .fits .right)) at (c .before .before .before .operate .ensures))))
+    (sym (ap numbered (c .before .got2 .given .1)) ∙
+    (rw (held (s .args .left) (s .fits .left), held (s .args .right) (s .fits .right)) at (c .before .before .before .operate .ensures))))
 
 pub joined-spec : {M : Type 1} → statement M
 joined-spec =

@@ -22,10 +22,30 @@ use Rattle.table_find.proofs.look_up.Reads as look-up-reads
 use Rattle.expand_text.proofs.+expand_inner+expand_item+expand_quote+expand_sum+expand_text.Proof.Measures.{expand-inner-at, expand-text-below}
 
 abbrev pub expand-inner-callees : ℕ → expand-inner-lts.Claims
-expand-inner-callees t = (look-up-reads.Asked, look-up-reads.Learnt, plan-of-reads.Asked, plan-of-reads.Learnt, wants-operand-reads.Asked, wants-operand-reads.Learnt, operand-mark-reads.Asked, operand-mark-reads.Learnt, expand-text-below t, expand-text.Post, finish-reads.Asked, finish-reads.Learnt, read-text-reads.Asked, read-text-reads.Learnt, settle-reads.Asked, settle-reads.Learnt, going-on-reads.Asked, going-on-reads.Learnt)
+expand-inner-callees t = (
+  look-up-reads.Asked,
+  look-up-reads.Learnt,
+  plan-of-reads.Asked,
+  plan-of-reads.Learnt,
+  wants-operand-reads.Asked,
+  wants-operand-reads.Learnt,
+  operand-mark-reads.Asked,
+  operand-mark-reads.Learnt,
+  expand-text-below t,
+  expand-text.Post,
+  finish-reads.Asked,
+  finish-reads.Learnt,
+  read-text-reads.Asked,
+  read-text-reads.Learnt,
+  settle-reads.Asked,
+  settle-reads.Learnt,
+  going-on-reads.Asked,
+  going-on-reads.Learnt,
+)
 
 module _ (t : ℕ) where
-  pub expand-inner-slice-reshare-prefix-look-up : expand-inner-lts.Need-slice-reshare-prefix-look-up (expand-inner-callees t) (expand-inner-at t) expand-inner.Post
+  pub expand-inner-slice-reshare-prefix-look-up : expand-inner-lts.Need-slice-reshare-prefix-look-up (expand-inner-callees t) (expand-inner-at t)
+      expand-inner.Post
   expand-inner-slice-reshare-prefix-look-up c =
       c .before .before .before .before .pre .1 .1 .inside
 
@@ -69,8 +89,16 @@ module _ (t : ℕ) where
   expand-inner-finish-requires c κs =
       let a = c .before .before .before .before .before .before .before .before .before .before .before .before .before .before .before .before .before .before .before .before .before .before .args in
       let y = c .before .before .before .before .before .before .before .before .before .before .before .before .before .before .before .before .before .before .before .before .before .before .pre .1 .0 in
-      let w = c .before .before .before .before .before .before .before .before .before .before .before .before .before .before .before .before .before .before .before .before .before .before .pre .1 .1 in
-      (used-ready (a .room) (a .text .now) (a .at) (a .mode) (a .depth) (a .used) _ (a .vars .now) (a .have) (a .name .now) (formOf (a .form)) (markOf (a .mark)) y w (c .before .before .before .before .before .before .before .before .before .before .before .before .before .before .before .before .look-up .result) (c .before .before .before .before .before .before .before .before .before .before .before .before .before .before .before .before .look-up .ensures .shows) (c .before .before .before .before .before .before .before .before .before .before .before .before .before .before .before .plan-of .ensures) (sym (c .before .before .before .before .before .before .before .before .before .before .before .before .before .before .wants-operand .ensures) ∙ c .before .before .before .before .before .before .before .before .before .before .before .before .before .if1 .taken) (markOf (c .before .before .before .before .before .before .before .before .before .before .before .before .operand-mark .result)) (c .before .before .before .before .before .before .before .before .before .before .before .before .operand-mark .ensures) _ _ _ (c .before .before .before .before .before .before .before .before .before .expand-text .ensures) (c .before .before .before .got2 .given .1) (c .before .before .before .before .before .before .before .before .before .before .before .before .before .before .before .before .before .before .before .before .before .before .pre .1 .3), used-holds (a .room) (a .text .now) (a .at) (a .mode) (a .depth) (a .used) _ (a .vars .now) (a .have) (a .name .now) (formOf (a .form)) (markOf (a .mark)) y w (c .before .before .before .before .before .before .before .before .before .before .before .before .before .before .before .before .look-up .result) (c .before .before .before .before .before .before .before .before .before .before .before .before .before .before .before .before .look-up .ensures .shows) (c .before .before .before .before .before .before .before .before .before .before .before .before .before .before .before .plan-of .ensures) (sym (c .before .before .before .before .before .before .before .before .before .before .before .before .before .before .wants-operand .ensures) ∙ c .before .before .before .before .before .before .before .before .before .before .before .before .before .if1 .taken) (markOf (c .before .before .before .before .before .before .before .before .before .before .before .before .operand-mark .result)) (c .before .before .before .before .before .before .before .before .before .before .before .before .operand-mark .ensures) _ _ _ (c .before .before .before .before .before .before .before .before .before .expand-text .ensures) (c .before .before .before .got2 .given .1), c .before .before .before .before .before .before .before .before .before .before .before .before .before .before .before .before .before .before .before .before .before .before .pre .1 .2, omega (arith, y .area, c .before .before .before .before .before .before .before .before .before .expand-text .kept .1 .1 .1 .1 .1 .1 .1 .1 .1 .0))
+      let w = c .before .before .before .before .before .before .before .before .before .before .before .before .before .before .before .before .before .before .before .before .before .before .pre .1 .1 in (
+        used-ready (a .room) (a .text .now) (a .at) (a .mode) (a .depth) (a .used) _ (a .vars .now) (a .have) (a .name .now) (formOf (a .form))
+            (markOf (a .mark)) y w
+            (c .before .before .before .before .before .before .before .before .before .before .before .before .before .before .before .before .look-up .result) (c .before .before .before .before .before .before .before .before .before .before .before .before .before .before .before .before .look-up .ensures .shows) (c .before .before .before .before .before .before .before .before .before .before .before .before .before .before .before .plan-of .ensures) (sym (c .before .before .before .before .before .before .before .before .before .before .before .before .before .before .wants-operand .ensures) ∙ c .before .before .before .before .before .before .before .before .before .before .before .before .before .if1 .taken) (markOf (c .before .before .before .before .before .before .before .before .before .before .before .before .operand-mark .result)) (c .before .before .before .before .before .before .before .before .before .before .before .before .operand-mark .ensures) _ _ _ (c .before .before .before .before .before .before .before .before .before .expand-text .ensures) (c .before .before .before .got2 .given .1) (c .before .before .before .before .before .before .before .before .before .before .before .before .before .before .before .before .before .before .before .before .before .before .pre .1 .3),
+        used-holds (a .room) (a .text .now) (a .at) (a .mode) (a .depth) (a .used) _ (a .vars .now) (a .have) (a .name .now) (formOf (a .form))
+            (markOf (a .mark)) y w
+            (c .before .before .before .before .before .before .before .before .before .before .before .before .before .before .before .before .look-up .result) (c .before .before .before .before .before .before .before .before .before .before .before .before .before .before .before .before .look-up .ensures .shows) (c .before .before .before .before .before .before .before .before .before .before .before .before .before .before .before .plan-of .ensures) (sym (c .before .before .before .before .before .before .before .before .before .before .before .before .before .before .wants-operand .ensures) ∙ c .before .before .before .before .before .before .before .before .before .before .before .before .before .if1 .taken) (markOf (c .before .before .before .before .before .before .before .before .before .before .before .before .operand-mark .result)) (c .before .before .before .before .before .before .before .before .before .before .before .before .operand-mark .ensures) _ _ _ (c .before .before .before .before .before .before .before .before .before .expand-text .ensures) (c .before .before .before .got2 .given .1),
+        c .before .before .before .before .before .before .before .before .before .before .before .before .before .before .before .before .before .before .before .before .before .before .pre .1 .2,
+        omega (arith, y .area, c .before .before .before .before .before .before .before .before .before .expand-text .kept .1 .1 .1 .1 .1 .1 .1 .1 .1 .0),
+      )
 
   pub expand-inner-read-text-requires : expand-inner-lts.Need-read-text-requires (expand-inner-callees t) (expand-inner-at t) expand-inner.Post
   expand-inner-read-text-requires c κs =
@@ -85,7 +113,8 @@ module _ (t : ℕ) where
   pub expand-inner-enum-known-got-4 : expand-inner-lts.Need-enum-known-got-4 (expand-inner-callees t) (expand-inner-at t) expand-inner.Post
   expand-inner-enum-known-got-4 c = search needs
 
-  pub expand-inner-slice-reshare-prefix-settle : expand-inner-lts.Need-slice-reshare-prefix-settle (expand-inner-callees t) (expand-inner-at t) expand-inner.Post
+  pub expand-inner-slice-reshare-prefix-settle : expand-inner-lts.Need-slice-reshare-prefix-settle (expand-inner-callees t) (expand-inner-at t)
+      expand-inner.Post
   expand-inner-slice-reshare-prefix-settle c =
       c .before .before .before .before .before .before .before .before .before .before .before .before .before .pre .1 .1 .inside
 
@@ -100,8 +129,11 @@ module _ (t : ℕ) where
   expand-inner-settle-requires c κs =
       let a = c .before .before .before .before .before .before .before .before .before .before .before .before .before .before .before .args in
       let y = c .before .before .before .before .before .before .before .before .before .before .before .before .before .before .before .pre .1 .0 in
-      let w = c .before .before .before .before .before .before .before .before .before .before .before .before .before .before .before .pre .1 .1 in
-      (table-held (a .room) (a .vars .now) (a .have) w, c .before .before .before .before .before .before .before .before .before .before .before .before .before .before .before .pre .1 .2, omega (arith, y .area))
+      let w = c .before .before .before .before .before .before .before .before .before .before .before .before .before .before .before .pre .1 .1 in (
+        table-held (a .room) (a .vars .now) (a .have) w,
+        c .before .before .before .before .before .before .before .before .before .before .before .before .before .before .before .pre .1 .2,
+        omega (arith, y .area),
+      )
 
   pub expand-inner-going-on-requires : expand-inner-lts.Need-going-on-requires (expand-inner-callees t) (expand-inner-at t) expand-inner.Post
   expand-inner-going-on-requires c κs = search needs
@@ -119,7 +151,15 @@ module _ (t : ℕ) where
       let a = c .before .before .before .before .before .before .before .before .before .before .before .before .before .before .before .before .before .before .before .before .args in
       let y = c .before .before .before .before .before .before .before .before .before .before .before .before .before .before .before .before .before .before .before .before .pre .1 .0 in
       let w = c .before .before .before .before .before .before .before .before .before .before .before .before .before .before .before .before .before .before .before .before .pre .1 .1 in
-      used-refused (a .room) (a .text .now) (a .at) (a .mode) (a .depth) (a .used) _ (a .vars .now) (a .have) (a .name .now) (formOf (a .form)) (markOf (a .mark)) y w (c .before .before .before .before .before .before .before .before .before .before .before .before .before .before .look-up .result) (c .before .before .before .before .before .before .before .before .before .before .before .before .before .before .look-up .ensures .shows) (c .before .before .before .before .before .before .before .before .before .before .before .before .before .plan-of .ensures) (sym (c .before .before .before .before .before .before .before .before .before .before .before .before .wants-operand .ensures) ∙ c .before .before .before .before .before .before .before .before .before .before .before .if1 .taken) (markOf (c .before .before .before .before .before .before .before .before .before .before .operand-mark .result)) (c .before .before .before .before .before .before .before .before .before .before .operand-mark .ensures) _ _ _ (c .before .before .before .before .before .before .before .expand-text .ensures) _ (c .before .got .given .1)
+      used-refused (a .room) (a .text .now) (a .at) (a .mode) (a .depth) (a .used) _ (a .vars .now) (a .have) (a .name .now) (formOf (a .form))
+      (markOf (a .mark)) y w
+      (c .before .before .before .before .before .before .before .before .before .before .before .before .before .before .look-up .result)
+      (c .before .before .before .before .before .before .before .before .before .before .before .before .before .before .look-up .ensures .shows)
+      (c .before .before .before .before .before .before .before .before .before .before .before .before .before .plan-of .ensures)
+      (sym (c .before .before .before .before .before .before .before .before .before .before .before .before .wants-operand .ensures) ∙
+      c .before .before .before .before .before .before .before .before .before .before .before .if1 .taken)
+      (markOf (c .before .before .before .before .before .before .before .before .before .before .operand-mark .result))
+      (c .before .before .before .before .before .before .before .before .before .before .operand-mark .ensures) _ _ _ (c .before .before .before .before .before .before .before .expand-text .ensures) _ (c .before .got .given .1)
 
   pub expand-inner-same-length-3 : expand-inner-lts.Need-same-length-3 (expand-inner-callees t) (expand-inner-at t) expand-inner.Post
   expand-inner-same-length-3 c =
@@ -134,7 +174,9 @@ module _ (t : ℕ) where
       let a = c .before .before .before .before .before .before .before .before .before .before .before .before .before .before .before .before .before .before .before .before .before .before .before .before .before .before .before .args in
       let y = c .before .before .before .before .before .before .before .before .before .before .before .before .before .before .before .before .before .before .before .before .before .before .before .before .before .before .before .pre .1 .0 in
       let w = c .before .before .before .before .before .before .before .before .before .before .before .before .before .before .before .before .before .before .before .before .before .before .before .before .before .before .before .pre .1 .1 in
-      used-given (a .room) (a .text .now) (a .at) (a .mode) (a .depth) (a .used) _ (a .vars .now) (a .have) (a .name .now) (formOf (a .form)) (markOf (a .mark)) y w (c .before .before .before .before .before .before .before .before .before .before .before .before .before .before .before .before .before .before .before .before .before .look-up .result) (c .before .before .before .before .before .before .before .before .before .before .before .before .before .before .before .before .before .before .before .before .before .look-up .ensures .shows) (c .before .before .before .before .before .before .before .before .before .before .before .before .before .before .before .before .before .before .before .before .plan-of .ensures) (sym (c .before .before .before .before .before .before .before .before .before .before .before .before .before .before .before .before .before .before .before .wants-operand .ensures) ∙ c .before .before .before .before .before .before .before .before .before .before .before .before .before .before .before .before .before .before .if1 .taken) (markOf (c .before .before .before .before .before .before .before .before .before .before .before .before .before .before .before .before .before .operand-mark .result)) (c .before .before .before .before .before .before .before .before .before .before .before .before .before .before .before .before .before .operand-mark .ensures) _ _ _ (c .before .before .before .before .before .before .before .before .before .before .before .before .before .before .expand-text .ensures) (c .before .before .before .before .before .before .before .before .got2 .given .1) _ _ (c .before .before .before .before .finish .result) (c .before .before .before .before .finish .ensures)
+      used-given (a .room) (a .text .now) (a .at) (a .mode) (a .depth) (a .used) _ (a .vars .now) (a .have) (a .name .now) (formOf (a .form))
+      (markOf (a .mark)) y w
+      (c .before .before .before .before .before .before .before .before .before .before .before .before .before .before .before .before .before .before .before .before .before .look-up .result) (c .before .before .before .before .before .before .before .before .before .before .before .before .before .before .before .before .before .before .before .before .before .look-up .ensures .shows) (c .before .before .before .before .before .before .before .before .before .before .before .before .before .before .before .before .before .before .before .before .plan-of .ensures) (sym (c .before .before .before .before .before .before .before .before .before .before .before .before .before .before .before .before .before .before .before .wants-operand .ensures) ∙ c .before .before .before .before .before .before .before .before .before .before .before .before .before .before .before .before .before .before .if1 .taken) (markOf (c .before .before .before .before .before .before .before .before .before .before .before .before .before .before .before .before .before .operand-mark .result)) (c .before .before .before .before .before .before .before .before .before .before .before .before .before .before .before .before .before .operand-mark .ensures) _ _ _ (c .before .before .before .before .before .before .before .before .before .before .before .before .before .before .expand-text .ensures) (c .before .before .before .before .before .before .before .before .got2 .given .1) _ _ (c .before .before .before .before .finish .result) (c .before .before .before .before .finish .ensures)
 
   pub expand-inner-same-length-5 : expand-inner-lts.Need-same-length-5 (expand-inner-callees t) (expand-inner-at t) expand-inner.Post
   expand-inner-same-length-5 c = search needs
@@ -144,7 +186,11 @@ module _ (t : ℕ) where
       let a = c .before .before .before .before .before .before .before .before .before .before .before .before .before .args in
       let y = c .before .before .before .before .before .before .before .before .before .before .before .before .before .pre .1 .0 in
       let w = c .before .before .before .before .before .before .before .before .before .before .before .before .before .pre .1 .1 in
-      unused-fault (a .room) (a .text .now) (a .at) (a .mode) (a .depth) (a .used) _ (a .vars .now) (a .have) (a .name .now) (formOf (a .form)) (markOf (a .mark)) y w (c .before .before .before .before .before .before .before .look-up .result) (c .before .before .before .before .before .before .before .look-up .ensures .shows) (c .before .before .before .before .before .before .plan-of .ensures) _ _ (read-known (a .text .now) (a .at) _ (c .before .before .before .read-text .ensures) (c .before .got3 .given .1)) _
+      unused-fault (a .room) (a .text .now) (a .at) (a .mode) (a .depth) (a .used) _ (a .vars .now) (a .have) (a .name .now) (formOf (a .form))
+      (markOf (a .mark)) y w (c .before .before .before .before .before .before .before .look-up .result)
+      (c .before .before .before .before .before .before .before .look-up .ensures .shows)
+      (c .before .before .before .before .before .before .plan-of .ensures) _ _
+      (read-known (a .text .now) (a .at) _ (c .before .before .before .read-text .ensures) (c .before .got3 .given .1)) _
 
   pub expand-inner-same-length-6 : expand-inner-lts.Need-same-length-6 (expand-inner-callees t) (expand-inner-at t) expand-inner.Post
   expand-inner-same-length-6 c = search needs
@@ -158,5 +204,13 @@ module _ (t : ℕ) where
       let a = c .before .before .before .before .before .before .before .before .before .before .before .before .before .before .before .before .before .before .before .args in
       let y = c .before .before .before .before .before .before .before .before .before .before .before .before .before .before .before .before .before .before .before .pre .1 .0 in
       let w = c .before .before .before .before .before .before .before .before .before .before .before .before .before .before .before .before .before .before .before .pre .1 .1 in
-      let t = read-known (a .text .now) (a .at) _ (c .before .before .before .before .before .before .before .before .before .read-text .ensures) (c .before .before .before .before .before .before .before .got4 .given .1) in
-      unused-given (a .room) (a .text .now) (a .at) (a .mode) (a .depth) (a .used) _ (a .vars .now) (a .have) (a .name .now) (formOf (a .form)) (markOf (a .mark)) y w (c .before .before .before .before .before .before .before .before .before .before .before .before .before .look-up .result) (c .before .before .before .before .before .before .before .before .before .before .before .before .before .look-up .ensures .shows) (c .before .before .before .before .before .before .before .before .before .before .before .before .plan-of .ensures) (sym (c .before .before .before .before .before .before .before .before .before .before .before .wants-operand .ensures) ∙ c .before .before .before .before .before .before .before .before .before .before .if1 .left) (t .is) (t .onward) (t .within) _ (c .before .before .before .settle .result) (c .before .before .before .settle .ensures) (c .going-on .ensures)
+      let t = read-known (a .text .now) (a .at) _ (c .before .before .before .before .before .before .before .before .before .read-text .ensures)
+      (c .before .before .before .before .before .before .before .got4 .given .1) in
+      unused-given (a .room) (a .text .now) (a .at) (a .mode) (a .depth) (a .used) _ (a .vars .now) (a .have) (a .name .now) (formOf (a .form))
+      (markOf (a .mark)) y w
+      (c .before .before .before .before .before .before .before .before .before .before .before .before .before .look-up .result)
+      (c .before .before .before .before .before .before .before .before .before .before .before .before .before .look-up .ensures .shows)
+      (c .before .before .before .before .before .before .before .before .before .before .before .before .plan-of .ensures)
+      (sym (c .before .before .before .before .before .before .before .before .before .before .before .wants-operand .ensures) ∙
+      c .before .before .before .before .before .before .before .before .before .before .if1 .left) (t .is) (t .onward) (t .within) _
+      (c .before .before .before .settle .result) (c .before .before .before .settle .ensures) (c .going-on .ensures)

@@ -3,7 +3,18 @@ use Prim.Native.Nat.{ℕ}
 use mathlib.Core.Path.{sym}
 use lib.Seq.{length-take-le}
 use Rattle.row.specs.Marks.{markOf}
-use Rattle.expand_text.proofs.Turning.{shown, shown-within, item-given, quote-ready, item-quote, inner-name, inner-ready, item-inner, sum-ready, item-sum}
+use Rattle.expand_text.proofs.Turning.{
+  shown,
+  shown-within,
+  item-given,
+  quote-ready,
+  item-quote,
+  inner-name,
+  inner-ready,
+  item-inner,
+  sum-ready,
+  item-sum,
+}
 use Rattle.expand_add.proofs.Holding.{table-held}
 use borrow.Author.Needs.{needs}
 use native.Mathlib.Omega.{arith}
@@ -15,10 +26,28 @@ use Rattle.expand_text.proofs.expand_sum.Reads as expand-sum
 use Rattle.expand_text.proofs.turn_from.Reads as turn-from-reads
 use Rattle.expand_item.proofs.give_item.Reads as give-item-reads
 use Rattle.read_item.proofs.item_at.Reads as item-at-reads
-use Rattle.expand_text.proofs.+expand_inner+expand_item+expand_quote+expand_sum+expand_text.Proof.Measures.{expand-inner-below, expand-item-at, expand-quote-below, expand-sum-below}
+use Rattle.expand_text.proofs.+expand_inner+expand_item+expand_quote+expand_sum+expand_text.Proof.Measures.{
+  expand-inner-below,
+  expand-item-at,
+  expand-quote-below,
+  expand-sum-below,
+}
 
 abbrev pub expand-item-callees : ℕ → expand-item-lts.Claims
-expand-item-callees t = (item-at-reads.Asked, item-at-reads.Learnt, expand-quote-below t, expand-quote.Post, turn-from-reads.Asked, turn-from-reads.Learnt, expand-inner-below t, expand-inner.Post, expand-sum-below t, expand-sum.Post, give-item-reads.Asked, give-item-reads.Learnt)
+expand-item-callees t = (
+  item-at-reads.Asked,
+  item-at-reads.Learnt,
+  expand-quote-below t,
+  expand-quote.Post,
+  turn-from-reads.Asked,
+  turn-from-reads.Learnt,
+  expand-inner-below t,
+  expand-inner.Post,
+  expand-sum-below t,
+  expand-sum.Post,
+  give-item-reads.Asked,
+  give-item-reads.Learnt,
+)
 
 module _ (t : ℕ) where
   pub expand-item-item-at-requires : expand-item-lts.Need-item-at-requires (expand-item-callees t) (expand-item-at t) expand-item.Post
@@ -40,8 +69,15 @@ module _ (t : ℕ) where
       let a = c .before .before .before .before .before .before .before .before .before .args in
       let y = c .before .before .before .before .before .before .before .before .before .pre .1 .0 in
       let w = c .before .before .before .before .before .before .before .before .before .pre .1 .1 in
-      let s = shown (a .text .now) (a .at) (a .depth) _ (c .before .before .before .before .before .item-at .ensures) (c .before .before .before .item .given .1) in
-      (omega (arith, c .before .before .before .before .before .before .before .before .before .pre .0, s .1), (quote-ready (a .room) (a .text .now) (a .at) (a .mode) (a .depth) (markOf (a .mark)) (a .used) _ (a .vars .now) (a .have) y w (c .before .before .before .before .before .item-at .ensures) (c .before .before .before .item .given .1), w))
+      let s = shown (a .text .now) (a .at) (a .depth) _ (c .before .before .before .before .before .item-at .ensures)
+      (c .before .before .before .item .given .1) in (
+        omega (arith, c .before .before .before .before .before .before .before .before .before .pre .0, s .1),
+        (
+          quote-ready (a .room) (a .text .now) (a .at) (a .mode) (a .depth) (markOf (a .mark)) (a .used) _ (a .vars .now) (a .have) y w
+              (c .before .before .before .before .before .item-at .ensures) (c .before .before .before .item .given .1),
+          w,
+        ),
+      )
 
   pub expand-item-turn-from-requires : expand-item-lts.Need-turn-from-requires (expand-item-callees t) (expand-item-at t) expand-item.Post
   expand-item-turn-from-requires c κs = search needs
@@ -78,8 +114,18 @@ module _ (t : ℕ) where
       let a = c .before .before .before .before .before .before .before .before .before .before .args in
       let y = c .before .before .before .before .before .before .before .before .before .before .pre .1 .0 in
       let w = c .before .before .before .before .before .before .before .before .before .before .pre .1 .1 in
-      let s = shown (a .text .now) (a .at) (a .depth) _ (c .before .before .before .before .before .before .item-at .ensures) (c .before .before .before .before .item2 .given .1) in
-      (omega (arith, c .before .before .before .before .before .before .before .before .before .before .pre .0, s .1 .onward, s .1 .within), (inner-ready (a .room) (a .text .now) (a .at) (a .mode) (a .depth) (markOf (a .mark)) (a .used) _ (a .vars .now) (a .have) y w (c .before .before .before .before .before .before .item-at .ensures) (c .before .before .before .before .item2 .given .1), w, y .few, inner-name (a .room) (a .text .now) (a .at) (a .mode) (a .depth) (markOf (a .mark)) (a .used) _ (a .vars .now) (a .have) y w (c .before .before .before .before .before .before .item-at .ensures) (c .before .before .before .before .item2 .given .1)))
+      let s = shown (a .text .now) (a .at) (a .depth) _ (c .before .before .before .before .before .before .item-at .ensures)
+      (c .before .before .before .before .item2 .given .1) in (
+        omega (arith, c .before .before .before .before .before .before .before .before .before .before .pre .0, s .1 .onward, s .1 .within),
+        (
+          inner-ready (a .room) (a .text .now) (a .at) (a .mode) (a .depth) (markOf (a .mark)) (a .used) _ (a .vars .now) (a .have) y w
+              (c .before .before .before .before .before .before .item-at .ensures) (c .before .before .before .before .item2 .given .1),
+          w,
+          y .few,
+          inner-name (a .room) (a .text .now) (a .at) (a .mode) (a .depth) (markOf (a .mark)) (a .used) _ (a .vars .now) (a .have) y w
+              (c .before .before .before .before .before .before .item-at .ensures) (c .before .before .before .before .item2 .given .1),
+        ),
+      )
 
   pub expand-item-turn-from-requires-2 : expand-item-lts.Need-turn-from-requires-2 (expand-item-callees t) (expand-item-at t) expand-item.Post
   expand-item-turn-from-requires-2 c κs = search needs
@@ -98,13 +144,22 @@ module _ (t : ℕ) where
       let a = c .before .before .before .before .before .before .before .before .before .args in
       let y = c .before .before .before .before .before .before .before .before .before .pre .1 .0 in
       let w = c .before .before .before .before .before .before .before .before .before .pre .1 .1 in
-      let s = shown (a .text .now) (a .at) (a .depth) _ (c .before .before .before .before .before .item-at .ensures) (c .before .before .before .item3 .given .1) in
-      (omega (arith, c .before .before .before .before .before .before .before .before .before .pre .0, s .1, s .2), (sum-ready (a .room) (a .text .now) (a .at) (a .mode) (a .depth) (markOf (a .mark)) (a .used) _ (a .vars .now) (a .have) y w (c .before .before .before .before .before .item-at .ensures) (c .before .before .before .item3 .given .1), w, y .few))
+      let s = shown (a .text .now) (a .at) (a .depth) _ (c .before .before .before .before .before .item-at .ensures)
+      (c .before .before .before .item3 .given .1) in (
+        omega (arith, c .before .before .before .before .before .before .before .before .before .pre .0, s .1, s .2),
+        (
+          sum-ready (a .room) (a .text .now) (a .at) (a .mode) (a .depth) (markOf (a .mark)) (a .used) _ (a .vars .now) (a .have) y w
+              (c .before .before .before .before .before .item-at .ensures) (c .before .before .before .item3 .given .1),
+          w,
+          y .few,
+        ),
+      )
 
   pub expand-item-turn-from-requires-3 : expand-item-lts.Need-turn-from-requires-3 (expand-item-callees t) (expand-item-at t) expand-item.Post
   expand-item-turn-from-requires-3 c κs = search needs
 
-  pub expand-item-slice-reshare-prefix-give-item : expand-item-lts.Need-slice-reshare-prefix-give-item (expand-item-callees t) (expand-item-at t) expand-item.Post
+  pub expand-item-slice-reshare-prefix-give-item : expand-item-lts.Need-slice-reshare-prefix-give-item (expand-item-callees t) (expand-item-at t)
+      expand-item.Post
   expand-item-slice-reshare-prefix-give-item c =
       let w = c .before .before .before .before .before .pre .1 .1 in
       w .inside
@@ -119,8 +174,12 @@ module _ (t : ℕ) where
   expand-item-give-item-requires c κs =
       let a = c .before .before .before .before .before .before .before .args in
       let y = c .before .before .before .before .before .before .before .pre .1 .0 in
-      let w = c .before .before .before .before .before .before .before .pre .1 .1 in
-      (shown-within (a .text .now) (a .at) (a .depth) (c .before .before .before .item-at .result) _ (c .before .before .before .item-at .ensures), table-held (a .room) (a .vars .now) (a .have) w, y .few, omega (arith, y .area))
+      let w = c .before .before .before .before .before .before .before .pre .1 .1 in (
+        shown-within (a .text .now) (a .at) (a .depth) (c .before .before .before .item-at .result) _ (c .before .before .before .item-at .ensures),
+        table-held (a .room) (a .vars .now) (a .have) w,
+        y .few,
+        omega (arith, y .area),
+      )
 
   pub expand-item-same-length : expand-item-lts.Need-same-length (expand-item-callees t) (expand-item-at t) expand-item.Post
   expand-item-same-length c =
@@ -135,7 +194,10 @@ module _ (t : ℕ) where
       let a = c .before .before .before .before .before .before .before .before .before .before .before .before .before .before .before .args in
       let y = c .before .before .before .before .before .before .before .before .before .before .before .before .before .before .before .pre .1 .0 in
       let w = c .before .before .before .before .before .before .before .before .before .before .before .before .before .before .before .pre .1 .1 in
-      item-quote (a .room) (a .text .now) (a .at) (a .mode) (a .depth) (markOf (a .mark)) (a .used) _ (a .vars .now) (a .have) y w (c .before .before .before .before .before .before .before .before .before .before .before .item-at .ensures) (c .before .before .before .before .before .before .before .before .before .item .given .1) _ _ _ (c .before .before .before .before .before .expand-quote .ensures) (c .turn-from .ensures)
+      item-quote (a .room) (a .text .now) (a .at) (a .mode) (a .depth) (markOf (a .mark)) (a .used) _ (a .vars .now) (a .have) y w
+      (c .before .before .before .before .before .before .before .before .before .before .before .item-at .ensures)
+      (c .before .before .before .before .before .before .before .before .before .item .given .1) _ _ _
+      (c .before .before .before .before .before .expand-quote .ensures) (c .turn-from .ensures)
 
   pub expand-item-same-length-3 : expand-item-lts.Need-same-length-3 (expand-item-callees t) (expand-item-at t) expand-item.Post
   expand-item-same-length-3 c =
@@ -150,7 +212,10 @@ module _ (t : ℕ) where
       let a = c .before .before .before .before .before .before .before .before .before .before .before .before .before .before .before .before .args in
       let y = c .before .before .before .before .before .before .before .before .before .before .before .before .before .before .before .before .pre .1 .0 in
       let w = c .before .before .before .before .before .before .before .before .before .before .before .before .before .before .before .before .pre .1 .1 in
-      item-inner (a .room) (a .text .now) (a .at) (a .mode) (a .depth) (markOf (a .mark)) (a .used) _ (a .vars .now) (a .have) y w (c .before .before .before .before .before .before .before .before .before .before .before .before .item-at .ensures) (c .before .before .before .before .before .before .before .before .before .before .item2 .given .1) _ _ _ (c .before .before .before .before .before .expand-inner .ensures) (c .turn-from2 .ensures)
+      item-inner (a .room) (a .text .now) (a .at) (a .mode) (a .depth) (markOf (a .mark)) (a .used) _ (a .vars .now) (a .have) y w
+      (c .before .before .before .before .before .before .before .before .before .before .before .before .item-at .ensures)
+      (c .before .before .before .before .before .before .before .before .before .before .item2 .given .1) _ _ _
+      (c .before .before .before .before .before .expand-inner .ensures) (c .turn-from2 .ensures)
 
   pub expand-item-same-length-5 : expand-item-lts.Need-same-length-5 (expand-item-callees t) (expand-item-at t) expand-item.Post
   expand-item-same-length-5 c =
@@ -165,7 +230,10 @@ module _ (t : ℕ) where
       let a = c .before .before .before .before .before .before .before .before .before .before .before .before .before .before .before .args in
       let y = c .before .before .before .before .before .before .before .before .before .before .before .before .before .before .before .pre .1 .0 in
       let w = c .before .before .before .before .before .before .before .before .before .before .before .before .before .before .before .pre .1 .1 in
-      item-sum (a .room) (a .text .now) (a .at) (a .mode) (a .depth) (markOf (a .mark)) (a .used) _ (a .vars .now) (a .have) y w (c .before .before .before .before .before .before .before .before .before .before .before .item-at .ensures) (c .before .before .before .before .before .before .before .before .before .item3 .given .1) _ _ _ (c .before .before .before .before .before .expand-sum .ensures) (c .turn-from3 .ensures)
+      item-sum (a .room) (a .text .now) (a .at) (a .mode) (a .depth) (markOf (a .mark)) (a .used) _ (a .vars .now) (a .have) y w
+      (c .before .before .before .before .before .before .before .before .before .before .before .item-at .ensures)
+      (c .before .before .before .before .before .before .before .before .before .item3 .given .1) _ _ _
+      (c .before .before .before .before .before .expand-sum .ensures) (c .turn-from3 .ensures)
 
   pub expand-item-same-length-7 : expand-item-lts.Need-same-length-7 (expand-item-callees t) (expand-item-at t) expand-item.Post
   expand-item-same-length-7 c = search needs
@@ -179,4 +247,6 @@ module _ (t : ℕ) where
       let a = c .before .before .before .before .before .before .before .before .before .before .args in
       let y = c .before .before .before .before .before .before .before .before .before .before .pre .1 .0 in
       let w = c .before .before .before .before .before .before .before .before .before .before .pre .1 .1 in
-      item-given (a .room) (a .text .now) (a .at) (a .mode) (a .depth) (markOf (a .mark)) (a .used) _ (a .vars .now) (a .have) y w (c .before .before .before .before .before .before .item-at .result) (c .before .before .before .before .before .before .item-at .ensures) _ _ (c .before .before .before .before .before .match .keys4) (c .before .before .give-item .ensures)
+      item-given (a .room) (a .text .now) (a .at) (a .mode) (a .depth) (markOf (a .mark)) (a .used) _ (a .vars .now) (a .have) y w
+      (c .before .before .before .before .before .before .item-at .result) (c .before .before .before .before .before .before .item-at .ensures) _ _
+      (c .before .before .before .before .before .match .keys4) (c .before .before .give-item .ensures)

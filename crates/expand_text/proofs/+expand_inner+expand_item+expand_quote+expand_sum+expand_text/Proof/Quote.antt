@@ -61,8 +61,21 @@ module _ (t : ℕ) where
       let a = c .before .before .before .before .before .before .before .before .before .before .args in
       let y = c .before .before .before .before .before .before .before .before .before .before .pre .1 .0 in
       let w = c .before .before .before .before .before .before .before .before .before .before .pre .1 .1 in
-      let b : 2 ≤ length (c .before .before .before .before .put-empty .last .0) = omega (arith, y .area, c .before .before .before .before .before .before .if1 .left, c .before .before .before .before .put-empty .kept .0) in
-      (omega (arith, c .before .before .before .before .before .before .before .before .before .before .pre .0), (quote-inner (a .room) (a .text .now) (a .at) (a .mode) (a .depth) (a .used) _ (a .vars .now) (a .have) y (omega (arith, c .before .before .before .before .before .before .if1 .left)) _ (omega (arith, mid-len 2 (length (c .before .before .before .before .put-empty .last .0)) (c .before .before .before .before .put-empty .last .0) (omega arith), c .before .before .before .before .put-empty .kept .0)), w))
+      let b : 2 ≤ length (c .before .before .before .before .put-empty .last .0) =
+      omega (arith, y .area, c .before .before .before .before .before .before .if1 .left, c .before .before .before .before .put-empty .kept .0) in (
+        omega (arith, c .before .before .before .before .before .before .before .before .before .before .pre .0),
+        (
+          quote-inner (a .room) (a .text .now) (a .at) (a .mode) (a .depth) (a .used) _ (a .vars .now) (a .have) y
+              (omega (arith, c .before .before .before .before .before .before .if1 .left)) _
+              (omega (
+                arith,
+                mid-len 2 (length (c .before .before .before .before .put-empty .last .0))
+                    (c .before .before .before .before .put-empty .last .0) (omega arith),
+                c .before .before .before .before .put-empty .kept .0,
+              )),
+          w,
+        ),
+      )
 
   pub expand-quote-enum-known-got : expand-quote-lts.Need-enum-known-got (expand-quote-callees t) (expand-quote-at t) expand-quote.Post
   expand-quote-enum-known-got c = search needs
@@ -75,7 +88,9 @@ module _ (t : ℕ) where
       let a = c .before .before .before .before .before .before .before .before .before .before .before .before .before .before .before .before .before .before .args in
       let y = c .before .before .before .before .before .before .before .before .before .before .before .before .before .before .before .before .before .before .pre .1 .0 in
       let w = c .before .before .before .before .before .before .before .before .before .before .before .before .before .before .before .before .before .before .pre .1 .1 in
-      let f = quote-fits (a .room) (a .text .now) (a .at) (a .mode) (a .depth) (a .used) _ (a .vars .now) (a .have) y (omega (arith, c .before .before .before .before .before .before .before .before .before .before .before .before .before .before .if1 .left)) _ _ _ (c .before .before .before .before .before .before .before .expand-text .ensures) (c .before .got2 .given .1) in
+      let f = quote-fits (a .room) (a .text .now) (a .at) (a .mode) (a .depth) (a .used) _ (a .vars .now) (a .have) y
+      (omega (arith, c .before .before .before .before .before .before .before .before .before .before .before .before .before .before .if1 .left)) _
+      _ _ (c .before .before .before .before .before .before .before .expand-text .ensures) (c .before .got2 .given .1) in
       omega arith
 
   pub expand-quote-same-length : expand-quote-lts.Need-same-length (expand-quote-callees t) (expand-quote-at t) expand-quote.Post
@@ -87,14 +102,20 @@ module _ (t : ℕ) where
       let a = c .before .before .before .before .before .before .before .before .before .before .before .before .before .before .before .before .before .before .args in
       let y = c .before .before .before .before .before .before .before .before .before .before .before .before .before .before .before .before .before .before .pre .1 .0 in
       let w = c .before .before .before .before .before .before .before .before .before .before .before .before .before .before .before .before .before .before .pre .1 .1 in
-      same-len-mid 2 (length (c .before .before .before .before .before .before .before .before .before .before .before .before .put-empty .last .0) - 2) (c .before .before .before .before .before .before .before .before .before .before .before .before .put-empty .last .0) (c .before .before .before .before .before .before .before .expand-text .last .1 .1 .1 .1 .1 .1 .1 .1 .1 .0) (c .before .before .before .before .before .before .before .expand-text .kept .1 .1 .1 .1 .1 .1 .1 .1 .1 .0) ∙ c .before .before .before .before .before .before .before .before .before .before .before .before .put-empty .kept .0
+      same-len-mid 2 (length (c .before .before .before .before .before .before .before .before .before .before .before .before .put-empty .last .0) -
+      2) (c .before .before .before .before .before .before .before .before .before .before .before .before .put-empty .last .0)
+      (c .before .before .before .before .before .before .before .expand-text .last .1 .1 .1 .1 .1 .1 .1 .1 .1 .0)
+      (c .before .before .before .before .before .before .before .expand-text .kept .1 .1 .1 .1 .1 .1 .1 .1 .1 .0) ∙
+      c .before .before .before .before .before .before .before .before .before .before .before .before .put-empty .kept .0
 
   pub expand-quote-returns-2 : expand-quote-lts.Need-returns-2 (expand-quote-callees t) (expand-quote-at t) expand-quote.Post
   expand-quote-returns-2 c =
       let a = c .before .before .before .before .before .before .before .before .before .before .before .before .before .before .before .before .before .before .args in
       let y = c .before .before .before .before .before .before .before .before .before .before .before .before .before .before .before .before .before .before .pre .1 .0 in
       let w = c .before .before .before .before .before .before .before .before .before .before .before .before .before .before .before .before .before .before .pre .1 .1 in
-      quote-refused (a .room) (a .text .now) (a .at) (a .mode) (a .depth) (a .used) _ (a .vars .now) (a .have) y (omega (arith, c .before .before .before .before .before .before .before .before .before .before .before .before .before .before .if1 .left)) _ _ _ (c .before .before .before .before .before .before .before .expand-text .ensures) _ (c .before .got .given .1)
+      quote-refused (a .room) (a .text .now) (a .at) (a .mode) (a .depth) (a .used) _ (a .vars .now) (a .have) y
+      (omega (arith, c .before .before .before .before .before .before .before .before .before .before .before .before .before .before .if1 .left)) _
+      _ _ (c .before .before .before .before .before .before .before .expand-text .ensures) _ (c .before .got .given .1)
 
   pub expand-quote-same-length-3 : expand-quote-lts.Need-same-length-3 (expand-quote-callees t) (expand-quote-at t) expand-quote.Post
   expand-quote-same-length-3 c =
@@ -105,11 +126,20 @@ module _ (t : ℕ) where
       let a = c .before .before .before .before .before .before .before .before .before .before .before .before .before .before .before .before .before .before .args in
       let y = c .before .before .before .before .before .before .before .before .before .before .before .before .before .before .before .before .before .before .pre .1 .0 in
       let w = c .before .before .before .before .before .before .before .before .before .before .before .before .before .before .before .before .before .before .pre .1 .1 in
-      same-len-mid 2 (length (c .before .before .before .before .before .before .before .before .before .before .before .before .put-empty .last .0) - 2) (c .before .before .before .before .before .before .before .before .before .before .before .before .put-empty .last .0) (c .before .before .before .before .before .before .before .expand-text .last .1 .1 .1 .1 .1 .1 .1 .1 .1 .0) (c .before .before .before .before .before .before .before .expand-text .kept .1 .1 .1 .1 .1 .1 .1 .1 .1 .0) ∙ c .before .before .before .before .before .before .before .before .before .before .before .before .put-empty .kept .0
+      same-len-mid 2 (length (c .before .before .before .before .before .before .before .before .before .before .before .before .put-empty .last .0) -
+      2) (c .before .before .before .before .before .before .before .before .before .before .before .before .put-empty .last .0)
+      (c .before .before .before .before .before .before .before .expand-text .last .1 .1 .1 .1 .1 .1 .1 .1 .1 .0)
+      (c .before .before .before .before .before .before .before .expand-text .kept .1 .1 .1 .1 .1 .1 .1 .1 .1 .0) ∙
+      c .before .before .before .before .before .before .before .before .before .before .before .before .put-empty .kept .0
 
   pub expand-quote-returns-3 : expand-quote-lts.Need-returns-3 (expand-quote-callees t) (expand-quote-at t) expand-quote.Post
   expand-quote-returns-3 c =
       let a = c .before .before .before .before .before .before .before .before .before .before .before .before .before .before .before .before .before .before .args in
       let y = c .before .before .before .before .before .before .before .before .before .before .before .before .before .before .before .before .before .before .pre .1 .0 in
       let w = c .before .before .before .before .before .before .before .before .before .before .before .before .before .before .before .before .before .before .pre .1 .1 in
-      quote-row (a .room) (a .text .now) (a .at) (a .mode) (a .depth) (a .used) _ (a .vars .now) (a .have) y (omega (arith, c .before .before .before .before .before .before .before .before .before .before .before .before .before .before .if1 .left)) _ _ _ (c .before .before .before .before .before .before .before .expand-text .ensures) (c .before .got2 .given .1) _ _ _ (empty-front (a .work .now) (c .before .before .before .before .before .before .before .before .before .before .before .before .put-empty .last .0) (c .before .before .before .before .before .before .before .before .before .before .before .before .put-empty .ensures))
+      quote-row (a .room) (a .text .now) (a .at) (a .mode) (a .depth) (a .used) _ (a .vars .now) (a .have) y
+      (omega (arith, c .before .before .before .before .before .before .before .before .before .before .before .before .before .before .if1 .left)) _
+      _ _ (c .before .before .before .before .before .before .before .expand-text .ensures) (c .before .got2 .given .1) _ _ _
+      (empty-front (a .work .now)
+      (c .before .before .before .before .before .before .before .before .before .before .before .before .put-empty .last .0)
+      (c .before .before .before .before .before .before .before .before .before .before .before .before .put-empty .ensures))

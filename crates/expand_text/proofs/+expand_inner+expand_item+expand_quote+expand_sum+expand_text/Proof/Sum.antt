@@ -36,21 +36,31 @@ module _ (t : ℕ) where
       let a = c .before .before .before .before .before .before .before .before .before .before .before .before .before .args in
       let y = c .before .before .before .before .before .before .before .before .before .before .before .before .before .pre .1 .0 in
       let w = c .before .before .before .before .before .before .before .before .before .before .before .before .before .pre .1 .1 in
-      sum-holds (a .room) (a .text .now) (a .at) (a .depth) (a .used) _ (a .vars .now) (a .have) (markOf (a .mark)) y w _ _ _ (c .before .before .before .before .before .before .before .expand-text .ensures) (c .before .got2 .given .1) .inside
+      sum-holds (a .room) (a .text .now) (a .at) (a .depth) (a .used) _ (a .vars .now) (a .have) (markOf (a .mark)) y w _ _ _
+      (c .before .before .before .before .before .before .before .expand-text .ensures) (c .before .got2 .given .1) .inside
 
   pub expand-sum-slice-aggregate-sum-up : expand-sum-lts.Need-slice-aggregate-sum-up (expand-sum-callees t) (expand-sum-at t) expand-sum.Post
   expand-sum-slice-aggregate-sum-up c =
       let a = c .before .before .before .before .before .before .before .before .before .before .before .before .before .before .args in
       let y = c .before .before .before .before .before .before .before .before .before .before .before .before .before .before .pre .1 .0 in
       let w = c .before .before .before .before .before .before .before .before .before .before .before .before .before .before .pre .1 .1 in
-      sym (length-take-le _ (c .before .before .before .before .before .before .before .before .expand-text .last .1 .1 .1 .1 .1 .1 .0) (sum-holds (a .room) (a .text .now) (a .at) (a .depth) (a .used) _ (a .vars .now) (a .have) (markOf (a .mark)) y w _ _ _ (c .before .before .before .before .before .before .before .before .expand-text .ensures) (c .before .before .got2 .given .1) .inside))
+      sym (length-take-le _ (c .before .before .before .before .before .before .before .before .expand-text .last .1 .1 .1 .1 .1 .1 .0)
+      (sum-holds (a .room) (a .text .now) (a .at) (a .depth) (a .used) _ (a .vars .now) (a .have) (markOf (a .mark)) y w _ _ _
+      (c .before .before .before .before .before .before .before .before .expand-text .ensures) (c .before .before .got2 .given .1) .inside))
 
   pub expand-sum-sum-up-requires : expand-sum-lts.Need-sum-up-requires (expand-sum-callees t) (expand-sum-at t) expand-sum.Post
   expand-sum-sum-up-requires c κs =
       let a = c .before .before .before .before .before .before .before .before .before .before .before .before .before .before .before .args in
       let y = c .before .before .before .before .before .before .before .before .before .before .before .before .before .before .before .pre .1 .0 in
-      let w = c .before .before .before .before .before .before .before .before .before .before .before .before .before .before .before .pre .1 .1 in
-      (table-held (a .room) _ _ (sum-holds (a .room) (a .text .now) (a .at) (a .depth) (a .used) _ (a .vars .now) (a .have) (markOf (a .mark)) y w _ _ _ (c .before .before .before .before .before .before .before .before .before .expand-text .ensures) (c .before .before .before .got2 .given .1)), sum-inside (a .room) (a .text .now) (a .at) (a .depth) (a .used) _ (a .vars .now) (a .have) (markOf (a .mark)) y w _ _ _ (c .before .before .before .before .before .before .before .before .before .expand-text .ensures) (c .before .before .before .got2 .given .1), c .before .before .before .before .before .before .before .before .before .before .before .before .before .before .before .pre .1 .2, omega (arith, y .area, c .before .before .before .before .before .before .before .before .before .expand-text .kept .1 .1 .1 .1 .1 .1 .1 .1 .1 .0))
+      let w = c .before .before .before .before .before .before .before .before .before .before .before .before .before .before .before .pre .1 .1 in (
+        table-held (a .room) _ _
+            (sum-holds (a .room) (a .text .now) (a .at) (a .depth) (a .used) _ (a .vars .now) (a .have) (markOf (a .mark)) y w _ _ _
+            (c .before .before .before .before .before .before .before .before .before .expand-text .ensures) (c .before .before .before .got2 .given .1)),
+        sum-inside (a .room) (a .text .now) (a .at) (a .depth) (a .used) _ (a .vars .now) (a .have) (markOf (a .mark)) y w _ _ _
+            (c .before .before .before .before .before .before .before .before .before .expand-text .ensures) (c .before .before .before .got2 .given .1),
+        c .before .before .before .before .before .before .before .before .before .before .before .before .before .before .before .pre .1 .2,
+        omega (arith, y .area, c .before .before .before .before .before .before .before .before .before .expand-text .kept .1 .1 .1 .1 .1 .1 .1 .1 .1 .0),
+      )
 
   pub expand-sum-going-on-requires : expand-sum-lts.Need-going-on-requires (expand-sum-callees t) (expand-sum-at t) expand-sum.Post
   expand-sum-going-on-requires c κs = search needs
@@ -68,7 +78,8 @@ module _ (t : ℕ) where
       let a = c .before .before .before .before .before .before .before .before .before .before .before .before .before .args in
       let y = c .before .before .before .before .before .before .before .before .before .before .before .before .before .pre .1 .0 in
       let w = c .before .before .before .before .before .before .before .before .before .before .before .before .before .pre .1 .1 in
-      sum-refused (a .room) (a .text .now) (a .at) (a .depth) (a .used) _ (a .vars .now) (a .have) (markOf (a .mark)) y w _ _ _ (c .before .before .before .before .before .before .before .expand-text .ensures) _ (c .before .got .given .1)
+      sum-refused (a .room) (a .text .now) (a .at) (a .depth) (a .used) _ (a .vars .now) (a .have) (markOf (a .mark)) y w _ _ _
+      (c .before .before .before .before .before .before .before .expand-text .ensures) _ (c .before .got .given .1)
 
   pub expand-sum-same-length-3 : expand-sum-lts.Need-same-length-3 (expand-sum-callees t) (expand-sum-at t) expand-sum.Post
   expand-sum-same-length-3 c =
@@ -83,4 +94,7 @@ module _ (t : ℕ) where
       let a = c .before .before .before .before .before .before .before .before .before .before .before .before .before .before .before .before .before .before .before .args in
       let y = c .before .before .before .before .before .before .before .before .before .before .before .before .before .before .before .before .before .before .before .pre .1 .0 in
       let w = c .before .before .before .before .before .before .before .before .before .before .before .before .before .before .before .before .before .before .before .pre .1 .1 in
-      sum-given (a .room) (a .text .now) (a .at) (a .depth) (a .used) _ (a .vars .now) (a .have) (markOf (a .mark)) y w _ _ _ (c .before .before .before .before .before .before .before .before .before .before .before .before .before .expand-text .ensures) (c .before .before .before .before .before .before .before .got2 .given .1) _ (c .before .before .before .sum-up .result) (c .before .before .before .sum-up .ensures) (c .going-on .ensures)
+      sum-given (a .room) (a .text .now) (a .at) (a .depth) (a .used) _ (a .vars .now) (a .have) (markOf (a .mark)) y w _ _ _
+      (c .before .before .before .before .before .before .before .before .before .before .before .before .before .expand-text .ensures)
+      (c .before .before .before .before .before .before .before .got2 .given .1) _ (c .before .before .before .sum-up .result)
+      (c .before .before .before .sum-up .ensures) (c .going-on .ensures)

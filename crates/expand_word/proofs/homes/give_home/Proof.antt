@@ -17,7 +17,9 @@ same-length c = search needs
 returns : tie.Need-returns
 returns c =
     let a = c .before .before .before .before .before .before .before .before .before .before .args in
-    home-same (c .before .before .home-in .last .1 .1 .0) (c .before .before .home-in .result) (empty-login (held (a .vars .now)) (held (a .homes .now)) (a .login .now) (c .before .before .before .before .before .if1 .taken)) (c .before .before .home-in .ensures)
+    home-same (c .before .before .home-in .last .1 .1 .0) (c .before .before .home-in .result)
+    (empty-login (held (a .vars .now)) (held (a .homes .now)) (a .login .now) (c .before .before .before .before .before .if1 .taken))
+    (c .before .before .home-in .ensures)
 
 home-in-requires-2 : tie.Need-home-in-requires-2
 home-in-requires-2 c κs = (c .before .before .before .before .before .before .pre .1, c .before .before .before .before .before .before .pre .2)
@@ -28,7 +30,9 @@ same-length-2 c = search needs
 returns-2 : tie.Need-returns-2
 returns-2 c =
     let a = c .before .before .before .before .before .before .before .before .before .args in
-    home-same (c .before .before .home-in2 .last .1 .1 .0) (c .before .before .home-in2 .result) (some-login (held (a .vars .now)) (held (a .homes .now)) (a .login .now) (c .before .before .before .before .if1 .left)) (c .before .before .home-in2 .ensures)
+    home-same (c .before .before .home-in2 .last .1 .1 .0) (c .before .before .home-in2 .result)
+    (some-login (held (a .vars .now)) (held (a .homes .now)) (a .login .now) (c .before .before .before .before .if1 .left))
+    (c .before .before .home-in2 .ensures)
 
 pub give-home-spec : {M : Type 1} → statement M
 give-home-spec = tie.close (tie.spec slice-aggregate-home-in home-in-requires same-length returns home-in-requires-2 same-length-2 returns-2)

@@ -50,7 +50,12 @@ same-length c = search needs
 returns-2 : tie.Need-returns-2
 returns-2 c =
     let a = c .before .before .before .before .before .before .before .before .before .before .before .before .before .args in
-    home-added (lookup (a .key .now) (held (a .image .now))) _ (c .before .before .before .give-directory .last .1 .0) (found-at (a .image .now) (a .key .now) (c .before .before .before .before .before .before .before .before .before .look-up .ensures .shows) (c .before .before .before .before .before .before .before .found .given .1) .gets) (c .before .before .before .give-directory .result) (c .before .before .before .give-directory .ensures) (c .home-of .ensures)
+    home-added (lookup (a .key .now) (held (a .image .now))) _ (c .before .before .before .give-directory .last .1 .0)
+    (found-at (a .image .now) (a .key .now) (c .before .before .before .before .before .before .before .before .before .look-up .ensures .shows)
+    (c .before .before .before .before .before .before .before .found .given .1) .gets) (c .before .before .before .give-directory .result)
+    (c .before .before .before .give-directory .ensures) (c .home-of .ensures)
 
 pub home-in-spec : {M : Type 1} → statement M
-home-in-spec = tie.close (tie.spec look-up-requires enum-told enum-known-found sub-give-directory part-give-directory-start part-give-directory-end give-directory-requires home-of-requires returns same-length returns-2)
+home-in-spec = tie.close
+    (tie.spec look-up-requires enum-told enum-known-found sub-give-directory part-give-directory-start part-give-directory-end give-directory-requires
+    home-of-requires returns same-length returns-2)

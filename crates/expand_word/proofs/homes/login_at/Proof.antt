@@ -32,7 +32,8 @@ returns-3 : tie.Need-returns-3
 returns-3 c =
     let a = c .before .before .before .before .before .before .args in
     let i : a .at < length (a .line .now) = omega (arith, c .before .before .before .before .if1 .left) in
-    opens (a .line .now) (a .at) i (c .before .before .if2 .left) (c .before .run-end .ensures) (ends-line (a .line .now) (c .before .run-end .result) (c .if3 .taken))
+    opens (a .line .now) (a .at) i (c .before .before .if2 .left) (c .before .run-end .ensures)
+    (ends-line (a .line .now) (c .before .run-end .result) (c .if3 .taken))
 
 shared-slice-read-if4 : tie.Need-shared-slice-read-if4
 shared-slice-read-if4 c = omega (arith, c .before .if3 .left)
@@ -41,7 +42,8 @@ returns-4 : tie.Need-returns-4
 returns-4 c =
     let a = c .before .before .before .before .before .before .before .before .args in
     let i : a .at < length (a .line .now) = omega (arith, c .before .before .before .before .before .before .if1 .left) in
-    opens (a .line .now) (a .at) i (c .before .before .before .before .if2 .left) (c .before .before .before .run-end .ensures) (ends-slash (a .line .now) (c .before .before .before .run-end .result) (omega (arith, c .before .before .if3 .left)) (c .if4 .taken))
+    opens (a .line .now) (a .at) i (c .before .before .before .before .if2 .left) (c .before .before .before .run-end .ensures)
+    (ends-slash (a .line .now) (c .before .before .before .run-end .result) (omega (arith, c .before .before .if3 .left)) (c .if4 .taken))
 
 shared-slice-read-in-class : tie.Need-shared-slice-read-in-class
 shared-slice-read-in-class c = omega (arith, c .before .before .before .if3 .left)
@@ -53,13 +55,23 @@ returns-5 : tie.Need-returns-5
 returns-5 c =
     let a = c .before .before .before .before .before .before .before .before .before .before .before .args in
     let i : a .at < length (a .line .now) = omega (arith, c .before .before .before .before .before .before .before .before .before .if1 .left) in
-    opens (a .line .now) (a .at) i (c .before .before .before .before .before .before .before .if2 .left) (c .before .before .before .before .before .before .run-end .ensures) (ends-blank (a .line .now) (c .before .before .before .before .before .before .run-end .result) (omega (arith, c .before .before .before .before .before .if3 .left)) (c .before .before .before .if4 .left) (sym (c .before .in-class .ensures) ∙ c .if5 .taken))
+    opens (a .line .now) (a .at) i (c .before .before .before .before .before .before .before .if2 .left)
+    (c .before .before .before .before .before .before .run-end .ensures)
+    (ends-blank (a .line .now) (c .before .before .before .before .before .before .run-end .result)
+    (omega (arith, c .before .before .before .before .before .if3 .left)) (c .before .before .before .if4 .left)
+    (sym (c .before .in-class .ensures) ∙ c .if5 .taken))
 
 returns-6 : tie.Need-returns-6
 returns-6 c =
     let a = c .before .before .before .before .before .before .before .before .before .before .before .args in
     let i : a .at < length (a .line .now) = omega (arith, c .before .before .before .before .before .before .before .before .before .if1 .left) in
-    opens-none (a .line .now) (a .at) i (c .before .before .before .before .before .before .before .if2 .left) (c .before .before .before .before .before .before .run-end .ensures) (ends-blank (a .line .now) (c .before .before .before .before .before .before .run-end .result) (omega (arith, c .before .before .before .before .before .if3 .left)) (c .before .before .before .if4 .left) (sym (c .before .in-class .ensures) ∙ c .if5 .left))
+    opens-none (a .line .now) (a .at) i (c .before .before .before .before .before .before .before .if2 .left)
+    (c .before .before .before .before .before .before .run-end .ensures)
+    (ends-blank (a .line .now) (c .before .before .before .before .before .before .run-end .result)
+    (omega (arith, c .before .before .before .before .before .if3 .left)) (c .before .before .before .if4 .left)
+    (sym (c .before .in-class .ensures) ∙ c .if5 .left))
 
 pub login-at-spec : {M : Type 1} → statement M
-login-at-spec = tie.close (tie.spec returns shared-slice-read-if2 returns-2 add-run-end run-end-requires returns-3 shared-slice-read-if4 returns-4 shared-slice-read-in-class in-class-requires returns-5 returns-6)
+login-at-spec = tie.close
+    (tie.spec returns shared-slice-read-if2 returns-2 add-run-end run-end-requires returns-3 shared-slice-read-if4 returns-4
+    shared-slice-read-in-class in-class-requires returns-5 returns-6)

@@ -60,7 +60,8 @@ returns : tie.Need-returns Inv-loop μ-loop
 returns c = λ k h. go k (decLt k (c .before .loop .i))
   where
     go : (k : ℕ) → Dec (k < c .before .loop .i)
-        → has (c .before .loop .self .on) k ≡ (between (c .before .before .args .lo) k (c .before .before .args .hi) || has (c .before .before .args .t1 .on) k)
+        → has (c .before .loop .self .on) k ≡
+        (between (c .before .before .args .lo) k (c .before .before .args .hi) || has (c .before .before .args .t1 .on) k)
     go k (yes p) = c .before .loop .inv .5 k p
     go k (no f) =
         let above : c .before .before .args .hi < k = omega arith in

@@ -41,11 +41,14 @@ enum-known-taken-2 c = search needs
 
 slice-reshare-prefix-answer-line : tie.Need-slice-reshare-prefix-answer-line Inv-loop μ-loop
 slice-reshare-prefix-answer-line c =
-    ended-inside (c .before .before .before .before .before .take-in .ensures) (c .before .before .before .before .before .before .before .before .before .loop .inv .room) (c .before .taken2 .given .1)
+    ended-inside (c .before .before .before .before .before .take-in .ensures)
+    (c .before .before .before .before .before .before .before .before .before .loop .inv .room) (c .before .taken2 .given .1)
 
 slice-aggregate-answer-line : tie.Need-slice-aggregate-answer-line Inv-loop μ-loop
 slice-aggregate-answer-line c =
-    sym (length-take-le _ _ (ended-inside (c .before .before .before .before .before .before .take-in .ensures) (c .before .before .before .before .before .before .before .before .before .before .loop .inv .room) (c .before .before .taken2 .given .1)))
+    sym (length-take-le _ _
+    (ended-inside (c .before .before .before .before .before .before .take-in .ensures)
+    (c .before .before .before .before .before .before .before .before .before .before .loop .inv .room) (c .before .before .taken2 .given .1)))
 
 answer-line-requires : tie.Need-answer-line-requires Inv-loop μ-loop
 answer-line-requires c κs = search needs
@@ -53,7 +56,8 @@ answer-line-requires c κs = search needs
 loop-less : tie.Need-loop-less Inv-loop μ-loop
 loop-less c =
     let i = c .before .before .before .before .before .before .before .before .before .before .before .before .before .before .loop .inv in
-    let n = ended-next (c .before .before .before .before .before .before .before .before .before .before .take-in .ensures) (c .before .before .before .before .before .before .taken2 .given .1) (i .inside) in
+    let n = ended-next (c .before .before .before .before .before .before .before .before .before .before .take-in .ensures)
+    (c .before .before .before .before .before .before .taken2 .given .1) (i .inside) in
     omega (arith, n .0, n .1)
 
 loop-again : tie.Need-loop-again Inv-loop μ-loop

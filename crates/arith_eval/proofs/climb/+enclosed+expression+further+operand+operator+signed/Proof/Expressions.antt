@@ -11,7 +11,18 @@ use Rattle.arith_int.proofs.Ranges.{kept}
 use Rattle.arith_int.proofs.Ranges as ranges
 use Rattle.arith_token.proofs.Lexing.{level-small}
 use Rattle.arith_eval.proofs.Operands.{token-shown, says-shown}
-use Rattle.arith_eval.proofs.Climbing.{turns-shown, expression-fails, expression-says, turn-refused, last-stop, last-number, last-name, last-opens, last-shuts, last-loose}
+use Rattle.arith_eval.proofs.Climbing.{
+  turns-shown,
+  expression-fails,
+  expression-says,
+  turn-refused,
+  last-stop,
+  last-number,
+  last-name,
+  last-opens,
+  last-shuts,
+  last-loose,
+}
 use Rattle.arith_eval.proofs.Climbing.{right-fails, turn-says, Going, going-start, going-refused, going-last, going-next}
 use Rattle.arith_eval.proofs.climb.expression.Reads as expression
 use Rattle.arith_eval.proofs.climb.further.Reads as further
@@ -23,7 +34,15 @@ use Rattle.arith_eval.proofs.climb.+enclosed+expression+further+operand
 use Rattle.arith_eval.proofs.climb.joined.Reads as joined-reads
 use Rattle.arith_token.proofs.level.Reads as level-reads
 use Rattle.arith_token.proofs.token_at.Reads as token-at-reads
-use Rattle.arith_eval.proofs.climb.+enclosed+expression+further+operand+operator+signed.Proof.Measures.{expression-at, expression-below, further-at, further-below, operand-below, operator-at, operator-below}
+use Rattle.arith_eval.proofs.climb.+enclosed+expression+further+operand+operator+signed.Proof.Measures.{
+  expression-at,
+  expression-below,
+  further-at,
+  further-below,
+  operand-below,
+  operator-at,
+  operator-below,
+}
 
 abbrev pub expression-callees : ℕ → expression-lts.Claims
 expression-callees t = (operand-below t, operand.Post, further-below t, further.Post)
@@ -44,18 +63,27 @@ module _ (t : ℕ) where
       let a = c .before .before .before .before .before .before .args in
       let g = says-shown (a .text .now) (a .at) (held (a .vars .now)) (a .counts) _ (c .before .before .before .operand .ensures) (c .before .got2 .given .1) in
       let l = g .onward in
-      let w = g .within in
-      (omega (arith, c .before .before .before .before .before .before .pre .0), record { start = w; table = c .before .before .before .before .before .before .pre .1 .table })
+      let w = g .within in (
+        omega (arith, c .before .before .before .before .before .before .pre .0),
+        record {
+          start = w;
+          table =
+              c .before .before .before .before .before .before .pre .1 .table;
+        },
+      )
 
   pub expression-returns : expression-lts.Need-returns (expression-callees t) (expression-at t) expression.Post
   expression-returns c =
       let a = c .before .before .before .before .before .before .args in
-      expression-fails (a .text .now) (held (a .vars .now)) (a .counts) (a .at) (a .room) (a .least) _ (says-shown (a .text .now) (a .at) (held (a .vars .now)) (a .counts) _ (c .before .before .before .operand .ensures) (c .before .got .given .1))
+      expression-fails (a .text .now) (held (a .vars .now)) (a .counts) (a .at) (a .room) (a .least) _
+      (says-shown (a .text .now) (a .at) (held (a .vars .now)) (a .counts) _ (c .before .before .before .operand .ensures) (c .before .got .given .1))
 
   pub expression-returns-2 : expression-lts.Need-returns-2 (expression-callees t) (expression-at t) expression.Post
   expression-returns-2 c =
       let a = c .before .before .before .before .before .before .before .args in
-      expression-says (a .text .now) (held (a .vars .now)) (a .counts) (a .at) (a .room) (a .least) _ _ (c .further .result) (says-shown (a .text .now) (a .at) (held (a .vars .now)) (a .counts) _ (c .before .before .before .before .operand .ensures) (c .before .before .got2 .given .1))
+      expression-says (a .text .now) (held (a .vars .now)) (a .counts) (a .at) (a .room) (a .least) _ _ (c .further .result)
+      (says-shown (a .text .now) (a .at) (held (a .vars .now)) (a .counts) _ (c .before .before .before .before .operand .ensures)
+      (c .before .before .got2 .given .1))
       (rw (kept (c .before .before .got2 .given .0 .0) (c .before .known-told2 .given .0 .1)) at (c .further .ensures))
 
 abbrev pub further-callees : ℕ → further-lts.Claims
@@ -86,7 +114,11 @@ module _ (t : ℕ) where
   pub further-returns : further-lts.Need-returns (further-callees t) (further-at t) further.Post further-Inv-loop further-μ-loop
   further-returns c =
       let a = c .before .before .before .before .before .before .before .args in
-      rw (ranges.held (a .left) (c .before .before .before .before .before .before .before .fits .left)) at (going-refused (a .text .now) (held (a .vars .now)) (a .counts) (a .at) (a .room) (a .least) _ _ _ (c .before .before .before .before .loop .inv) _ (turns-shown (a .text .now) _ (held (a .vars .now)) (a .counts) (a .room) (a .least) _ (c .before .before .before .operator .ensures) (c .before .got .given .1)))
+      rw (ranges.held (a .left) (c .before .before .before .before .before .before .before .fits .left)) at
+      (going-refused (a .text .now) (held (a .vars .now)) (a .counts) (a .at) (a .room) (a .least) _ _ _
+      (c .before .before .before .before .loop .inv) _
+      (turns-shown (a .text .now) _ (held (a .vars .now)) (a .counts) (a .room) (a .least) _ (c .before .before .before .operator .ensures)
+      (c .before .got .given .1)))
 
   pub further-enum-told : further-lts.Need-enum-told (further-callees t) (further-at t) further.Post further-Inv-loop further-μ-loop
   further-enum-told c = search needs
@@ -94,7 +126,9 @@ module _ (t : ℕ) where
   pub further-returns-2 : further-lts.Need-returns-2 (further-callees t) (further-at t) further.Post further-Inv-loop further-μ-loop
   further-returns-2 c =
       let a = c .before .before .before .before .before .before .args in
-      rw (ranges.held (a .left) (c .before .before .before .before .before .before .fits .left)) at (going-last (a .text .now) (held (a .vars .now)) (a .counts) (a .at) (a .room) (a .least) _ _ _ (c .before .before .before .loop .inv) (turns-shown (a .text .now) _ (held (a .vars .now)) (a .counts) (a .room) (a .least) _ (c .before .before .operator .ensures) (c .enum-told .given .1)))
+      rw (ranges.held (a .left) (c .before .before .before .before .before .before .fits .left)) at
+      (going-last (a .text .now) (held (a .vars .now)) (a .counts) (a .at) (a .room) (a .least) _ _ _ (c .before .before .before .loop .inv)
+      (turns-shown (a .text .now) _ (held (a .vars .now)) (a .counts) (a .room) (a .least) _ (c .before .before .operator .ensures) (c .enum-told .given .1)))
 
   pub further-enum-known-got-2 : further-lts.Need-enum-known-got-2 (further-callees t) (further-at t) further.Post further-Inv-loop further-μ-loop
   further-enum-known-got-2 c = search needs
@@ -102,7 +136,8 @@ module _ (t : ℕ) where
   pub further-loop-less : further-lts.Need-loop-less (further-callees t) (further-at t) further.Post further-Inv-loop further-μ-loop
   further-loop-less c =
       let a = c .before .before .before .before .before .before .before .args in
-      let b = (turns-shown (a .text .now) _ (held (a .vars .now)) (a .counts) (a .room) (a .least) _ (c .before .before .before .operator .ensures) (c .before .got2 .given .1)) .0 in
+      let b = (turns-shown (a .text .now) _ (held (a .vars .now)) (a .counts) (a .room) (a .least) _ (c .before .before .before .operator .ensures)
+      (c .before .got2 .given .1)) .0 in
       let l = b .onward in
       let w = b .within in
       omega arith
@@ -110,10 +145,22 @@ module _ (t : ℕ) where
   pub further-loop-again : further-lts.Need-loop-again (further-callees t) (further-at t) further.Post further-Inv-loop further-μ-loop
   further-loop-again c =
       let a = c .before .before .before .before .before .before .before .args in
-      rw (kept (c .before .got2 .given .0 .0) (c .known-told2 .given .0 .1)) (going-next (a .text .now) (held (a .vars .now)) (a .counts) (a .at) (a .room) (a .least) _ _ _ (c .before .before .before .before .loop .inv) _ _ (turns-shown (a .text .now) _ (held (a .vars .now)) (a .counts) (a .room) (a .least) _ (c .before .before .before .operator .ensures) (c .before .got2 .given .1)))
+      rw (kept (c .before .got2 .given .0 .0) (c .known-told2 .given .0 .1))
+      (going-next (a .text .now) (held (a .vars .now)) (a .counts) (a .at) (a .room) (a .least) _ _ _ (c .before .before .before .before .loop .inv) _
+      _ (turns-shown (a .text .now) _ (held (a .vars .now)) (a .counts) (a .room) (a .least) _ (c .before .before .before .operator .ensures)
+      (c .before .got2 .given .1)))
 
 abbrev pub operator-callees : ℕ → operator-lts.Claims
-operator-callees t = (token-at-reads.Asked, token-at-reads.Learnt, level-reads.Asked, level-reads.Learnt, expression-below t, expression.Post, joined-reads.Asked, joined-reads.Learnt)
+operator-callees t = (
+  token-at-reads.Asked,
+  token-at-reads.Learnt,
+  level-reads.Asked,
+  level-reads.Learnt,
+  expression-below t,
+  expression.Post,
+  joined-reads.Asked,
+  joined-reads.Learnt,
+)
 
 module _ (t : ℕ) where
   pub operator-token-at-requires : operator-lts.Need-token-at-requires (operator-callees t) (operator-at t) operator.Post
@@ -132,7 +179,9 @@ module _ (t : ℕ) where
   pub operator-returns : operator-lts.Need-returns (operator-callees t) (operator-at t) operator.Post
   operator-returns c =
       let a = c .before .before .before .before .before .before .before .before .args in
-      last-loose (a .text .now) (held (a .vars .now)) (a .counts) (a .at) (a .room) (a .least) (a .left) _ _ (token-shown (c .before .before .before .before .before .token-at .ensures) (c .before .before .before .token2 .given .1)) (rw (c .before .level .ensures) at (c .if1 .taken))
+      last-loose (a .text .now) (held (a .vars .now)) (a .counts) (a .at) (a .room) (a .least) (a .left) _ _
+      (token-shown (c .before .before .before .before .before .token-at .ensures) (c .before .before .before .token2 .given .1))
+      (rw (c .before .level .ensures) at (c .if1 .taken))
 
   pub operator-add-expression : operator-lts.Need-add-expression (operator-callees t) (operator-at t) operator.Post
   operator-add-expression c =
@@ -142,8 +191,14 @@ module _ (t : ℕ) where
   operator-expression-requires c κs =
       let t = (token-shown (c .before .before .before .before .before .token-at .ensures) (c .before .before .before .token2 .given .1)) in
       let l = t .ends .onward in
-      let w = t .ends .within in
-      (omega (arith, c .before .before .before .before .before .before .before .before .pre .0), record { start = w; table = c .before .before .before .before .before .before .before .before .pre .1 .table })
+      let w = t .ends .within in (
+        omega (arith, c .before .before .before .before .before .before .before .before .pre .0),
+        record {
+          start = w;
+          table =
+              c .before .before .before .before .before .before .before .before .pre .1 .table;
+        },
+      )
 
   pub operator-enum-known-got : operator-lts.Need-enum-known-got (operator-callees t) (operator-at t) operator.Post
   operator-enum-known-got c = search needs
@@ -172,40 +227,61 @@ module _ (t : ℕ) where
   pub operator-returns-2 : operator-lts.Need-returns-2 (operator-callees t) (operator-at t) operator.Post
   operator-returns-2 c =
       let a = c .before .before .before .before .before .before .args in
-      turn-refused (a .text .now) (held (a .vars .now)) (a .counts) (a .at) (a .room) (a .least) (a .left) _ (token-shown (c .before .before .before .token-at .ensures) (c .before .token .given .1))
+      turn-refused (a .text .now) (held (a .vars .now)) (a .counts) (a .at) (a .room) (a .least) (a .left) _
+      (token-shown (c .before .before .before .token-at .ensures) (c .before .token .given .1))
 
   pub operator-returns-3 : operator-lts.Need-returns-3 (operator-callees t) (operator-at t) operator.Post
   operator-returns-3 c =
       let a = c .before .before .before .before .before .before .before .before .before .before .before .before .args in
-      right-fails (a .text .now) (held (a .vars .now)) (a .counts) (a .at) (a .room) (a .least) (a .left) _ _ (token-shown (c .before .before .before .before .before .before .before .before .before .token-at .ensures) (c .before .before .before .before .before .before .before .token2 .given .1)) (rw (c .before .before .before .before .before .level .ensures) at (c .before .before .before .before .if1 .left)) _ (rw (c .before .before .before .before .before .level .ensures) at (says-shown (a .text .now) _ (held (a .vars .now)) (a .counts) _ (c .before .before .before .expression .ensures) (c .before .got .given .1)))
+      right-fails (a .text .now) (held (a .vars .now)) (a .counts) (a .at) (a .room) (a .least) (a .left) _ _
+      (token-shown (c .before .before .before .before .before .before .before .before .before .token-at .ensures)
+      (c .before .before .before .before .before .before .before .token2 .given .1))
+      (rw (c .before .before .before .before .before .level .ensures) at (c .before .before .before .before .if1 .left)) _
+      (rw (c .before .before .before .before .before .level .ensures) at
+      (says-shown (a .text .now) _ (held (a .vars .now)) (a .counts) _ (c .before .before .before .expression .ensures) (c .before .got .given .1)))
 
   pub operator-returns-4 : operator-lts.Need-returns-4 (operator-callees t) (operator-at t) operator.Post
   operator-returns-4 c =
       let a = c .before .before .before .before .before .before .before .before .before .before .before .before .before .args in
-      turn-says (a .text .now) (held (a .vars .now)) (a .counts) (a .at) (a .room) (a .least) (a .left) _ _ (token-shown (c .before .before .before .before .before .before .before .before .before .before .token-at .ensures) (c .before .before .before .before .before .before .before .before .token2 .given .1)) (rw (c .before .before .before .before .before .before .level .ensures) at (c .before .before .before .before .before .if1 .left)) _ _ (rw (c .before .before .before .before .before .before .level .ensures) at (says-shown (a .text .now) _ (held (a .vars .now)) (a .counts) _ (c .before .before .before .before .expression .ensures) (c .before .before .got2 .given .1))) (c .joined .result) (a .counts) refl
-      (rw (ranges.held (a .left) (c .before .before .before .before .before .before .before .before .before .before .before .before .before .fits .left), kept (c .before .before .got2 .given .0 .0) (c .before .known-told4 .given .0 .1)) at (c .joined .ensures))
+      turn-says (a .text .now) (held (a .vars .now)) (a .counts) (a .at) (a .room) (a .least) (a .left) _ _
+      (token-shown (c .before .before .before .before .before .before .before .before .before .before .token-at .ensures)
+      (c .before .before .before .before .before .before .before .before .token2 .given .1))
+      (rw (c .before .before .before .before .before .before .level .ensures) at (c .before .before .before .before .before .if1 .left)) _ _
+      (rw (c .before .before .before .before .before .before .level .ensures) at
+      (says-shown (a .text .now) _ (held (a .vars .now)) (a .counts) _ (c .before .before .before .before .expression .ensures)
+      (c .before .before .got2 .given .1))) (c .joined .result) (a .counts) refl
+      (rw (
+        ranges.held (a .left)
+            (c .before .before .before .before .before .before .before .before .before .before .before .before .before .fits .left),
+        kept (c .before .before .got2 .given .0 .0) (c .before .known-told4 .given .0 .1),
+      ) at (c .joined .ensures))
 
   pub operator-returns-5 : operator-lts.Need-returns-5 (operator-callees t) (operator-at t) operator.Post
   operator-returns-5 c =
       let a = c .before .before .before .before .before .args in
-      last-number (a .text .now) (held (a .vars .now)) (a .counts) (a .at) (a .room) (a .least) (a .left) _ _ (token-shown (c .before .before .token-at .ensures) (c .enum-told .given .1))
+      last-number (a .text .now) (held (a .vars .now)) (a .counts) (a .at) (a .room) (a .least) (a .left) _ _
+      (token-shown (c .before .before .token-at .ensures) (c .enum-told .given .1))
 
   pub operator-returns-6 : operator-lts.Need-returns-6 (operator-callees t) (operator-at t) operator.Post
   operator-returns-6 c =
       let a = c .before .before .before .before .before .args in
-      last-name (a .text .now) (held (a .vars .now)) (a .counts) (a .at) (a .room) (a .least) (a .left) _ _ (token-shown (c .before .before .token-at .ensures) (c .enum-told2 .given .1))
+      last-name (a .text .now) (held (a .vars .now)) (a .counts) (a .at) (a .room) (a .least) (a .left) _ _
+      (token-shown (c .before .before .token-at .ensures) (c .enum-told2 .given .1))
 
   pub operator-returns-7 : operator-lts.Need-returns-7 (operator-callees t) (operator-at t) operator.Post
   operator-returns-7 c =
       let a = c .before .before .before .before .before .args in
-      last-opens (a .text .now) (held (a .vars .now)) (a .counts) (a .at) (a .room) (a .least) (a .left) _ (token-shown (c .before .before .token-at .ensures) (c .enum-told3 .given .1))
+      last-opens (a .text .now) (held (a .vars .now)) (a .counts) (a .at) (a .room) (a .least) (a .left) _
+      (token-shown (c .before .before .token-at .ensures) (c .enum-told3 .given .1))
 
   pub operator-returns-8 : operator-lts.Need-returns-8 (operator-callees t) (operator-at t) operator.Post
   operator-returns-8 c =
       let a = c .before .before .before .before .before .args in
-      last-shuts (a .text .now) (held (a .vars .now)) (a .counts) (a .at) (a .room) (a .least) (a .left) _ (token-shown (c .before .before .token-at .ensures) (c .enum-told4 .given .1))
+      last-shuts (a .text .now) (held (a .vars .now)) (a .counts) (a .at) (a .room) (a .least) (a .left) _
+      (token-shown (c .before .before .token-at .ensures) (c .enum-told4 .given .1))
 
   pub operator-returns-9 : operator-lts.Need-returns-9 (operator-callees t) (operator-at t) operator.Post
   operator-returns-9 c =
       let a = c .before .before .before .before .before .args in
-      last-stop (a .text .now) (held (a .vars .now)) (a .counts) (a .at) (a .room) (a .least) (a .left) (token-shown (c .before .before .token-at .ensures) (c .enum-told5 .given .1))
+      last-stop (a .text .now) (held (a .vars .now)) (a .counts) (a .at) (a .room) (a .least) (a .left)
+      (token-shown (c .before .before .token-at .ensures) (c .enum-told5 .given .1))

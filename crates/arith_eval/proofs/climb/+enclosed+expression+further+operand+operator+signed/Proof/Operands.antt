@@ -7,8 +7,28 @@ use borrow.Author.Needs.{needs}
 use Rattle.stages.specs.Images.{held}
 use Rattle.stages.specs.Arith as stage
 use Rattle.arith_int.proofs.Ranges.{kept}
-use Rattle.arith_eval.proofs.Operands.{token-shown, says-shown, operand-refused, operand-none, operand-shut, operand-number, operand-sign, operand-opens, operand-name}
-use Rattle.arith_eval.proofs.Operands.{plus-deep, minus-deep, plus-says, minus-fails, minus-says, no-sign, enclosed-deep, enclosed-fails, enclosed-says}
+use Rattle.arith_eval.proofs.Operands.{
+  token-shown,
+  says-shown,
+  operand-refused,
+  operand-none,
+  operand-shut,
+  operand-number,
+  operand-sign,
+  operand-opens,
+  operand-name,
+}
+use Rattle.arith_eval.proofs.Operands.{
+  plus-deep,
+  minus-deep,
+  plus-says,
+  minus-fails,
+  minus-says,
+  no-sign,
+  enclosed-deep,
+  enclosed-fails,
+  enclosed-says,
+}
 use Rattle.arith_eval.proofs.climb.enclosed.Reads as enclosed
 use Rattle.arith_eval.proofs.climb.expression.Reads as expression
 use Rattle.arith_eval.proofs.climb.operand.Reads as operand
@@ -20,10 +40,28 @@ use Rattle.arith_eval.proofs.climb.closed.Reads as closed-reads
 use Rattle.arith_eval.proofs.climb.named.Reads as named-reads
 use Rattle.arith_token.proofs.token_at.Reads as token-at-reads
 use Rattle.arith_eval.proofs.climb.turned.Reads as turned-reads
-use Rattle.arith_eval.proofs.climb.+enclosed+expression+further+operand+operator+signed.Proof.Measures.{enclosed-at, enclosed-below, expression-below, operand-at, operand-below, signed-at, signed-below}
+use Rattle.arith_eval.proofs.climb.+enclosed+expression+further+operand+operator+signed.Proof.Measures.{
+  enclosed-at,
+  enclosed-below,
+  expression-below,
+  operand-at,
+  operand-below,
+  signed-at,
+  signed-below,
+}
 
 abbrev pub operand-callees : ℕ → operand-lts.Claims
-operand-callees t = (token-at-reads.Asked, token-at-reads.Learnt, named-reads.Asked, named-reads.Learnt, signed-below t, signed.Post, enclosed-below t, enclosed.Post)
+operand-callees t = (
+  token-at-reads.Asked,
+  token-at-reads.Learnt,
+  named-reads.Asked,
+  named-reads.Learnt,
+  signed-below t,
+  signed.Post,
+  enclosed-below
+      t,
+  enclosed.Post,
+)
 
 module _ (t : ℕ) where
   pub operand-token-at-requires : operand-lts.Need-token-at-requires (operand-callees t) (operand-at t) operand.Post
@@ -41,7 +79,8 @@ module _ (t : ℕ) where
 
   pub operand-named-requires : operand-lts.Need-named-requires (operand-callees t) (operand-at t) operand.Post
   operand-named-requires c κs =
-      let t = (token-shown (c .before .before .before .token-at .ensures) (c .before .token3 .given .1)) in (t .ends .rising, record { start = t .ends .behind .within; table = c .before .before .before .before .before .before .pre .1 .table })
+      let t = (token-shown (c .before .before .before .token-at .ensures) (c .before .token3 .given .1)) in
+      (t .ends .rising, record { start = t .ends .behind .within; table = c .before .before .before .before .before .before .pre .1 .table })
 
   pub operand-enum-known-token-4 : operand-lts.Need-enum-known-token-4 (operand-callees t) (operand-at t) operand.Post
   operand-enum-known-token-4 c = search needs
@@ -50,8 +89,14 @@ module _ (t : ℕ) where
   operand-signed-requires c κs =
       let t = (token-shown (c .before .before .before .token-at .ensures) (c .before .token4 .given .1)) in
       let l = t .ends .onward in
-      let w = t .ends .within in
-      (omega (arith, c .before .before .before .before .before .before .pre .0), record { start = w; table = c .before .before .before .before .before .before .pre .1 .table })
+      let w = t .ends .within in (
+        omega (arith, c .before .before .before .before .before .before .pre .0),
+        record {
+          start = w;
+          table =
+              c .before .before .before .before .before .before .pre .1 .table;
+        },
+      )
 
   pub operand-enum-known-token-5 : operand-lts.Need-enum-known-token-5 (operand-callees t) (operand-at t) operand.Post
   operand-enum-known-token-5 c = search needs
@@ -60,8 +105,14 @@ module _ (t : ℕ) where
   operand-enclosed-requires c κs =
       let t = (token-shown (c .before .before .before .token-at .ensures) (c .before .token5 .given .1)) in
       let l = t .ends .onward in
-      let w = t .ends .within in
-      (omega (arith, c .before .before .before .before .before .before .pre .0), record { start = w; table = c .before .before .before .before .before .before .pre .1 .table })
+      let w = t .ends .within in (
+        omega (arith, c .before .before .before .before .before .before .pre .0),
+        record {
+          start = w;
+          table =
+              c .before .before .before .before .before .before .pre .1 .table;
+        },
+      )
 
   pub operand-enum-told : operand-lts.Need-enum-told (operand-callees t) (operand-at t) operand.Post
   operand-enum-told c = search needs
@@ -72,37 +123,45 @@ module _ (t : ℕ) where
   pub operand-returns : operand-lts.Need-returns (operand-callees t) (operand-at t) operand.Post
   operand-returns c =
       let a = c .before .before .before .before .before .before .args in
-      operand-refused (a .text .now) (held (a .vars .now)) (a .counts) (a .at) (a .room) _ (token-shown (c .before .before .before .token-at .ensures) (c .before .token .given .1))
+      operand-refused (a .text .now) (held (a .vars .now)) (a .counts) (a .at) (a .room) _
+      (token-shown (c .before .before .before .token-at .ensures) (c .before .token .given .1))
 
   pub operand-returns-2 : operand-lts.Need-returns-2 (operand-callees t) (operand-at t) operand.Post
   operand-returns-2 c =
       let a = c .before .before .before .before .before .before .args in
-      rw (kept (c .before .token2 .given .0 .0) (c .known-told2 .given .0 .1)) (operand-number (a .text .now) (held (a .vars .now)) (a .counts) (a .at) (a .room) _ _ (token-shown (c .before .before .before .token-at .ensures) (c .before .token2 .given .1)))
+      rw (kept (c .before .token2 .given .0 .0) (c .known-told2 .given .0 .1))
+      (operand-number (a .text .now) (held (a .vars .now)) (a .counts) (a .at) (a .room) _ _
+      (token-shown (c .before .before .before .token-at .ensures) (c .before .token2 .given .1)))
 
   pub operand-returns-3 : operand-lts.Need-returns-3 (operand-callees t) (operand-at t) operand.Post
   operand-returns-3 c =
       let a = c .before .before .before .before .before .before .before .args in
-      operand-name (a .text .now) (held (a .vars .now)) (a .counts) (a .at) (a .room) _ _ (c .named .result) (token-shown (c .before .before .before .before .token-at .ensures) (c .before .before .token3 .given .1)) (a .counts) refl (c .named .ensures)
+      operand-name (a .text .now) (held (a .vars .now)) (a .counts) (a .at) (a .room) _ _ (c .named .result)
+      (token-shown (c .before .before .before .before .token-at .ensures) (c .before .before .token3 .given .1)) (a .counts) refl (c .named .ensures)
 
   pub operand-returns-4 : operand-lts.Need-returns-4 (operand-callees t) (operand-at t) operand.Post
   operand-returns-4 c =
       let a = c .before .before .before .before .before .before .before .args in
-      operand-sign (a .text .now) (held (a .vars .now)) (a .counts) (a .at) (a .room) _ _ (c .signed .result) (token-shown (c .before .before .before .before .token-at .ensures) (c .before .before .token4 .given .1)) (c .signed .ensures)
+      operand-sign (a .text .now) (held (a .vars .now)) (a .counts) (a .at) (a .room) _ _ (c .signed .result)
+      (token-shown (c .before .before .before .before .token-at .ensures) (c .before .before .token4 .given .1)) (c .signed .ensures)
 
   pub operand-returns-5 : operand-lts.Need-returns-5 (operand-callees t) (operand-at t) operand.Post
   operand-returns-5 c =
       let a = c .before .before .before .before .before .before .before .args in
-      operand-opens (a .text .now) (held (a .vars .now)) (a .counts) (a .at) (a .room) _ (c .enclosed .result) (token-shown (c .before .before .before .before .token-at .ensures) (c .before .before .token5 .given .1)) (c .enclosed .ensures)
+      operand-opens (a .text .now) (held (a .vars .now)) (a .counts) (a .at) (a .room) _ (c .enclosed .result)
+      (token-shown (c .before .before .before .before .token-at .ensures) (c .before .before .token5 .given .1)) (c .enclosed .ensures)
 
   pub operand-returns-6 : operand-lts.Need-returns-6 (operand-callees t) (operand-at t) operand.Post
   operand-returns-6 c =
       let a = c .before .before .before .before .before .args in
-      operand-shut (a .text .now) (held (a .vars .now)) (a .counts) (a .at) (a .room) _ (token-shown (c .before .before .token-at .ensures) (c .enum-told .given .1))
+      operand-shut (a .text .now) (held (a .vars .now)) (a .counts) (a .at) (a .room) _
+      (token-shown (c .before .before .token-at .ensures) (c .enum-told .given .1))
 
   pub operand-returns-7 : operand-lts.Need-returns-7 (operand-callees t) (operand-at t) operand.Post
   operand-returns-7 c =
       let a = c .before .before .before .before .before .args in
-      operand-none (a .text .now) (held (a .vars .now)) (a .counts) (a .at) (a .room) (token-shown (c .before .before .token-at .ensures) (c .enum-told2 .given .1))
+      operand-none (a .text .now) (held (a .vars .now)) (a .counts) (a .at) (a .room)
+      (token-shown (c .before .before .token-at .ensures) (c .enum-told2 .given .1))
 
 abbrev pub signed-callees : ℕ → signed-lts.Claims
 signed-callees t = (operand-below t, operand.Post, turned-reads.Asked, turned-reads.Learnt)
@@ -179,17 +238,23 @@ module _ (t : ℕ) where
   pub signed-returns-3 : signed-lts.Need-returns-3 (signed-callees t) (signed-at t) signed.Post
   signed-returns-3 c =
       let a = c .before .before .before .before .before .before .args in
-      plus-says (a .text .now) (held (a .vars .now)) (a .counts) (a .at) (a .room) (a .op) (c .operand .result) (c .before .before .enum-told .given .1) (c .before .if1 .left) (c .operand .ensures)
+      plus-says (a .text .now) (held (a .vars .now)) (a .counts) (a .at) (a .room) (a .op) (c .operand .result)
+      (c .before .before .enum-told .given .1) (c .before .if1 .left) (c .operand .ensures)
 
   pub signed-returns-4 : signed-lts.Need-returns-4 (signed-callees t) (signed-at t) signed.Post
   signed-returns-4 c =
       let a = c .before .before .before .before .before .before .before .before .before .args in
-      minus-fails (a .text .now) (held (a .vars .now)) (a .counts) (a .at) (a .room) (a .op) _ (c .before .before .before .before .before .enum-told2 .given .1) (c .before .before .before .before .if2 .left) (says-shown (a .text .now) (a .at) (held (a .vars .now)) (a .counts) _ (c .before .before .before .operand2 .ensures) (c .before .got .given .1))
+      minus-fails (a .text .now) (held (a .vars .now)) (a .counts) (a .at) (a .room) (a .op) _
+      (c .before .before .before .before .before .enum-told2 .given .1) (c .before .before .before .before .if2 .left)
+      (says-shown (a .text .now) (a .at) (held (a .vars .now)) (a .counts) _ (c .before .before .before .operand2 .ensures) (c .before .got .given .1))
 
   pub signed-returns-5 : signed-lts.Need-returns-5 (signed-callees t) (signed-at t) signed.Post
   signed-returns-5 c =
       let a = c .before .before .before .before .before .before .before .before .before .before .args in
-      minus-says (a .text .now) (held (a .vars .now)) (a .counts) (a .at) (a .room) (a .op) (c .before .before .before .before .before .before .enum-told2 .given .1) (c .before .before .before .before .before .if2 .left) _ _ (says-shown (a .text .now) (a .at) (held (a .vars .now)) (a .counts) _ (c .before .before .before .before .operand2 .ensures) (c .before .before .got2 .given .1)) (c .turned .result) (a .counts) refl
+      minus-says (a .text .now) (held (a .vars .now)) (a .counts) (a .at) (a .room) (a .op)
+      (c .before .before .before .before .before .before .enum-told2 .given .1) (c .before .before .before .before .before .if2 .left) _ _
+      (says-shown (a .text .now) (a .at) (held (a .vars .now)) (a .counts) _ (c .before .before .before .before .operand2 .ensures)
+      (c .before .before .got2 .given .1)) (c .turned .result) (a .counts) refl
       (rw (kept (c .before .before .got2 .given .0 .0) (c .before .known-told2 .given .0 .1)) at (c .turned .ensures))
 
   pub signed-returns-6 : signed-lts.Need-returns-6 (signed-callees t) (signed-at t) signed.Post
@@ -277,10 +342,14 @@ module _ (t : ℕ) where
   pub enclosed-returns-2 : enclosed-lts.Need-returns-2 (enclosed-callees t) (enclosed-at t) enclosed.Post
   enclosed-returns-2 c =
       let a = c .before .before .before .before .before .before .before .args in
-      enclosed-fails (a .text .now) (held (a .vars .now)) (a .counts) (a .at) (a .room) _ (c .before .before .before .before .if1 .left) (says-shown (a .text .now) (a .at) (held (a .vars .now)) (a .counts) _ (c .before .before .before .expression .ensures) (c .before .got .given .1))
+      enclosed-fails (a .text .now) (held (a .vars .now)) (a .counts) (a .at) (a .room) _ (c .before .before .before .before .if1 .left)
+      (says-shown (a .text .now) (a .at) (held (a .vars .now)) (a .counts) _ (c .before .before .before .expression .ensures) (c .before .got .given .1))
 
   pub enclosed-returns-3 : enclosed-lts.Need-returns-3 (enclosed-callees t) (enclosed-at t) enclosed.Post
   enclosed-returns-3 c =
       let a = c .before .before .before .before .before .before .before .before .args in
-      enclosed-says (a .text .now) (held (a .vars .now)) (a .counts) (a .at) (a .room) _ _ (c .closed .result) (c .before .before .before .before .before .if1 .left) (says-shown (a .text .now) (a .at) (held (a .vars .now)) (a .counts) _ (c .before .before .before .before .expression .ensures) (c .before .before .got2 .given .1))
+      enclosed-says (a .text .now) (held (a .vars .now)) (a .counts) (a .at) (a .room) _ _ (c .closed .result)
+      (c .before .before .before .before .before .if1 .left)
+      (says-shown (a .text .now) (a .at) (held (a .vars .now)) (a .counts) _ (c .before .before .before .before .expression .ensures)
+      (c .before .before .got2 .given .1))
       (rw (kept (c .before .before .got2 .given .0 .0) (c .before .known-told2 .given .0 .1)) at (c .closed .ensures))
