@@ -6,7 +6,6 @@ ghost use Rattle.stages.specs.Images.{held};
 ghost use Rattle.stages.specs.Arith.{grow, operand as operandTask, sign, enclosed as enclosedIn, expression as expressionOf};
 ghost use Rattle.arith_int.specs.Answers.{opOf};
 ghost use Rattle.arith_eval.specs.Climbs.{Ready, Names, Turned, Joins, Closes, Says, Continues, Turns};
-use super::REFUSED_DEPTH;
 use super::name_number;
 use arith_int::Number;
 use arith_int::Op;

@@ -28,6 +28,7 @@ use read_line::Reading;
 use read_mode::Form;
 use read_mode::Mode;
 use row::Mark;
+use text::numbers;
 
 // An inner text's answer, as an item's.
 fn turn_from(got: Expanded, mode: Mode) -> Turn
