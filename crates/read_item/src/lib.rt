@@ -6,12 +6,14 @@ use read_mode::Mode;
 use read_mode::Sort;
 use text::Class;
 use text::numbers;
+ghost use mathlib.Core.Path.{_≡_};
 ghost use Prim.Native.Nat.{_+_, _≤_, _<_};
 ghost use lib.ListN.{length, drop, getD};
 ghost use Rattle.stages.specs.Syntax.{arith};
 ghost use Rattle.stages.specs.Items.{item, escaped, expansion, parenthesis, closed};
 ghost use Rattle.read_mode.specs.Modes.{modeOf, openIn};
 ghost use Rattle.read_brace.specs.Shows.{Shows};
+ghost use Rattle.read_item.specs.After.{modeAfter, isStop};
 
 // What a backslash is.
 fn escaped_at(text: &[u8], from: Cursor) -> Item
@@ -156,5 +158,25 @@ pub fn item_at(text: &[u8], from: Cursor) -> Item
             byte: b,
             next: at + 1,
         },
+    }
+}
+
+// The mode in which a text goes on after an item: a parenthesis changes it, nothing else does.
+pub fn mode_after(item: Item, mode: Mode) -> Mode
+    ensures { λ r. ⌜ r ≡ modeAfter item mode ⌝ }
+{
+    match item {
+        Item::Paren { byte: _, parens } => Mode::Arith(parens),
+        _ => mode,
+    }
+}
+
+// Does the text end with the item?
+pub fn is_stop(item: Item) -> bool
+    ensures { λ r. ⌜ r ≡ isStop item ⌝ }
+{
+    match item {
+        Item::Stop(_) => true,
+        _ => false,
     }
 }
