@@ -112,7 +112,8 @@ cut-beside : (s : Side) (long : Reach) (x : Text) (m : Mark) (row : Row) (v : Pa
 unfolding cutBy leftBy
 cut-beside s long x m row v = go (pattern forRemoval row)
   where
-    go : (o : Outcome (List Element)) → _≡_ {A = Made} (_>>=_ {B = Row × Pairs} o (λ es. done (marked (expandedMark m) (removed s long es (value v x)), v)))
+    go : (o : Outcome (List Element))
+        → _≡_ {A = Made} (_>>=_ {B = Row × Pairs} o (λ es. done (marked (expandedMark m) (removed s long es (value v x)), v)))
         (beside v (o >>= λ es. done (marked (expandedMark m) (removed s long es (value v x)))))
     go (refused e) = refl
     go (done es) = refl
