@@ -6,7 +6,7 @@ use lib.ListN.{length, take, drop}
 use Rattle.stages.specs.Numbers.{rowLimit, imageLimit}
 use Rattle.stages.specs.Bytes.{Text, all, notZero}
 use Rattle.stages.specs.Outcome.{refused, done}
-use Rattle.stages.specs.Images.{variables, held, isSome}
+use Rattle.stages.specs.Images.{variablesOf, held, isSome}
 use Rattle.stages.specs.Syntax.{Parts}
 use Rattle.stages.specs.Read.{Taken, parts}
 use Rattle.stages.specs.Units.{Row}
@@ -25,7 +25,7 @@ goingOn (added.Refused e) next have = expanded.Refused e
 
 -- the first `have` bytes are the image of variables, which may grow to the room that the caller has for them
 pub record Holds (room : ℕ) (vars : Text) (have : ℕ) : Type 0 where
-  pub formed : isSome (variables (take have vars)) ≡ true
+  pub formed : isSome (variablesOf (take have vars)) ≡ true
   pub inside : have ≤ length vars
   pub fits : have ≤ room
   pub long : imageLimit ≤ length vars

@@ -5,7 +5,7 @@ ghost use Rattle.stages.specs.Numbers.{rowLimit};
 ghost use Rattle.stages.specs.Outcome.{done};
 ghost use Rattle.stages.specs.Images.{held};
 ghost use Rattle.stages.specs.Expand.{value};
-ghost use Rattle.stages.specs.Units.{marked, expanded};
+ghost use Rattle.stages.specs.Units.{marked, expandedMark};
 ghost use Rattle.stages.specs.Constants.{signed};
 ghost use Rattle.row.specs.Marks.{markOf};
 ghost use Rattle.table.specs.Places.{Table};
@@ -37,7 +37,7 @@ pub fn give_text(text: &[u8], mark: Mark, used: usize, area: &mut [u8]) -> Added
 // Adds the value of a name in the image, as what is expanded where literal bytes have this mark.
 pub fn give_value(name: &[u8], mark: Mark, used: usize, vars: &[u8], area: &mut [u8]) -> Added
     requires { ⌜ Table (now vars) × (used ≤ rowLimit) × (2 * rowLimit ≤ length (now area) + 2 * used) ⌝ }
-    ensures { λ r. ⌜ Adds used (done (marked (expanded (markOf mark)) (value (held (now (vars .entry))) (now (name .entry))))) (now (area .exit)) r ⌝ }
+    ensures { λ r. ⌜ Adds used (done (marked (expandedMark (markOf mark)) (value (held (now (vars .entry))) (now (name .entry))))) (now (area .exit)) r ⌝ }
 {
     let value = table_find::value_of(vars, name);
     give_text(value, row::expanded_mark(mark), used, area)
@@ -46,7 +46,7 @@ pub fn give_value(name: &[u8], mark: Mark, used: usize, vars: &[u8], area: &mut 
 // Adds the decimal text of a number, which is worked out in `digits`.
 fn give_signed(z: i64, mark: Mark, used: usize, digits: &mut [u8], area: &mut [u8]) -> Added
     requires { ⌜ (20 ≤ length (now digits)) × (used ≤ rowLimit) × (2 * rowLimit ≤ length (now area) + 2 * used) ⌝ }
-    ensures { λ r. ⌜ Adds used (done (marked (expanded (markOf mark)) (signed z))) (now (area .exit)) r ⌝ }
+    ensures { λ r. ⌜ Adds used (done (marked (expandedMark (markOf mark)) (signed z))) (now (area .exit)) r ⌝ }
 {
     let n = text_decimal::put_signed(digits, z);
     give_text(&digits[..n], row::expanded_mark(mark), used, area)
@@ -55,7 +55,7 @@ fn give_signed(z: i64, mark: Mark, used: usize, digits: &mut [u8], area: &mut [u
 // Adds the decimal text of a number.
 pub fn give_number(z: i64, mark: Mark, used: usize, area: &mut [u8]) -> Added
     requires { ⌜ (used ≤ rowLimit) × (2 * rowLimit ≤ length (now area) + 2 * used) ⌝ }
-    ensures { λ r. ⌜ Adds used (done (marked (expanded (markOf mark)) (signed z))) (now (area .exit)) r ⌝ }
+    ensures { λ r. ⌜ Adds used (done (marked (expandedMark (markOf mark)) (signed z))) (now (area .exit)) r ⌝ }
 {
     let mut digits = [0u8; numbers::MOST_DIGITS];
     give_signed(z, mark, used, &mut digits, area)

@@ -1,7 +1,7 @@
 -- The contracts determine every answer: two outcomes that a contract allows for one input are equal.
 use mathlib.Core.Path.{_≡_, refl, sym, _∙_}
-use mathlib.Core.Bool.{Bool, false}
-use Rattle.stages.specs.Syntax.{Form}
+use mathlib.Core.Bool.{Bool}
+use Rattle.stages.specs.Syntax.{Form, unescaped}
 use Rattle.text.proofs.Determined.{one-answer}
 use Rattle.row.specs.Marks.{markOf}
 use Rattle.row.specs.declared.Mark.{Mark}
@@ -17,4 +17,4 @@ pub wants-operand-determined : (p : Plan) (r s : Bool) → r ≡ wants p → s �
 wants-operand-determined p r s = one-answer
 
 pub operand-mark-determined : (p : Plan) (m r s : Mark) → markOf r ≡ operandMark p (markOf m) → markOf s ≡ operandMark p (markOf m) → r ≡ s
-operand-mark-determined p m r s e f = literal-mark-determined false r r s refl (f ∙ sym e)
+operand-mark-determined p m r s e f = literal-mark-determined unescaped r r s refl (f ∙ sym e)

@@ -12,8 +12,10 @@ use Rattle.stages.specs.Numbers.{rowLimit, imageLimit, variableRoom, bracketCla
 use Rattle.stages.specs.Bytes.{Text, all, notZero}
 use Rattle.stages.specs.Outcome.{Outcome, refused, done, _>>=_}
 use Rattle.stages.specs.Images.{Pairs, isName, held, stored, flat, imageLength}
-use Rattle.stages.specs.Units.{Mark, Row, marked, bytes, expanded}
-use Rattle.stages.specs.Pattern.{Signs, Element, signs, hasClass, elements, pattern}
+use Rattle.stages.specs.Syntax.{Side, Reach}
+use Rattle.stages.specs.Units.{Mark, Row, marked, bytes, expandedMark}
+use Rattle.stages.specs.Pattern.{Signs, Element, signs, hasClass, elements, forRemoval, pattern}
+use Rattle.text.specs.Cases.{sideOf, reachOf}
 use Rattle.stages.specs.Removal.{removed}
 use lib.IntN.{ℤ}
 use Rattle.stages.specs.Constants.{signed}
@@ -80,7 +82,7 @@ adds-refused used e area = refl
 
 -- A removal.
 
-module _ (s long : Bool) (x : Text) (m : Mark) (v : Pairs) (row pat : Text) (e : pat ≡ kept row) where
+module _ (s : Side) (long : Reach) (x : Text) (m : Mark) (v : Pairs) (row pat : Text) (e : pat ≡ kept row) where
   same-signs : signsOf pat ≡ signs (rowOf row)
   same-signs = ap signsOf e ∙ kept-signs row
 
@@ -90,28 +92,29 @@ module _ (s long : Bool) (x : Text) (m : Mark) (v : Pairs) (row pat : Text) (e :
   cut-class used area c = rw (ap (hasClass false 0) (sym same-signs) ∙ c, pattern)
 
   cut-left : hasClass false 0 (signsOf pat) ≡ false
-      → leftBy s long x m (rowOf row) v ≡ done (marked (expanded m) (removed s long (elements false 0 (signs (rowOf row))) (value v x)))
+      → leftBy s long x m (rowOf row) v ≡ done (marked (expandedMark m) (removed s long (elements false 0 (signs (rowOf row))) (value v x)))
   unfolding leftBy pattern
   cut-left c = rw (ap (hasClass false 0) (sym same-signs) ∙ c, pattern)
 
   pub cut-given : (used : ℕ) (area : Text) (a : Added) → hasClass false 0 (signsOf pat) ≡ false
       → {value₀ : Text} → value₀ ≡ value v x → {t : Text} → t ≡ removed s long (elements false 0 (signsOf pat)) value₀ →
-      {k : Mark} → k ≡ expanded m
+      {k : Mark} → k ≡ expandedMark m
       → Adds used (done (marked k t)) area a → Adds used (leftBy s long x m (rowOf row) v) area a
   cut-given used area a c {value₀} q {t} r {k} l h = adds-same used area a (sym made) h
     where
       made : leftBy s long x m (rowOf row) v ≡ done (marked k t)
       made =
-          cut-left c ∙ ap (λ (g : Signs). done (marked (expanded m) (removed s long (elements false 0 g) (value v x)))) (sym same-signs)
-          ∙ ap (λ (u : Text). done (marked (expanded m) u)) (ap (removed s long (elements false 0 (signsOf pat))) (sym q) ∙ sym r)
+          cut-left c ∙ ap (λ (g : Signs). done (marked (expandedMark m) (removed s long (elements false 0 g) (value v x)))) (sym same-signs)
+          ∙ ap (λ (u : Text). done (marked (expandedMark m) u)) (ap (removed s long (elements false 0 (signsOf pat))) (sym q) ∙ sym r)
           ∙ ap (λ (j : Mark). done (marked j t)) (sym l)
 
-cut-beside : (s long : Bool) (x : Text) (m : Mark) (row : Row) (v : Pairs) → cutBy s long x m (row, v) ≡ beside v (leftBy s long x m row v)
+cut-beside : (s : Side) (long : Reach) (x : Text) (m : Mark) (row : Row) (v : Pairs) → cutBy s long x m (row, v) ≡ beside v (leftBy s long x m row v)
 unfolding cutBy leftBy
-cut-beside s long x m row v = go (pattern false row)
+cut-beside s long x m row v = go (pattern forRemoval row)
   where
-    go : (o : Outcome (List Element)) → _≡_ {A = Made} (_>>=_ {B = Row × Pairs} o (λ es. done (marked (expanded m) (removed s long es (value v x)), v)))
-        (beside v (o >>= λ es. done (marked (expanded m) (removed s long es (value v x)))))
+    go : (o : Outcome (List Element))
+        → _≡_ {A = Made} (_>>=_ {B = Row × Pairs} o (λ es. done (marked (expandedMark m) (removed s long es (value v x)), v)))
+        (beside v (o >>= λ es. done (marked (expandedMark m) (removed s long es (value v x)))))
     go (refused e) = refl
     go (done es) = refl
 
@@ -161,12 +164,12 @@ module _ (room used units : ℕ) (name : Text) (m : Mark) (area vars : Text) (ha
       finishing room used _ (done (rowOf (take (2 * units) area))) area vars have next e w a (admitted-adds used units name area p q) g
 
   pub finish-cut : (s long : Bool) (left : Text) (a : Added) → Adds used
-      (leftBy s long name m (rowOf (take (2 * units) area)) (held (take have vars))) left a → {r : Expanded} → r ≡ goingOn a next have
+      (leftBy (sideOf s) (reachOf long) name m (rowOf (take (2 * units) area)) (held (take have vars))) left a → {r : Expanded} → r ≡ goingOn a next have
       → Finishes room used (placed used (finished (Cuts s long) room name m (rowOf (take (2 * units) area), held (take have vars)))) next left vars r
   unfolding finished
   finish-cut s long left a h g =
-      finishing room used _ (leftBy s long name m (rowOf (take (2 * units) area)) (held (take have vars))) left vars have next
-      (cut-beside s long name m (rowOf (take (2 * units) area)) (held (take have vars))) w a h g
+      finishing room used _ (leftBy (sideOf s) (reachOf long) name m (rowOf (take (2 * units) area)) (held (take have vars))) left vars have next
+      (cut-beside (sideOf s) (reachOf long) name m (rowOf (take (2 * units) area)) (held (take have vars))) w a h g
 
 -- A store.
 
@@ -249,11 +252,11 @@ module _ (room used : ℕ) (x : Text) (m : Mark) (row : Row) (v : Pairs) where
   assign-full next area vars h = placed-refused used _ variableRoom (rw h)
 
   pub assign-given : (next : ℕ) (area vars : Text) (left : ℕ) → store room x (bytes row) v ≡ done (held (take left vars)) → Holds room vars left
-      → (a : Added) → Adds used (done (marked (expanded m) (value (held (take left vars)) x))) area a → {r : Expanded} → r ≡ goingOn a next left
+      → (a : Added) → Adds used (done (marked (expandedMark m) (value (held (take left vars)) x))) area a → {r : Expanded} → r ≡ goingOn a next left
       → Finishes room used (placed used (finished Assigns room x m (row, v))) next area vars r
   unfolding finished assigned
   assign-given next area vars left h w a g q =
-      finishing room used _ (done (marked (expanded m) (value (held (take left vars)) x))) area vars left next (rw h) w a g q
+      finishing room used _ (done (marked (expandedMark m) (value (held (take left vars)) x))) area vars left next (rw h) w a g q
 
 -- what a store answers, once its case is known
 pub stored-known : (room : ℕ) (x t : Text) (v : Pairs) (vars : Text) {r k : Stored} → StoresIn room x t v vars r → r ≡ k → StoresIn room x t v vars k
@@ -275,32 +278,32 @@ module _ (room : ℕ) (x : Text) (m : Mark) (q : Row × Pairs) {plan p : Plan} (
 -- An arithmetic text.
 
 module _ (m : Mark) (row : Row) (v : Pairs) (t : Text) (e : t ≡ bytes row) (r : Number) (h : numbered r ≡ comesTo v t) where
-  sum-by : sumOf m row v ≡ (comesTo v t >>= λ z. done (marked (expanded m) (signed z)))
+  sum-by : sumOf m row v ≡ (comesTo v t >>= λ z. done (marked (expandedMark m) (signed z)))
   unfolding sumOf arithmeticOf comesTo
   sum-by = rw e (go (tree (bytes row)))
     where
       value-of : (o : Outcome (ℤ × Pairs))
-          → (_>>=_ {B = Row} (_>>=_ {B = Text × Pairs} o (λ p. done (signed (p .0), p .1))) (λ s. done (marked (expanded m) (s .0))))
-          ≡ ((o >>= λ p. done (p .0)) >>= λ z. done (marked (expanded m) (signed z)))
+          → (_>>=_ {B = Row} (_>>=_ {B = Text × Pairs} o (λ p. done (signed (p .0), p .1))) (λ s. done (marked (expandedMark m) (s .0))))
+          ≡ ((o >>= λ p. done (p .0)) >>= λ z. done (marked (expandedMark m) (signed z)))
       value-of (refused k) = refl
       value-of (done p) = refl
 
       go : (o : Outcome Tree)
           → (_>>=_ {B = Row} (_>>=_ {B = Text × Pairs} o (λ l. _>>=_ {B = Text × Pairs} (evaluate v l) (λ p. done (signed (p .0), p .1))))
-          (λ s. done (marked (expanded m) (s .0))))
-          ≡ ((o >>= λ l. evaluate v l >>= λ p. done (p .0)) >>= λ z. done (marked (expanded m) (signed z)))
+          (λ s. done (marked (expandedMark m) (s .0))))
+          ≡ ((o >>= λ l. evaluate v l >>= λ p. done (p .0)) >>= λ z. done (marked (expandedMark m) (signed z)))
       go (refused k) = refl
       go (done l) = value-of (evaluate v l)
 
   pub sum-refuses : (used : ℕ) (area : Text) {k : ℕ} → r ≡ number.Refused k → Adds used (sumOf m row v) area (added.Refused k)
   unfolding measured
   sum-refuses used area {k} q =
-      ap (measured used) (sum-by ∙ ap (λ (o : Outcome ℤ). o >>= λ z. done (marked (expanded m) (signed z))) (sym h ∙ ap numbered q))
+      ap (measured used) (sum-by ∙ ap (λ (o : Outcome ℤ). o >>= λ z. done (marked (expandedMark m) (signed z))) (sym h ∙ ap numbered q))
 
   pub sum-gives : (used : ℕ) (area : Text) (a : Added) {z : ℤ} → r ≡ number.Value z → {w : ℤ} → w ≡ z → Adds used
-      (done (marked (expanded m) (signed w))) area a
+      (done (marked (expandedMark m) (signed w))) area a
       → Adds used (sumOf m row v) area a
   sum-gives used area a {z} q {w} i g =
       adds-same used area a
-      (ap (λ (x : ℤ). done (marked (expanded m) (signed x))) i
-      ∙ sym (sum-by ∙ ap (λ (o : Outcome ℤ). o >>= λ x. done (marked (expanded m) (signed x))) (sym h ∙ ap numbered q))) g
+      (ap (λ (x : ℤ). done (marked (expandedMark m) (signed x))) i
+      ∙ sym (sum-by ∙ ap (λ (o : Outcome ℤ). o >>= λ x. done (marked (expandedMark m) (signed x))) (sym h ∙ ap numbered q))) g

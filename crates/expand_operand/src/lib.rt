@@ -6,6 +6,7 @@ ghost use lib.ListN.{length, take};
 ghost use Rattle.stages.specs.Numbers.{rowLimit};
 ghost use Rattle.stages.specs.Images.{held};
 ghost use Rattle.stages.specs.Units.{bytes};
+ghost use Rattle.text.specs.Cases.{sideOf, reachOf};
 ghost use Rattle.text.specs.Rows.{rowOf};
 ghost use Rattle.row.specs.Marks.{markOf};
 ghost use Rattle.table.specs.Places.{Table};
@@ -103,7 +104,7 @@ fn cut(
 ) -> Added
     requires { ⌜ Table (now vars) × (2 * units ≤ length (now work)) × (used ≤ rowLimit) × (2 * rowLimit ≤ length (now work)) ⌝ }
     ensures { λ r. ⌜ Adds used
-        (leftBy suffix long (now (name .entry)) (markOf mark) (rowOf (take (2 * units) (now (work .entry)))) (held (now (vars .entry))))
+        (leftBy (sideOf suffix) (reachOf long) (now (name .entry)) (markOf mark) (rowOf (take (2 * units) (now (work .entry)))) (held (now (vars .entry))))
         (now (work .exit)) r ⌝ }
 {
     let end = 2 * units;

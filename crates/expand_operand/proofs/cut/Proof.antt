@@ -3,6 +3,7 @@ use Prim.Native.Nat.{_*_}
 use Rattle.expand_operand.proofs.Finishing.{dropped-inside, dropped-front, cut-class, cut-given}
 use Rattle.row.specs.Marks.{markOf}
 use Rattle.stages.specs.Images.{held}
+use Rattle.text.specs.Cases.{sideOf, reachOf}
 use borrow.Author.Needs.{needs}
 use lib.ListN.{drop}
 use lib.Seq.{length-take-le}
@@ -41,7 +42,7 @@ same-length c = search needs
 returns : tie.Need-returns
 returns c =
     let a = c .before .before .before .before .before .before .before .before .before .before .args in
-    cut-class (a .suffix) (a .long) (a .name .now) (markOf (a .mark)) (held (a .vars .now)) _ _
+    cut-class (sideOf (a .suffix)) (reachOf (a .long)) (a .name .now) (markOf (a .mark)) (held (a .vars .now)) _ _
     (dropped-front _ _ _ _ (c .before .before .before .before .before .drop-empty .ensures)) (a .used)
     (c .before .before .before .before .before .drop-empty .last .0 ++ drop (2 * a .units) (a .work .now))
     (sym (c .before .has-class .ensures) ∙ c .if1 .taken)
@@ -74,7 +75,7 @@ same-length-2 c = search needs
 returns-2 : tie.Need-returns-2
 returns-2 c =
     let a = c .before .before .before .before .before .before .before .before .before .before .before .before .before .before .before .before .before .before .args in
-    cut-given (a .suffix) (a .long) (a .name .now) (markOf (a .mark)) (held (a .vars .now)) _ _
+    cut-given (sideOf (a .suffix)) (reachOf (a .long)) (a .name .now) (markOf (a .mark)) (held (a .vars .now)) _ _
     (dropped-front _ _ _ _
     (c .before .before .before .before .before .before .before .before .before .before .before .before .before .drop-empty .ensures)) (a .used)
     (c .before .before .give-text .last .1 .1 .1 .0) (c .before .before .give-text .result)
