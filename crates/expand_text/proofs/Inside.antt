@@ -59,7 +59,7 @@ kept-held varsRoom vars varsUsed w =
     record { fine = table-fine isName (take varsUsed vars) t; passes = t .passes; rises = t .rises; fits = omega arith; small = omega arith }
 
 -- An operand's row: the bytes at the front, none of them zero.
-module _ (varsRoom : ℕ) (text : Text) (at : ℕ) (mode : Mode) (d units size : ℕ) (vars₀ : Text) (varsUsed : ℕ) (y : Ready text at mode d units size)
+module _ {varsRoom : ℕ} {text : Text} {at : ℕ} {mode : Mode} {d units size : ℕ} {vars₀ : Text} {varsUsed : ℕ} (y : Ready text at mode d units size)
     (w : Holds varsRoom vars₀ varsUsed) where
   tree-safe : SafeParts (y .tree)
   tree-safe = safe-done (parts-safe (modeOf mode) d (drop at text) (all-drop notZero at text (y .clean))) (y .is) .clean
@@ -71,12 +71,13 @@ pub row-at : (row : Row) (area : Text) (n : ℕ) → Stands row area → length 
 row-at row area n s e = ap rowOf (front row area n s e) ∙ rowOf-rowBytes row
 
 -- what a reader answers, once its case is known
-pub read-known : (text : Text) (at : ℕ) (o : Taken) {r k : Reading} → ReadSays text at o r → r ≡ k → ReadSays text at o k
-read-known text at o h e = subst (λ (k : Reading). ReadSays text at o k) e h
+pub reading-known : (text : Text) (at : ℕ) (o : Taken) {r k : Reading} → ReadSays text at o r → r ≡ k → ReadSays text at o k
+reading-known text at o h e = subst (λ (k : Reading). ReadSays text at o k) e h
 
 -- A quote.
 
-module _ (varsRoom : ℕ) (text : Text) (at : ℕ) (mode : Mode) (d units size : ℕ) (vars₀ : Text) (varsUsed : ℕ) (y : Ready text at mode d units size) where
+module _ {varsRoom : ℕ} {text : Text} {at : ℕ} {mode : Mode} {d units size : ℕ} {vars₀ : Text} {varsUsed : ℕ} (y : Ready text at mode d units size)
+    (w : Holds varsRoom vars₀ varsUsed) where
   abbrev Quoted : Text → Text → Expanded → Type 0
   Quoted area vars g = Says varsRoom text at units (λ q. quoted varsRoom q units (held (take varsUsed vars₀))) (parts (modeOf mode) d (drop at text)) area vars g
 
@@ -89,55 +90,67 @@ module _ (varsRoom : ℕ) (text : Text) (at : ℕ) (mode : Mode) (d units size :
       let b = y .area in
       record { start = y .start; opens = y .opens; few = omega arith; area = omega arith; clean = y .clean; tree = y .tree; rest = y .rest; is = y .is }
 
-  module _ (l : units < rowLimit) (ys us : Text) (g : Expanded)
-      (s : Says varsRoom text at (units + 1) (λ t. expand varsRoom t Q (units + 1) (held (take varsUsed vars₀))) (parts (modeOf mode) d (drop at text)) ys us g) where
-    inside : Answers varsRoom text at (units + 1) (expand varsRoom (y .tree) Q (units + 1) (held (take varsUsed vars₀))) (y .rest) ys us g
-    inside = says-known varsRoom text at (units + 1) (λ t. expand varsRoom t Q (units + 1) (held (take varsUsed vars₀))) ys us g s (y .is)
+-- its text, expanded in what is lent after the N
+pub record QuoteExpanded (varsRoom : ℕ) (text : Text) (at : ℕ) (mode : Mode) (d units size : ℕ) (vars₀ : Text) (varsUsed : ℕ) (ys us : Text)
+    (g : Expanded) : Type 0 where
+  pub ready : Ready text at mode d units size
+  pub holds : Holds varsRoom vars₀ varsUsed
+  pub room : units < rowLimit
+  pub says : Says varsRoom text at (units + 1) (λ t. expand varsRoom t Q (units + 1) (held (take varsUsed vars₀)))
+      (parts (modeOf mode) d (drop at text)) ys us g
 
-    quote-made : (o : Made) → expand varsRoom (y .tree) Q (units + 1) (held (take varsUsed vars₀)) ≡ o → quoted varsRoom (y .tree) units
-        (held (take varsUsed vars₀)) ≡ onto (N ∷ []) o
-    unfolding quoted
-    quote-made o e = rw (fit-ok units 1 (omega arith), e)
+module _ {varsRoom : ℕ} {text : Text} {at : ℕ} {mode : Mode} {d units size : ℕ} {vars₀ : Text} {varsUsed : ℕ} {ys us : Text} {g : Expanded}
+    (x : QuoteExpanded varsRoom text at mode d units size vars₀ varsUsed ys us g) where
+  abbrev QuotedIn : Text → Text → Expanded → Type 0
+  QuotedIn area vars r = Quoted (x .ready) (x .holds) area vars r
 
-    pub quote-refused : (area : Text) {e : ℕ} → g ≡ answer.Refused e → Quoted area us (answer.Refused e)
-    quote-refused area {e} q =
-        let b : expand varsRoom (y .tree) Q (units + 1) (held (take varsUsed vars₀)) ≡ refused e =
-        answers-known varsRoom text at (units + 1) _ (y .rest) ys us inside q in
-        rw (y .is) (quote-made (refused e) b)
+  inside : Answers varsRoom text at (units + 1) (expand varsRoom (x .ready .tree) Q (units + 1) (held (take varsUsed vars₀))) (x .ready .rest) ys us g
+  inside = says-known varsRoom text at (units + 1) (λ t. expand varsRoom t Q (units + 1) (held (take varsUsed vars₀))) ys us g (x .says) (x .ready .is)
 
-    module _ {count next left : ℕ} (q : g ≡ answer.Row count next left) where
-      row-inside : IsRow varsRoom (units + 1) (expand varsRoom (y .tree) Q (units + 1) (held (take varsUsed vars₀))) ys us count left × Ends text at next (y .rest)
-      row-inside = answers-known varsRoom text at (units + 1) _ (y .rest) ys us inside q
+  quote-made : (o : Made) → expand varsRoom (x .ready .tree) Q (units + 1) (held (take varsUsed vars₀)) ≡ o → quoted varsRoom (x .ready .tree) units
+      (held (take varsUsed vars₀)) ≡ onto (N ∷ []) o
+  unfolding quoted
+  quote-made o e = let l = x .room in rw (fit-ok units 1 (omega arith), e)
 
-      pub quote-fits : units + 1 + count ≤ rowLimit
-      quote-fits = row-inside .0 .fits
+  pub quote-refused : (area : Text) {e : ℕ} → g ≡ answer.Refused e → QuotedIn area us (answer.Refused e)
+  quote-refused area {e} q =
+      let b : expand varsRoom (x .ready .tree) Q (units + 1) (held (take varsUsed vars₀)) ≡ refused e =
+      answers-known varsRoom text at (units + 1) _ (x .ready .rest) ys us inside q in
+      rw (x .ready .is) (quote-made (refused e) b)
 
-      pub quote-row : (a b z : Text) → a ≡ 0 ∷ 0 ∷ b → Quoted (take 2 a ++ (ys ++ z)) us (answer.Row (count + 1) next left)
-      unfolding rowBytes
-      quote-row a b z e =
-          let i = row-inside .0 in
-          let f = i .fits in
-          let c = i .counts in
-          rw (y .is) (
-            record {
-              row = N ∷ i .row;
-              is = quote-made (done (i .row, held (take left us))) (i .is);
-              counts = omega arith;
-              stands = record {
-                rest = i .stands .rest ++ z;
-                is = ap (λ (p : Text). take 2 p ++ (ys ++ z)) e ∙ ap (λ (p : Text). 0 ∷ 0 ∷ (p ++ z)) (i .stands .is) ∙ simp append-assoc;
-              };
-              fits = omega arith;
-              holds = i .holds;
-            },
-            row-inside .1,
-          )
+  module _ {count next left : ℕ} (q : g ≡ answer.Row count next left) where
+    row-inside : IsRow varsRoom (units + 1) (expand varsRoom (x .ready .tree) Q (units + 1) (held (take varsUsed vars₀))) ys us count left × Ends text at next (x .ready .rest)
+    row-inside = answers-known varsRoom text at (units + 1) _ (x .ready .rest) ys us inside q
+
+    pub quote-fits : units + 1 + count ≤ rowLimit
+    quote-fits = row-inside .0 .fits
+
+    pub quote-row : (a b z : Text) → a ≡ 0 ∷ 0 ∷ b → QuotedIn (take 2 a ++ (ys ++ z)) us (answer.Row (count + 1) next left)
+    unfolding rowBytes
+    quote-row a b z e =
+        let i = row-inside .0 in
+        let f = i .fits in
+        let c = i .counts in
+        rw (x .ready .is) (
+          record {
+            row = N ∷ i .row;
+            is = quote-made (done (i .row, held (take left us))) (i .is);
+            counts = omega arith;
+            stands = record {
+              rest = i .stands .rest ++ z;
+              is = ap (λ (p : Text). take 2 p ++ (ys ++ z)) e ∙ ap (λ (p : Text). 0 ∷ 0 ∷ (p ++ z)) (i .stands .is) ∙ simp append-assoc;
+            };
+            fits = omega arith;
+            holds = i .holds;
+          },
+          row-inside .1,
+        )
 
 -- An operand.
 
-module _ (varsRoom : ℕ) (text : Text) (at : ℕ) (mode : Mode) (d units size : ℕ) (vars₀ : Text) (varsUsed : ℕ) (name : Text) (form : Form) (m : Mark)
-    (y : Ready text at mode d 0 size) (w : Holds varsRoom vars₀ varsUsed) (found : Found) (s : places.Shown (take varsUsed vars₀) name found)
-    {own : Plan} (e : own ≡ planOf form (missingIn found)) where
+module _ {varsRoom : ℕ} {text : Text} {at : ℕ} {mode : Mode} {d size : ℕ} {vars₀ : Text} {varsUsed : ℕ} {name : Text} {found : Found}
+    (units : ℕ) (form : Form) (m : Mark) (y : Ready text at mode d 0 size) (w : Holds varsRoom vars₀ varsUsed)
+    (s : places.Shown (take varsUsed vars₀) name found) {own : Plan} (e : own ≡ planOf form (missingIn found)) where
   abbrev v : Pairs
   v = held (take varsUsed vars₀)
 
@@ -171,52 +184,71 @@ module _ (varsRoom : ℕ) (text : Text) (at : ℕ) (mode : Mode) (d units size :
       area vars₀ g
       (adds-finishes varsRoom units (record { next = next; «vars_used» = varsUsed }) (settled what name m v) area vars₀ g h w)
 
-  module _ {what : Used} (n : own ≡ plan.Used what) (k : Mark) (c : k ≡ operandMark what m) (ys us : Text) (g : Expanded)
-      (t : Says varsRoom text at 0 (λ p. expand varsRoom p k 0 v) (parts (modeOf mode) d (drop at text)) ys us g) where
-    operand-answer : Answers varsRoom text at 0 (expand varsRoom (y .tree) k 0 v) (y .rest) ys us g
-    operand-answer = says-known varsRoom text at 0 (λ p. expand varsRoom p k 0 v) ys us g t (y .is)
+-- an operand that was expanded for a plan that uses it
+pub record OperandExpanded (varsRoom : ℕ) (text : Text) (at : ℕ) (mode : Mode) (d size : ℕ) (vars₀ : Text) (varsUsed : ℕ) (name : Text) (units : ℕ)
+    (form : Form) (m : Mark) (what : Used) (ys us : Text) (g : Expanded) : Type 0 where
+  pub ready : Ready text at mode d 0 size
+  pub holds : Holds varsRoom vars₀ varsUsed
+  pub found : Found
+  pub shows : places.Shown (take varsUsed vars₀) name found
+  pub planned : plan.Used what ≡ planOf form (missingIn found)
+  pub mark : Mark
+  pub is : mark ≡ operandMark what m
+  pub says : Says varsRoom text at 0 (λ p. expand varsRoom p mark 0 (held (take varsUsed vars₀))) (parts (modeOf mode) d (drop at text)) ys us g
 
-    withal : (o : Made) → expand varsRoom (y .tree) k 0 v ≡ o → given ≡ placed units (o >>= λ r. finished what varsRoom name m r)
-    withal o h =
-        ap (placed units)
-        (used-operand varsRoom (λ k u. expand varsRoom (y .tree) k 0 u) name m (take varsUsed vars₀) form found s e n
-        ∙ ap (λ (j : Mark). expand varsRoom (y .tree) j 0 v >>= λ r. finished what varsRoom name m r) (sym c)
-        ∙ ap (λ (x : Made). x >>= λ r. finished what varsRoom name m r) h)
+module _ {varsRoom : ℕ} {text : Text} {at : ℕ} {mode : Mode} {d size : ℕ} {vars₀ : Text} {varsUsed : ℕ} {name : Text} {units : ℕ} {form : Form} {m : Mark}
+    {what : Used} {ys us : Text} {g : Expanded}
+    (x : OperandExpanded varsRoom text at mode d size vars₀ varsUsed name units form m what ys us g) where
+  abbrev GivenIn : Text → Text → Expanded → Type 0
+  GivenIn area vars r = Given units form m (x .ready) (x .holds) (x .shows) (x .planned) area vars r
 
-    pub used-refused : (area : Text) {b : ℕ} → g ≡ answer.Refused b → Given area us (answer.Refused b)
-    used-refused area {b} q =
-        let h : expand varsRoom (y .tree) k 0 v ≡ refused b = answers-known varsRoom text at 0 _ (y .rest) ys us operand-answer q in
-        rw (y .is) (withal (refused b) h ∙ placed-refused units (refused b) b refl)
+  abbrev givenIn : Made
+  givenIn = given units form m (x .ready) (x .holds) (x .shows) (x .planned)
 
-    module _ {count next left : ℕ} (q : g ≡ answer.Row count next left) where
-      operand-row : IsRow varsRoom 0 (expand varsRoom (y .tree) k 0 v) ys us count left × Ends text at next (y .rest)
-      operand-row = answers-known varsRoom text at 0 _ (y .rest) ys us operand-answer q
+  operand-answer : Answers varsRoom text at 0 (expand varsRoom (x .ready .tree) (x .mark) 0 (held (take varsUsed vars₀))) (x .ready .rest) ys us g
+  operand-answer = says-known varsRoom text at 0 (λ p. expand varsRoom p (x .mark) 0 (held (take varsUsed vars₀))) ys us g (x .says) (x .ready .is)
 
-      pub used-holds : Holds varsRoom us left
-      used-holds = operand-row .0 .holds
+  withal : (o : Made) → expand varsRoom (x .ready .tree) (x .mark) 0 (held (take varsUsed vars₀)) ≡ o → givenIn ≡ placed units (o >>= λ r. finished what varsRoom name m r)
+  withal o h =
+      ap (placed units)
+      (used-operand varsRoom (λ k u. expand varsRoom (x .ready .tree) k 0 u) name m (take varsUsed vars₀) form (x .found) (x .shows) (x .planned) refl
+      ∙ ap (λ (j : Mark). expand varsRoom (x .ready .tree) j 0 (held (take varsUsed vars₀)) >>= λ r. finished what varsRoom name m r) (sym (x .is))
+      ∙ ap (λ (x : Made). x >>= λ r. finished what varsRoom name m r) h)
 
-      at-front : rowOf (take (2 * count) ys) ≡ operand-row .0 .row
-      at-front = row-at (operand-row .0 .row) ys count (operand-row .0 .stands) (operand-row .0 .counts)
+  pub used-refused : (area : Text) {b : ℕ} → g ≡ answer.Refused b → GivenIn area us (answer.Refused b)
+  used-refused area {b} q =
+      let h : expand varsRoom (x .ready .tree) (x .mark) 0 (held (take varsUsed vars₀)) ≡ refused b = answers-known varsRoom text at 0 _ (x .ready .rest) ys us operand-answer q in
+      rw (x .ready .is) (withal (refused b) h ∙ placed-refused units (refused b) b refl)
 
-      pub used-ready : isName name ≡ true → Operand name ys count
-      used-ready i =
-          let o = operand-row .0 in
-          record {
-            inside = stands-inside (o .row) ys count (o .stands) (o .counts);
-            is = ap rowBytes at-front ∙ sym (front (o .row) ys count (o .stands) (o .counts));
-            clean = ap (λ (r : Row). all notZero (bytes r)) at-front ∙ row-clean varsRoom text at mode d 0 size vars₀ varsUsed y w k (o .row)
-                (held (take left us)) (o .is);
-            named = i;
-          }
+  module _ {count next left : ℕ} (q : g ≡ answer.Row count next left) where
+    operand-row : IsRow varsRoom 0 (expand varsRoom (x .ready .tree) (x .mark) 0 (held (take varsUsed vars₀))) ys us count left × Ends text at next (x .ready .rest)
+    operand-row = answers-known varsRoom text at 0 _ (x .ready .rest) ys us operand-answer q
 
-      pub used-given : (area vars : Text) (f : Expanded) → Finishes varsRoom units
-          (placed units (finished what varsRoom name m (rowOf (take (2 * count) ys), held (take left us)))) next area vars f
-          → Given area vars f
-      used-given area vars f h =
-          finished-given next (operand-row .1)
-          (withal (done (operand-row .0 .row, held (take left us))) (operand-row .0 .is)
-          ∙ ap (λ (r : Row). placed units (finished what varsRoom name m (r, held (take left us)))) (sym at-front))
-          area vars f h
+    pub used-holds : Holds varsRoom us left
+    used-holds = operand-row .0 .holds
+
+    at-front : rowOf (take (2 * count) ys) ≡ operand-row .0 .row
+    at-front = row-at (operand-row .0 .row) ys count (operand-row .0 .stands) (operand-row .0 .counts)
+
+    pub used-ready : isName name ≡ true → Operand name ys count
+    used-ready i =
+        let o = operand-row .0 in
+        record {
+          inside = stands-inside (o .row) ys count (o .stands) (o .counts);
+          is = ap rowBytes at-front ∙ sym (front (o .row) ys count (o .stands) (o .counts));
+          clean = ap (λ (r : Row). all notZero (bytes r)) at-front ∙ row-clean (x .ready) (x .holds) (x .mark) (o .row)
+              (held (take left us)) (o .is);
+          named = i;
+        }
+
+    pub used-given : (area vars : Text) (f : Expanded) → Finishes varsRoom units
+        (placed units (finished what varsRoom name m (rowOf (take (2 * count) ys), held (take left us)))) next area vars f
+        → GivenIn area vars f
+    used-given area vars f h =
+        finished-given units form m (x .ready) (x .holds) (x .shows) (x .planned) next (operand-row .1)
+        (withal (done (operand-row .0 .row, held (take left us))) (operand-row .0 .is)
+        ∙ ap (λ (r : Row). placed units (finished what varsRoom name m (r, held (take left us)))) (sym at-front))
+        area vars f h
 
 -- An arithmetic text.
 
@@ -230,25 +262,30 @@ summed-beside m row v = go (arithmeticOf v (bytes row)) (arithmetic-safe (λ (u 
     go (refused e) s = refl
     go (done p) (gives s) = ap (λ (u : Pairs). _>>=_ {A = Row × Pairs} {B = Row × Pairs} (done (marked (expanded m) (p .0), u)) (λ r. done r)) (s .1)
 
-module _ (varsRoom : ℕ) (text : Text) (at d units size : ℕ) (vars₀ : Text) (varsUsed : ℕ) (m : Mark)
-    (y : Ready text at (Arith 0) d 0 size) (w : Holds varsRoom vars₀ varsUsed) (ys us : Text) (g : Expanded)
-    (t : Says varsRoom text at 0 (λ p. expand varsRoom p Q 0 (held (take varsUsed vars₀))) (parts (sums 0) d (drop at text)) ys us g) where
+-- its text, expanded
+pub record SumExpanded (varsRoom : ℕ) (text : Text) (at d size : ℕ) (vars₀ : Text) (varsUsed units : ℕ) (m : Mark) (ys us : Text) (g : Expanded)
+    : Type 0 where
+  pub ready : Ready text at (Arith 0) d 0 size
+  pub says : Says varsRoom text at 0 (λ p. expand varsRoom p Q 0 (held (take varsUsed vars₀))) (parts (sums 0) d (drop at text)) ys us g
+
+module _ {varsRoom : ℕ} {text : Text} {at d size : ℕ} {vars₀ : Text} {varsUsed units : ℕ} {m : Mark} {ys us : Text} {g : Expanded}
+    (x : SumExpanded varsRoom text at d size vars₀ varsUsed units m ys us g) where
   abbrev Summed : Text → Text → Expanded → Type 0
   Summed area vars f =
       Says varsRoom text at units (λ q. placed units (summing varsRoom q m (held (take varsUsed vars₀)))) (parts (sums 0) d (drop at text)) area vars f
 
-  sum-answer : Answers varsRoom text at 0 (expand varsRoom (y .tree) Q 0 (held (take varsUsed vars₀))) (y .rest) ys us g
-  sum-answer = says-known varsRoom text at 0 (λ p. expand varsRoom p Q 0 (held (take varsUsed vars₀))) ys us g t (y .is)
+  sum-answer : Answers varsRoom text at 0 (expand varsRoom (x .ready .tree) Q 0 (held (take varsUsed vars₀))) (x .ready .rest) ys us g
+  sum-answer = says-known varsRoom text at 0 (λ p. expand varsRoom p Q 0 (held (take varsUsed vars₀))) ys us g (x .says) (x .ready .is)
 
   pub sum-refused : (area : Text) {b : ℕ} → g ≡ answer.Refused b → Summed area us (answer.Refused b)
   unfolding summing
   sum-refused area {b} q =
-      let h : expand varsRoom (y .tree) Q 0 (held (take varsUsed vars₀)) ≡ refused b = answers-known varsRoom text at 0 _ (y .rest) ys us sum-answer q in
-      rw (y .is) (placed-refused units _ b (ap (λ (o : Made). o >>= λ u. summed m u) h))
+      let h : expand varsRoom (x .ready .tree) Q 0 (held (take varsUsed vars₀)) ≡ refused b = answers-known varsRoom text at 0 _ (x .ready .rest) ys us sum-answer q in
+      rw (x .ready .is) (placed-refused units _ b (ap (λ (o : Made). o >>= λ u. summed m u) h))
 
   module _ {count next left : ℕ} (q : g ≡ answer.Row count next left) where
-    sum-row : IsRow varsRoom 0 (expand varsRoom (y .tree) Q 0 (held (take varsUsed vars₀))) ys us count left × Ends text at next (y .rest)
-    sum-row = answers-known varsRoom text at 0 _ (y .rest) ys us sum-answer q
+    sum-row : IsRow varsRoom 0 (expand varsRoom (x .ready .tree) Q 0 (held (take varsUsed vars₀))) ys us count left × Ends text at next (x .ready .rest)
+    sum-row = answers-known varsRoom text at 0 _ (x .ready .rest) ys us sum-answer q
 
     pub sum-holds : Holds varsRoom us left
     sum-holds = sum-row .0 .holds
@@ -261,8 +298,8 @@ module _ (varsRoom : ℕ) (text : Text) (at d units size : ℕ) (vars₀ : Text)
         → Summed area us f
     unfolding summing
     sum-given area f h =
-        rw (y .is)
-        (finishes-answers varsRoom text at units (placed units (summing varsRoom (y .tree) m (held (take varsUsed vars₀)))) next (y .rest) area us f
+        rw (x .ready .is)
+        (finishes-answers varsRoom text at units (placed units (summing varsRoom (x .ready .tree) m (held (take varsUsed vars₀)))) next (x .ready .rest) area us f
         (finishes-same varsRoom units next area us f (sym (ap (placed units) same))
         (adds-finishes varsRoom units (record { next = next; «vars_used» = left }) (sumOf m row (held (take left us))) area us f h (sum-row .0 .holds)))
         (sum-row .1))
@@ -270,7 +307,7 @@ module _ (varsRoom : ℕ) (text : Text) (at d units size : ℕ) (vars₀ : Text)
         row : Row
         row = rowOf (take (2 * count) ys)
 
-        same : (summing varsRoom (y .tree) m (held (take varsUsed vars₀))) ≡ beside (held (take left us)) (sumOf m row (held (take left us)))
+        same : (summing varsRoom (x .ready .tree) m (held (take varsUsed vars₀))) ≡ beside (held (take left us)) (sumOf m row (held (take left us)))
         same =
             ap (λ (o : Made). o >>= λ u. summed m u) (sum-row .0 .is)
             ∙ ap (λ (r : Row). summed m (r, held (take left us))) (sym (row-at (sum-row .0 .row) ys count (sum-row .0 .stands) (sum-row .0 .counts)))

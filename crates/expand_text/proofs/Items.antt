@@ -42,7 +42,7 @@ shown text at d i h e = subst (λ (x : Item). Shows text at d x i) e h
 
 -- The text from `at` on is read (`y`), the variables stand in their bytes (`w`).
 
-module _ (varsRoom : ℕ) (text : Text) (at : ℕ) (mode : Mode) (d : ℕ) (m : Mark) (units size : ℕ) (vars₀ : Text) (varsUsed : ℕ)
+module _ {varsRoom : ℕ} {text : Text} {at : ℕ} {mode : Mode} {d : ℕ} (m : Mark) {units size : ℕ} {vars₀ : Text} {varsUsed : ℕ}
     (y : Ready text at mode d units size) (w : Holds varsRoom vars₀ varsUsed) where
   abbrev v : Pairs
   v = held (take varsUsed vars₀)
@@ -104,22 +104,22 @@ module _ (varsRoom : ℕ) (text : Text) (at : ℕ) (mode : Mode) (d : ℕ) (m : 
       own-finished p (placed units (beside v o)) is next after read i l k area vars₀ g
       (adds-finishes varsRoom units (record { next = next; «vars_used» = varsUsed }) o area vars₀ g h w)
 
+  abbrev Turned : Item → Text → Text → Expanded → Type 0
+  Turned r area vars g = Passed (isStop r) (modeAfter r mode) area vars g
+
+  known : {r s : Item} → r ≡ s → (area vars : Text) (g : Expanded) → Turned s area vars g → Turned r area vars g
+  known c area vars g t = subst (λ (s : Item). Turned s area vars g) (sym c) t
+
   -- the item r stands there
   module _ {r : Item} (h : Shows text at d r (item (modeOf mode) d (drop at text))) where
-    abbrev Turned : Text → Text → Expanded → Type 0
-    Turned area vars g = Passed (isStop r) (modeAfter r mode) area vars g
-
-    known : {s : Item} → r ≡ s → (area vars : Text) (g : Expanded) → Passed (isStop s) (modeAfter s mode) area vars g → Turned area vars g
-    known c area vars g t = subst (λ (s : Item). Passed (isStop s) (modeAfter s mode) area vars g) (sym c) t
-
-    pub item-fault : (area vars : Text) {e : ℕ} → r ≡ Fault e → Turned area vars (answer.Refused e)
+    pub item-fault : (area vars : Text) {e : ℕ} → r ≡ Fault e → Turned r area vars (answer.Refused e)
     item-fault area vars {e} c =
         let n : parts (modeOf mode) d (drop at text) ≡ refused e = at-fault text at (modeOf mode) d e (shown text at d _ h c) in
         let u : _≡_ {A = Taken} (refused e) (done (y .tree, y .rest)) = sym n ∙ y .is in
         let z : _≡_ {A = ℕ} 0 1 = cc in
         absurd (omega arith)
 
-    pub item-stop : (area : Text) {next : ℕ} → r ≡ Stop next → Turned area vars₀ (answer.Row 0 next varsUsed)
+    pub item-stop : (area : Text) {next : ℕ} → r ≡ Stop next → Turned r area vars₀ (answer.Row 0 next varsUsed)
     unfolding expand
     item-stop area {next} c =
         let s = shown text at d _ h c in
@@ -128,7 +128,7 @@ module _ (varsRoom : ℕ) (text : Text) (at : ℕ) (mode : Mode) (d : ℕ) (m : 
         (rw n (record { is = refl; none = refl; holds = w; ends = record { ends = refl; onward = s .1; within = s .2 } }))
 
     pub item-byte : {q : Bool} {b next : ℕ} → r ≡ Byte q b next → {k : Mark} → k ≡ litMark q m → (area : Text) (g : Expanded)
-        → Adds units (record { next = next; «vars_used» = varsUsed }) (done (cell k b ∷ [])) area g → Turned area vars₀ g
+        → Adds units (record { next = next; «vars_used» = varsUsed }) (done (cell k b ∷ [])) area g → Turned r area vars₀ g
     item-byte {q} {b} {next} c {k} e area g f =
         let s = shown text at d _ h c in
         let o = y .opens in
@@ -141,8 +141,11 @@ module _ (varsRoom : ℕ) (text : Text) (at : ℕ) (mode : Mode) (d : ℕ) (m : 
         next mode (t .read) (omega arith) i (s .1 .within) area g
         (adds-same units (record { next = next; «vars_used» = varsUsed }) area g (ap (λ (j : Mark). done (cell j b ∷ [])) e) f))
 
+    pub paren-place : {b n : ℕ} → r ≡ Paren b n → at < length text
+    paren-place c = shown text at d _ h c .1
+
     pub item-paren : {b n : ℕ} → r ≡ Paren b n → (area : Text) (g : Expanded)
-        → Adds units (record { next = at + 1; «vars_used» = varsUsed }) (done (cell m b ∷ [])) area g → Turned area vars₀ g
+        → Adds units (record { next = at + 1; «vars_used» = varsUsed }) (done (cell m b ∷ [])) area g → Turned r area vars₀ g
     item-paren {b} {n} c area g f =
         let s = shown text at d _ h c in
         let i = s .1 in
@@ -159,7 +162,7 @@ module _ (varsRoom : ℕ) (text : Text) (at : ℕ) (mode : Mode) (d : ℕ) (m : 
 
       pub item-value : (area : Text) (g : Expanded)
           → Adds units (record { next = next; «vars_used» = varsUsed }) (done (marked (expanded m) (value v (part text from to)))) area g
-          → Turned area vars₀ g
+          → Turned r area vars₀ g
       unfolding parameter
       item-value area g f =
           let s = shown text at d _ h c in
@@ -179,7 +182,7 @@ module _ (varsRoom : ℕ) (text : Text) (at : ℕ) (mode : Mode) (d : ℕ) (m : 
       pub item-count : (area : Text) (g : Expanded)
           → Adds units (record { next = next; «vars_used» = varsUsed })
           (done (marked (expanded m) (decimal (length (value v (part text from to)))))) area g
-          → Turned area vars₀ g
+          → Turned r area vars₀ g
       item-count area g f =
           let s = shown text at d _ h c in
           let o = y .opens in
@@ -217,7 +220,7 @@ module _ (varsRoom : ℕ) (text : Text) (at : ℕ) (mode : Mode) (d : ℕ) (m : 
 
       pub item-quote : (area vars : Text) (g : Expanded) → Says varsRoom text (at + 1) units (λ q. quoted varsRoom q units v)
           (parts (modeOf n) d (drop (at + 1) text)) area vars g
-          → Turned area vars g
+          → Turned r area vars g
       item-quote area vars g s =
           let t = quote-parts in
           known c area vars g
@@ -268,7 +271,7 @@ module _ (varsRoom : ℕ) (text : Text) (at : ℕ) (mode : Mode) (d : ℕ) (m : 
           → Says varsRoom text next units
           (λ q. placed units (parameter varsRoom (λ k u. expand varsRoom q k 0 u) (part text from to) (formOf f) m v))
           (parts (modeOf n) (d - 1) (drop next text)) area vars g
-          → Turned area vars g
+          → Turned r area vars g
       item-inner area vars g s =
           let t = inner-parts in
           known c area vars g
@@ -312,7 +315,7 @@ module _ (varsRoom : ℕ) (text : Text) (at : ℕ) (mode : Mode) (d : ℕ) (m : 
 
       pub item-sum : (area vars : Text) (g : Expanded)
           → Says varsRoom text next units (λ q. placed units (summing varsRoom q m v)) (parts (sums 0) (d - 1) (drop next text)) area vars g
-          → Turned area vars g
+          → Turned r area vars g
       unfolding summing
       item-sum area vars g s =
           let t = sum-parts in

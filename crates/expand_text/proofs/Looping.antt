@@ -61,11 +61,11 @@ pub record Going (varsRoom : ℕ) (text : Text) (at : ℕ) (mode₀ : Mode) (dep
   pub holds : Holds varsRoom vars varsUsed
   pub is : expand varsRoom tree k units v ≡ onto row (expand varsRoom left k (units + n) (held (take varsUsed vars)))
 
-module _ (varsRoom : ℕ) (text : Text) (at : ℕ) (mode₀ : Mode) (d : ℕ) (k : Mark) (units : ℕ) where
-  pub going-start : (area vars : Text) (varsUsed : ℕ) → Ready text at mode₀ d units (length area) → Holds varsRoom vars varsUsed
+module _ {varsRoom : ℕ} {text : Text} {at : ℕ} {mode₀ : Mode} {d : ℕ} (k : Mark) {units : ℕ} (area : Text) {vars : Text} {varsUsed : ℕ} where
+  pub going-start : Ready text at mode₀ d units (length area) → Holds varsRoom vars varsUsed
       → Going varsRoom text at mode₀ d k units (held (take varsUsed vars)) area vars area vars 0 at mode₀ varsUsed
   unfolding rowBytes
-  going-start area vars varsUsed y w =
+  going-start y w =
       let f = y .few in
       record {
         tree = y .tree;
@@ -86,10 +86,18 @@ module _ (varsRoom : ℕ) (text : Text) (at : ℕ) (mode₀ : Mode) (d : ℕ) (k
         is = onto-none _ ∙ ap (λ (j : ℕ). onto [] (expand varsRoom (y .tree) k j (held (take varsUsed vars)))) (sym (add-zero units));
       }
 
-  module _ (v : Pairs) (area₀ vars₀ area vars : Text) (n i : ℕ) (mode : Mode) (varsUsed : ℕ)
-      (g : Going varsRoom text at mode₀ d k units v area₀ vars₀ area vars n i mode varsUsed) where
-    pub going-varsRoom : 2 * n ≤ length area
-    going-varsRoom = stands-inside (g .row) area n (g .stands) (g .counts)
+-- What stands so far, and an item that was expanded in what is lent after the row.
+pub record Expanding (varsRoom : ℕ) (text : Text) (at : ℕ) (mode₀ : Mode) (depth : ℕ) (k : Mark) (units : ℕ) (v : Pairs) (area₀ vars₀ area vars : Text)
+    (n i : ℕ) (mode : Mode) (varsUsed : ℕ) (stops : Bool) (after : Mode) (ys us : Text) (r : Expanded) : Type 0 where
+  pub going : Going varsRoom text at mode₀ depth k units v area₀ vars₀ area vars n i mode varsUsed
+  pub says : ItemRead stops after varsRoom text i depth k (units + n) (λ p. expand varsRoom p k (units + n) (held (take varsUsed vars)))
+      (parts (modeOf mode) depth (drop i text)) ys us r
+
+module _ {varsRoom : ℕ} {text : Text} {at : ℕ} {mode₀ : Mode} {d : ℕ} {k : Mark} {units : ℕ} {v : Pairs} {area₀ vars₀ area vars : Text} {n i : ℕ}
+    {mode : Mode} {varsUsed : ℕ} where
+  module _ (g : Going varsRoom text at mode₀ d k units v area₀ vars₀ area vars n i mode varsUsed) where
+    pub going-room : 2 * n ≤ length area
+    going-room = stands-inside (g .row) area n (g .stands) (g .counts)
 
     pub going-ready : all notZero text ≡ true → (size : ℕ) → 2 * rowLimit * (d + 1) ≤ length area₀ + 2 * units → size + 2 * n ≡ length
         area → Ready text i mode d (units + n) size
@@ -97,81 +105,83 @@ module _ (varsRoom : ℕ) (text : Text) (at : ℕ) (mode₀ : Mode) (d : ℕ) (k
         let a = g .long in
         record { start = g .within; opens = g .opens; few = g .fits; area = omega arith; clean = c; tree = g .left; rest = g .rest; is = g .read }
 
-    -- an item was expanded in what is lent after the row
-    module _ {stops : Bool} {after : Mode} (ys us : Text) {r : Expanded}
-        (t : ItemRead stops after varsRoom text i d k (units + n) (λ p. expand varsRoom p k (units + n) (held (take varsUsed vars)))
-        (parts (modeOf mode) d (drop i text)) ys us r) where
-      pub going-refused : (z : Text) {e : ℕ} → r ≡ answer.Refused e
-          → Says varsRoom text at units (λ p. expand varsRoom p k units v) (parts (modeOf mode₀) d (drop at text)) z us (answer.Refused e)
-      going-refused z {e} q =
-          let h : expand varsRoom (g .left) k (units + n) (held (take varsUsed vars)) ≡ refused e =
-          read-known stops after varsRoom text i d k (units + n) _ ys us t (g .read) q in
-          rw (g .whole) (g .is ∙ ap (onto (g .row)) h)
+  module _ {stops : Bool} {after : Mode} {ys us : Text} {r : Expanded}
+      (x : Expanding varsRoom text at mode₀ d k units v area₀ vars₀ area vars n i mode varsUsed stops after ys us r) where
+    abbrev g : Going varsRoom text at mode₀ d k units v area₀ vars₀ area vars n i mode varsUsed
+    g = x .going
 
-      module _ {count next left : ℕ} (q : r ≡ answer.Row count next left) where
-        passed : Passes stops after varsRoom text i d k (units + n) (expand varsRoom (g .left) k (units + n) (held (take varsUsed vars))) (g .rest) ys us
+    pub going-refused : (z : Text) {e : ℕ} → r ≡ answer.Refused e
+        → Says varsRoom text at units (λ p. expand varsRoom p k units v) (parts (modeOf mode₀) d (drop at text)) z us (answer.Refused e)
+    going-refused z {e} q =
+        let h : expand varsRoom (g .left) k (units + n) (held (take varsUsed vars)) ≡ refused e =
+        read-known stops after varsRoom text i d k (units + n) _ ys us (x .says) (g .read) q in
+        rw (g .whole) (g .is ∙ ap (onto (g .row)) h)
+
+    module _ {count next left : ℕ} (q : r ≡ answer.Row count next left) where
+      passed : Passes stops after varsRoom text i d k (units + n) (expand varsRoom (g .left) k (units + n) (held (take varsUsed vars))) (g .rest) ys us
+          count next left
+      passed = read-known stops after varsRoom text i d k (units + n) _ ys us (x .says) (g .read) q
+
+      pub going-fits : units + n + count ≤ rowLimit
+      going-fits = passed-fits stops after varsRoom text i d k (units + n) _ (g .rest) ys us count next left (g .fits) passed
+
+      pub going-end : stops ≡ true → (z : Text)
+          → Says varsRoom text at units (λ p. expand varsRoom p k units v) (parts (modeOf mode₀) d (drop at text)) (take (2 * n) area ++ z) us
+          (answer.Row (n + count) next left)
+      going-end e z =
+          let h : Closes varsRoom text i (expand varsRoom (g .left) k (units + n) (held (take varsUsed vars))) (g .rest) us count next left =
+          subst (λ (b : Bool). Passes b after varsRoom text i d k (units + n) (expand varsRoom (g .left) k (units + n) (held (take varsUsed vars)))
+          (g .rest) ys us count next left) e passed in
+          let a = g .onward in
+          let b = h .ends .onward in
+          let f = g .fits in
+          let c = g .counts in
+          let o = h .none in
+          rw (g .whole) (
+            record {
+              row = g .row;
+              is = g .is ∙ ap (onto (g .row)) (h .is) ∙ ap (λ (p : Row). done (p, held (take left us))) (append-nil (g .row));
+              counts = omega arith;
+              stands = stands-kept (g .row) area z n (g .stands) (g .counts);
+              fits = omega arith;
+              holds = h .holds;
+            },
+            record { ends = h .ends .ends; onward = omega arith; within = h .ends .within },
+          )
+
+      module _ (e : stops ≡ false) where
+        pub moved : Moves varsRoom text i d after k (units + n) (expand varsRoom (g .left) k (units + n) (held (take varsUsed vars))) (g .rest) ys us
             count next left
-        passed = read-known stops after varsRoom text i d k (units + n) _ ys us t (g .read) q
+        moved = subst (λ (b : Bool). Passes b after varsRoom text i d k (units + n)
+            (expand varsRoom (g .left) k (units + n) (held (take varsUsed vars))) (g .rest) ys us count next left) e passed
 
-        pub going-fits : units + n + count ≤ rowLimit
-        going-fits = passed-fits stops after varsRoom text i d k (units + n) _ (g .rest) ys us count next left (g .fits) passed
-
-        pub going-end : stops ≡ true → (z : Text)
-            → Says varsRoom text at units (λ p. expand varsRoom p k units v) (parts (modeOf mode₀) d (drop at text)) (take (2 * n) area ++ z) us
-            (answer.Row (n + count) next left)
-        going-end e z =
-            let h : Closes varsRoom text i (expand varsRoom (g .left) k (units + n) (held (take varsUsed vars))) (g .rest) us count next left =
-            subst (λ (b : Bool). Passes b after varsRoom text i d k (units + n) (expand varsRoom (g .left) k (units + n) (held (take varsUsed vars)))
-            (g .rest) ys us count next left) e passed in
+        pub going-row : {next-mode : Mode} → next-mode ≡ after → (z : Text) → length (take (2 * n) area ++ (ys ++ z)) ≡ length area
+            → length us ≡ length vars
+            → Going varsRoom text at mode₀ d k units v area₀ vars₀ (take (2 * n) area ++ (ys ++ z)) us (n + count) next next-mode left
+        going-row o z len wide =
+            let h = moved in
             let a = g .onward in
-            let b = h .ends .onward in
-            let f = g .fits in
-            let c = g .counts in
-            let o = h .none in
-            rw (g .whole) (
-              record {
-                row = g .row;
-                is = g .is ∙ ap (onto (g .row)) (h .is) ∙ ap (λ (p : Row). done (p, held (take left us))) (append-nil (g .row));
-                counts = omega arith;
-                stands = stands-kept (g .row) area z n (g .stands) (g .counts);
-                fits = omega arith;
-                holds = h .holds;
-              },
-              record { ends = h .ends .ends; onward = omega arith; within = h .ends .within },
-            )
-
-        module _ (e : stops ≡ false) where
-          pub moved : Moves varsRoom text i d after k (units + n) (expand varsRoom (g .left) k (units + n) (held (take varsUsed vars))) (g .rest) ys us
-              count next left
-          moved = subst (λ (b : Bool). Passes b after varsRoom text i d k (units + n)
-              (expand varsRoom (g .left) k (units + n) (held (take varsUsed vars))) (g .rest) ys us count next left) e passed
-
-          pub going-row : (z : Text) → length (take (2 * n) area ++ (ys ++ z)) ≡ length area → length us ≡ length vars
-              → Going varsRoom text at mode₀ d k units v area₀ vars₀ (take (2 * n) area ++ (ys ++ z)) us (n + count) next after left
-          going-row z len wide =
-              let h = moved in
-              let a = g .onward in
-              let b = h .onward in
-              let f = h .fits in
-              let s : units + n + count ≡ units + (n + count) = omega arith in
-              record {
-                tree = g .tree;
-                rest = g .rest;
-                whole = g .whole;
-                left = h .more;
-                read = h .read;
-                opens = h .opens;
-                onward = omega arith;
-                within = h .within;
-                fits = omega arith;
-                long = len ∙ g .long;
-                same = wide ∙ g .same;
-                row = g .row ++ h .row;
-                counts = length-append (g .row) (h .row) ∙ rw (g .counts, h .counts);
-                stands = stands-nest (g .row) (h .row) area ys z n (g .stands) (g .counts) (h .stands);
-                holds = h .holds;
-                is =
-                    g .is ∙ ap (onto (g .row)) (h .is)
-                    ∙ onto-onto (g .row) (h .row) (expand varsRoom (h .more) k (units + n + count) (held (take left us)))
-                    ∙ ap (λ (j : ℕ). onto (g .row ++ h .row) (expand varsRoom (h .more) k j (held (take left us)))) s;
-              }
+            let b = h .onward in
+            let f = h .fits in
+            let s : units + n + count ≡ units + (n + count) = omega arith in
+            rw o (record {
+              tree = g .tree;
+              rest = g .rest;
+              whole = g .whole;
+              left = h .more;
+              read = h .read;
+              opens = h .opens;
+              onward = omega arith;
+              within = h .within;
+              fits = omega arith;
+              long = len ∙ g .long;
+              same = wide ∙ g .same;
+              row = g .row ++ h .row;
+              counts = length-append (g .row) (h .row) ∙ rw (g .counts, h .counts);
+              stands = stands-nest (g .row) (h .row) area ys z n (g .stands) (g .counts) (h .stands);
+              holds = h .holds;
+              is =
+                  g .is ∙ ap (onto (g .row)) (h .is)
+                  ∙ onto-onto (g .row) (h .row) (expand varsRoom (h .more) k (units + n + count) (held (take left us)))
+                  ∙ ap (λ (j : ℕ). onto (g .row ++ h .row) (expand varsRoom (h .more) k j (held (take left us)))) s;
+            })

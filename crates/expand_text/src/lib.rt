@@ -275,7 +275,16 @@ fn expand_item(
                 mode: mode,
                 depth: from.depth - 1,
             };
-            expand_inner(&text[start..to], form, text, operand, row, vars, extent, work)
+            expand_inner(
+                &text[start..to],
+                form,
+                text,
+                operand,
+                row,
+                vars,
+                extent,
+                work,
+            )
         }
         Item::Sum { next } => expand_sum(text, next, from.depth - 1, row, vars, extent, work),
     }
