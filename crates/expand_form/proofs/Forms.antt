@@ -7,16 +7,15 @@ use mathlib.Core.List.{[], _∷_}
 use mathlib.Core.Option.{some}
 use borrow.Author.Tests.{eq-eqb, ne-eqb}
 use lib.Dec.{eqb}
-use lib.ListN.{length, length-take, length-drop}
-use Rattle.stages.specs.Numbers.{demanded}
+use lib.ListN.{length}
 use Rattle.stages.specs.Bytes.{Text, part}
 use Rattle.stages.specs.Outcome.{refused, done, _>>=_, pick}
 use Rattle.stages.specs.Images.{Pairs, held}
 use Rattle.stages.specs.Syntax.{Form, plain, minus, equals, query, plus, suffix, prefix}
-use Rattle.stages.specs.Units.{Mark, L, expanded}
-use Rattle.stages.specs.Expand.{Made, given, assigned, cutBy, missing, parameter}
+use Rattle.stages.specs.Units.{Mark, expanded}
+use Rattle.stages.specs.Expand.{Made, missing, parameter}
 use Rattle.stages.specs.Expand as stage
-use Rattle.stages.proofs.Bools.{either, no}
+use Rattle.stages.proofs.Bools.{either}
 use Rattle.text.proofs.Parts.{part-length}
 use Rattle.table.specs.Places as places
 use Rattle.table.specs.declared.Found.{Found}

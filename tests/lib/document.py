@@ -1,14 +1,14 @@
-#!/usr/bin/env python3
-"""Prints document 01 sentence by sentence, one to a line: tools/sentences [FILE]
+"""Document 01 sentence by sentence. Run by itself it prints them, one to a line:  python3 tests/lib/document.py [FILE]
 
-A heading, a bullet, a row of a table count as one each; in running text a sentence ends at a full stop, behind which a blank and
-a capital, a backquote or the line's end stand, outside backquotes. Lead-ins of the refusals' table are cut at the bar.
+A heading, a bullet, a row of a table count as one each; in running text a sentence ends at a full stop, after which a blank and a capital, a
+backquote or the line's end stand, outside backquotes. Lead-ins of the refusals' table are cut at the bar.
 """
 import os
 import re
 import sys
 
-ROOT = os.path.dirname(os.path.dirname(os.path.abspath(__file__)))
+ROOT = os.path.abspath(os.path.join(os.path.dirname(__file__), "..", ".."))
+PAGE = os.path.join(ROOT, "docs", "01-scope.md")
 
 
 def cut(paragraph):
@@ -25,8 +25,10 @@ def cut(paragraph):
     return found + ([rest] if rest else [])
 
 
-def sentences(text):
+def sentences(page=PAGE):
     """All sentences of the document, in order."""
+    with open(page, encoding="utf-8") as file:
+        text = file.read()
     found, paragraph = [], []
 
     def flush():
@@ -49,12 +51,5 @@ def sentences(text):
     return found
 
 
-def main():
-    path = sys.argv[1] if len(sys.argv) > 1 else os.path.join(ROOT, "docs", "01-scope.md")
-    with open(path, encoding="utf-8") as file:
-        for sentence in sentences(file.read()):
-            print(sentence)
-
-
 if __name__ == "__main__":
-    main()
+    print("\n".join(sentences(*sys.argv[1:])))
