@@ -1,4 +1,4 @@
--- A word of the line: its tilde, found or not, and the text behind it.
+-- A word of the line: its tilde, found or not, and the text after it.
 use Prim.Native.Nat.{ℕ, _+_, _*_, _≤_}
 use Prim.Native.Char.{code}
 use native.Mathlib.Omega.{arith}
@@ -57,10 +57,10 @@ no-login-tilde d v homes p rest (b ∷ t) h n = go (eqb b (code "~")) refl
 
 -- The row of a word.
 
-module _ (room : ℕ) (line : Text) (at size : ℕ) (vars₀ : Text) (have : ℕ) (homes : Pairs) (y : Ready line at Word depthLimit 0 size)
-    (w : Holds room vars₀ have) where
+module _ {room : ℕ} {line : Text} {at size : ℕ} {vars₀ : Text} {varsUsed : ℕ} (homes : Pairs) (y : Ready line at Word depthLimit 0 size)
+    (w : Holds room vars₀ varsUsed) where
   abbrev v : Pairs
-  v = held (take have vars₀)
+  v = held (take varsUsed vars₀)
 
   abbrev Worded : Text → Text → Expanded → Type 0
   Worded area vars r = Says room line at 0 (λ t. wordRow room homes t v) (parts word depthLimit (drop at line)) area vars r
@@ -84,7 +84,7 @@ module _ (room : ℕ) (line : Text) (at size : ℕ) (vars₀ : Text) (have : ℕ
   pub no-login-none : noLogin (drop at line) ≡ true → tilde v homes (y .tree) ≡ none
   no-login-none n = no-login-tilde depthLimit v homes (y .tree) (y .rest) (drop at line) (y .is) n
 
-  module _ (to : ℕ) (o : Opens line at to) where
+  module _ {to : ℕ} (o : Opens line at to) where
     read : parts word depthLimit (code "~" ∷ drop (at + 1) line) ≡ done (y .tree, y .rest)
     read = ap (parts word depthLimit) (sym (o .tilde)) ∙ y .is
 
@@ -104,7 +104,7 @@ module _ (room : ℕ) (line : Text) (at size : ℕ) (vars₀ : Text) (have : ℕ
     unfolding housed
     home-none e = tilde-is ∙ ap (housed (found .more)) e
 
-    -- the directory's row, and behind it the text
+    -- the directory's row, and after it the text
     home-made : (d : Text) → directory v homes (part line (at + 1) to) ≡ some d
         → wordRow room homes (y .tree) v ≡ (fit 0 (length (N ∷ marked Q d)) >>= λ i. onto (N ∷ marked Q d) (expand room (found .more) L i v))
     unfolding wordRow rowOf housed
@@ -123,7 +123,7 @@ module _ (room : ℕ) (line : Text) (at size : ℕ) (vars₀ : Text) (have : ℕ
         (λ h. let z : tooManyUnits ≡ e = cc in ap refused z)
         (g .full))
 
-    module _ (area : Text) {units : ℕ} (g : Given (directory v homes (part line (at + 1) to)) area units) where
+    module _ {area : Text} {units : ℕ} (g : Given (directory v homes (part line (at + 1) to)) area units) where
       home-front : Stands (N ∷ marked Q (g .directory)) area
       home-front = stands-of (g .fits)
         where

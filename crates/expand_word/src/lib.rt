@@ -1,5 +1,4 @@
-// Expands a word of the line into a row of units at the front of a lent area. The text is read as it is expanded: what stands at a place is
-// answered by the classifier of `items`, and an operand is expanded by the same function on the inner text.
+// Expands a word of the line into a row of units at the front of a lent area: its tilde, if it has one, then the text after it.
 ghost use lib.ListN.{length, take, drop};
 ghost use Rattle.stages.specs.Numbers.{depthLimit};
 ghost use Rattle.stages.specs.Images.{held};
@@ -10,6 +9,7 @@ ghost use Rattle.table.specs.Places.{Table};
 ghost use Rattle.expand_add.specs.Answers.{Holds, Ready, Says};
 ghost use Rattle.expand_word.specs.Tildes.{Opens};
 use expand_add::answers::Expanded;
+use expand_add::answers::Extent;
 use homes::Home;
 use homes::Login;
 use read_mode::Mode;
@@ -24,18 +24,19 @@ fn expand_home(
     at: usize,
     to: usize,
     vars: &mut [u8],
-    have: usize,
-    room: usize,
+    extent: Extent,
     homes: &[u8],
     work: &mut [u8],
 ) -> Expanded
-    requires { ⌜ Opens (now line) at to × Ready (now line) at Mode.Word depthLimit 0 (length (now work)) × Holds room (now vars) have × Table
-        (now homes) ⌝ }
-    ensures { λ r. ⌜ Says room (now (line .entry)) at 0 (λ t. wordRow room (held (now (homes .entry))) t (held (take have (now (vars .entry)))))
+    requires { ⌜ Opens (now line) at to × Ready (now line) at Mode.Word depthLimit 0 (length (now work))
+        × Holds (extent .«vars_room») (now vars) (extent .«vars_used») × Table (now homes) ⌝ }
+    ensures { λ r. ⌜ Says (extent .«vars_room») (now (line .entry)) at 0
+        (λ t. wordRow (extent .«vars_room») (held (now (homes .entry))) t (held (take (extent .«vars_used») (now (vars .entry)))))
         (parts word depthLimit (drop at (now (line .entry)))) (now (work .exit)) (now (vars .exit)) r ⌝ }
 {
     let start = at + 1;
-    let home = homes::give_home(&line[start..to], &vars[..have], homes, work);
+    let vars_used = extent.vars_used;
+    let home = homes::give_home(&line[start..to], &vars[..vars_used], homes, work);
     match home {
         Home::Refused(e) => Expanded::Refused(e),
         Home::Nothing => expand_text::expand_text(
@@ -46,8 +47,8 @@ fn expand_home(
             Mark::L,
             0,
             vars,
-            have,
-            room,
+            extent.vars_used,
+            extent.vars_room,
             work,
         ),
         Home::Units(units) => {
@@ -60,8 +61,8 @@ fn expand_home(
                 Mark::L,
                 units,
                 vars,
-                have,
-                room,
+                vars_used,
+                extent.vars_room,
                 &mut work[front..],
             );
             match got {
@@ -81,18 +82,19 @@ fn expand_home(
 }
 
 // Expands the word of the line whose first byte is at `at`, and that has been read. Its row stands at the front of work, which is not read and of which
-// the rest is left open; the variables, an image in the first `have` bytes, are measured against `room`, and are left open if the word is refused.
+// the rest is left open; so are the variables if the word is refused.
 pub fn expand_word(
     line: &[u8],
     at: usize,
     vars: &mut [u8],
-    have: usize,
-    room: usize,
+    extent: Extent,
     homes: &[u8],
     work: &mut [u8],
 ) -> Expanded
-    requires { ⌜ Ready (now line) at Mode.Word depthLimit 0 (length (now work)) × Holds room (now vars) have × Table (now homes) ⌝ }
-    ensures { λ r. ⌜ Says room (now (line .entry)) at 0 (λ t. wordRow room (held (now (homes .entry))) t (held (take have (now (vars .entry)))))
+    requires { ⌜ Ready (now line) at Mode.Word depthLimit 0 (length (now work)) × Holds (extent .«vars_room») (now vars) (extent .«vars_used»)
+        × Table (now homes) ⌝ }
+    ensures { λ r. ⌜ Says (extent .«vars_room») (now (line .entry)) at 0
+        (λ t. wordRow (extent .«vars_room») (held (now (homes .entry))) t (held (take (extent .«vars_used») (now (vars .entry)))))
         (parts word depthLimit (drop at (now (line .entry)))) (now (work .exit)) (now (vars .exit)) r ⌝ }
 {
     let login = homes::login_at(line, at);
@@ -105,10 +107,10 @@ pub fn expand_word(
             Mark::L,
             0,
             vars,
-            have,
-            room,
+            extent.vars_used,
+            extent.vars_room,
             work,
         ),
-        Login::To(to) => expand_home(line, at, to, vars, have, room, homes, work),
+        Login::To(to) => expand_home(line, at, to, vars, extent, homes, work),
     }
 }
