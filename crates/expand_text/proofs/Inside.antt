@@ -65,7 +65,8 @@ module _ {varsRoom : ℕ} {text : Text} {at : ℕ} {mode : Mode} {d units size :
   tree-safe = safe-done (parts-safe (modeOf mode) d (drop at text) (all-drop notZero at text (y .clean))) (y .is) .clean
 
   row-clean : (k : Mark) (row : Row) (u : Pairs) → expand varsRoom (y .tree) k 0 (held (take varsUsed vars₀)) ≡ done (row, u) → NoZero (bytes row)
-  row-clean k row u e = bytes-safe row (safe-done (expand-safe varsRoom (y .tree) tree-safe k 0 (held (take varsUsed vars₀)) (kept-held varsRoom vars₀ varsUsed w)) e .0)
+  row-clean k row u e =
+      bytes-safe row (safe-done (expand-safe varsRoom (y .tree) tree-safe k 0 (held (take varsUsed vars₀)) (kept-held varsRoom vars₀ varsUsed w)) e .0)
 
 pub row-at : (row : Row) (area : Text) (n : ℕ) → Stands row area → length row ≡ n → rowOf (take (2 * n) area) ≡ row
 row-at row area n s e = ap rowOf (front row area n s e) ∙ rowOf-rowBytes row
@@ -79,7 +80,8 @@ reading-known text at o h e = subst (λ (k : Reading). ReadSays text at o k) e h
 module _ {varsRoom : ℕ} {text : Text} {at : ℕ} {mode : Mode} {d units size : ℕ} {vars₀ : Text} {varsUsed : ℕ} (y : Ready text at mode d units size)
     (w : Holds varsRoom vars₀ varsUsed) where
   abbrev Quoted : Text → Text → Expanded → Type 0
-  Quoted area vars g = Says varsRoom text at units (λ q. quoted varsRoom q units (held (take varsUsed vars₀))) (parts (modeOf mode) d (drop at text)) area vars g
+  Quoted area vars g =
+      Says varsRoom text at units (λ q. quoted varsRoom q units (held (take varsUsed vars₀))) (parts (modeOf mode) d (drop at text)) area vars g
 
   pub quote-full : (area vars : Text) → rowLimit ≤ units → Quoted area vars (answer.Refused tooManyUnits)
   unfolding quoted
@@ -119,7 +121,8 @@ module _ {varsRoom : ℕ} {text : Text} {at : ℕ} {mode : Mode} {d units size :
       rw (x .ready .is) (quote-made (refused e) b)
 
   module _ {count next left : ℕ} (q : g ≡ answer.Row count next left) where
-    row-inside : IsRow varsRoom (units + 1) (expand varsRoom (x .ready .tree) Q (units + 1) (held (take varsUsed vars₀))) ys us count left × Ends text at next (x .ready .rest)
+    row-inside : IsRow varsRoom (units + 1) (expand varsRoom (x .ready .tree) Q (units + 1) (held (take varsUsed vars₀))) ys us count left
+        × Ends text at next (x .ready .rest)
     row-inside = answers-known varsRoom text at (units + 1) _ (x .ready .rest) ys us inside q
 
     pub quote-fits : units + 1 + count ≤ rowLimit
@@ -196,8 +199,8 @@ pub record OperandExpanded (varsRoom : ℕ) (text : Text) (at : ℕ) (mode : Mod
   pub is : mark ≡ operandMark what m
   pub says : Says varsRoom text at 0 (λ p. expand varsRoom p mark 0 (held (take varsUsed vars₀))) (parts (modeOf mode) d (drop at text)) ys us g
 
-module _ {varsRoom : ℕ} {text : Text} {at : ℕ} {mode : Mode} {d size : ℕ} {vars₀ : Text} {varsUsed : ℕ} {name : Text} {units : ℕ} {form : Form} {m : Mark}
-    {what : Used} {ys us : Text} {g : Expanded}
+module _ {varsRoom : ℕ} {text : Text} {at : ℕ} {mode : Mode} {d size : ℕ} {vars₀ : Text} {varsUsed : ℕ} {name : Text}
+    {units : ℕ} {form : Form} {m : Mark} {what : Used} {ys us : Text} {g : Expanded}
     (x : OperandExpanded varsRoom text at mode d size vars₀ varsUsed name units form m what ys us g) where
   abbrev GivenIn : Text → Text → Expanded → Type 0
   GivenIn area vars r = Given units form m (x .ready) (x .holds) (x .shows) (x .planned) area vars r
@@ -208,7 +211,8 @@ module _ {varsRoom : ℕ} {text : Text} {at : ℕ} {mode : Mode} {d size : ℕ} 
   operand-answer : Answers varsRoom text at 0 (expand varsRoom (x .ready .tree) (x .mark) 0 (held (take varsUsed vars₀))) (x .ready .rest) ys us g
   operand-answer = says-known varsRoom text at 0 (λ p. expand varsRoom p (x .mark) 0 (held (take varsUsed vars₀))) ys us g (x .says) (x .ready .is)
 
-  withal : (o : Made) → expand varsRoom (x .ready .tree) (x .mark) 0 (held (take varsUsed vars₀)) ≡ o → givenIn ≡ placed units (o >>= λ r. finished what varsRoom name m r)
+  withal : (o : Made) → expand varsRoom (x .ready .tree) (x .mark) 0 (held (take varsUsed vars₀)) ≡ o
+      → givenIn ≡ placed units (o >>= λ r. finished what varsRoom name m r)
   withal o h =
       ap (placed units)
       (used-operand varsRoom (λ k u. expand varsRoom (x .ready .tree) k 0 u) name m (take varsUsed vars₀) form (x .found) (x .shows) (x .planned) refl
@@ -217,11 +221,13 @@ module _ {varsRoom : ℕ} {text : Text} {at : ℕ} {mode : Mode} {d size : ℕ} 
 
   pub used-refused : (area : Text) {b : ℕ} → g ≡ answer.Refused b → GivenIn area us (answer.Refused b)
   used-refused area {b} q =
-      let h : expand varsRoom (x .ready .tree) (x .mark) 0 (held (take varsUsed vars₀)) ≡ refused b = answers-known varsRoom text at 0 _ (x .ready .rest) ys us operand-answer q in
+      let h : expand varsRoom (x .ready .tree) (x .mark) 0 (held (take varsUsed vars₀)) ≡ refused b =
+      answers-known varsRoom text at 0 _ (x .ready .rest) ys us operand-answer q in
       rw (x .ready .is) (withal (refused b) h ∙ placed-refused units (refused b) b refl)
 
   module _ {count next left : ℕ} (q : g ≡ answer.Row count next left) where
-    operand-row : IsRow varsRoom 0 (expand varsRoom (x .ready .tree) (x .mark) 0 (held (take varsUsed vars₀))) ys us count left × Ends text at next (x .ready .rest)
+    operand-row : IsRow varsRoom 0 (expand varsRoom (x .ready .tree) (x .mark) 0 (held (take varsUsed vars₀))) ys us count left
+        × Ends text at next (x .ready .rest)
     operand-row = answers-known varsRoom text at 0 _ (x .ready .rest) ys us operand-answer q
 
     pub used-holds : Holds varsRoom us left
@@ -280,7 +286,8 @@ module _ {varsRoom : ℕ} {text : Text} {at d size : ℕ} {vars₀ : Text} {vars
   pub sum-refused : (area : Text) {b : ℕ} → g ≡ answer.Refused b → Summed area us (answer.Refused b)
   unfolding summing
   sum-refused area {b} q =
-      let h : expand varsRoom (x .ready .tree) Q 0 (held (take varsUsed vars₀)) ≡ refused b = answers-known varsRoom text at 0 _ (x .ready .rest) ys us sum-answer q in
+      let h : expand varsRoom (x .ready .tree) Q 0 (held (take varsUsed vars₀)) ≡ refused b =
+      answers-known varsRoom text at 0 _ (x .ready .rest) ys us sum-answer q in
       rw (x .ready .is) (placed-refused units _ b (ap (λ (o : Made). o >>= λ u. summed m u) h))
 
   module _ {count next left : ℕ} (q : g ≡ answer.Row count next left) where
@@ -299,7 +306,8 @@ module _ {varsRoom : ℕ} {text : Text} {at d size : ℕ} {vars₀ : Text} {vars
     unfolding summing
     sum-given area f h =
         rw (x .ready .is)
-        (finishes-answers varsRoom text at units (placed units (summing varsRoom (x .ready .tree) m (held (take varsUsed vars₀)))) next (x .ready .rest) area us f
+        (finishes-answers varsRoom text at units (placed units (summing varsRoom (x .ready .tree) m (held (take varsUsed vars₀)))) next
+        (x .ready .rest) area us f
         (finishes-same varsRoom units next area us f (sym (ap (placed units) same))
         (adds-finishes varsRoom units (record { next = next; «vars_used» = left }) (sumOf m row (held (take left us))) area us f h (sum-row .0 .holds)))
         (sum-row .1))

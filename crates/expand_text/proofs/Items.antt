@@ -110,218 +110,231 @@ module _ {varsRoom : ℕ} {text : Text} {at : ℕ} {mode : Mode} {d : ℕ} (m : 
   known : {r s : Item} → r ≡ s → (area vars : Text) (g : Expanded) → Turned s area vars g → Turned r area vars g
   known c area vars g t = subst (λ (s : Item). Turned s area vars g) (sym c) t
 
-  -- the item r stands there
-  module _ {r : Item} (h : Shows text at d r (item (modeOf mode) d (drop at text))) where
-    pub item-fault : (area vars : Text) {e : ℕ} → r ≡ Fault e → Turned r area vars (answer.Refused e)
-    item-fault area vars {e} c =
-        let n : parts (modeOf mode) d (drop at text) ≡ refused e = at-fault text at (modeOf mode) d e (shown text at d _ h c) in
-        let u : _≡_ {A = Taken} (refused e) (done (y .tree, y .rest)) = sym n ∙ y .is in
-        let z : _≡_ {A = ℕ} 0 1 = cc in
-        absurd (omega arith)
+-- The item r stands there.
+pub record Here (varsRoom : ℕ) (text : Text) (at : ℕ) (mode : Mode) (d : ℕ) (m : Mark) (units size : ℕ) (vars₀ : Text) (varsUsed : ℕ) (r : Item)
+    : Type 0 where
+  pub ready : Ready text at mode d units size
+  pub holds : Holds varsRoom vars₀ varsUsed
+  pub shows : Shows text at d r (item (modeOf mode) d (drop at text))
 
-    pub item-stop : (area : Text) {next : ℕ} → r ≡ Stop next → Turned r area vars₀ (answer.Row 0 next varsUsed)
-    unfolding expand
-    item-stop area {next} c =
-        let s = shown text at d _ h c in
-        let n : parts (modeOf mode) d (drop at text) ≡ done (end, drop next text) = at-stop text at (modeOf mode) d next (s .0) (s .1) in
-        known c area vars₀ (answer.Row 0 next varsUsed)
-        (rw n (record { is = refl; none = refl; holds = w; ends = record { ends = refl; onward = s .1; within = s .2 } }))
+module _ {varsRoom : ℕ} {text : Text} {at : ℕ} {mode : Mode} {d : ℕ} {m : Mark} {units size : ℕ} {vars₀ : Text} {varsUsed : ℕ} {r : Item}
+    (x : Here varsRoom text at mode d m units size vars₀ varsUsed r) where
+  abbrev u : Pairs
+  u = held (take varsUsed vars₀)
 
-    pub item-byte : {q : Bool} {b next : ℕ} → r ≡ Byte q b next → {k : Mark} → k ≡ litMark q m → (area : Text) (g : Expanded)
-        → Adds units (record { next = next; «vars_used» = varsUsed }) (done (cell k b ∷ [])) area g → Turned r area vars₀ g
-    item-byte {q} {b} {next} c {k} e area g f =
-        let s = shown text at d _ h c in
-        let o = y .opens in
+  abbrev Said : Text → Text → Expanded → Type 0
+  Said area vars g = Turned m (x .ready) (x .holds) r area vars g
+
+  pub item-fault : (area vars : Text) {e : ℕ} → r ≡ Fault e → Said area vars (answer.Refused e)
+  item-fault area vars {e} c =
+      let n : parts (modeOf mode) d (drop at text) ≡ refused e = at-fault text at (modeOf mode) d e (shown text at d _ (x .shows) c) in
+      let q : _≡_ {A = Taken} (refused e) (done (x .ready .tree, x .ready .rest)) = sym n ∙ x .ready .is in
+      let z : _≡_ {A = ℕ} 0 1 = cc in
+      absurd (omega arith)
+
+  pub item-stop : (area : Text) {next : ℕ} → r ≡ Stop next → Said area vars₀ (answer.Row 0 next varsUsed)
+  unfolding expand
+  item-stop area {next} c =
+      let s = shown text at d _ (x .shows) c in
+      let n : parts (modeOf mode) d (drop at text) ≡ done (end, drop next text) = at-stop text at (modeOf mode) d next (s .0) (s .1) in
+      known m (x .ready) (x .holds) c area vars₀ (answer.Row 0 next varsUsed)
+      (rw n (record { is = refl; none = refl; holds = x .holds; ends = record { ends = refl; onward = s .1; within = s .2 } }))
+
+  pub item-byte : {q : Bool} {b next : ℕ} → r ≡ Byte q b next → {k : Mark} → k ≡ litMark q m → (area : Text) (g : Expanded)
+      → Adds units (record { next = next; «vars_used» = varsUsed }) (done (cell k b ∷ [])) area g → Said area vars₀ g
+  item-byte {q} {b} {next} c {k} e area g f =
+      let s = shown text at d _ (x .shows) c in
+      let o = x .ready .opens in
+      let i = s .1 .onward in
+      let t = behind (lit q b) (parts (modeOf mode) d (drop next text)) (x .ready .tree) (x .ready .rest)
+      (sym (at-byte text at (modeOf mode) d q b next (s .0) (s .1 .onward)) ∙ x .ready .is) in
+      known m (x .ready) (x .holds) c area vars₀ g
+      (own-added m (x .ready) (x .holds) (t .next) (done (cell (litMark q m) b ∷ []))
+      (ap (λ (x : Parts). expand varsRoom x m units u) (t .whole) ∙ expand-lit varsRoom (t .next) m units q b u)
+      next mode (t .read) (omega arith) i (s .1 .within) area g
+      (adds-same units (record { next = next; «vars_used» = varsUsed }) area g (ap (λ (j : Mark). done (cell j b ∷ [])) e) f))
+
+  pub paren-place : {b n : ℕ} → r ≡ Paren b n → at < length text
+  paren-place c = shown text at d _ (x .shows) c .1
+
+  pub item-paren : {b n : ℕ} → r ≡ Paren b n → (area : Text) (g : Expanded)
+      → Adds units (record { next = at + 1; «vars_used» = varsUsed }) (done (cell m b ∷ [])) area g → Said area vars₀ g
+  item-paren {b} {n} c area g f =
+      let s = shown text at d _ (x .shows) c in
+      let i = s .1 in
+      let t = behind (lit false b) (parts (sums n) d (drop (at + 1) text)) (x .ready .tree) (x .ready .rest)
+      (sym (at-paren text at (modeOf mode) d b n (s .0)) ∙ x .ready .is) in
+      known m (x .ready) (x .holds) c area vars₀ g
+      (own-added m (x .ready) (x .holds) (t .next) (done (cell m b ∷ []))
+      (ap (λ (x : Parts). expand varsRoom x m units u) (t .whole) ∙ expand-lit varsRoom (t .next) m units false b u)
+      (at + 1) (Arith n) (t .read) (s .2) (omega arith) (omega arith) area g f)
+
+  module _ {from to next : ℕ} (c : r ≡ Value from to next) where
+    pub value-name : Name text from to
+    value-name = shown text at d _ (x .shows) c .2
+
+    pub item-value : (area : Text) (g : Expanded)
+        → Adds units (record { next = next; «vars_used» = varsUsed }) (done (marked (expanded m) (value u (part text from to)))) area g
+        → Said area vars₀ g
+    unfolding parameter
+    item-value area g f =
+        let s = shown text at d _ (x .shows) c in
+        let o = x .ready .opens in
         let i = s .1 .onward in
-        let t = behind (lit q b) (parts (modeOf mode) d (drop next text)) (y .tree) (y .rest)
-        (sym (at-byte text at (modeOf mode) d q b next (s .0) (s .1 .onward)) ∙ y .is) in
-        known c area vars₀ g
-        (own-added (t .next) (done (cell (litMark q m) b ∷ []))
-        (ap (λ (x : Parts). expand varsRoom x m units v) (t .whole) ∙ expand-lit varsRoom (t .next) m units q b v)
-        next mode (t .read) (omega arith) i (s .1 .within) area g
-        (adds-same units (record { next = next; «vars_used» = varsUsed }) area g (ap (λ (j : Mark). done (cell j b ∷ [])) e) f))
+        let t = behind (par (part text from to) plain end) (parts (modeOf mode) d (drop next text)) (x .ready .tree) (x .ready .rest)
+        (sym (at-value text at (modeOf mode) d (part text from to) next (s .0) (s .1 .onward)) ∙ x .ready .is) in
+        known m (x .ready) (x .holds) c area vars₀ g
+        (own-added m (x .ready) (x .holds) (t .next) (done (marked (expanded m) (value u (part text from to))))
+        (ap (λ (x : Parts). expand varsRoom x m units u) (t .whole) ∙ expand-par varsRoom (t .next) m units (part text from to) plain end u)
+        next mode (t .read) (omega arith) i (s .1 .within) area g f)
 
-    pub paren-place : {b n : ℕ} → r ≡ Paren b n → at < length text
-    paren-place c = shown text at d _ h c .1
+  module _ {from to next : ℕ} (c : r ≡ Count from to next) where
+    pub count-name : Name text from to
+    count-name = shown text at d _ (x .shows) c .2
 
-    pub item-paren : {b n : ℕ} → r ≡ Paren b n → (area : Text) (g : Expanded)
-        → Adds units (record { next = at + 1; «vars_used» = varsUsed }) (done (cell m b ∷ [])) area g → Turned r area vars₀ g
-    item-paren {b} {n} c area g f =
-        let s = shown text at d _ h c in
-        let i = s .1 in
-        let t = behind (lit false b) (parts (sums n) d (drop (at + 1) text)) (y .tree) (y .rest)
-        (sym (at-paren text at (modeOf mode) d b n (s .0)) ∙ y .is) in
-        known c area vars₀ g
-        (own-added (t .next) (done (cell m b ∷ []))
-        (ap (λ (x : Parts). expand varsRoom x m units v) (t .whole) ∙ expand-lit varsRoom (t .next) m units false b v)
-        (at + 1) (Arith n) (t .read) (s .2) (omega arith) (omega arith) area g f)
+    pub item-count : (area : Text) (g : Expanded)
+        → Adds units (record { next = next; «vars_used» = varsUsed })
+        (done (marked (expanded m) (decimal (length (value u (part text from to)))))) area g
+        → Said area vars₀ g
+    item-count area g f =
+        let s = shown text at d _ (x .shows) c in
+        let o = x .ready .opens in
+        let i = s .1 .onward in
+        let t = behind (len (part text from to)) (parts (modeOf mode) d (drop next text)) (x .ready .tree) (x .ready .rest)
+        (sym (at-count text at (modeOf mode) d (part text from to) next (s .0) (s .1 .onward)) ∙ x .ready .is) in
+        known m (x .ready) (x .holds) c area vars₀ g
+        (own-added m (x .ready) (x .holds) (t .next) (done (marked (expanded m) (decimal (length (value u (part text from to))))))
+        (ap (λ (x : Parts). expand varsRoom x m units u) (t .whole) ∙ expand-len varsRoom (t .next) m units (part text from to) u)
+        next mode (t .read) (omega arith) i (s .1 .within) area g f)
 
-    module _ {from to next : ℕ} (c : r ≡ Value from to next) where
-      pub value-name : Name text from to
-      value-name = shown text at d _ h c .2
+  module _ {n : Mode} (c : r ≡ Quote n) where
+    quote-parts : Within quo (parts (modeOf n) d (drop (at + 1) text)) (parts (modeOf mode) d) (x .ready .tree) (x .ready .rest)
+    quote-parts = within quo _ (parts (modeOf mode) d) (x .ready .tree) (x .ready .rest)
+        (sym (at-quote text at (modeOf mode) d (modeOf n) (shown text at d _ (x .shows) c .0)) ∙ x .ready .is)
 
-      pub item-value : (area : Text) (g : Expanded)
-          → Adds units (record { next = next; «vars_used» = varsUsed }) (done (marked (expanded m) (value v (part text from to)))) area g
-          → Turned r area vars₀ g
-      unfolding parameter
-      item-value area g f =
-          let s = shown text at d _ h c in
-          let o = y .opens in
-          let i = s .1 .onward in
-          let t = behind (par (part text from to) plain end) (parts (modeOf mode) d (drop next text)) (y .tree) (y .rest)
-          (sym (at-value text at (modeOf mode) d (part text from to) next (s .0) (s .1 .onward)) ∙ y .is) in
-          known c area vars₀ g
-          (own-added (t .next) (done (marked (expanded m) (value v (part text from to))))
-          (ap (λ (x : Parts). expand varsRoom x m units v) (t .whole) ∙ expand-par varsRoom (t .next) m units (part text from to) plain end v)
-          next mode (t .read) (omega arith) i (s .1 .within) area g f)
+    pub quote-place : at < length text
+    quote-place = shown text at d _ (x .shows) c .1
 
-    module _ {from to next : ℕ} (c : r ≡ Count from to next) where
-      pub count-name : Name text from to
-      count-name = shown text at d _ h c .2
+    pub quote-ready : Ready text (at + 1) n d units size
+    quote-ready =
+        let s = shown text at d _ (x .shows) c in
+        let l = s .1 in
+        let o = s .2 in
+        record {
+          start = omega arith;
+          opens = omega arith;
+          few = x .ready .few;
+          area = x .ready .area;
+          clean = x .ready .clean;
+          tree = quote-parts .inside;
+          rest = quote-parts .mid;
+          is = quote-parts .first;
+        }
 
-      pub item-count : (area : Text) (g : Expanded)
-          → Adds units (record { next = next; «vars_used» = varsUsed })
-          (done (marked (expanded m) (decimal (length (value v (part text from to)))))) area g
-          → Turned r area vars₀ g
-      item-count area g f =
-          let s = shown text at d _ h c in
-          let o = y .opens in
-          let i = s .1 .onward in
-          let t = behind (len (part text from to)) (parts (modeOf mode) d (drop next text)) (y .tree) (y .rest)
-          (sym (at-count text at (modeOf mode) d (part text from to) next (s .0) (s .1 .onward)) ∙ y .is) in
-          known c area vars₀ g
-          (own-added (t .next) (done (marked (expanded m) (decimal (length (value v (part text from to))))))
-          (ap (λ (x : Parts). expand varsRoom x m units v) (t .whole) ∙ expand-len varsRoom (t .next) m units (part text from to) v)
-          next mode (t .read) (omega arith) i (s .1 .within) area g f)
+    pub item-quote : (area vars : Text) (g : Expanded) → Says varsRoom text (at + 1) units (λ q. quoted varsRoom q units u)
+        (parts (modeOf n) d (drop (at + 1) text)) area vars g
+        → Said area vars g
+    item-quote area vars g s =
+        let t = quote-parts in
+        known m (x .ready) (x .holds) c area vars g
+        (own-text m (x .ready) (x .holds) (t .next) (quoted varsRoom (t .inside) units u)
+        (ap (λ (x : Parts). expand varsRoom x m units u) (t .whole) ∙ expand-quo varsRoom (t .next) m units (t .inside) u)
+        (at + 1) (t .mid) (t .read) (omega arith) area vars g
+        (says-known varsRoom text (at + 1) units (λ q. quoted varsRoom q units u) area vars g s (t .first)))
 
-    module _ {n : Mode} (c : r ≡ Quote n) where
-      quote-parts : Within quo (parts (modeOf n) d (drop (at + 1) text)) (parts (modeOf mode) d) (y .tree) (y .rest)
-      quote-parts = within quo _ (parts (modeOf mode) d) (y .tree) (y .rest)
-          (sym (at-quote text at (modeOf mode) d (modeOf n) (shown text at d _ h c .0)) ∙ y .is)
+  module _ {from to : ℕ} {f : code-form.Form} {n : Mode} {next : ℕ} (c : r ≡ Inner from to f n next) where
+    inner-parts : Within (par (part text from to) (formOf f)) (parts (modeOf n) (d - 1) (drop next text)) (parts (modeOf mode) d) (x .ready .tree) (x .ready .rest)
+    inner-parts =
+        let s = shown text at d _ (x .shows) c in
+        within (par (part text from to) (formOf f)) _ (parts (modeOf mode) d) (x .ready .tree) (x .ready .rest)
+        (sym (at-inner text at (modeOf mode) d (part text from to) (formOf f) (modeOf n) next (s .0) (s .1 .onward)) ∙ x .ready .is)
 
-      pub quote-place : at < length text
-      quote-place = shown text at d _ h c .1
+    pub inner-place : Behind text at next
+    inner-place = shown text at d _ (x .shows) c .1
 
-      pub quote-ready : Ready text (at + 1) n d units size
-      quote-ready =
-          let s = shown text at d _ h c in
-          let l = s .1 in
-          let o = s .2 in
-          record {
-            start = omega arith;
-            opens = omega arith;
-            few = y .few;
-            area = y .area;
-            clean = y .clean;
-            tree = quote-parts .inside;
-            rest = quote-parts .mid;
-            is = quote-parts .first;
-          }
+    pub inner-places : Name text from to
+    inner-places = shown text at d _ (x .shows) c .2
 
-      pub item-quote : (area vars : Text) (g : Expanded) → Says varsRoom text (at + 1) units (λ q. quoted varsRoom q units v)
-          (parts (modeOf n) d (drop (at + 1) text)) area vars g
-          → Turned r area vars g
-      item-quote area vars g s =
-          let t = quote-parts in
-          known c area vars g
-          (own-text (t .next) (quoted varsRoom (t .inside) units v)
-          (ap (λ (x : Parts). expand varsRoom x m units v) (t .whole) ∙ expand-quo varsRoom (t .next) m units (t .inside) v)
-          (at + 1) (t .mid) (t .read) (omega arith) area vars g
-          (says-known varsRoom text (at + 1) units (λ q. quoted varsRoom q units v) area vars g s (t .first)))
+    pub inner-depth : 0 < d
+    inner-depth = shown text at d _ (x .shows) c .3
 
-    module _ {from to : ℕ} {f : code-form.Form} {n : Mode} {next : ℕ} (c : r ≡ Inner from to f n next) where
-      inner-parts : Within (par (part text from to) (formOf f)) (parts (modeOf n) (d - 1) (drop next text)) (parts (modeOf mode) d) (y .tree) (y .rest)
-      inner-parts =
-          let s = shown text at d _ h c in
-          within (par (part text from to) (formOf f)) _ (parts (modeOf mode) d) (y .tree) (y .rest)
-          (sym (at-inner text at (modeOf mode) d (part text from to) (formOf f) (modeOf n) next (s .0) (s .1 .onward)) ∙ y .is)
+    pub inner-name : isName (part text from to) ≡ true
+    inner-name = subst SafeParts (inner-parts .whole)
+        (safe-done (parts-safe (modeOf mode) d (drop at text) (all-drop notZero at text (x .ready .clean))) (x .ready .is) .clean) .0
 
-      pub inner-place : Behind text at next
-      inner-place = shown text at d _ h c .1
+    pub inner-ready : Ready text next n (d - 1) 0 size
+    inner-ready =
+        let s = shown text at d _ (x .shows) c in
+        let b = x .ready .area in
+        let l = x .ready .few in
+        let t = s .3 in
+        let o = s .4 in
+        record {
+          start = s .1 .within;
+          opens = omega arith;
+          few = omega arith;
+          area = omega arith;
+          clean = x .ready .clean;
+          tree = inner-parts .inside;
+          rest = inner-parts .mid;
+          is = inner-parts .first;
+        }
 
-      pub inner-places : Name text from to
-      inner-places = shown text at d _ h c .2
+    pub item-inner : (area vars : Text) (g : Expanded)
+        → Says varsRoom text next units
+        (λ q. placed units (parameter varsRoom (λ k u. expand varsRoom q k 0 u) (part text from to) (formOf f) m u))
+        (parts (modeOf n) (d - 1) (drop next text)) area vars g
+        → Said area vars g
+    item-inner area vars g s =
+        let t = inner-parts in
+        known m (x .ready) (x .holds) c area vars g
+        (own-text m (x .ready) (x .holds) (t .next) (placed units (parameter varsRoom (λ k u. expand varsRoom (t .inside) k 0 u) (part text from to) (formOf f) m u))
+        (ap (λ (x : Parts). expand varsRoom x m units u) (t .whole)
+        ∙ expand-par varsRoom (t .next) m units (part text from to) (formOf f) (t .inside) u)
+        next (t .mid) (t .read) (shown text at d _ (x .shows) c .1 .onward) area vars g
+        (says-known varsRoom text next units
+        (λ q. placed units (parameter varsRoom (λ k u. expand varsRoom q k 0 u) (part text from to) (formOf f) m u)) area vars g s (t .first)))
 
-      pub inner-depth : 0 < d
-      inner-depth = shown text at d _ h c .3
+  module _ {next : ℕ} (c : r ≡ Sum next) where
+    sum-parts : Within ari (parts (sums 0) (d - 1) (drop next text)) (parts (modeOf mode) d) (x .ready .tree) (x .ready .rest)
+    sum-parts =
+        let s = shown text at d _ (x .shows) c in
+        within ari _ (parts (modeOf mode) d) (x .ready .tree) (x .ready .rest)
+        (sym (at-sum text at (modeOf mode) d (s .0) ∙ ap (λ (k : ℕ). nest ari (parts (sums 0) (d - 1) (drop k text)) (parts (modeOf mode) d))
+        (sym (s .1))) ∙ x .ready .is)
 
-      pub inner-name : isName (part text from to) ≡ true
-      inner-name = subst SafeParts (inner-parts .whole)
-          (safe-done (parts-safe (modeOf mode) d (drop at text) (all-drop notZero at text (y .clean))) (y .is) .clean) .0
+    pub sum-place : next ≡ at + 3
+    sum-place = shown text at d _ (x .shows) c .1
 
-      pub inner-ready : Ready text next n (d - 1) 0 size
-      inner-ready =
-          let s = shown text at d _ h c in
-          let b = y .area in
-          let l = y .few in
-          let t = s .3 in
-          let o = s .4 in
-          record {
-            start = s .1 .within;
-            opens = omega arith;
-            few = omega arith;
-            area = omega arith;
-            clean = y .clean;
-            tree = inner-parts .inside;
-            rest = inner-parts .mid;
-            is = inner-parts .first;
-          }
+    pub sum-depth : 0 < d
+    sum-depth = shown text at d _ (x .shows) c .3
 
-      pub item-inner : (area vars : Text) (g : Expanded)
-          → Says varsRoom text next units
-          (λ q. placed units (parameter varsRoom (λ k u. expand varsRoom q k 0 u) (part text from to) (formOf f) m v))
-          (parts (modeOf n) (d - 1) (drop next text)) area vars g
-          → Turned r area vars g
-      item-inner area vars g s =
-          let t = inner-parts in
-          known c area vars g
-          (own-text (t .next) (placed units (parameter varsRoom (λ k u. expand varsRoom (t .inside) k 0 u) (part text from to) (formOf f) m v))
-          (ap (λ (x : Parts). expand varsRoom x m units v) (t .whole)
-          ∙ expand-par varsRoom (t .next) m units (part text from to) (formOf f) (t .inside) v)
-          next (t .mid) (t .read) (shown text at d _ h c .1 .onward) area vars g
-          (says-known varsRoom text next units
-          (λ q. placed units (parameter varsRoom (λ k u. expand varsRoom q k 0 u) (part text from to) (formOf f) m v)) area vars g s (t .first)))
+    pub sum-ready : Ready text next (Arith 0) (d - 1) 0 size
+    sum-ready =
+        let s = shown text at d _ (x .shows) c in
+        let b = x .ready .area in
+        let l = x .ready .few in
+        let t = s .3 in
+        record {
+          start = s .2;
+          opens = omega arith;
+          few = omega arith;
+          area = omega arith;
+          clean = x .ready .clean;
+          tree = sum-parts .inside;
+          rest = sum-parts .mid;
+          is = sum-parts .first;
+        }
 
-    module _ {next : ℕ} (c : r ≡ Sum next) where
-      sum-parts : Within ari (parts (sums 0) (d - 1) (drop next text)) (parts (modeOf mode) d) (y .tree) (y .rest)
-      sum-parts =
-          let s = shown text at d _ h c in
-          within ari _ (parts (modeOf mode) d) (y .tree) (y .rest)
-          (sym (at-sum text at (modeOf mode) d (s .0) ∙ ap (λ (k : ℕ). nest ari (parts (sums 0) (d - 1) (drop k text)) (parts (modeOf mode) d))
-          (sym (s .1))) ∙ y .is)
-
-      pub sum-place : next ≡ at + 3
-      sum-place = shown text at d _ h c .1
-
-      pub sum-depth : 0 < d
-      sum-depth = shown text at d _ h c .3
-
-      pub sum-ready : Ready text next (Arith 0) (d - 1) 0 size
-      sum-ready =
-          let s = shown text at d _ h c in
-          let b = y .area in
-          let l = y .few in
-          let t = s .3 in
-          record {
-            start = s .2;
-            opens = omega arith;
-            few = omega arith;
-            area = omega arith;
-            clean = y .clean;
-            tree = sum-parts .inside;
-            rest = sum-parts .mid;
-            is = sum-parts .first;
-          }
-
-      pub item-sum : (area vars : Text) (g : Expanded)
-          → Says varsRoom text next units (λ q. placed units (summing varsRoom q m v)) (parts (sums 0) (d - 1) (drop next text)) area vars g
-          → Turned r area vars g
-      unfolding summing
-      item-sum area vars g s =
-          let t = sum-parts in
-          let e = shown text at d _ h c .1 in
-          known c area vars g
-          (own-text (t .next) (placed units (summing varsRoom (t .inside) m v))
-          (ap (λ (x : Parts). expand varsRoom x m units v) (t .whole) ∙ expand-ari varsRoom (t .next) m units (t .inside) v)
-          next (t .mid) (t .read) (omega arith) area vars g
-          (says-known varsRoom text next units (λ q. placed units (summing varsRoom q m v)) area vars g s (t .first)))
+    pub item-sum : (area vars : Text) (g : Expanded)
+        → Says varsRoom text next units (λ q. placed units (summing varsRoom q m u)) (parts (sums 0) (d - 1) (drop next text)) area vars g
+        → Said area vars g
+    unfolding summing
+    item-sum area vars g s =
+        let t = sum-parts in
+        let e = shown text at d _ (x .shows) c .1 in
+        known m (x .ready) (x .holds) c area vars g
+        (own-text m (x .ready) (x .holds) (t .next) (placed units (summing varsRoom (t .inside) m u))
+        (ap (λ (x : Parts). expand varsRoom x m units u) (t .whole) ∙ expand-ari varsRoom (t .next) m units (t .inside) u)
+        next (t .mid) (t .read) (omega arith) area vars g
+        (says-known varsRoom text next units (λ q. placed units (summing varsRoom q m u)) area vars g s (t .first)))

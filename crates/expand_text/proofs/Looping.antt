@@ -87,14 +87,14 @@ module _ {varsRoom : ℕ} {text : Text} {at : ℕ} {mode₀ : Mode} {d : ℕ} (k
       }
 
 -- What stands so far, and an item that was expanded in what is lent after the row.
-pub record Expanding (varsRoom : ℕ) (text : Text) (at : ℕ) (mode₀ : Mode) (depth : ℕ) (k : Mark) (units : ℕ) (v : Pairs) (area₀ vars₀ area vars : Text)
-    (n i : ℕ) (mode : Mode) (varsUsed : ℕ) (stops : Bool) (after : Mode) (ys us : Text) (r : Expanded) : Type 0 where
+pub record Expanding (varsRoom : ℕ) (text : Text) (at : ℕ) (mode₀ : Mode) (depth : ℕ) (k : Mark) (units : ℕ) (v : Pairs)
+    (area₀ vars₀ area vars : Text) (n i : ℕ) (mode : Mode) (varsUsed : ℕ) (stops : Bool) (after : Mode) (ys us : Text) (r : Expanded) : Type 0 where
   pub going : Going varsRoom text at mode₀ depth k units v area₀ vars₀ area vars n i mode varsUsed
   pub says : ItemRead stops after varsRoom text i depth k (units + n) (λ p. expand varsRoom p k (units + n) (held (take varsUsed vars)))
       (parts (modeOf mode) depth (drop i text)) ys us r
 
-module _ {varsRoom : ℕ} {text : Text} {at : ℕ} {mode₀ : Mode} {d : ℕ} {k : Mark} {units : ℕ} {v : Pairs} {area₀ vars₀ area vars : Text} {n i : ℕ}
-    {mode : Mode} {varsUsed : ℕ} where
+module _ {varsRoom : ℕ} {text : Text} {at : ℕ} {mode₀ : Mode} {d : ℕ} {k : Mark} {units : ℕ} {v : Pairs}
+    {area₀ vars₀ area vars : Text} {n i : ℕ} {mode : Mode} {varsUsed : ℕ} where
   module _ (g : Going varsRoom text at mode₀ d k units v area₀ vars₀ area vars n i mode varsUsed) where
     pub going-room : 2 * n ≤ length area
     going-room = stands-inside (g .row) area n (g .stands) (g .counts)

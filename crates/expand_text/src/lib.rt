@@ -102,17 +102,13 @@ fn expand_inner(
             let got = read_line::read_text(text, from);
             match got {
                 Reading::Fault(e) => Expanded::Refused(e),
-                Reading::End(next) => settle(
-                    what,
-                    name,
-                    row,
-                    Onward {
+                Reading::End(next) => {
+                    let on = Onward {
                         next: next,
                         vars_used: vars_used,
-                    },
-                    &vars[..vars_used],
-                    work,
-                ),
+                    };
+                    settle(what, name, row, on, &vars[..vars_used], work)
+                }
             }
         }
         Plan::Used(what) => {
@@ -128,19 +124,13 @@ fn expand_inner(
                     units,
                     next,
                     vars_used: left,
-                } => finish(
-                    what,
-                    name,
-                    units,
-                    next,
-                    row,
-                    vars,
-                    Extent {
+                } => {
+                    let stored = Extent {
                         vars_used: left,
                         vars_room: extent.vars_room,
-                    },
-                    work,
-                ),
+                    };
+                    finish(what, name, units, next, row, vars, stored, work)
+                }
             }
         }
     }
@@ -178,16 +168,13 @@ fn expand_sum(
             units,
             next,
             vars_used,
-        } => sum_up(
-            units,
-            row,
-            Onward {
+        } => {
+            let on = Onward {
                 next: next,
                 vars_used: vars_used,
-            },
-            &vars[..vars_used],
-            work,
-        ),
+            };
+            sum_up(units, row, on, &vars[..vars_used], work)
+        }
     }
 }
 

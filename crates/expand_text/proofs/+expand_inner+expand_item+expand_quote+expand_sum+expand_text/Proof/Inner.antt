@@ -30,38 +30,63 @@ use Rattle.read_line.proofs.read_text.Reads as read-text
 use Rattle.expand_operand.proofs.settle.Reads as settle
 use Rattle.expand_form.proofs.operand_mark.Reads as operand-mark
 use Rattle.expand_operand.proofs.finish.Reads as finish
-use Rattle.expand_text.proofs.+expand_inner+expand_item+expand_quote+expand_sum+expand_text.Proof.Measures.{expand-inner-at, expand-text-below}
+use Rattle.expand_text.proofs.+expand_inner+expand_item+expand_quote+expand_sum+expand_text.Proof.Measures.{
+  expand-inner-at,
+  expand-text-below,
+}
 
 abbrev pub callees : ℕ → lts.Claims
-callees t = (look-up.Asked, look-up.Learnt, plan-of.Asked, plan-of.Learnt, read-text.Asked, read-text.Learnt, settle.Asked, settle.Learnt, operand-mark.Asked, operand-mark.Learnt, expand-text-below t, expand-text.Post, finish.Asked, finish.Learnt)
+callees t = (
+  look-up.Asked,
+  look-up.Learnt,
+  plan-of.Asked,
+  plan-of.Learnt,
+  read-text.Asked,
+  read-text.Learnt,
+  settle.Asked,
+  settle.Learnt,
+  operand-mark.Asked,
+  operand-mark.Learnt,
+  expand-text-below t,
+  expand-text.Post,
+  finish.Asked,
+  finish.Learnt,
+)
 
 module _ (t : ℕ) where
-  abbrev began : lts.After-plan-of (callees t) (expand-inner-at t) expand-inner.Post → lts.Start (callees t) (expand-inner-at t) expand-inner.Post
+  abbrev began : lts.After-plan-of (callees t) (expand-inner-at t) expand-inner.Post
+      → lts.Start (callees t) (expand-inner-at t) expand-inner.Post
   began c = c .before .before .before .before .before .before .before
 
   -- the plan of an operand that is not used, and that is only read
-  abbrev unused : lts.After-read-text (callees t) (expand-inner-at t) expand-inner.Post → lts.After-plan-of (callees t) (expand-inner-at t) expand-inner.Post
+  abbrev unused : lts.After-read-text (callees t) (expand-inner-at t) expand-inner.Post
+      → lts.After-plan-of (callees t) (expand-inner-at t) expand-inner.Post
   unused c = c .before .before .before .before
 
   -- the plan of an operand that is used, and that is expanded
-  abbrev used : lts.After-expand-text (callees t) (expand-inner-at t) expand-inner.Post → lts.After-plan-of (callees t) (expand-inner-at t) expand-inner.Post
+  abbrev used : lts.After-expand-text (callees t) (expand-inner-at t) expand-inner.Post
+      → lts.After-plan-of (callees t) (expand-inner-at t) expand-inner.Post
   used c = c .before .before .before .before .before .before .before
 
   -- the operand was expanded, where it is refused and where it has a row
-  abbrev refused : lts.After-known-told5 (callees t) (expand-inner-at t) expand-inner.Post → lts.After-expand-text (callees t) (expand-inner-at t) expand-inner.Post
+  abbrev refused : lts.After-known-told5 (callees t) (expand-inner-at t) expand-inner.Post
+      → lts.After-expand-text (callees t) (expand-inner-at t) expand-inner.Post
   refused c = c .before .before .before .before .before .before .before
 
-  abbrev given : lts.After-known-told6 (callees t) (expand-inner-at t) expand-inner.Post → lts.After-expand-text (callees t) (expand-inner-at t) expand-inner.Post
+  abbrev given : lts.After-known-told6 (callees t) (expand-inner-at t) expand-inner.Post
+      → lts.After-expand-text (callees t) (expand-inner-at t) expand-inner.Post
   given c = c .before .before .before .before .before .before .before
 
   -- the row that is finished
-  abbrev finished : lts.After-finish (callees t) (expand-inner-at t) expand-inner.Post → lts.After-known-told6 (callees t) (expand-inner-at t) expand-inner.Post
+  abbrev finished : lts.After-finish (callees t) (expand-inner-at t) expand-inner.Post
+      → lts.After-known-told6 (callees t) (expand-inner-at t) expand-inner.Post
   finished c = c .before .before .before
 
   inside : (c : lts.After-expand-text (callees t) (expand-inner-at t) expand-inner.Post) →
       let a = began (used c) .args in
       OperandExpanded (a .extent .«vars_room») (a .text .now) (a .from .at) (a .from .mode) (a .from .depth) (length (a .work .now)) (a .vars .now)
-      (a .extent .«vars_used») (a .name .now) (a .row .units) (formOf (a .form)) (markOf (a .row .mark)) (c .before .before .before .before .before .plan2 .given .0 .0)
+      (a .extent .«vars_used») (a .name .now) (a .row .units) (formOf (a .form)) (markOf (a .row .mark))
+      (c .before .before .before .before .before .plan2 .given .0 .0)
       (c .expand-text .last .1 .1 .1 .1 .1 .0) (c .expand-text .last .1 .1 .1 .0) (c .expand-text .result)
   inside c =
       let p = used c in
@@ -125,7 +150,8 @@ module _ (t : ℕ) where
 
   pub expand-text-requires : lts.Need-expand-text-requires (callees t) (expand-inner-at t) expand-inner.Post
   expand-text-requires c κs =
-      let s = c .before .before .before .before .before .before .before .before .before .before .before .before .before in (omega (arith, s .pre .0), (s .pre .1 .0, s .pre .1 .1))
+      let s = c .before .before .before .before .before .before .before .before .before .before .before .before .before in
+      (omega (arith, s .pre .0), (s .pre .1 .0, s .pre .1 .1))
 
   pub enum-known-got-3 : lts.Need-enum-known-got-3 (callees t) (expand-inner-at t) expand-inner.Post
   enum-known-got-3 c = search needs

@@ -1,10 +1,12 @@
 -- What stands at a place is added at once, or holds a text: by the cases of the item.
 use Prim.Native.Nat.{ℕ}
 use mathlib.Core.Path.{sym}
+use lib.ListN.{length}
 use lib.Seq.{length-take-le}
 use Rattle.row.specs.Marks.{markOf}
 use Rattle.expand_add.proofs.Holding.{table-held}
 use Rattle.expand_text.proofs.Items.{
+  Here,
   item-fault,
   item-stop,
   item-byte,
@@ -39,12 +41,39 @@ use Rattle.row.proofs.literal_mark.Reads as literal-mark
 use Rattle.expand_item.proofs.give_unit.Reads as give-unit
 use Rattle.expand_add.proofs.give_value.Reads as give-value
 use Rattle.expand_item.proofs.give_length.Reads as give-length
-use Rattle.expand_text.proofs.+expand_inner+expand_item+expand_quote+expand_sum+expand_text.Proof.Measures.{expand-inner-below, expand-item-at, expand-quote-below, expand-sum-below}
+use Rattle.expand_text.proofs.+expand_inner+expand_item+expand_quote+expand_sum+expand_text.Proof.Measures.{
+  expand-inner-below,
+  expand-item-at,
+  expand-quote-below,
+  expand-sum-below,
+}
 
 abbrev pub callees : ℕ → lts.Claims
-callees t = (literal-mark.Asked, literal-mark.Learnt, give-unit.Asked, give-unit.Learnt, expand-quote-below t, expand-quote.Post, give-value.Asked, give-value.Learnt, give-length.Asked, give-length.Learnt, expand-inner-below t, expand-inner.Post, expand-sum-below t, expand-sum.Post)
+callees t = (
+  literal-mark.Asked,
+  literal-mark.Learnt,
+  give-unit.Asked,
+  give-unit.Learnt,
+  expand-quote-below t,
+  expand-quote.Post,
+  give-value.Asked,
+  give-value.Learnt,
+  give-length.Asked,
+  give-length.Learnt,
+  expand-inner-below t,
+  expand-inner.Post,
+  expand-sum-below t,
+  expand-sum.Post,
+)
 
 module _ (t : ℕ) where
+  -- the item stands where the text is read
+  here : (s : lts.Start (callees t) (expand-item-at t) expand-item.Post) →
+      let a = s .args in
+      Here (a .extent .«vars_room») (a .text .now) (a .from .at) (a .from .mode) (a .from .depth) (markOf (a .row .mark)) (a .row .units)
+      (length (a .work .now)) (a .vars .now) (a .extent .«vars_used») (a .item)
+  here s = record { ready = s .pre .1 .1; holds = s .pre .1 .2; shows = s .pre .1 .0 }
+
   pub enum-known-item : lts.Need-enum-known-item (callees t) (expand-item-at t) expand-item.Post
   enum-known-item c = search needs
 
@@ -68,7 +97,7 @@ module _ (t : ℕ) where
   pub add-t40 : lts.Need-add-t40 (callees t) (expand-item-at t) expand-item.Post
   add-t40 c =
       let s = c .before .before .before .before .before .before .before in
-      omega (arith, paren-place (markOf (s .args .row .mark)) (s .pre .1 .1) (s .pre .1 .2) (s .pre .1 .0) (c .before .before .item4 .given .1))
+      omega (arith, paren-place (here s) (c .before .before .item4 .given .1))
 
   pub give-unit-requires-2 : lts.Need-give-unit-requires-2 (callees t) (expand-item-at t) expand-item.Post
   give-unit-requires-2 c κs =
@@ -81,14 +110,14 @@ module _ (t : ℕ) where
   pub add-t43 : lts.Need-add-t43 (callees t) (expand-item-at t) expand-item.Post
   add-t43 c =
       let s = c .before .before .before .before .before .before .before in
-      omega (arith, quote-place (markOf (s .args .row .mark)) (s .pre .1 .1) (s .pre .1 .2) (s .pre .1 .0) (c .before .before .item5 .given .1))
+      omega (arith, quote-place (here s) (c .before .before .item5 .given .1))
 
   pub expand-quote-requires : lts.Need-expand-quote-requires (callees t) (expand-item-at t) expand-item.Post
   expand-quote-requires c κs =
       let s = c .before .before .before .before .before .before .before .before .before in
       let q = c .before .before .before .before .item5 .given .1 in (
-        omega (arith, s .pre .0, quote-place (markOf (s .args .row .mark)) (s .pre .1 .1) (s .pre .1 .2) (s .pre .1 .0) q),
-        (quote-ready (markOf (s .args .row .mark)) (s .pre .1 .1) (s .pre .1 .2) (s .pre .1 .0) q, s .pre .1 .2),
+        omega (arith, s .pre .0, quote-place (here s) q),
+        (quote-ready (here s) q, s .pre .1 .2),
       )
 
   pub enum-known-item-6 : lts.Need-enum-known-item-6 (callees t) (expand-item-at t) expand-item.Post
@@ -97,19 +126,19 @@ module _ (t : ℕ) where
   pub sub-give-value : lts.Need-sub-give-value (callees t) (expand-item-at t) expand-item.Post
   sub-give-value c =
       let s = c .before .before .before .before .before .before in
-      let n = value-name (markOf (s .args .row .mark)) (s .pre .1 .1) (s .pre .1 .2) (s .pre .1 .0) (c .before .item6 .given .1) in
+      let n = value-name (here s) (c .before .item6 .given .1) in
       omega (arith, n .onward, n .within)
 
   pub part-give-value-start : lts.Need-part-give-value-start (callees t) (expand-item-at t) expand-item.Post
   part-give-value-start c =
       let s = c .before .before .before .before .before .before in
-      let n = value-name (markOf (s .args .row .mark)) (s .pre .1 .1) (s .pre .1 .2) (s .pre .1 .0) (c .before .item6 .given .1) in
+      let n = value-name (here s) (c .before .item6 .given .1) in
       omega (arith, n .onward, n .within)
 
   pub part-give-value-end : lts.Need-part-give-value-end (callees t) (expand-item-at t) expand-item.Post
   part-give-value-end c =
       let s = c .before .before .before .before .before .before in
-      let n = value-name (markOf (s .args .row .mark)) (s .pre .1 .1) (s .pre .1 .2) (s .pre .1 .0) (c .before .item6 .given .1) in
+      let n = value-name (here s) (c .before .item6 .given .1) in
       omega (arith, n .onward, n .within)
 
   pub slice-reshare-prefix-give-value : lts.Need-slice-reshare-prefix-give-value (callees t) (expand-item-at t) expand-item.Post
@@ -131,19 +160,19 @@ module _ (t : ℕ) where
   pub sub-give-length : lts.Need-sub-give-length (callees t) (expand-item-at t) expand-item.Post
   sub-give-length c =
       let s = c .before .before .before .before .before .before in
-      let n = count-name (markOf (s .args .row .mark)) (s .pre .1 .1) (s .pre .1 .2) (s .pre .1 .0) (c .before .item7 .given .1) in
+      let n = count-name (here s) (c .before .item7 .given .1) in
       omega (arith, n .onward, n .within)
 
   pub part-give-length-start : lts.Need-part-give-length-start (callees t) (expand-item-at t) expand-item.Post
   part-give-length-start c =
       let s = c .before .before .before .before .before .before in
-      let n = count-name (markOf (s .args .row .mark)) (s .pre .1 .1) (s .pre .1 .2) (s .pre .1 .0) (c .before .item7 .given .1) in
+      let n = count-name (here s) (c .before .item7 .given .1) in
       omega (arith, n .onward, n .within)
 
   pub part-give-length-end : lts.Need-part-give-length-end (callees t) (expand-item-at t) expand-item.Post
   part-give-length-end c =
       let s = c .before .before .before .before .before .before in
-      let n = count-name (markOf (s .args .row .mark)) (s .pre .1 .1) (s .pre .1 .2) (s .pre .1 .0) (c .before .item7 .given .1) in
+      let n = count-name (here s) (c .before .item7 .given .1) in
       omega (arith, n .onward, n .within)
 
   pub slice-reshare-prefix-give-length : lts.Need-slice-reshare-prefix-give-length (callees t) (expand-item-at t) expand-item.Post
@@ -166,37 +195,37 @@ module _ (t : ℕ) where
   sub-expand-inner c =
       let s = c .before .before .before .before .before .before .before in
       let q = c .before .before .item8 .given .1 in
-      let n = inner-places (markOf (s .args .row .mark)) (s .pre .1 .1) (s .pre .1 .2) (s .pre .1 .0) q in
-      omega (arith, inner-depth (markOf (s .args .row .mark)) (s .pre .1 .1) (s .pre .1 .2) (s .pre .1 .0) q, n .onward, n .within)
+      let n = inner-places (here s) q in
+      omega (arith, inner-depth (here s) q, n .onward, n .within)
 
   pub sub-expand-inner-2 : lts.Need-sub-expand-inner-2 (callees t) (expand-item-at t) expand-item.Post
   sub-expand-inner-2 c =
       let s = c .before .before .before .before .before .before .before in
       let q = c .before .before .item8 .given .1 in
-      let n = inner-places (markOf (s .args .row .mark)) (s .pre .1 .1) (s .pre .1 .2) (s .pre .1 .0) q in
-      omega (arith, inner-depth (markOf (s .args .row .mark)) (s .pre .1 .1) (s .pre .1 .2) (s .pre .1 .0) q, n .onward, n .within)
+      let n = inner-places (here s) q in
+      omega (arith, inner-depth (here s) q, n .onward, n .within)
 
   pub part-expand-inner-start : lts.Need-part-expand-inner-start (callees t) (expand-item-at t) expand-item.Post
   part-expand-inner-start c =
       let s = c .before .before .before .before .before .before .before in
       let q = c .before .before .item8 .given .1 in
-      let n = inner-places (markOf (s .args .row .mark)) (s .pre .1 .1) (s .pre .1 .2) (s .pre .1 .0) q in
-      omega (arith, inner-depth (markOf (s .args .row .mark)) (s .pre .1 .1) (s .pre .1 .2) (s .pre .1 .0) q, n .onward, n .within)
+      let n = inner-places (here s) q in
+      omega (arith, inner-depth (here s) q, n .onward, n .within)
 
   pub part-expand-inner-end : lts.Need-part-expand-inner-end (callees t) (expand-item-at t) expand-item.Post
   part-expand-inner-end c =
       let s = c .before .before .before .before .before .before .before in
       let q = c .before .before .item8 .given .1 in
-      let n = inner-places (markOf (s .args .row .mark)) (s .pre .1 .1) (s .pre .1 .2) (s .pre .1 .0) q in
-      omega (arith, inner-depth (markOf (s .args .row .mark)) (s .pre .1 .1) (s .pre .1 .2) (s .pre .1 .0) q, n .onward, n .within)
+      let n = inner-places (here s) q in
+      omega (arith, inner-depth (here s) q, n .onward, n .within)
 
   pub expand-inner-requires : lts.Need-expand-inner-requires (callees t) (expand-item-at t) expand-item.Post
   expand-inner-requires c κs =
       let s = c .before .before .before .before .before .before .before .before .before .before in
       let q = c .before .before .before .before .before .item8 .given .1 in
-      let n = inner-place (markOf (s .args .row .mark)) (s .pre .1 .1) (s .pre .1 .2) (s .pre .1 .0) q in (
+      let n = inner-place (here s) q in (
         omega (arith, s .pre .0, n .onward, n .within),
-        (inner-ready (markOf (s .args .row .mark)) (s .pre .1 .1) (s .pre .1 .2) (s .pre .1 .0) q, s .pre .1 .2, s .pre .1 .1 .few, inner-name (markOf (s .args .row .mark)) (s .pre .1 .1) (s .pre .1 .2) (s .pre .1 .0) q),
+        (inner-ready (here s) q, s .pre .1 .2, s .pre .1 .1 .few, inner-name (here s) q),
       )
 
   pub enum-known-item-9 : lts.Need-enum-known-item-9 (callees t) (expand-item-at t) expand-item.Post
@@ -205,26 +234,26 @@ module _ (t : ℕ) where
   pub sub-expand-sum : lts.Need-sub-expand-sum (callees t) (expand-item-at t) expand-item.Post
   sub-expand-sum c =
       let s = c .before .before .before .before .before .before .before in
-      omega (arith, sum-depth (markOf (s .args .row .mark)) (s .pre .1 .1) (s .pre .1 .2) (s .pre .1 .0) (c .before .before .item9 .given .1))
+      omega (arith, sum-depth (here s) (c .before .before .item9 .given .1))
 
   pub expand-sum-requires : lts.Need-expand-sum-requires (callees t) (expand-item-at t) expand-item.Post
   expand-sum-requires c κs =
       let s = c .before .before .before .before .before .before .before .before .before in
       let q = c .before .before .before .before .item9 .given .1 in
-      let y = sum-ready (markOf (s .args .row .mark)) (s .pre .1 .1) (s .pre .1 .2) (s .pre .1 .0) q in (
-        omega (arith, s .pre .0, sum-place (markOf (s .args .row .mark)) (s .pre .1 .1) (s .pre .1 .2) (s .pre .1 .0) q, y .start),
+      let y = sum-ready (here s) q in (
+        omega (arith, s .pre .0, sum-place (here s) q, y .start),
         (y, s .pre .1 .2, s .pre .1 .1 .few),
       )
 
   pub returns : lts.Need-returns (callees t) (expand-item-at t) expand-item.Post
   returns c =
       let s = c .before .before .before .before .before .before in
-      item-fault (markOf (s .args .row .mark)) (s .pre .1 .1) (s .pre .1 .2) (s .pre .1 .0) _ _ (c .before .item .given .1)
+      item-fault (here s) _ _ (c .before .item .given .1)
 
   pub returns-2 : lts.Need-returns-2 (callees t) (expand-item-at t) expand-item.Post
   returns-2 c =
       let s = c .before .before .before .before .before .before in
-      item-stop (markOf (s .args .row .mark)) (s .pre .1 .1) (s .pre .1 .2) (s .pre .1 .0) _ (c .before .item2 .given .1)
+      item-stop (here s) _ (c .before .item2 .given .1)
 
   pub same-length : lts.Need-same-length (callees t) (expand-item-at t) expand-item.Post
   same-length c = search needs
@@ -233,7 +262,7 @@ module _ (t : ℕ) where
   returns-3 c =
       let s = c .before .before .before .before .before .before .before .before .before .before .before in
       let g = c .before .before .give-unit in
-      item-byte (markOf (s .args .row .mark)) (s .pre .1 .1) (s .pre .1 .2) (s .pre .1 .0) (c .before .before .before .before .before .before .item3 .given .1) (c .before .before .before .before .literal-mark .ensures) _ (g .result) (g .ensures)
+      item-byte (here s) (c .before .before .before .before .before .before .item3 .given .1) (c .before .before .before .before .literal-mark .ensures) _ (g .result) (g .ensures)
 
   pub same-length-2 : lts.Need-same-length-2 (callees t) (expand-item-at t) expand-item.Post
   same-length-2 c = search needs
@@ -242,7 +271,7 @@ module _ (t : ℕ) where
   returns-4 c =
       let s = c .before .before .before .before .before .before .before .before .before .before .before in
       let g = c .before .before .give-unit2 in
-      item-paren (markOf (s .args .row .mark)) (s .pre .1 .1) (s .pre .1 .2) (s .pre .1 .0) (c .before .before .before .before .before .before .item4 .given .1) _ (g .result) (g .ensures)
+      item-paren (here s) (c .before .before .before .before .before .before .item4 .given .1) _ (g .result) (g .ensures)
 
   pub same-length-3 : lts.Need-same-length-3 (callees t) (expand-item-at t) expand-item.Post
   same-length-3 c = omega (arith, c .before .before .before .before .expand-quote .kept .1 .1 .1 .0)
@@ -254,7 +283,7 @@ module _ (t : ℕ) where
   returns-5 c =
       let s = c .before .before .before .before .before .before .before .before .before .before .before .before .before .before in
       let g = c .before .before .before .before .expand-quote in
-      item-quote (markOf (s .args .row .mark)) (s .pre .1 .1) (s .pre .1 .2) (s .pre .1 .0) (c .before .before .before .before .before .before .before .before .before .item5 .given .1) _ _ (g .result) (g .ensures)
+      item-quote (here s) (c .before .before .before .before .before .before .before .before .before .item5 .given .1) _ _ (g .result) (g .ensures)
 
   pub same-length-5 : lts.Need-same-length-5 (callees t) (expand-item-at t) expand-item.Post
   same-length-5 c = search needs
@@ -266,7 +295,7 @@ module _ (t : ℕ) where
   returns-6 c =
       let s = c .before .before .before .before .before .before .before .before .before .before .before .before in
       let g = c .before .before .give-value in
-      item-value (markOf (s .args .row .mark)) (s .pre .1 .1) (s .pre .1 .2) (s .pre .1 .0) (c .before .before .before .before .before .before .before .item6 .given .1) _ (g .result) (g .ensures)
+      item-value (here s) (c .before .before .before .before .before .before .before .item6 .given .1) _ (g .result) (g .ensures)
 
   pub same-length-7 : lts.Need-same-length-7 (callees t) (expand-item-at t) expand-item.Post
   same-length-7 c = search needs
@@ -278,7 +307,7 @@ module _ (t : ℕ) where
   returns-7 c =
       let s = c .before .before .before .before .before .before .before .before .before .before .before .before in
       let g = c .before .before .give-length in
-      item-count (markOf (s .args .row .mark)) (s .pre .1 .1) (s .pre .1 .2) (s .pre .1 .0) (c .before .before .before .before .before .before .before .item7 .given .1) _ (g .result) (g .ensures)
+      item-count (here s) (c .before .before .before .before .before .before .before .item7 .given .1) _ (g .result) (g .ensures)
 
   pub same-length-9 : lts.Need-same-length-9 (callees t) (expand-item-at t) expand-item.Post
   same-length-9 c = omega (arith, c .before .before .before .before .expand-inner .kept .1 .1 .1 .1 .1 .0)
@@ -290,7 +319,7 @@ module _ (t : ℕ) where
   returns-8 c =
       let s = c .before .before .before .before .before .before .before .before .before .before .before .before .before .before .before in
       let g = c .before .before .before .before .expand-inner in
-      item-inner (markOf (s .args .row .mark)) (s .pre .1 .1) (s .pre .1 .2) (s .pre .1 .0) (c .before .before .before .before .before .before .before .before .before .before .item8 .given .1) _ _ (g .result) (g .ensures)
+      item-inner (here s) (c .before .before .before .before .before .before .before .before .before .before .item8 .given .1) _ _ (g .result) (g .ensures)
 
   pub same-length-11 : lts.Need-same-length-11 (callees t) (expand-item-at t) expand-item.Post
   same-length-11 c = omega (arith, c .before .before .before .before .expand-sum .kept .1 .1 .1 .1 .0)
@@ -302,4 +331,4 @@ module _ (t : ℕ) where
   returns-9 c =
       let s = c .before .before .before .before .before .before .before .before .before .before .before .before .before .before in
       let g = c .before .before .before .before .expand-sum in
-      item-sum (markOf (s .args .row .mark)) (s .pre .1 .1) (s .pre .1 .2) (s .pre .1 .0) (c .before .before .before .before .before .before .before .before .before .item9 .given .1) _ _ (g .result) (g .ensures)
+      item-sum (here s) (c .before .before .before .before .before .before .before .before .before .item9 .given .1) _ _ (g .result) (g .ensures)

@@ -12,24 +12,36 @@ use Rattle.expand_text.proofs.+expand_inner+expand_item+expand_quote+ex
 use Rattle.expand_text.proofs.expand_quote.Reads as expand-quote
 use Rattle.expand_text.proofs.expand_text.Reads as expand-text
 use Rattle.row.proofs.put_empty.Reads as put-empty
-use Rattle.expand_text.proofs.+expand_inner+expand_item+expand_quote+expand_sum+expand_text.Proof.Measures.{expand-quote-at, expand-text-below}
+use Rattle.expand_text.proofs.+expand_inner+expand_item+expand_quote+expand_sum+expand_text.Proof.Measures.{
+  expand-quote-at,
+  expand-text-below,
+}
 
 abbrev pub callees : ℕ → lts.Claims
-callees t = (put-empty.Asked, put-empty.Learnt, expand-text-below t, expand-text.Post)
+callees t = (
+  put-empty.Asked,
+  put-empty.Learnt,
+  expand-text-below t,
+  expand-text.Post,
+)
 
 module _ (t : ℕ) where
-  abbrev began : lts.After-put-empty (callees t) (expand-quote-at t) expand-quote.Post → lts.Start (callees t) (expand-quote-at t) expand-quote.Post
+  abbrev began : lts.After-put-empty (callees t) (expand-quote-at t) expand-quote.Post
+      → lts.Start (callees t) (expand-quote-at t) expand-quote.Post
   began c = c .before .before .before .before .before .before
 
   -- where the N was put
-  abbrev emptied : lts.After-expand-text (callees t) (expand-quote-at t) expand-quote.Post → lts.After-put-empty (callees t) (expand-quote-at t) expand-quote.Post
+  abbrev emptied : lts.After-expand-text (callees t) (expand-quote-at t) expand-quote.Post
+      → lts.After-put-empty (callees t) (expand-quote-at t) expand-quote.Post
   emptied c = c .before .before .before .before .before
 
   -- the quote's text was expanded, where it is refused and where it has a row
-  abbrev refused : lts.After-known-told (callees t) (expand-quote-at t) expand-quote.Post → lts.After-expand-text (callees t) (expand-quote-at t) expand-quote.Post
+  abbrev refused : lts.After-known-told (callees t) (expand-quote-at t) expand-quote.Post
+      → lts.After-expand-text (callees t) (expand-quote-at t) expand-quote.Post
   refused c = c .before .before .before .before .before .before .before
 
-  abbrev given : lts.After-known-told2 (callees t) (expand-quote-at t) expand-quote.Post → lts.After-expand-text (callees t) (expand-quote-at t) expand-quote.Post
+  abbrev given : lts.After-known-told2 (callees t) (expand-quote-at t) expand-quote.Post
+      → lts.After-expand-text (callees t) (expand-quote-at t) expand-quote.Post
   given c = c .before .before .before .before .before .before .before
 
   room-left : (c : lts.After-put-empty (callees t) (expand-quote-at t) expand-quote.Post) → began c .args .units < rowLimit

@@ -12,24 +12,36 @@ use Rattle.expand_text.proofs.+expand_inner+expand_item+expand_quote+ex
 use Rattle.expand_text.proofs.expand_sum.Reads as expand-sum
 use Rattle.expand_text.proofs.expand_text.Reads as expand-text
 use Rattle.expand_operand.proofs.sum_up.Reads as sum-up
-use Rattle.expand_text.proofs.+expand_inner+expand_item+expand_quote+expand_sum+expand_text.Proof.Measures.{expand-sum-at, expand-text-below}
+use Rattle.expand_text.proofs.+expand_inner+expand_item+expand_quote+expand_sum+expand_text.Proof.Measures.{
+  expand-sum-at,
+  expand-text-below,
+}
 
 abbrev pub callees : ℕ → lts.Claims
-callees t = (expand-text-below t, expand-text.Post, sum-up.Asked, sum-up.Learnt)
+callees t = (
+  expand-text-below t,
+  expand-text.Post,
+  sum-up.Asked,
+  sum-up.Learnt,
+)
 
 module _ (t : ℕ) where
-  abbrev began : lts.After-expand-text (callees t) (expand-sum-at t) expand-sum.Post → lts.Start (callees t) (expand-sum-at t) expand-sum.Post
+  abbrev began : lts.After-expand-text (callees t) (expand-sum-at t) expand-sum.Post
+      → lts.Start (callees t) (expand-sum-at t) expand-sum.Post
   began c = c .before .before .before .before .before .before
 
   -- the text was expanded, where it is refused and where it has a row
-  abbrev refused : lts.After-known-told (callees t) (expand-sum-at t) expand-sum.Post → lts.After-expand-text (callees t) (expand-sum-at t) expand-sum.Post
+  abbrev refused : lts.After-known-told (callees t) (expand-sum-at t) expand-sum.Post
+      → lts.After-expand-text (callees t) (expand-sum-at t) expand-sum.Post
   refused c = c .before .before .before .before .before .before .before
 
-  abbrev given : lts.After-known-told2 (callees t) (expand-sum-at t) expand-sum.Post → lts.After-expand-text (callees t) (expand-sum-at t) expand-sum.Post
+  abbrev given : lts.After-known-told2 (callees t) (expand-sum-at t) expand-sum.Post
+      → lts.After-expand-text (callees t) (expand-sum-at t) expand-sum.Post
   given c = c .before .before .before .before .before .before .before
 
   -- the row that is summed up
-  abbrev summed : lts.After-sum-up (callees t) (expand-sum-at t) expand-sum.Post → lts.After-known-told2 (callees t) (expand-sum-at t) expand-sum.Post
+  abbrev summed : lts.After-sum-up (callees t) (expand-sum-at t) expand-sum.Post
+      → lts.After-known-told2 (callees t) (expand-sum-at t) expand-sum.Post
   summed c = c .before .before .before
 
   inside : (c : lts.After-expand-text (callees t) (expand-sum-at t) expand-sum.Post) →

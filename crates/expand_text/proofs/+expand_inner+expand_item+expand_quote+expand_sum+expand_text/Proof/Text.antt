@@ -26,10 +26,22 @@ use Rattle.expand_text.proofs.expand_text.Reads as expand-text
 use Rattle.read_item.proofs.item_at.Reads as item-at
 use Rattle.read_item.proofs.is_stop.Reads as is-stop
 use Rattle.read_item.proofs.mode_after.Reads as mode-after
-use Rattle.expand_text.proofs.+expand_inner+expand_item+expand_quote+expand_sum+expand_text.Proof.Measures.{expand-item-below, expand-text-at}
+use Rattle.expand_text.proofs.+expand_inner+expand_item+expand_quote+expand_sum+expand_text.Proof.Measures.{
+  expand-item-below,
+  expand-text-at,
+}
 
 abbrev pub callees : ℕ → lts.Claims
-callees t = (item-at.Asked, item-at.Learnt, expand-item-below t, expand-item.Post, is-stop.Asked, is-stop.Learnt, mode-after.Asked, mode-after.Learnt)
+callees t = (
+  item-at.Asked,
+  item-at.Learnt,
+  expand-item-below t,
+  expand-item.Post,
+  is-stop.Asked,
+  is-stop.Learnt,
+  mode-after.Asked,
+  mode-after.Learnt,
+)
 
 abbrev pub Inv-loop : lts.InvT-loop
 Inv-loop text from row vars₀ extent work₀ mark n₀ i₀ inside₀ left₀ vars work n i inside left =
@@ -41,17 +53,21 @@ abbrev pub μ-loop : lts.MeasureT-loop
 
 module _ (t : ℕ) where
   -- where the loop stood when the item was expanded, and where the text began
-  abbrev looped : lts.After-expand-item (callees t) (expand-text-at t) expand-text.Post Inv-loop μ-loop → lts.At-loop (callees t) (expand-text-at t) expand-text.Post Inv-loop μ-loop
+  abbrev looped : lts.After-expand-item (callees t) (expand-text-at t) expand-text.Post Inv-loop μ-loop
+      → lts.At-loop (callees t) (expand-text-at t) expand-text.Post Inv-loop μ-loop
   looped c = c .before .before .before .before .before
 
-  abbrev began : lts.After-expand-item (callees t) (expand-text-at t) expand-text.Post Inv-loop μ-loop → lts.Start (callees t) (expand-text-at t) expand-text.Post Inv-loop μ-loop
+  abbrev began : lts.After-expand-item (callees t) (expand-text-at t) expand-text.Post Inv-loop μ-loop
+      → lts.Start (callees t) (expand-text-at t) expand-text.Post Inv-loop μ-loop
   began c = looped c .before .before .before .before
 
   -- an item that was expanded, where it refuses the text and where it has a row
-  abbrev refused : lts.After-known-told (callees t) (expand-text-at t) expand-text.Post Inv-loop μ-loop → lts.After-expand-item (callees t) (expand-text-at t) expand-text.Post Inv-loop μ-loop
+  abbrev refused : lts.After-known-told (callees t) (expand-text-at t) expand-text.Post Inv-loop μ-loop
+      → lts.After-expand-item (callees t) (expand-text-at t) expand-text.Post Inv-loop μ-loop
   refused c = c .before .before .before .before .before .before .before
 
-  abbrev given : lts.After-known-told2 (callees t) (expand-text-at t) expand-text.Post Inv-loop μ-loop → lts.After-expand-item (callees t) (expand-text-at t) expand-text.Post Inv-loop μ-loop
+  abbrev given : lts.After-known-told2 (callees t) (expand-text-at t) expand-text.Post Inv-loop μ-loop
+      → lts.After-expand-item (callees t) (expand-text-at t) expand-text.Post Inv-loop μ-loop
   given c = c .before .before .before .before .before .before .before
 
   expanding : (c : lts.After-expand-item (callees t) (expand-text-at t) expand-text.Post Inv-loop μ-loop) →
@@ -64,7 +80,8 @@ module _ (t : ℕ) where
   expanding c = record { going = looped c .loop .inv; says = c .expand-item .ensures }
 
   -- what was lent came back as long as it was
-  same-vars : (c : lts.After-expand-item (callees t) (expand-text-at t) expand-text.Post Inv-loop μ-loop) → length (c .expand-item .last .1 .1 .1 .1 .0) ≡ length (looped c .loop .vars)
+  same-vars : (c : lts.After-expand-item (callees t) (expand-text-at t) expand-text.Post Inv-loop μ-loop)
+      → length (c .expand-item .last .1 .1 .1 .1 .0) ≡ length (looped c .loop .vars)
   same-vars c = c .expand-item .kept .1 .1 .1 .1 .0
 
   same-work : (c : lts.After-expand-item (callees t) (expand-text-at t) expand-text.Post Inv-loop μ-loop) →
@@ -156,5 +173,5 @@ module _ (t : ℕ) where
   pub loop-again : lts.Need-loop-again (callees t) (expand-text-at t) expand-text.Post Inv-loop μ-loop
   loop-again c =
       let g = c .before .before .before in
-      going-row (expanding (given g)) (g .before .got2 .given .1) (sym (c .before .before .is-stop .ensures) ∙ c .before .if1 .left) (c .mode-after .ensures) _
-      (same-work (given g)) (same-vars (given g))
+      going-row (expanding (given g)) (g .before .got2 .given .1) (sym (c .before .before .is-stop .ensures) ∙ c .before .if1 .left)
+      (c .mode-after .ensures) _ (same-work (given g)) (same-vars (given g))
