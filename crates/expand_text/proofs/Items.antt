@@ -243,7 +243,8 @@ module _ {varsRoom : ℕ} {text : Text} {at : ℕ} {mode : Mode} {d : ℕ} {m : 
         (says-known varsRoom text (at + 1) units (λ q. quoted varsRoom q units u) area vars g s (t .first)))
 
   module _ {from to : ℕ} {f : code-form.Form} {n : Mode} {next : ℕ} (c : r ≡ Inner from to f n next) where
-    inner-parts : Within (par (part text from to) (formOf f)) (parts (modeOf n) (d - 1) (drop next text)) (parts (modeOf mode) d) (x .ready .tree) (x .ready .rest)
+    inner-parts : Within (par (part text from to) (formOf f)) (parts (modeOf n) (d - 1) (drop next text)) (parts (modeOf mode) d)
+        (x .ready .tree) (x .ready .rest)
     inner-parts =
         let s = shown text at d _ (x .shows) c in
         within (par (part text from to) (formOf f)) _ (parts (modeOf mode) d) (x .ready .tree) (x .ready .rest)
@@ -288,7 +289,8 @@ module _ {varsRoom : ℕ} {text : Text} {at : ℕ} {mode : Mode} {d : ℕ} {m : 
     item-inner area vars g s =
         let t = inner-parts in
         known m (x .ready) (x .holds) c area vars g
-        (own-text m (x .ready) (x .holds) (t .next) (placed units (parameter varsRoom (λ k u. expand varsRoom (t .inside) k 0 u) (part text from to) (formOf f) m u))
+        (own-text m (x .ready) (x .holds) (t .next)
+        (placed units (parameter varsRoom (λ k u. expand varsRoom (t .inside) k 0 u) (part text from to) (formOf f) m u))
         (ap (λ (x : Parts). expand varsRoom x m units u) (t .whole)
         ∙ expand-par varsRoom (t .next) m units (part text from to) (formOf f) (t .inside) u)
         next (t .mid) (t .read) (shown text at d _ (x .shows) c .1 .onward) area vars g

@@ -74,6 +74,35 @@ module _ (t : ℕ) where
       (length (a .work .now)) (a .vars .now) (a .extent .«vars_used») (a .item)
   here s = record { ready = s .pre .1 .1; holds = s .pre .1 .2; shows = s .pre .1 .0 }
 
+  -- where it was matched, from each arm that looks back
+  abbrev byte : lts.After-item3 (callees t) (expand-item-at t) expand-item.Post
+      → lts.Start (callees t) (expand-item-at t) expand-item.Post
+  byte c = c .before .before .before .before .before
+
+  abbrev paren : lts.After-item4 (callees t) (expand-item-at t) expand-item.Post
+      → lts.Start (callees t) (expand-item-at t) expand-item.Post
+  paren c = c .before .before .before .before .before
+
+  abbrev quote : lts.After-item5 (callees t) (expand-item-at t) expand-item.Post
+      → lts.Start (callees t) (expand-item-at t) expand-item.Post
+  quote c = c .before .before .before .before .before
+
+  abbrev value : lts.After-item6 (callees t) (expand-item-at t) expand-item.Post
+      → lts.Start (callees t) (expand-item-at t) expand-item.Post
+  value c = c .before .before .before .before .before
+
+  abbrev count : lts.After-item7 (callees t) (expand-item-at t) expand-item.Post
+      → lts.Start (callees t) (expand-item-at t) expand-item.Post
+  count c = c .before .before .before .before .before
+
+  abbrev inner : lts.After-item8 (callees t) (expand-item-at t) expand-item.Post
+      → lts.Start (callees t) (expand-item-at t) expand-item.Post
+  inner c = c .before .before .before .before .before
+
+  abbrev sum : lts.After-item9 (callees t) (expand-item-at t) expand-item.Post
+      → lts.Start (callees t) (expand-item-at t) expand-item.Post
+  sum c = c .before .before .before .before .before
+
   pub enum-known-item : lts.Need-enum-known-item (callees t) (expand-item-at t) expand-item.Post
   enum-known-item c = search needs
 
@@ -88,144 +117,144 @@ module _ (t : ℕ) where
 
   pub give-unit-requires : lts.Need-give-unit-requires (callees t) (expand-item-at t) expand-item.Post
   give-unit-requires c κs =
-      let s = c .before .before .before .before .before .before .before .before in
-      (s .pre .1 .1 .few, omega (arith, s .pre .1 .1 .area))
+      let i = c .before .before .before in
+      let y = byte i .pre .1 .1 in
+      (y .few, omega (arith, y .area))
 
   pub enum-known-item-4 : lts.Need-enum-known-item-4 (callees t) (expand-item-at t) expand-item.Post
   enum-known-item-4 c = search needs
 
   pub add-t40 : lts.Need-add-t40 (callees t) (expand-item-at t) expand-item.Post
   add-t40 c =
-      let s = c .before .before .before .before .before .before .before in
-      omega (arith, paren-place (here s) (c .before .before .item4 .given .1))
+      let i = c .before .before in
+      omega (arith, paren-place (here (paren i)) (i .item4 .given .1))
 
   pub give-unit-requires-2 : lts.Need-give-unit-requires-2 (callees t) (expand-item-at t) expand-item.Post
   give-unit-requires-2 c κs =
-      let s = c .before .before .before .before .before .before .before .before in
-      (s .pre .1 .1 .few, omega (arith, s .pre .1 .1 .area))
+      let i = c .before .before .before in
+      let y = paren i .pre .1 .1 in
+      (y .few, omega (arith, y .area))
 
   pub enum-known-item-5 : lts.Need-enum-known-item-5 (callees t) (expand-item-at t) expand-item.Post
   enum-known-item-5 c = search needs
 
   pub add-t43 : lts.Need-add-t43 (callees t) (expand-item-at t) expand-item.Post
   add-t43 c =
-      let s = c .before .before .before .before .before .before .before in
-      omega (arith, quote-place (here s) (c .before .before .item5 .given .1))
+      let i = c .before .before in
+      omega (arith, quote-place (here (quote i)) (i .item5 .given .1))
 
   pub expand-quote-requires : lts.Need-expand-quote-requires (callees t) (expand-item-at t) expand-item.Post
   expand-quote-requires c κs =
-      let s = c .before .before .before .before .before .before .before .before .before in
-      let q = c .before .before .before .before .item5 .given .1 in (
-        omega (arith, s .pre .0, quote-place (here s) q),
-        (quote-ready (here s) q, s .pre .1 .2),
-      )
+      let i = c .before .before .before .before in
+      let p = quote i .pre in
+      (omega (arith, p .0, quote-place (here (quote i)) (i .item5 .given .1)), (quote-ready (here (quote i)) (i .item5 .given .1), p .1 .2))
 
   pub enum-known-item-6 : lts.Need-enum-known-item-6 (callees t) (expand-item-at t) expand-item.Post
   enum-known-item-6 c = search needs
 
   pub sub-give-value : lts.Need-sub-give-value (callees t) (expand-item-at t) expand-item.Post
   sub-give-value c =
-      let s = c .before .before .before .before .before .before in
-      let n = value-name (here s) (c .before .item6 .given .1) in
+      let i = c .before in
+      let n = value-name (here (value i)) (i .item6 .given .1) in
       omega (arith, n .onward, n .within)
 
   pub part-give-value-start : lts.Need-part-give-value-start (callees t) (expand-item-at t) expand-item.Post
   part-give-value-start c =
-      let s = c .before .before .before .before .before .before in
-      let n = value-name (here s) (c .before .item6 .given .1) in
+      let i = c .before in
+      let n = value-name (here (value i)) (i .item6 .given .1) in
       omega (arith, n .onward, n .within)
 
   pub part-give-value-end : lts.Need-part-give-value-end (callees t) (expand-item-at t) expand-item.Post
   part-give-value-end c =
-      let s = c .before .before .before .before .before .before in
-      let n = value-name (here s) (c .before .item6 .given .1) in
+      let i = c .before in
+      let n = value-name (here (value i)) (i .item6 .given .1) in
       omega (arith, n .onward, n .within)
 
   pub slice-reshare-prefix-give-value : lts.Need-slice-reshare-prefix-give-value (callees t) (expand-item-at t) expand-item.Post
-  slice-reshare-prefix-give-value c = c .before .before .before .before .before .before .before .pre .1 .2 .inside
+  slice-reshare-prefix-give-value c = value (c .before .before) .pre .1 .2 .inside
 
   pub slice-aggregate-give-value : lts.Need-slice-aggregate-give-value (callees t) (expand-item-at t) expand-item.Post
   slice-aggregate-give-value c =
-      let s = c .before .before .before .before .before .before .before .before in
+      let i = c .before .before .before in
+      let s = value i in
       sym (length-take-le (s .args .extent .«vars_used») (s .args .vars .now) (s .pre .1 .2 .inside))
 
   pub give-value-requires : lts.Need-give-value-requires (callees t) (expand-item-at t) expand-item.Post
   give-value-requires c κs =
-      let s = c .before .before .before .before .before .before .before .before .before in
-      (table-held _ _ _ (s .pre .1 .2), s .pre .1 .1 .few, omega (arith, s .pre .1 .1 .area))
+      let i = c .before .before .before .before in
+      let p = value i .pre .1 in
+      (table-held _ _ _ (p .2), p .1 .few, omega (arith, p .1 .area))
 
   pub enum-known-item-7 : lts.Need-enum-known-item-7 (callees t) (expand-item-at t) expand-item.Post
   enum-known-item-7 c = search needs
 
   pub sub-give-length : lts.Need-sub-give-length (callees t) (expand-item-at t) expand-item.Post
   sub-give-length c =
-      let s = c .before .before .before .before .before .before in
-      let n = count-name (here s) (c .before .item7 .given .1) in
+      let i = c .before in
+      let n = count-name (here (count i)) (i .item7 .given .1) in
       omega (arith, n .onward, n .within)
 
   pub part-give-length-start : lts.Need-part-give-length-start (callees t) (expand-item-at t) expand-item.Post
   part-give-length-start c =
-      let s = c .before .before .before .before .before .before in
-      let n = count-name (here s) (c .before .item7 .given .1) in
+      let i = c .before in
+      let n = count-name (here (count i)) (i .item7 .given .1) in
       omega (arith, n .onward, n .within)
 
   pub part-give-length-end : lts.Need-part-give-length-end (callees t) (expand-item-at t) expand-item.Post
   part-give-length-end c =
-      let s = c .before .before .before .before .before .before in
-      let n = count-name (here s) (c .before .item7 .given .1) in
+      let i = c .before in
+      let n = count-name (here (count i)) (i .item7 .given .1) in
       omega (arith, n .onward, n .within)
 
   pub slice-reshare-prefix-give-length : lts.Need-slice-reshare-prefix-give-length (callees t) (expand-item-at t) expand-item.Post
-  slice-reshare-prefix-give-length c = c .before .before .before .before .before .before .before .pre .1 .2 .inside
+  slice-reshare-prefix-give-length c = count (c .before .before) .pre .1 .2 .inside
 
   pub slice-aggregate-give-length : lts.Need-slice-aggregate-give-length (callees t) (expand-item-at t) expand-item.Post
   slice-aggregate-give-length c =
-      let s = c .before .before .before .before .before .before .before .before in
+      let i = c .before .before .before in
+      let s = count i in
       sym (length-take-le (s .args .extent .«vars_used») (s .args .vars .now) (s .pre .1 .2 .inside))
 
   pub give-length-requires : lts.Need-give-length-requires (callees t) (expand-item-at t) expand-item.Post
   give-length-requires c κs =
-      let s = c .before .before .before .before .before .before .before .before .before in
-      (table-held _ _ _ (s .pre .1 .2), s .pre .1 .1 .few, omega (arith, s .pre .1 .1 .area))
+      let i = c .before .before .before .before in
+      let p = count i .pre .1 in
+      (table-held _ _ _ (p .2), p .1 .few, omega (arith, p .1 .area))
 
   pub enum-known-item-8 : lts.Need-enum-known-item-8 (callees t) (expand-item-at t) expand-item.Post
   enum-known-item-8 c = search needs
 
   pub sub-expand-inner : lts.Need-sub-expand-inner (callees t) (expand-item-at t) expand-item.Post
   sub-expand-inner c =
-      let s = c .before .before .before .before .before .before .before in
-      let q = c .before .before .item8 .given .1 in
-      let n = inner-places (here s) q in
-      omega (arith, inner-depth (here s) q, n .onward, n .within)
+      let i = c .before .before in
+      let n = inner-places (here (inner i)) (i .item8 .given .1) in
+      omega (arith, inner-depth (here (inner i)) (i .item8 .given .1), n .onward, n .within)
 
   pub sub-expand-inner-2 : lts.Need-sub-expand-inner-2 (callees t) (expand-item-at t) expand-item.Post
   sub-expand-inner-2 c =
-      let s = c .before .before .before .before .before .before .before in
-      let q = c .before .before .item8 .given .1 in
-      let n = inner-places (here s) q in
-      omega (arith, inner-depth (here s) q, n .onward, n .within)
+      let i = c .before .before in
+      let n = inner-places (here (inner i)) (i .item8 .given .1) in
+      omega (arith, inner-depth (here (inner i)) (i .item8 .given .1), n .onward, n .within)
 
   pub part-expand-inner-start : lts.Need-part-expand-inner-start (callees t) (expand-item-at t) expand-item.Post
   part-expand-inner-start c =
-      let s = c .before .before .before .before .before .before .before in
-      let q = c .before .before .item8 .given .1 in
-      let n = inner-places (here s) q in
-      omega (arith, inner-depth (here s) q, n .onward, n .within)
+      let i = c .before .before in
+      let n = inner-places (here (inner i)) (i .item8 .given .1) in
+      omega (arith, n .onward, n .within)
 
   pub part-expand-inner-end : lts.Need-part-expand-inner-end (callees t) (expand-item-at t) expand-item.Post
   part-expand-inner-end c =
-      let s = c .before .before .before .before .before .before .before in
-      let q = c .before .before .item8 .given .1 in
-      let n = inner-places (here s) q in
-      omega (arith, inner-depth (here s) q, n .onward, n .within)
+      let i = c .before .before in
+      let n = inner-places (here (inner i)) (i .item8 .given .1) in
+      omega (arith, n .onward, n .within)
 
   pub expand-inner-requires : lts.Need-expand-inner-requires (callees t) (expand-item-at t) expand-item.Post
   expand-inner-requires c κs =
-      let s = c .before .before .before .before .before .before .before .before .before .before in
-      let q = c .before .before .before .before .before .item8 .given .1 in
-      let n = inner-place (here s) q in (
-        omega (arith, s .pre .0, n .onward, n .within),
-        (inner-ready (here s) q, s .pre .1 .2, s .pre .1 .1 .few, inner-name (here s) q),
+      let i = c .before .before .before .before .before in
+      let p = inner i .pre in
+      let n = inner-place (here (inner i)) (i .item8 .given .1) in (
+        omega (arith, p .0, n .onward, n .within),
+        (inner-ready (here (inner i)) (i .item8 .given .1), p .1 .2, p .1 .1 .few, inner-name (here (inner i)) (i .item8 .given .1)),
       )
 
   pub enum-known-item-9 : lts.Need-enum-known-item-9 (callees t) (expand-item-at t) expand-item.Post
@@ -233,45 +262,41 @@ module _ (t : ℕ) where
 
   pub sub-expand-sum : lts.Need-sub-expand-sum (callees t) (expand-item-at t) expand-item.Post
   sub-expand-sum c =
-      let s = c .before .before .before .before .before .before .before in
-      omega (arith, sum-depth (here s) (c .before .before .item9 .given .1))
+      let i = c .before .before in
+      omega (arith, sum-depth (here (sum i)) (i .item9 .given .1))
 
   pub expand-sum-requires : lts.Need-expand-sum-requires (callees t) (expand-item-at t) expand-item.Post
   expand-sum-requires c κs =
-      let s = c .before .before .before .before .before .before .before .before .before in
-      let q = c .before .before .before .before .item9 .given .1 in
-      let y = sum-ready (here s) q in (
-        omega (arith, s .pre .0, sum-place (here s) q, y .start),
-        (y, s .pre .1 .2, s .pre .1 .1 .few),
-      )
+      let i = c .before .before .before .before in
+      let p = sum i .pre in
+      let y = sum-ready (here (sum i)) (i .item9 .given .1) in
+      (omega (arith, p .0, sum-place (here (sum i)) (i .item9 .given .1), y .start), (y, p .1 .2, p .1 .1 .few))
 
   pub returns : lts.Need-returns (callees t) (expand-item-at t) expand-item.Post
   returns c =
-      let s = c .before .before .before .before .before .before in
-      item-fault (here s) _ _ (c .before .item .given .1)
+      item-fault (here (c .before .before .before .before .before .before)) _ _ (c .before .item .given .1)
 
   pub returns-2 : lts.Need-returns-2 (callees t) (expand-item-at t) expand-item.Post
-  returns-2 c =
-      let s = c .before .before .before .before .before .before in
-      item-stop (here s) _ (c .before .item2 .given .1)
+  returns-2 c = item-stop (here (c .before .before .before .before .before .before)) _ (c .before .item2 .given .1)
 
   pub same-length : lts.Need-same-length (callees t) (expand-item-at t) expand-item.Post
   same-length c = search needs
 
   pub returns-3 : lts.Need-returns-3 (callees t) (expand-item-at t) expand-item.Post
   returns-3 c =
-      let s = c .before .before .before .before .before .before .before .before .before .before .before in
-      let g = c .before .before .give-unit in
-      item-byte (here s) (c .before .before .before .before .before .before .item3 .given .1) (c .before .before .before .before .literal-mark .ensures) _ (g .result) (g .ensures)
+      let g = c .before .before in
+      let m = g .before .before in
+      let i = m .before .before in
+      item-byte (here (byte i)) (i .item3 .given .1) (m .literal-mark .ensures) _ (g .give-unit .result) (g .give-unit .ensures)
 
   pub same-length-2 : lts.Need-same-length-2 (callees t) (expand-item-at t) expand-item.Post
   same-length-2 c = search needs
 
   pub returns-4 : lts.Need-returns-4 (callees t) (expand-item-at t) expand-item.Post
   returns-4 c =
-      let s = c .before .before .before .before .before .before .before .before .before .before .before in
-      let g = c .before .before .give-unit2 in
-      item-paren (here s) (c .before .before .before .before .before .before .item4 .given .1) _ (g .result) (g .ensures)
+      let g = c .before .before in
+      let i = g .before .before .before .before in
+      item-paren (here (paren i)) (i .item4 .given .1) _ (g .give-unit2 .result) (g .give-unit2 .ensures)
 
   pub same-length-3 : lts.Need-same-length-3 (callees t) (expand-item-at t) expand-item.Post
   same-length-3 c = omega (arith, c .before .before .before .before .expand-quote .kept .1 .1 .1 .0)
@@ -281,9 +306,9 @@ module _ (t : ℕ) where
 
   pub returns-5 : lts.Need-returns-5 (callees t) (expand-item-at t) expand-item.Post
   returns-5 c =
-      let s = c .before .before .before .before .before .before .before .before .before .before .before .before .before .before in
-      let g = c .before .before .before .before .expand-quote in
-      item-quote (here s) (c .before .before .before .before .before .before .before .before .before .item5 .given .1) _ _ (g .result) (g .ensures)
+      let g = c .before .before .before .before in
+      let i = g .before .before .before .before .before in
+      item-quote (here (quote i)) (i .item5 .given .1) _ _ (g .expand-quote .result) (g .expand-quote .ensures)
 
   pub same-length-5 : lts.Need-same-length-5 (callees t) (expand-item-at t) expand-item.Post
   same-length-5 c = search needs
@@ -293,9 +318,9 @@ module _ (t : ℕ) where
 
   pub returns-6 : lts.Need-returns-6 (callees t) (expand-item-at t) expand-item.Post
   returns-6 c =
-      let s = c .before .before .before .before .before .before .before .before .before .before .before .before in
-      let g = c .before .before .give-value in
-      item-value (here s) (c .before .before .before .before .before .before .before .item6 .given .1) _ (g .result) (g .ensures)
+      let g = c .before .before in
+      let i = g .before .before .before .before .before in
+      item-value (here (value i)) (i .item6 .given .1) _ (g .give-value .result) (g .give-value .ensures)
 
   pub same-length-7 : lts.Need-same-length-7 (callees t) (expand-item-at t) expand-item.Post
   same-length-7 c = search needs
@@ -305,9 +330,9 @@ module _ (t : ℕ) where
 
   pub returns-7 : lts.Need-returns-7 (callees t) (expand-item-at t) expand-item.Post
   returns-7 c =
-      let s = c .before .before .before .before .before .before .before .before .before .before .before .before in
-      let g = c .before .before .give-length in
-      item-count (here s) (c .before .before .before .before .before .before .before .item7 .given .1) _ (g .result) (g .ensures)
+      let g = c .before .before in
+      let i = g .before .before .before .before .before in
+      item-count (here (count i)) (i .item7 .given .1) _ (g .give-length .result) (g .give-length .ensures)
 
   pub same-length-9 : lts.Need-same-length-9 (callees t) (expand-item-at t) expand-item.Post
   same-length-9 c = omega (arith, c .before .before .before .before .expand-inner .kept .1 .1 .1 .1 .1 .0)
@@ -317,9 +342,9 @@ module _ (t : ℕ) where
 
   pub returns-8 : lts.Need-returns-8 (callees t) (expand-item-at t) expand-item.Post
   returns-8 c =
-      let s = c .before .before .before .before .before .before .before .before .before .before .before .before .before .before .before in
-      let g = c .before .before .before .before .expand-inner in
-      item-inner (here s) (c .before .before .before .before .before .before .before .before .before .before .item8 .given .1) _ _ (g .result) (g .ensures)
+      let g = c .before .before .before .before in
+      let i = g .before .before .before .before .before .before in
+      item-inner (here (inner i)) (i .item8 .given .1) _ _ (g .expand-inner .result) (g .expand-inner .ensures)
 
   pub same-length-11 : lts.Need-same-length-11 (callees t) (expand-item-at t) expand-item.Post
   same-length-11 c = omega (arith, c .before .before .before .before .expand-sum .kept .1 .1 .1 .1 .0)
@@ -329,6 +354,6 @@ module _ (t : ℕ) where
 
   pub returns-9 : lts.Need-returns-9 (callees t) (expand-item-at t) expand-item.Post
   returns-9 c =
-      let s = c .before .before .before .before .before .before .before .before .before .before .before .before .before .before in
-      let g = c .before .before .before .before .expand-sum in
-      item-sum (here s) (c .before .before .before .before .before .before .before .before .before .item9 .given .1) _ _ (g .result) (g .ensures)
+      let g = c .before .before .before .before in
+      let i = g .before .before .before .before .before in
+      item-sum (here (sum i)) (i .item9 .given .1) _ _ (g .expand-sum .result) (g .expand-sum .ensures)
