@@ -6,8 +6,9 @@ use lib.ListN.{length}
 use Rattle.stages.specs.Bytes.{Text, part}
 use Rattle.stages.specs.Outcome.{Outcome, done}
 use Rattle.stages.specs.Images.{Pairs}
-use Rattle.stages.specs.Units.{Mark, Row, cell, marked, expanded, litMark, decimal}
+use Rattle.stages.specs.Units.{Mark, Row, cell, marked, expandedMark, litMark, decimal}
 use Rattle.stages.specs.Expand.{value}
+use Rattle.text.specs.Cases.{escapeOf}
 use Rattle.read_mode.specs.declared.Mode.{Mode}
 use Rattle.read_mode.specs.declared.Mode.the-variants.{Arith}
 use Rattle.read_brace.specs.Shows.{Name}
@@ -44,11 +45,11 @@ pub record Given (used : ℕ) (o : Outcome Row) (area : Text) (next : ℕ) (mode
 abbrev pub Gives : Item → Text → ℕ → Mode → Mark → ℕ → Pairs → ℕ → Text → Turn → Type 0
 Gives (Fault e) text at mode m used v have area r = r ≡ turn.Refused e
 Gives (Stop next) text at mode m used v have area r = r ≡ turn.End next
-Gives (Byte q b next) text at mode m used v have area r = Given used (done (cell (litMark q m) b ∷ [])) area next mode have r
+Gives (Byte q b next) text at mode m used v have area r = Given used (done (cell (litMark (escapeOf q) m) b ∷ [])) area next mode have r
 Gives (Paren b n) text at mode m used v have area r = Given used (done (cell m b ∷ [])) area (at + 1) (Arith n) have r
 Gives (Quote n) text at mode m used v have area r = r ≡ turn.End at
-Gives (Value from to next) text at mode m used v have area r = Given used (done (marked (expanded m) (value v (part text from to)))) area next mode have r
+Gives (Value from to next) text at mode m used v have area r = Given used (done (marked (expandedMark m) (value v (part text from to)))) area next mode have r
 Gives (Count from to next) text at mode m used v have area r =
-    Given used (done (marked (expanded m) (decimal (length (value v (part text from to)))))) area next mode have r
+    Given used (done (marked (expandedMark m) (decimal (length (value v (part text from to)))))) area next mode have r
 Gives (Inner from to f n next) text at mode m used v have area r = r ≡ turn.End at
 Gives (Sum next) text at mode m used v have area r = r ≡ turn.End at

@@ -7,7 +7,7 @@ ghost use Rattle.stages.specs.Numbers.{rowLimit};
 ghost use Rattle.stages.specs.Outcome.{done};
 ghost use Rattle.stages.specs.Images.{held};
 ghost use Rattle.stages.specs.Expand.{value};
-ghost use Rattle.stages.specs.Units.{cell, marked, expanded, decimal};
+ghost use Rattle.stages.specs.Units.{cell, marked, expandedMark, decimal};
 ghost use Rattle.row.specs.Marks.{markOf};
 ghost use Rattle.table.specs.Places.{Table};
 ghost use Rattle.expand_add.specs.Added.{Adds};
@@ -61,7 +61,7 @@ fn give_unit(b: u8, mark: Mark, used: usize, area: &mut [u8]) -> Added
 // Adds the decimal text of a count, which is worked out in `digits`.
 fn give_count(n: u64, mark: Mark, used: usize, digits: &mut [u8], area: &mut [u8]) -> Added
     requires { ⌜ (20 ≤ length (now digits)) × (used ≤ rowLimit) × (2 * rowLimit ≤ length (now area) + 2 * used) ⌝ }
-    ensures { λ r. ⌜ Adds used (done (marked (expanded (markOf mark)) (decimal n))) (now (area .exit)) r ⌝ }
+    ensures { λ r. ⌜ Adds used (done (marked (expandedMark (markOf mark)) (decimal n))) (now (area .exit)) r ⌝ }
 {
     let n = text_decimal::put_decimal(digits, n);
     expand_add::give_text(&digits[..n], row::expanded_mark(mark), used, area)
@@ -70,7 +70,7 @@ fn give_count(n: u64, mark: Mark, used: usize, digits: &mut [u8], area: &mut [u8
 // Adds the length in bytes of a name's value in the image, 0 if it is unset.
 fn give_length(name: &[u8], mark: Mark, used: usize, vars: &[u8], area: &mut [u8]) -> Added
     requires { ⌜ Table (now vars) × (used ≤ rowLimit) × (2 * rowLimit ≤ length (now area) + 2 * used) ⌝ }
-    ensures { λ r. ⌜ Adds used (done (marked (expanded (markOf mark)) (decimal (length (value (held (now (vars .entry))) (now (name .entry)))))))
+    ensures { λ r. ⌜ Adds used (done (marked (expandedMark (markOf mark)) (decimal (length (value (held (now (vars .entry))) (now (name .entry)))))))
         (now (area .exit)) r ⌝ }
 {
     let value = table_find::value_of(vars, name);

@@ -9,10 +9,11 @@ use lib.ListN.{length, take, drop}
 use Rattle.stages.specs.Bytes.{Text, part, notZero}
 use Rattle.stages.specs.Outcome.{Outcome, refused, done}
 use Rattle.stages.specs.Images.{Pairs, isName, held}
-use Rattle.stages.specs.Syntax.{Form, Parts, plain, end, lit, quo, par, len, ari, arith as sums}
+use Rattle.stages.specs.Syntax.{unescaped, Form, Parts, plain, end, lit, quo, par, len, ari, arith as sums}
 use Rattle.stages.specs.Items.{item}
+use Rattle.text.specs.Cases.{escapeOf}
 use Rattle.stages.specs.Read.{Taken, parts, nest}
-use Rattle.stages.specs.Units.{Mark, cell, Row, marked, expanded, litMark, decimal}
+use Rattle.stages.specs.Units.{Mark, cell, Row, marked, expandedMark, litMark, decimal}
 use Rattle.stages.specs.Expand.{Made, value, parameter, expand}
 use Rattle.stages.proofs.Texts.{all-drop}
 use Rattle.stages.proofs.Outcomes.{safe-done}
@@ -133,15 +134,15 @@ module _ (room : ℕ) (text : Text) (at : ℕ) (mode : Mode) (d : ℕ) (m : Mark
         rw n (record { is = refl; holds = w; ends = record { ends = refl; onward = s .1; within = s .2 } })
 
     item-byte : {q : Bool} {b next : ℕ} → r ≡ Byte q b next → (area : Text) (a : Added)
-        → Adds used (done (cell (litMark q m) b ∷ [])) area a → {g : Turn} → g ≡ turnOf a next mode have → Turned area vars₀ g
+        → Adds used (done (cell (litMark (escapeOf q) m) b ∷ [])) area a → {g : Turn} → g ≡ turnOf a next mode have → Turned area vars₀ g
     item-byte {q} {b} {next} c area a f g =
         let s = shown text at d _ h c in
         let o = y .opens in
         let i = s .1 .onward in
-        let t = behind (lit q b) (parts (modeOf mode) d (drop next text)) (y .tree) (y .rest)
-        (sym (at-byte text at (modeOf mode) d q b next (s .0) (s .1 .onward)) ∙ y .is) in
-        own-added (t .next) (done (cell (litMark q m) b ∷ []))
-        (ap (λ (x : Parts). expand room x m used v) (t .whole) ∙ expand-lit room (t .next) m used q b v)
+        let t = behind (lit (escapeOf q) b) (parts (modeOf mode) d (drop next text)) (y .tree) (y .rest)
+        (sym (at-byte text at (modeOf mode) d (escapeOf q) b next (s .0) (s .1 .onward)) ∙ y .is) in
+        own-added (t .next) (done (cell (litMark (escapeOf q) m) b ∷ []))
+        (ap (λ (x : Parts). expand room x m used v) (t .whole) ∙ expand-lit room (t .next) m used (escapeOf q) b v)
         next mode (t .read) (omega arith) i (s .1 .within) area a f g
 
     item-paren : {b n : ℕ} → r ≡ Paren b n → (area : Text) (a : Added)
@@ -149,14 +150,14 @@ module _ (room : ℕ) (text : Text) (at : ℕ) (mode : Mode) (d : ℕ) (m : Mark
     item-paren {b} {n} c area a f g =
         let s = shown text at d _ h c in
         let i = s .1 in
-        let t = behind (lit false b) (parts (sums n) d (drop (at + 1) text)) (y .tree) (y .rest)
+        let t = behind (lit unescaped b) (parts (sums n) d (drop (at + 1) text)) (y .tree) (y .rest)
         (sym (at-paren text at (modeOf mode) d b n (s .0)) ∙ y .is) in
         own-added (t .next) (done (cell m b ∷ []))
-        (ap (λ (x : Parts). expand room x m used v) (t .whole) ∙ expand-lit room (t .next) m used false b v)
+        (ap (λ (x : Parts). expand room x m used v) (t .whole) ∙ expand-lit room (t .next) m used unescaped b v)
         (at + 1) (Arith n) (t .read) (s .2) (omega arith) (omega arith) area a f g
 
     item-value : {from to next : ℕ} → r ≡ Value from to next → (area : Text) (a : Added)
-        → Adds used (done (marked (expanded m) (value v (part text from to)))) area a → {g : Turn} → g ≡ turnOf a next mode have → Turned
+        → Adds used (done (marked (expandedMark m) (value v (part text from to)))) area a → {g : Turn} → g ≡ turnOf a next mode have → Turned
         area vars₀ g
     unfolding parameter
     item-value {from} {to} {next} c area a f g =
@@ -165,12 +166,12 @@ module _ (room : ℕ) (text : Text) (at : ℕ) (mode : Mode) (d : ℕ) (m : Mark
         let i = s .1 .onward in
         let t = behind (par (part text from to) plain end) (parts (modeOf mode) d (drop next text)) (y .tree) (y .rest)
         (sym (at-value text at (modeOf mode) d (part text from to) next (s .0) (s .1 .onward)) ∙ y .is) in
-        own-added (t .next) (done (marked (expanded m) (value v (part text from to))))
+        own-added (t .next) (done (marked (expandedMark m) (value v (part text from to))))
         (ap (λ (x : Parts). expand room x m used v) (t .whole) ∙ expand-par room (t .next) m used (part text from to) plain end v)
         next mode (t .read) (omega arith) i (s .1 .within) area a f g
 
     item-count : {from to next : ℕ} → r ≡ Count from to next → (area : Text) (a : Added)
-        → Adds used (done (marked (expanded m) (decimal (length (value v (part text from to)))))) area a → {g : Turn} → g ≡ turnOf a next mode
+        → Adds used (done (marked (expandedMark m) (decimal (length (value v (part text from to)))))) area a → {g : Turn} → g ≡ turnOf a next mode
         have → Turned area vars₀ g
     item-count {from} {to} {next} c area a f g =
         let s = shown text at d _ h c in
@@ -178,7 +179,7 @@ module _ (room : ℕ) (text : Text) (at : ℕ) (mode : Mode) (d : ℕ) (m : Mark
         let i = s .1 .onward in
         let t = behind (len (part text from to)) (parts (modeOf mode) d (drop next text)) (y .tree) (y .rest)
         (sym (at-count text at (modeOf mode) d (part text from to) next (s .0) (s .1 .onward)) ∙ y .is) in
-        own-added (t .next) (done (marked (expanded m) (decimal (length (value v (part text from to))))))
+        own-added (t .next) (done (marked (expandedMark m) (decimal (length (value v (part text from to))))))
         (ap (λ (x : Parts). expand room x m used v) (t .whole) ∙ expand-len room (t .next) m used (part text from to) v)
         next mode (t .read) (omega arith) i (s .1 .within) area a f g
 

@@ -1,7 +1,7 @@
 -- What the code's item shows of the stage's, and the byte at a place.
 use Prim.Native.Nat.{ℕ, zero, suc, _+_, _-_, _≤_, _<_}
 use native.Mathlib.Omega.{arith}
-use mathlib.Core.Path.{_≡_, sym, ap, _∙_, subst}
+use mathlib.Core.Path.{_≡_, refl, sym, ap, _∙_, subst}
 use mathlib.Core.Bool.{Bool, true, false}
 use mathlib.Core.List.{[], _∷_}
 use borrow.Author.Tests.{eq-eqb, ne-eqb}
@@ -10,15 +10,20 @@ use lib.ListN.{length, drop, getD, drop-of-length-le, length-take, length-drop}
 use lib.Seq.{drop-cons}
 use Rattle.stages.specs.Bytes.{Text, part}
 use Rattle.stages.specs.Outcome.{pick}
-use Rattle.stages.specs.Syntax.{Form, Mode}
-use Rattle.stages.specs.Items.{Item, fault, stop, byte, value, count, inner}
+use Rattle.stages.specs.Syntax.{Escape, escaped, unescaped, Form, Mode}
+use Rattle.stages.specs.Items.{Item, fault, stop, byte, valueOf, count, inner}
 use Rattle.stages.specs.Items.{wrong}
+use Rattle.text.specs.Cases.{escapeOf, isEscaped}
 use Rattle.read_mode.specs.Modes.{modeOf, openIn, formOf}
 use Rattle.read_mode.specs.declared.Mode as code-mode
 use Rattle.read_mode.specs.declared.Form as code-form
 use Rattle.read_brace.specs.Shows.{Shows, Behind, isAt, nameOf}
 use Rattle.read_brace.specs.declared.Item as code-item
 use Rattle.read_brace.specs.declared.Item.the-variants as code
+
+escape-there : (q : Escape) → q ≡ escapeOf (isEscaped q)
+escape-there escaped = refl
+escape-there unescaped = refl
 
 pub same-item : (s : Text) (at d : ℕ) (r : code-item.Item) {i j : Item} → i ≡ j → Shows s at d r j → Shows s at d r i
 same-item s at d r e h = subst (λ (x : Item). Shows s at d r x) (sym e) h
@@ -30,13 +35,13 @@ module _ (s : Text) (at d next k : ℕ) (e : next ≡ at + suc k) (w : next ≤ 
   past : Behind s at next
   past = record { onward = omega arith; within = w }
 
-  pub shows-byte : (q : Bool) (b : ℕ) {i : Item} → i ≡ byte q b k → Shows s at d (code.Byte q b next) i
-  shows-byte q b h = (h ∙ ap (byte q b) took, past)
+  pub shows-byte : (q : Escape) (b : ℕ) {i : Item} → i ≡ byte q b k → Shows s at d (code.Byte (isEscaped q) b next) i
+  shows-byte q b h = (h ∙ ap (λ (e : Escape). byte e b k) (escape-there q) ∙ ap (byte (escapeOf (isEscaped q)) b) took, past)
 
   module _ (from to : ℕ) (f : from ≤ to) (t : to ≤ length s) where
-    pub shows-value : from ≡ nameOf at (to - from) (next - suc at) → {i : Item} → i ≡ value (part s from to) k → Shows s at d
+    pub shows-value : from ≡ nameOf at (to - from) (next - suc at) → {i : Item} → i ≡ valueOf (part s from to) k → Shows s at d
         (code.Value from to next) i
-    shows-value q h = (h ∙ ap (value (part s from to)) took, past, record { onward = f; within = t }, q)
+    shows-value q h = (h ∙ ap (valueOf (part s from to)) took, past, record { onward = f; within = t }, q)
 
     pub shows-count : from ≡ at + 3 → {i : Item} → i ≡ count (part s from to) k → Shows s at d (code.Count from to next) i
     shows-count q h = (h ∙ ap (count (part s from to)) took, past, record { onward = f; within = t }, q)

@@ -8,14 +8,14 @@ use text::numbers;
 ghost use Prim.Native.Nat.{_+_, _≤_, _<_};
 ghost use lib.ListN.{length, drop, getD};
 ghost use Rattle.stages.specs.Syntax.{arith};
-ghost use Rattle.stages.specs.Items.{item, escaped, expansion, parenthesis, closed};
+ghost use Rattle.stages.specs.Items.{item, behindBackslash, expansion, parenthesis, closed};
 ghost use Rattle.read_mode.specs.Modes.{modeOf, openIn};
 ghost use Rattle.read_brace.specs.Shows.{Shows};
 
 // What a backslash at `at` is.
 fn escaped_at(text: &[u8], at: usize, mode: Mode, depth: usize) -> Item
     requires { ⌜ at < length (now text) ⌝ }
-    ensures { λ r. ⌜ Shows (now (text .entry)) at depth r (escaped (modeOf mode) (drop (at + 1) (now (text .entry)))) ⌝ }
+    ensures { λ r. ⌜ Shows (now (text .entry)) at depth r (behindBackslash (modeOf mode) (drop (at + 1) (now (text .entry)))) ⌝ }
 {
     if at + 1 >= text.len() {
         return Item::Fault(numbers::REFUSED_UNENDED);

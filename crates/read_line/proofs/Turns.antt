@@ -6,8 +6,9 @@ use mathlib.Core.Bool.{Bool, true, false}
 use lib.ListN.{length, drop}
 use Rattle.stages.specs.Bytes.{Text, part}
 use Rattle.stages.specs.Outcome.{refused, done}
-use Rattle.stages.specs.Syntax.{Parts, Mode, plain, end, lit, quo, par, len, ari, arith as sums}
+use Rattle.stages.specs.Syntax.{unescaped, Parts, Mode, plain, end, lit, quo, par, len, ari, arith as sums}
 use Rattle.stages.specs.Items.{Item, item}
+use Rattle.text.specs.Cases.{escapeOf}
 use Rattle.stages.specs.Read.{Taken, put, nest, parts}
 use Rattle.stages.proofs.Read.{at-fault, at-stop, at-byte, at-paren, at-value, at-count, at-quote, at-inner, at-sum}
 use Rattle.read_mode.specs.Modes.{modeOf, openIn, formOf}
@@ -67,13 +68,13 @@ module _ (text : Text) (at d : ℕ) (m : code-mode.Mode) (l : openIn m ≤ at) w
     pub turn-byte : {q : Bool} {b next : ℕ} → r ≡ code.Byte q b next → ReadMore text at d o next m
     turn-byte {q = q} {b = b} {next = next} e =
         let s = known e in
-        on (lit q b) next (at-byte text at (modeOf m) d q b next (s .0) (s .1 .onward)) (s .1)
+        on (lit (escapeOf q) b) next (at-byte text at (modeOf m) d (escapeOf q) b next (s .0) (s .1 .onward)) (s .1)
 
     pub turn-paren : {b n : ℕ} → r ≡ code.Paren b n → ReadMore text at d o (at + 1) (mode.Arith n)
     turn-paren {b = b} {n = n} e =
         let s = known e in
         record {
-          before = lit false b;
+          before = lit unescaped b;
           is = at-paren text at (modeOf m) d b n (s .0);
           place = record { onward = omega arith; within = omega (arith, s .1) };
           few = s .2;

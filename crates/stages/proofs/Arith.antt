@@ -14,7 +14,7 @@ use Rattle.stages.specs.Numbers.{tooDeep, arithmeticSyntax}
 use Rattle.stages.specs.Bytes.{Text, span, isBlank, isDigit, isNameStart, isNameByte}
 use Rattle.stages.specs.Outcome.{Outcome, refused, done, _>>=_, choose}
 use Rattle.stages.specs.Constants.{constant, fits, ranged, number}
-use Rattle.stages.specs.Arith.{Op, mul, div, rem, add, sub, lt, le, gt, ge, eq, ne, Token, stop, num, name, op, opens, shuts, Lexed, paired, token}
+use Rattle.stages.specs.Arith.{Op, mul, div, rem, add, sub, lt, le, gt, ge, eq, ne, Token, textEnd, num, name, op, opens, shuts, Lexed, paired, token}
 use Rattle.stages.specs.Arith.{
   level,
   Tree,
@@ -50,7 +50,7 @@ digit-name-byte b e = or-right (isNameStart b) e
 -- a token that is no end leaves less of a text of n bytes; no refusal is 0, the value of a reader that is stuck
 pub data Lexes (n : ℕ) : Lexed → Type 0 where
   lex-refused : {e : ℕ} → 0 < e → Lexes n (refused e)
-  lex-end : {u : Text} → length u ≤ n → Lexes n (done (stop, u))
+  lex-end : {u : Text} → length u ≤ n → Lexes n (done (textEnd, u))
   lex-more : {k : Token} {u : Text} → length u < n → Lexes n (done (k, u))
 
 -- a refusal's number is one of the table
@@ -152,7 +152,7 @@ module _ (k : ℕ) (f : Grow) (good : (a : Task × ℕ × Text) → growSize a <
   shut-left : (l : Tree) (n : ℕ) (o : Lexed) → Lexes n o → Leaves n (o >>= λ s. shut l s)
   unfolding shut
   shut-left l n (refused e) (lex-refused w) = none-left w
-  shut-left l n (done (stop, u)) h = syntax-left
+  shut-left l n (done (textEnd, u)) h = syntax-left
   shut-left l n (done (num z, u)) h = syntax-left
   shut-left l n (done (name x, u)) h = syntax-left
   shut-left l n (done (op o, u)) h = syntax-left
@@ -191,7 +191,7 @@ module _ (k : ℕ) (f : Grow) (good : (a : Task × ℕ × Text) → growSize a <
   operand-left : (n d : ℕ) (o : Lexed) → Lexes n o → n ≤ k → Leaves n (o >>= λ p. operandAt f d p)
   unfolding operandAt
   operand-left n d (refused e) (lex-refused w) h = none-left w
-  operand-left n d (done (stop, u)) l h = syntax-left
+  operand-left n d (done (textEnd, u)) l h = syntax-left
   operand-left n d (done (num z, u)) (lex-more l) h = some-left {p = (constantOf z, u)} (omega arith)
   operand-left n d (done (name x, u)) (lex-more l) h = some-left {p = (nameOf x, u)} (omega arith)
   operand-left n d (done (op o, u)) (lex-more l) h = leaves-wider (sign-left o d u (omega arith)) (omega arith)
@@ -206,7 +206,7 @@ module _ (k : ℕ) (f : Grow) (good : (a : Task × ℕ × Text) → growSize a <
       (o >>= λ p. furtherAt f d j l t p)
   unfolding furtherAt
   further-left d j l t (refused e) (lex-refused w) h = none-left w
-  further-left d j l t (done (stop, u)) w h = some-left {p = (l, t)} (omega arith)
+  further-left d j l t (done (textEnd, u)) w h = some-left {p = (l, t)} (omega arith)
   further-left d j l t (done (num z, u)) w h = some-left {p = (l, t)} (omega arith)
   further-left d j l t (done (name x, u)) w h = some-left {p = (l, t)} (omega arith)
   further-left d j l t (done (op o, u)) (lex-more w) h = go (leb j (level o)) refl
@@ -279,7 +279,7 @@ module _ (k : ℕ) (f g : Grow) (same : (a : Task × ℕ × Text) → growSize a
   operand-same : (n d : ℕ) (o : Lexed) → Lexes n o → n ≤ k → (o >>= λ p. operandAt f d p) ≡ (o >>= λ p. operandAt g d p)
   unfolding operandAt
   operand-same n d (refused e) l h = refl
-  operand-same n d (done (stop, u)) l h = refl
+  operand-same n d (done (textEnd, u)) l h = refl
   operand-same n d (done (num z, u)) l h = refl
   operand-same n d (done (name x, u)) l h = refl
   operand-same n d (done (op o, u)) (lex-more l) h = sign-same o d u (omega arith)
@@ -290,7 +290,7 @@ module _ (k : ℕ) (f g : Grow) (same : (a : Task × ℕ × Text) → growSize a
       (o >>= λ p. furtherAt g d j l t p)
   unfolding furtherAt
   further-same n d j l t (refused e) w h = refl
-  further-same n d j l t (done (stop, u)) w h = refl
+  further-same n d j l t (done (textEnd, u)) w h = refl
   further-same n d j l t (done (num z, u)) w h = refl
   further-same n d j l t (done (name x, u)) w h = refl
   further-same n d j l t (done (op o, u)) (lex-more w) h = go (leb j (level o)) refl

@@ -11,8 +11,8 @@ use lib.Seq.{drop-drop}
 use Rattle.stages.specs.Recur.{below, below-ok, fix-eq, by-size}
 use Rattle.stages.specs.Bytes.{Text, between, isBlank}
 use Rattle.stages.specs.Outcome.{Outcome, refused, done, _>>=_}
-use Rattle.stages.specs.Syntax.{Form, Parts, Mode, plain, end, lit, quo, par, len, ari, word, bare, single, double, operand, arith as sums}
-use Rattle.stages.specs.Items.{Item, fault, stop, byte, paren, quote, value, count, inner, sum, item, ended}
+use Rattle.stages.specs.Syntax.{Form, Parts, Mode, plain, Escape, unescaped, end, lit, quo, par, len, ari, word, bare, single, double, quotedOperand, arith as sums}
+use Rattle.stages.specs.Items.{Item, fault, stop, byte, paren, quote, valueOf, count, inner, sum, item, ended}
 use Rattle.stages.specs.Read.{Taken, Reader, put, nest, readItem, Ask, askSize, askStep, parts}
 use Rattle.stages.proofs.Items.{
   AnyByte,
@@ -79,7 +79,7 @@ module _ (k : ℕ) (rec : Reader) (g : (m : Mode) (d : ℕ) (t : Text) → lengt
   item-good bare d [] h = stays refl
   item-good single d [] h = stays refl
   item-good double d [] h = stays refl
-  item-good operand d [] h = stays refl
+  item-good quotedOperand d [] h = stays refl
   item-good (sums n) d [] h = stays refl
   item-good m d (b ∷ t) h = fair-good m d b t (view (item-fair m d b t)) (omega arith)
 
@@ -134,9 +134,9 @@ module _ (m : Mode) (d b : ℕ) (t : Text) where
   by-item (fault n) = refl
   by-item (stop n) = refl
   by-item (byte q c n) = put-ok (lit q c) n
-  by-item (paren c n) = ap (put (lit false c)) (shorter-ok _ (sums n) d t (omega arith))
+  by-item (paren c n) = ap (put (lit unescaped c)) (shorter-ok _ (sums n) d t (omega arith))
   by-item (quote n) = nested-ok quo n d 0
-  by-item (value x n) = put-ok (par x plain end) n
+  by-item (valueOf x n) = put-ok (par x plain end) n
   by-item (count x n) = put-ok (len x) n
   by-item (inner x f n j) = nested-ok (par x f) n (d - 1) j
   by-item sum = nested-ok ari (sums 0) (d - 1) 2
@@ -147,7 +147,7 @@ by-ended word d = refl
 by-ended bare d = refl
 by-ended single d = refl
 by-ended double d = refl
-by-ended operand d = refl
+by-ended quotedOperand d = refl
 by-ended (sums n) d = refl
 
 by-first : (m : Mode) (d : ℕ) (t : Text) → readItem (shorter (length t)) m d t (item m d t) ≡ readItem parts m d t (item m d t)
@@ -178,16 +178,16 @@ module _ (text : Text) (at : ℕ) where
     unfolding readItem
     at-stop next h l = parts-item m d (drop at text) h ∙ ap (λ (t : Text). done (end, t)) (stopped next l)
 
-    pub at-byte : (q : Bool) (b next : ℕ) → item m d (drop at text) ≡ byte q b (next - suc at) → at < next → here
+    pub at-byte : (q : Escape) (b next : ℕ) → item m d (drop at text) ≡ byte q b (next - suc at) → at < next → here
         (put (lit q b) (parts m d (drop next text)))
     unfolding readItem
     at-byte q b next h l = parts-item m d (drop at text) h ∙ ap (λ (t : Text). put (lit q b) (parts m d t)) (place next l)
 
-    pub at-paren : (b n : ℕ) → item m d (drop at text) ≡ paren b n → here (put (lit false b) (parts (sums n) d (drop (at + 1) text)))
+    pub at-paren : (b n : ℕ) → item m d (drop at text) ≡ paren b n → here (put (lit unescaped b) (parts (sums n) d (drop (at + 1) text)))
     unfolding readItem
-    at-paren b n h = parts-item m d (drop at text) h ∙ ap (λ (t : Text). put (lit false b) (parts (sums n) d t)) (drop-drop 1 at text)
+    at-paren b n h = parts-item m d (drop at text) h ∙ ap (λ (t : Text). put (lit unescaped b) (parts (sums n) d t)) (drop-drop 1 at text)
 
-    pub at-value : (x : Text) (next : ℕ) → item m d (drop at text) ≡ value x (next - suc at) → at < next → here
+    pub at-value : (x : Text) (next : ℕ) → item m d (drop at text) ≡ valueOf x (next - suc at) → at < next → here
         (put (par x plain end) (parts m d (drop next text)))
     unfolding readItem
     at-value x next h l = parts-item m d (drop at text) h ∙ ap (λ (t : Text). put (par x plain end) (parts m d t)) (place next l)

@@ -32,7 +32,7 @@ use Rattle.stages.specs.Arith.{
   eq,
   ne,
   Token,
-  stop,
+  textEnd,
   num,
   name,
   op,
@@ -154,7 +154,7 @@ run-short b t e =
 
 pub token-safe : (t : Text) → Safe (Lexes t) (token t)
 unfolding token
-token-safe [] = gives {a = (stop, [])} (omega arith)
+token-safe [] = gives {a = (textEnd, [])} (omega arith)
 token-safe (b ∷ t) =
     safe-choose _ _ _ (safe-weaker (λ p l. omega arith) (token-safe t))
     (safe-where (isDigit b) _ _
@@ -183,7 +183,7 @@ module _ (n : ℕ) (rec : Grow) (ih : (a : Task × ℕ × Text) → length (a .2
 
   shut-safe : (i : ℕ) (l : Tree) (k : Token) (t : Text) → length t ≤ i → Safe (Grows i) (shut l (k, t))
   unfolding shut
-  shut-safe i l stop t h = refuses refl
+  shut-safe i l textEnd t h = refuses refl
   shut-safe i l (num z) t h = refuses refl
   shut-safe i l (name x) t h = refuses refl
   shut-safe i l (op o) t h = refuses refl
@@ -214,7 +214,7 @@ module _ (n : ℕ) (rec : Grow) (ih : (a : Task × ℕ × Text) → length (a .2
 
   operand-safe : (d : ℕ) (k : Token) (t : Text) → length t < n → Safe (Grows (length t)) (operandAt rec d (k, t))
   unfolding operandAt
-  operand-safe d stop t h = refuses refl
+  operand-safe d textEnd t h = refuses refl
   operand-safe d (num z) t h = gives {a = (constantOf z, t)} (omega arith)
   operand-safe d (name x) t h = gives {a = (nameOf x, t)} (omega arith)
   operand-safe d (op o) t h = sign-safe o d t h
@@ -236,7 +236,7 @@ module _ (n : ℕ) (rec : Grow) (ih : (a : Task × ℕ × Text) → length (a .2
   further-safe : (d k : ℕ) (l : Tree) (t : Text) (s : Token) (u : Text) → length t ≤ n → length u < length t → Safe (Grows (length t))
       (furtherAt rec d k l t (s, u))
   unfolding furtherAt
-  further-safe d k l t stop u h j = gives {a = (l, t)} (omega arith)
+  further-safe d k l t textEnd u h j = gives {a = (l, t)} (omega arith)
   further-safe d k l t (num z) u h j = gives {a = (l, t)} (omega arith)
   further-safe d k l t (name x) u h j = gives {a = (l, t)} (omega arith)
   further-safe d k l t (op o) u h j = binary-safe d k l t o u h j
@@ -261,7 +261,7 @@ grow-safe a = by-fix growSize (refused 0) growStep (λ (b : Task × ℕ × Text)
 
 whole-safe : (l : Tree) (k : Token) (t : Text) → Numbered (whole l (k, t))
 unfolding whole
-whole-safe l stop t = gives tt
+whole-safe l textEnd t = gives tt
 whole-safe l (num z) t = refuses refl
 whole-safe l (name x) t = refuses refl
 whole-safe l (op o) t = refuses refl
