@@ -8,7 +8,8 @@ use Rattle.stages.specs.Bytes.{Text}
 use Rattle.stages.specs.Outcome.{Outcome, refused, done, _>>=_}
 use Rattle.stages.specs.Images.{Pairs}
 use Rattle.stages.specs.Constants.{signed}
-use Rattle.stages.specs.Arith.{Lexed, textEnd, num, name, op, opens, shuts, token, Tree, Grown, expression, grow, whole, tree, evaluate, Evaluated, arithmeticOf}
+use Rattle.stages.specs.Arith.{Lexed, textEnd, num, name, op, opens, shuts, token}
+use Rattle.stages.specs.Arith.{Tree, Grown, expression, grow, whole, tree, evaluate, Evaluated, arithmeticOf}
 use Rattle.stages.proofs.Outcomes.{done-same}
 use Rattle.arith_int.specs.Answers.{numbered}
 use Rattle.arith_int.specs.declared.Number.{Number}

@@ -164,7 +164,8 @@ module _ (g : Given) (out : ℕ) where
 
   behind-capped : (w : Word) (ws : List Word) (n : ℕ) →
       ((m : ℕ) (v : Pairs) → expandWords (among g out) ws m v ≡ expandWords (among g (capped out)) ws m v)
-      → (o : Outcome (Fields × Pairs)) → (placedAt (w .place) o then behind w ws n (among g out)) ≡ (placedAt (w .place) o then behind w ws n (among g (capped out)))
+      → (o : Outcome (Fields × Pairs))
+      → (placedAt (w .place) o then behind w ws n (among g out)) ≡ (placedAt (w .place) o then behind w ws n (among g (capped out)))
   behind-capped w ws n ih (refused k) = refl
   behind-capped w ws n ih (done r) =
       ap (joined (w .place) (r .0) (expandWords (among g out) ws (n + recordBytes (r .0)) (r .1))) (fits-capped (n + recordBytes (r .0)))

@@ -44,11 +44,13 @@ lesser-low n true e = (leb-true n imageLimit e, omega arith)
 lesser-low n false e = (omega arith, omega (arith, leb-false n imageLimit e))
 
 -- the variables' image fits its copy
-pub copy-fits : {job : Job} {g : Given} → Passed job g → (copy : Text) → length copy ≡ imageLimit → length (take (g .varsUsed) (g .vars)) ≤ length copy
+pub copy-fits : {job : Job} {g : Given} → Passed job g → (copy : Text) → length copy ≡ imageLimit
+    → length (take (g .varsUsed) (g .vars)) ≤ length copy
 copy-fits {g = g} p copy l = omega (arith, vars-of (take (g .varsUsed) (g .vars)) (p .tables .formed) .small, l)
 
 module _ {job : Job} {g : Given} (p : Passed job g) (copy copy₁ images : Text) (lc : length copy ≡ imageLimit) (li : length images ≡ imageLimit)
-    (d : copy₁ ≡ take (g .varsUsed) (g .vars) ++ drop (length (take (g .varsUsed) (g .vars))) copy) (size : ℕ) (e : size ≡ roomIn job (length (g .out))) where
+    (d : copy₁ ≡ take (g .varsUsed) (g .vars) ++ drop (length (take (g .varsUsed) (g .vars))) copy)
+    (size : ℕ) (e : size ≡ roomIn job (length (g .out))) where
   abbrev lent : Text
   lent = take size images
 

@@ -35,7 +35,8 @@ module _ (room : ℕ) (p : Parts) (m : Mark) (n : ℕ) where
       ((o >>= λ i. done r) >>= λ s. onto (s .0) (expand room p m (n + length (s .0)) (s .1))))
       n (length (r .0)) refl refl
 
-  pub expand-lit : (q : Escape) (b : ℕ) (v : Pairs) → expand room (lit q b p) m n v ≡ followed room p m n (placed n (done (cell (litMark q m) b ∷ [], v)))
+  pub expand-lit : (q : Escape) (b : ℕ) (v : Pairs)
+      → expand room (lit q b p) m n v ≡ followed room p m n (placed n (done (cell (litMark q m) b ∷ [], v)))
   unfolding expand
   expand-lit q b v = placed-followed (done (cell (litMark q m) b ∷ [], v))
 

@@ -8,5 +8,6 @@ use Rattle.text.specs.Rows.{signsOf}
 use Rattle.text.proofs.Determined.{one-answer}
 
 pub matches-determined : (pattern t : Text) (path : Bool) {r q : Bool}
-    → r ≡ matches (purposeOf path) (elements path 0 (signsOf pattern)) t → q ≡ matches (purposeOf path) (elements path 0 (signsOf pattern)) t → r ≡ q
+    → r ≡ matches (purposeOf path) (elements path 0 (signsOf pattern)) t
+    → q ≡ matches (purposeOf path) (elements path 0 (signsOf pattern)) t → r ≡ q
 matches-determined pattern t path = one-answer

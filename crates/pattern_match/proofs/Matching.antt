@@ -54,7 +54,8 @@ module _ (path head first : Bool) (es : List Element) (b : ℕ) (t : Text) where
       go true = refl
       go false = refl
 
-  byte-step : (c : ℕ) → matchesFrom path (exactly c ∷ es) head first (b ∷ t) ≡ (takes path head first c b && matchesFrom path es (eqb c 47) (eqb c 47) t)
+  byte-step : (c : ℕ)
+      → matchesFrom path (exactly c ∷ es) head first (b ∷ t) ≡ (takes path head first c b && matchesFrom path es (eqb c 47) (eqb c 47) t)
   unfolding matchesFrom
   byte-step c = go (takes path head first c b)
     where

@@ -9,6 +9,7 @@ use Rattle.text.specs.Rows.{signsOf}
 use Rattle.text.proofs.Determined.{one-answer}
 
 pub removed-determined : (value pattern : Text) (suffix long : Bool) {r q : Text}
-    → r ≡ removed (sideOf suffix) (reachOf long) (elements false 0 (signsOf pattern)) value → q ≡ removed (sideOf suffix) (reachOf long) (elements false 0 (signsOf pattern)) value
+    → r ≡ removed (sideOf suffix) (reachOf long) (elements false 0 (signsOf pattern)) value
+    → q ≡ removed (sideOf suffix) (reachOf long) (elements false 0 (signsOf pattern)) value
     → r ≡ q
 removed-determined value pattern suffix long = one-answer

@@ -169,6 +169,7 @@ pub pattern-refused : (purpose : Purpose) (r : Row) → hasClass (isForPaths pur
 unfolding pattern
 pattern-refused purpose r y = rw (y, pattern)
 
-pub pattern-done : (purpose : Purpose) (r : Row) → hasClass (isForPaths purpose) 0 (signs r) ≡ false → pattern purpose r ≡ done (elements (isForPaths purpose) 0 (signs r))
+pub pattern-done : (purpose : Purpose) (r : Row) → hasClass (isForPaths purpose) 0 (signs r) ≡ false
+    → pattern purpose r ≡ done (elements (isForPaths purpose) 0 (signs r))
 unfolding pattern
 pattern-done purpose r n = rw (n, pattern)

@@ -28,7 +28,8 @@ module _ (m : Mode) (s x : Text) (k to : ℕ) where
   colon-end l = ap (behindColon m x k) (drop-of-length-le s l)
 
   module _ (l : to < length s) where
-    pub colon-sign : isIn (getD s to 0) (text "-=?+") ≡ true → behindColon m x k (drop to s) ≡ inner x (signForm (getD s to 0) withColon) (operandMode m) k
+    pub colon-sign : isIn (getD s to 0) (text "-=?+") ≡ true
+        → behindColon m x k (drop to s) ≡ inner x (signForm (getD s to 0) withColon) (operandMode m) k
     unfolding behindColon
     colon-sign e = rw (drop-cons s to 0 l) (rw e)
 
@@ -49,7 +50,8 @@ pub removal-doubled : (x : Text) (f : Side) (sign k : ℕ) (t : Text) → isAt s
     bare (suc k)
 removal-doubled x f sign k t e = removal-is x f sign k t ∙ rw e
 
-pub removal-once : (x : Text) (f : Side) (sign k : ℕ) (t : Text) → isAt sign t ≡ false → behindRemoval x f sign k t ≡ inner x (removal f shortest) bare k
+pub removal-once : (x : Text) (f : Side) (sign k : ℕ) (t : Text) → isAt sign t ≡ false
+    → behindRemoval x f sign k t ≡ inner x (removal f shortest) bare k
 removal-once x f sign k t e = removal-is x f sign k t ∙ rw e
 
 -- Behind `${name`.
@@ -131,7 +133,8 @@ module _ (f : Text → Text → Item) (s : Text) (at : ℕ) where
     unfolding nameThen
     named-name e to r = ap (nameThen f) (drop-cons s at 0 l) ∙ rw e (rw (← drop-cons s at 0 l) (ap (λ (p : Text × Text). f (p .0) (p .1)) (r .is)))
 
-    pub named-wrong : isNameStart (getD s at 0) ≡ false → {n : ℕ} → wrong unserved (getD s at 0 ∷ []) ≡ fault n → nameThen f (drop at s) ≡ fault n
+    pub named-wrong : isNameStart (getD s at 0) ≡ false → {n : ℕ} → wrong unserved (getD s at 0 ∷ []) ≡ fault n
+        → nameThen f (drop at s) ≡ fault n
     unfolding nameThen
     named-wrong e w = ap (nameThen f) (drop-cons s at 0 l) ∙ rw e (wrong-byte unserved (getD s at 0) (drop (suc at) s) [] w)
 

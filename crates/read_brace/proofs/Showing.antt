@@ -1,7 +1,7 @@
 -- What the code's item shows of the stage's, and the byte at a place.
 use Prim.Native.Nat.{ℕ, zero, suc, _+_, _-_, _≤_, _<_}
 use native.Mathlib.Omega.{arith}
-use mathlib.Core.Path.{_≡_, refl, sym, ap, _∙_, subst}
+use mathlib.Core.Path.{_≡_, sym, ap, _∙_, subst}
 use mathlib.Core.Bool.{Bool, true, false}
 use mathlib.Core.List.{[], _∷_}
 use borrow.Author.Tests.{eq-eqb, ne-eqb}
@@ -10,20 +10,17 @@ use lib.ListN.{length, drop, getD, drop-of-length-le, length-take, length-drop}
 use lib.Seq.{drop-cons}
 use Rattle.stages.specs.Bytes.{Text, part}
 use Rattle.stages.specs.Outcome.{pick}
-use Rattle.stages.specs.Syntax.{Escape, escaped, unescaped, Form, Mode}
+use Rattle.stages.specs.Syntax.{Escape, Form, Mode}
 use Rattle.stages.specs.Items.{Item, fault, stop, byte, valueOf, count, inner}
 use Rattle.stages.specs.Items.{wrong}
 use Rattle.text.specs.Cases.{escapeOf, isEscaped}
+use Rattle.text.proofs.Cases.{escape-there}
 use Rattle.read_mode.specs.Modes.{modeOf, openIn, formOf}
 use Rattle.read_mode.specs.declared.Mode as code-mode
 use Rattle.read_mode.specs.declared.Form as code-form
 use Rattle.read_brace.specs.Shows.{Shows, Behind, isAt, nameOf}
 use Rattle.read_brace.specs.declared.Item as code-item
 use Rattle.read_brace.specs.declared.Item.the-variants as code
-
-escape-there : (q : Escape) → q ≡ escapeOf (isEscaped q)
-escape-there escaped = refl
-escape-there unescaped = refl
 
 pub same-item : (s : Text) (at d : ℕ) (r : code-item.Item) {i j : Item} → i ≡ j → Shows s at d r j → Shows s at d r i
 same-item s at d r e h = subst (λ (x : Item). Shows s at d r x) (sym e) h

@@ -1,6 +1,7 @@
 // Reading: the end of a text, the words of a line. One reader finds a text's faults, skips an operand that is not used, and says where a text ends;
 // it builds nothing, and looks at each byte once for each expansion that it stands in.
 use read_brace::Item;
+use read_mode::Cursor;
 use read_mode::Mode;
 use text::Class;
 use text::numbers;
@@ -11,17 +12,10 @@ ghost use lib.ListN.{length, drop, getD};
 ghost use Rattle.stages.specs.Bytes.{isBlank};
 ghost use Rattle.stages.specs.Read.{parts, readLine};
 ghost use Rattle.read_mode.specs.Modes.{modeOf, openIn};
-ghost use Rattle.read_line.specs.Says.{ReadSays, ReadTurn, onward, NextSays, WordSays, verdict, verdictOf};
+ghost use Rattle.read_line.specs.Says.{ReadSays, Here, ItemSays, NextSays, WordSays, verdict, verdictOf};
 
 // What a text is read as: the place behind it, or the number that refuses it.
 pub enum Reading {
-    End(usize),
-    Fault(u8),
-}
-
-// What one item of a text is read as: the text goes on at a place in a mode, ends before a place, or is refused.
-enum Step {
-    Next { next: usize, mode: Mode },
     End(usize),
     Fault(u8),
 }
@@ -38,87 +32,89 @@ pub enum LineRead {
     Refused { number: u8, place: usize },
 }
 
-// An inner text that is read: the outer one goes on behind it in its own mode.
-fn behind(got: Reading, mode: Mode) -> Step
-    ensures { λ r. ⌜ r ≡ onward mode got ⌝ }
+// Reads an item of a text: answers the place after it, which is that after the text if the item ends it.
+fn read_item(item: Item, text: &[u8], from: Cursor) -> Reading
+    requires { ⌜ Here (now text) from item ⌝ }
+    ensures { λ r. ⌜ ItemSays item (now (text .entry)) from r ⌝ }
 {
-    match got {
-        Reading::Fault(number) => Step::Fault(number),
-        Reading::End(next) => Step::Next {
-            next: next,
-            mode: mode,
-        },
-    }
-}
-
-// Reads what stands at a place.
-fn read_item(text: &[u8], at: usize, mode: Mode, depth: usize) -> Step
-    requires { ⌜ (at ≤ length (now text)) × (openIn mode ≤ at) ⌝ }
-    ensures { λ r. ⌜ ReadTurn (now (text .entry)) at depth (parts (modeOf mode) depth (drop at (now (text .entry)))) r ⌝ }
-{
-    let item = read_item::item_at(text, at, mode, depth);
+    let at = from.at;
+    let depth = from.depth;
     match item {
-        Item::Fault(number) => Step::Fault(number),
-        Item::Stop(next) => Step::End(next),
+        Item::Fault(number) => Reading::Fault(number),
+        Item::Stop(next) => Reading::End(next),
         Item::Byte {
             quoted: _,
             byte: _,
             next,
-        } => Step::Next {
-            next: next,
-            mode: mode,
-        },
-        Item::Paren { byte: _, parens } => Step::Next {
-            next: at + 1,
-            mode: Mode::Arith(parens),
-        },
+        } => Reading::End(next),
+        Item::Paren { byte: _, parens: _ } => Reading::End(at + 1),
         Item::Value {
             from: _,
             to: _,
             next,
-        } => Step::Next {
-            next: next,
-            mode: mode,
-        },
+        } => Reading::End(next),
         Item::Count {
             from: _,
             to: _,
             next,
-        } => Step::Next {
-            next: next,
-            mode: mode,
-        },
-        Item::Quote(inner) => behind(read_text(text, at + 1, inner, depth), mode),
+        } => Reading::End(next),
+        Item::Quote(inner) => read_text(
+            text,
+            Cursor {
+                at: at + 1,
+                mode: inner,
+                depth: depth,
+            },
+        ),
         Item::Inner {
             from: _,
             to: _,
             form: _,
             mode: inner,
             next,
-        } => behind(read_text(text, next, inner, depth - 1), mode),
-        Item::Sum { next } => behind(read_text(text, next, Mode::Arith(0), depth - 1), mode),
+        } => read_text(
+            text,
+            Cursor {
+                at: next,
+                mode: inner,
+                depth: depth - 1,
+            },
+        ),
+        Item::Sum { next } => read_text(
+            text,
+            Cursor {
+                at: next,
+                mode: Mode::Arith(0),
+                depth: depth - 1,
+            },
+        ),
     }
 }
 
-// Reads a text from `at` to its end, in a mode, where `depth` expansions may still open.
-pub fn read_text(text: &[u8], at: usize, mode: Mode, depth: usize) -> Reading
-    requires { ⌜ (at ≤ length (now text)) × (openIn mode ≤ at) ⌝ }
-    ensures { λ r. ⌜ ReadSays (now (text .entry)) at (parts (modeOf mode) depth (drop at (now (text .entry)))) r ⌝ }
+// Reads a text to its end.
+pub fn read_text(text: &[u8], from: Cursor) -> Reading
+    requires { ⌜ (from .at ≤ length (now text)) × (openIn (from .mode) ≤ from .at) ⌝ }
+    ensures { λ r. ⌜ ReadSays (now (text .entry)) (from .at) (parts (modeOf (from .mode)) (from .depth) (drop (from .at) (now (text .entry)))) r ⌝ }
 {
-    let mut i = at;
-    let mut inside = mode;
+    let mut here = from;
     loop {
-        let got = read_item(text, i, inside, depth);
+        let item = read_item::item_at(text, here);
+        let got = read_item(item, text, here);
         match got {
-            Step::Fault(number) => {
+            Reading::Fault(number) => {
                 return Reading::Fault(number);
             }
-            Step::End(next) => {
-                return Reading::End(next);
-            }
-            Step::Next { next, mode: after } => {
-                i = next;
-                inside = after;
+            Reading::End(next) => {
+                if read_item::is_stop(item) {
+                    return Reading::End(next);
+                }
+                let mode = here.mode;
+                let depth = here.depth;
+                here = Cursor {
+                    at: next,
+                    mode: read_item::mode_after(item, mode),
+                    depth: depth,
+                };
             }
         }
     }
@@ -148,7 +144,14 @@ fn read_word(line: &[u8], place: usize) -> Reading
     if b == b'#' {
         return Reading::Fault(numbers::REFUSED_OPERATOR);
     }
-    read_text(line, place, Mode::Word, numbers::DEPTH_LIMIT)
+    read_text(
+        line,
+        Cursor {
+            at: place,
+            mode: Mode::Word,
+            depth: numbers::DEPTH_LIMIT,
+        },
+    )
 }
 
 // Reads the whole line: the first fault's number and the place of its word, if there is a fault.

@@ -86,7 +86,9 @@ module _ (h : Given) (r : WellFormed h) where
   given = held (take (h .varsUsed) (h .vars))
 
   given-image : image (flat given) ≡ take (h .varsUsed) (h .vars)
-  given-image = sym (table-canonical _ (take (h .varsUsed) (h .vars)) (vars-of (take (h .varsUsed) (h .vars)) (r .vars)) (bytes-take (h .varsUsed) (h .vars) (r .bytes)))
+  given-image =
+      sym (table-canonical _ (take (h .varsUsed) (h .vars)) (vars-of (take (h .varsUsed) (h .vars)) (r .vars))
+      (bytes-take (h .varsUsed) (h .vars) (r .bytes)))
 
   -- written again, they leave the buffer as it was
   kept : (t : Text) → answered h (doneAt (t, given)) ≡ unchanged h t

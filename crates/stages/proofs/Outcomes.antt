@@ -94,7 +94,8 @@ safe-weakerAt f (early e) = early e
 safe-weakerAt f (refusesAt e l) = refusesAt e l
 safe-weakerAt f (givesAt {a = a} p) = givesAt (f a p)
 
-pub safe-at : {A : Type 0} {size : ℕ} {P : A → Type 0} {o : Outcome A} (place : ℕ) → place ≤ size - 1 → Safe P o → SafeAt size P (placedAt place o)
+pub safe-at : {A : Type 0} {size : ℕ} {P : A → Type 0} {o : Outcome A} (place : ℕ) → place ≤ size - 1 → Safe P o
+    → SafeAt size P (placedAt place o)
 safe-at place l (refuses e) = refusesAt e l
 safe-at place l (gives p) = givesAt p
 

@@ -6,14 +6,16 @@ use native.Mathlib.Omega.{arith}
 use mathlib.Core.Path.{_≡_, refl, sym, ap, _∙_}
 use mathlib.Core.Bool.{Bool, true, false}
 use mathlib.Core.List.{List, [], _∷_}
-use lib.ListN.{length, drop, length-drop}
+use lib.ListN.{length, drop}
 use lib.Seq.{drop-drop}
 use Rattle.stages.specs.Recur.{below, below-ok, fix-eq, by-size}
 use Rattle.stages.specs.Bytes.{Text, between, isBlank}
 use Rattle.stages.specs.Outcome.{Outcome, refused, done, _>>=_}
-use Rattle.stages.specs.Syntax.{Form, Parts, Mode, plain, Escape, unescaped, end, lit, quo, par, len, ari, word, bare, single, double, quotedOperand, arith as sums}
+use Rattle.stages.specs.Syntax.{Form, plain, Escape, unescaped, Parts, end, lit, quo, par, len, ari}
+use Rattle.stages.specs.Syntax.{Mode, word, bare, single, double, quotedOperand, arith as sums}
 use Rattle.stages.specs.Items.{Item, fault, stop, byte, paren, quote, valueOf, count, inner, sum, item, ended}
 use Rattle.stages.specs.Read.{Taken, Reader, put, nest, readItem, Ask, askSize, askStep, parts}
+use Rattle.stages.proofs.Texts.{drop-short}
 use Rattle.stages.proofs.Items.{
   AnyByte,
   Fair,
@@ -47,9 +49,6 @@ put-good : {n i : ℕ} (f : Parts → Parts) {r : Taken} → Good n r → n ≤ 
 put-good f (stays g) h = stays g
 put-good f (leaves {p = p} g) h = leaves {p = (f (p .0), p .1)} (omega arith)
 
-drop-le : (k : ℕ) (t : Text) → length (drop k t) ≤ length t
-drop-le k t = rw length-drop (omega arith)
-
 module _ (k : ℕ) (rec : Reader) (g : (m : Mode) (d : ℕ) (t : Text) → length t < k → Good (length t) (rec m d t)) where
   nest-good : (f : Parts → Parts → Parts) (m : Mode) (d i j : ℕ) {r : Taken} → Good i r → i < k → i ≤ j → Good j (nest f r (rec m d))
   nest-good f m d i j (stays h) l n = stays h
@@ -58,19 +57,19 @@ module _ (k : ℕ) (rec : Reader) (g : (m : Mode) (d : ℕ) (t : Text) → lengt
   going-good : (m : Mode) (d b : ℕ) (t : Text) {i : Item} → Fair AnyByte false i → length t < k → Good (length t) (readItem rec m d (b ∷ t) i)
   unfolding readItem
   going-good m d b t (faults w) h = stays w
-  going-good m d b t (a-byte {k = n} _) h = let e = drop-le n t in put-good _ (g m d (drop n t) (omega arith)) e
+  going-good m d b t (a-byte {k = n} _) h = let e = drop-short n t in put-good _ (g m d (drop n t) (omega arith)) e
   going-good m d b t (a-paren {n = n} _) h = put-good _ (g (sums n) d t h) (omega arith)
   going-good m d b t (a-quote {m = n}) h = nest-good quo m d (length t) (length t) (g n d t h) h (omega arith)
-  going-good m d b t (a-value {k = n} _) h = let e = drop-le n t in put-good _ (g m d (drop n t) (omega arith)) e
-  going-good m d b t (a-count {k = n} _) h = let e = drop-le n t in put-good _ (g m d (drop n t) (omega arith)) e
+  going-good m d b t (a-value {k = n} _) h = let e = drop-short n t in put-good _ (g m d (drop n t) (omega arith)) e
+  going-good m d b t (a-count {k = n} _) h = let e = drop-short n t in put-good _ (g m d (drop n t) (omega arith)) e
   going-good m d b t (an-inner {x = x} {f = f} {m = n} {k = j} _) h =
-      let e = drop-le j t in nest-good (par x f) m d (length (drop j t)) (length t) (g n (d - 1) (drop j t) (omega arith)) (omega arith) e
+      let e = drop-short j t in nest-good (par x f) m d (length (drop j t)) (length t) (g n (d - 1) (drop j t) (omega arith)) (omega arith) e
   going-good m d b t a-sum h =
-      let e = drop-le 2 t in nest-good ari m d (length (drop 2 t)) (length t) (g (sums 0) (d - 1) (drop 2 t) (omega arith)) (omega arith) e
+      let e = drop-short 2 t in nest-good ari m d (length (drop 2 t)) (length t) (g (sums 0) (d - 1) (drop 2 t) (omega arith)) (omega arith) e
 
   fair-good : (m : Mode) (d b : ℕ) (t : Text) {i : Item} → View AnyByte i → length t < k → Good (suc (length t)) (readItem rec m d (b ∷ t) i)
   unfolding readItem
-  fair-good m d b t (ends {k = n}) h = leaves {p = (end, drop n (b ∷ t))} (drop-le n (b ∷ t))
+  fair-good m d b t (ends {k = n}) h = leaves {p = (end, drop n (b ∷ t))} (drop-short n (b ∷ t))
   fair-good m d b t (on w) h = wider (going-good m d b t w h) (omega arith)
 
   item-good : (m : Mode) (d : ℕ) (t : Text) → length t ≤ k → Good (length t) (readItem rec m d t (item m d t))
@@ -120,12 +119,12 @@ nest-ok k f m d i (leaves {p = p} l) h = ap (put (f (p .0))) (shorter-ok k m d (
 
 module _ (m : Mode) (d b : ℕ) (t : Text) where
   put-ok : (f : Parts → Parts) (j : ℕ) → put f (shorter (suc (length t)) m d (drop j t)) ≡ put f (parts m d (drop j t))
-  put-ok f j = let e = drop-le j t in ap (put f) (shorter-ok _ m d (drop j t) (omega arith))
+  put-ok f j = let e = drop-short j t in ap (put f) (shorter-ok _ m d (drop j t) (omega arith))
 
   nested-ok : (f : Parts → Parts → Parts) (n : Mode) (c j : ℕ)
       → nest f (shorter (suc (length t)) n c (drop j t)) (shorter (suc (length t)) m d) ≡ nest f (parts n c (drop j t)) (parts m d)
   nested-ok f n c j =
-      let e = drop-le j t in
+      let e = drop-short j t in
       ap (λ (r : Taken). nest f r (shorter (suc (length t)) m d)) (shorter-ok _ n c (drop j t) (omega arith))
       ∙ nest-ok _ f m d (length (drop j t)) (parts-good n c (drop j t)) (omega arith)
 

@@ -4,7 +4,7 @@ use native.Mathlib.Omega.{arith}
 use mathlib.Core.Path.{_≡_, refl}
 use mathlib.Core.Bool.{true, false}
 use mathlib.Core.List.{[], _∷_}
-use lib.ListN.{length, drop, length-drop}
+use lib.ListN.{length, drop}
 use Rattle.stages.specs.Numbers.{unended, tooDeep, outputRoom}
 use Rattle.stages.specs.Bytes.{between, Text, all, notZero}
 use Rattle.stages.specs.Outcome.{refused, done}
@@ -13,7 +13,7 @@ use Rattle.stages.specs.Syntax.{plain, unescaped, Parts, Mode, end, lit,
 use Rattle.stages.specs.Items.{Item, item, ended}
 use Rattle.stages.specs.Read.{Taken, Reader, put, nest, readItem, Ask, askSize, askStep, parts}
 use Rattle.stages.proofs.Bools.{and-left, and-right, and-both, between-bounds, between-true}
-use Rattle.stages.proofs.Texts.{all-drop}
+use Rattle.stages.proofs.Texts.{drop-short, all-drop}
 use Rattle.stages.proofs.Items.{Fair, faults, stops, a-byte, a-paren, a-quote, a-value, a-count, an-inner, a-sum, item-passes}
 use Rattle.stages.proofs.Outcomes.{Each, isFault, Safe, refuses, gives, safe-bind, by-fix}
 
@@ -52,9 +52,6 @@ put-safe : (f : Parts → Parts) (u t : Text) {r : Taken} → ((p : Parts) → S
     → Safe (SafeTaken t) (put f r)
 put-safe f u t h l s =
     safe-bind (λ p. done (f (p .0), p .1)) s (λ p k. gives (record { clean = h (p .0) (k .clean); behind = k .behind; short = omega arith }))
-
-drop-short : (k : ℕ) (u : Text) → length (drop k u) ≤ length u
-drop-short k u = simp length-drop (omega arith)
 
 module _ (b : ℕ) (u : Text) (rec : Ask → Taken)
     (ih : (a : Ask) → length (a .2) < suc (length u) → NoZero (a .2) → Safe (SafeTaken (a .2)) (rec a)) (z : NoZero u) where

@@ -181,7 +181,8 @@ expand-safe room (len x p) s m n v k =
 expand-safe room (ari q p) s m n v k =
     safe-bind _ (expand-safe room q (s .0) Q 0 v k)
     (λ r h. safe-bind _ (arithmetic-safe (Kept room) (r .1) (bytes (r .0)) (h .1))
-    (λ t l. adding-safe room n (marked (expandedMark m) (t .0)) _ (marked-safe (expandedMark m) (t .0) (l .0)) (λ i. expand-safe room p (s .1) m i (t .1) (l .1))))
+    (λ t l. adding-safe room n (marked (expandedMark m) (t .0)) _ (marked-safe (expandedMark m) (t .0) (l .0))
+    (λ i. expand-safe room p (s .1) m i (t .1) (l .1))))
 
 -- the tilde
 

@@ -160,6 +160,7 @@ growStep rec (further k l, d, t) = token t >>= λ p. furtherAt rec d k l t p
 abbrev pub growSize : Task × ℕ × Text → ℕ
 growSize a = length (a .2)
 
+-- the reader; never stuck by `grow-eq` and `grow-never-stuck` of proofs/Arith
 unfoldable pub grow : Grow
 unfolding growStep fix
 grow a = fix growSize (refused 0) growStep a

@@ -55,7 +55,8 @@ unfoldable pub wrong : ℕ → Text → Item
 wrong n [] = fault unended
 wrong n (b ∷ t) = pick (eqb b (code "`")) (fault substitution) (fault n)
 
--- "A bare backslash quotes the next byte"; "Within `"..."` a backslash quotes only `$`, backquote, `"`, `\`"; "`\}` gives `}`"
+-- "A bare backslash quotes the next byte"; "Within `"..."` a backslash quotes only `$`, backquote, `"`, `\`"; "`\}` gives `}`". Never asked of '...',
+-- where a backslash is literal, nor of arithmetic, where it is 11
 unfoldable pub quotable : Mode → ℕ → Bool
 quotable word b = true
 quotable bare b = true
@@ -70,7 +71,7 @@ unfolding quotable
 behindBackslash m [] = fault unended
 behindBackslash m (b ∷ t) = pick (eqb b (code "\n")) (fault badSyntax) (pick (quotable m b) (byte escaped b 1) (byte unescaped (code "\\") 0))
 
--- "inside double quotes or arithmetic, the operands of `-=?+` are read as double-quoted text"
+-- "inside double quotes or arithmetic, the operands of `-=?+` are read as double-quoted text". Never asked of '...', where a `$` is literal
 unfoldable pub operandMode : Mode → Mode
 operandMode word = bare
 operandMode bare = bare
@@ -134,7 +135,7 @@ parenthesis d [] = fault substitution
 parenthesis zero (b ∷ t) = pick (eqb b (code "(")) (fault tooDeep) (fault substitution)
 parenthesis (suc d) (b ∷ t) = pick (eqb b (code "(")) sum (fault substitution)
 
--- "`$` before a digit or one of `@*#?-$!` is 10, and so is `$'` in bare text"
+-- "`$` before a digit or one of `@*#?-$!` is 10, and so is `$'` in bare text". Never asked of '...', where a `$` is literal
 unfoldable pub notServed : Mode → ℕ → Bool
 unfolding isDigit
 notServed word b = isDigit b || isIn b (text "@*#?-$!'")
@@ -159,7 +160,7 @@ unfoldable pub outer : Text → Item
 outer [] = fault badSyntax
 outer (b ∷ t) = pick (eqb b (code ")")) (stop 2) (pick (eqb b (code "`")) (fault substitution) (fault badSyntax))
 
--- "Arithmetic text balances its parentheses"
+-- "Arithmetic text balances its parentheses". Never asked: the first five cases, since only arithmetic has the sort `opening`
 unfoldable pub opened : Mode → ℕ → Item
 opened word b = byte unescaped b 0
 opened bare b = byte unescaped b 0
@@ -168,6 +169,7 @@ opened double b = byte unescaped b 0
 opened quotedOperand b = byte unescaped b 0
 opened (arith n) b = paren b (suc n)
 
+-- The same for the sort `closing`. Never asked: the first five cases
 unfoldable pub closed : Mode → ℕ → Text → Item
 unfolding outer
 closed word b t = byte unescaped b 0
@@ -178,7 +180,7 @@ closed quotedOperand b t = byte unescaped b 0
 closed (arith zero) b t = outer t
 closed (arith (suc n)) b t = paren b n
 
--- how many bytes end a text: a word's blank is not part of it
+-- how many bytes end a text: a word's blank is not part of it. Never asked of arithmetic, where no byte has the sort `closes`
 unfoldable pub closerLength : Mode → ℕ
 closerLength word = 0
 closerLength bare = 1

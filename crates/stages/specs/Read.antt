@@ -51,7 +51,7 @@ unfoldable pub askStep : (Ask → Taken) → Ask → Taken
 unfolding readItem item
 askStep rec a = readItem (λ m d t. rec (m, d, t)) (a .0) (a .1) (a .2) (item (a .0) (a .1) (a .2))
 
--- the parts of a text in a mode, where d expansions may still open, and what is behind the text
+-- the parts of a text in a mode, where d expansions may still open, and what is behind the text; never stuck by `parts-item` of proofs/Read
 unfoldable pub parts : Reader
 unfolding askStep fix
 parts m d t = fix askSize (refused 0) askStep (m, d, t)
@@ -81,7 +81,7 @@ wordsStep rec (place, b ∷ t) =
 abbrev pub wordsSize : ℕ × Text → ℕ
 wordsSize p = length (p .1)
 
--- the words of a text that begins at `place` of the line
+-- the words of a text that begins at `place` of the line; never stuck by `words-sound` of proofs/Words
 unfoldable pub words : ℕ × Text → Words
 unfolding wordsStep fix
 words p = fix wordsSize (refusedAt 0 0) wordsStep p

@@ -47,7 +47,7 @@ litMark unescaped m = m
 unfoldable pub fit : ℕ → ℕ → Outcome ℕ
 fit n k = elim (leb (n + k) rowLimit) [ true ↦ done (n + k) | false ↦ refused tooManyUnits ]
 
--- the decimal digits of n, which has at most k
+-- the decimal digits of n, which has at most k. Never asked: no digits, where k is 20 at first and n below 10^20 (proofs/Digits: `decimal-value`)
 unfoldable pub digits : ℕ → ℕ → Text
 digits zero n = []
 digits (suc k) n = elim (ltb n 10) [ true ↦ (code "0" + n) ∷ [] | false ↦ digits k (n / 10) ++ ((code "0" + n % 10) ∷ []) ]

@@ -1,12 +1,17 @@
--- A Boolean of the code is what its case of the stages is taken back to.
+-- A Boolean of the code is what its case of the stages is taken back to, and a case what its Boolean stands for.
 use mathlib.Core.Path.{_≡_, refl}
 use mathlib.Core.Bool.{Bool, true, false}
+use Rattle.stages.specs.Syntax.{Escape, escaped, unescaped}
 use Rattle.stages.specs.Pattern.{isForPaths}
 use Rattle.text.specs.Cases.{escapeOf, isEscaped, colonOf, hasColon, reachOf, isLongest, purposeOf}
 
 pub escape-back : (b : Bool) → b ≡ isEscaped (escapeOf b)
 escape-back true = refl
 escape-back false = refl
+
+pub escape-there : (q : Escape) → q ≡ escapeOf (isEscaped q)
+escape-there escaped = refl
+escape-there unescaped = refl
 
 pub colon-back : (b : Bool) → b ≡ hasColon (colonOf b)
 colon-back true = refl

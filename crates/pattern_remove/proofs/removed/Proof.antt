@@ -28,8 +28,10 @@ unfolding removed
 returns c =
     let a = c .before .before .before .before .before .before .args in
     ap (λ (k : ℕ). take k (a .value .now))
-    (cut-is (sideOf (a .suffix)) (reachOf (a .long)) (a .pattern .now) (a .value .now) (c .before .before .before .from-end .ensures) (c .before .before .cut-place .ensures))
-    ∙ ap (λ (s : Bool). left (sideOf s) (a .value .now) (cut (sideOf (a .suffix)) (reachOf (a .long)) (elements false 0 (signsOf (a .pattern .now))) (a .value .now)))
+    (cut-is (sideOf (a .suffix)) (reachOf (a .long)) (a .pattern .now) (a .value .now)
+    (c .before .before .before .from-end .ensures) (c .before .before .cut-place .ensures))
+    ∙ ap (λ (s : Bool). left (sideOf s) (a .value .now)
+    (cut (sideOf (a .suffix)) (reachOf (a .long)) (elements false 0 (signsOf (a .pattern .now))) (a .value .now)))
     (sym (c .before .if1 .taken))
 
 sub-result : tie.Need-sub-result
@@ -47,8 +49,10 @@ returns-2 c =
     let a = c .before .before .before .before .before .before .args in
     to-end (a .value .now) (c .before .before .cut-place .result)
     ∙ ap (λ (k : ℕ). drop k (a .value .now))
-    (cut-is (sideOf (a .suffix)) (reachOf (a .long)) (a .pattern .now) (a .value .now) (c .before .before .before .from-end .ensures) (c .before .before .cut-place .ensures))
-    ∙ ap (λ (s : Bool). left (sideOf s) (a .value .now) (cut (sideOf (a .suffix)) (reachOf (a .long)) (elements false 0 (signsOf (a .pattern .now))) (a .value .now)))
+    (cut-is (sideOf (a .suffix)) (reachOf (a .long)) (a .pattern .now) (a .value .now)
+    (c .before .before .before .from-end .ensures) (c .before .before .cut-place .ensures))
+    ∙ ap (λ (s : Bool). left (sideOf s) (a .value .now)
+    (cut (sideOf (a .suffix)) (reachOf (a .long)) (elements false 0 (signsOf (a .pattern .now))) (a .value .now)))
     (sym (c .before .if1 .left))
 
 pub removed-spec : {M : Type 1} → statement M
