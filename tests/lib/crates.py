@@ -16,8 +16,14 @@ def groups():
             if heading:
                 group = found.setdefault(heading[1], {})
             elif crate:
-                group[crate[1]] = crate[2].split()
+                group[crate[1]] = crate[2].split("#")[0].split()
     return found
+
+
+def explained():
+    """Pairs of a crate and another that it lists though no file names it: a comment at the end of its line begins with the other's name and a colon."""
+    with open(os.path.join(ROOT, "crates.txt"), encoding="utf-8") as file:
+        return set(re.findall(r"(?m)^(\w+):.* # (\w+): ", file.read()))
 
 
 def listed():

@@ -10,7 +10,7 @@ use Rattle.stages.specs.Bytes.{Text, part}
 use Rattle.stages.specs.Outcome.{Outcome, refused, done, _>>=_}
 use Rattle.stages.specs.Images.{Pairs, lookup}
 use Rattle.stages.specs.Constants.{ranged, nameNumber}
-use Rattle.stages.specs.Arith.{Lexed, stop, num, name, op, opens, shuts, token, Tree, constantOf, nameOf, negated, Grown, grown}
+use Rattle.stages.specs.Arith.{Lexed, textEnd, num, name, op, opens, shuts, token, Tree, constantOf, nameOf, negated, Grown, grown}
 use Rattle.stages.specs.Arith.{operand, expression, shut, whole, enclosed, sign, operandAt, growStep, grow, evaluate, withVariables}
 use Rattle.stages.proofs.Bools.{no}
 use Rattle.stages.proofs.Arith.{grow-eq}
@@ -77,7 +77,7 @@ no-sign v counts d t o k e q = fault v counts (ap (λ (x : Op). sign grow (opOf 
 shut-tree : (o : Lexed) (l : Tree) (p : Tree × Text) → (o >>= λ s. shut l s) ≡ done p → p .0 ≡ l
 unfolding shut
 shut-tree (refused e) l p h = absurd (never h)
-shut-tree (done (stop, u)) l p h = absurd (never h)
+shut-tree (done (textEnd, u)) l p h = absurd (never h)
 shut-tree (done (num z, u)) l p h = absurd (never h)
 shut-tree (done (name x, u)) l p h = absurd (never h)
 shut-tree (done (op o, u)) l p h = absurd (never h)

@@ -11,7 +11,7 @@ use Rattle.stages.specs.Bytes.{Text}
 use Rattle.stages.specs.Outcome.{Outcome, refused, done, _>>=_}
 use Rattle.stages.specs.Images.{Pairs, lookup}
 use Rattle.stages.specs.Constants.{ranged, nameNumber}
-use Rattle.stages.specs.Arith.{Op, stop, num, name, op, opens, shuts, Lexed, token, level, Tree, constantOf, nameOf, negated, binary}
+use Rattle.stages.specs.Arith.{Op, textEnd, num, name, op, opens, shuts, Lexed, token, level, Tree, constantOf, nameOf, negated, binary}
 use Rattle.stages.specs.Arith.{Grown, further, expression, furtherAt, growStep, grow, apply, Evaluated, withVariables, evaluate}
 use Rattle.stages.proofs.Arith.{Lexes, lex-more, token-left, Leaves, some-left, expression-left, grow-left, grow-eq}
 use Rattle.stages.proofs.Outcomes.{done-same}
@@ -120,7 +120,7 @@ module _ (v : Pairs) where
     by-token : (o : Lexed) → Lexes (length t) o → (o >>= λ s. furtherAt grow d k l t s) ≡ done p → evaluate v (p .0) ≡ refused e
     unfolding furtherAt
     by-token (refused n) w q = absurd (never q)
-    by-token (done (stop, u)) w q = ends-here q
+    by-token (done (textEnd, u)) w q = ends-here q
     by-token (done (num z, u)) w q = ends-here q
     by-token (done (name x, u)) w q = ends-here q
     by-token (done (op o, u)) (lex-more w) q = go (leb k (level o)) refl

@@ -8,7 +8,8 @@ use Rattle.stages.specs.Bytes.{Text}
 use Rattle.stages.specs.Outcome.{Outcome, refused, done, _>>=_}
 use Rattle.stages.specs.Images.{Pairs}
 use Rattle.stages.specs.Constants.{signed}
-use Rattle.stages.specs.Arith.{Lexed, stop, num, name, op, opens, shuts, token, Tree, Grown, expression, grow, whole, tree, evaluate, Evaluated, arithmeticOf}
+use Rattle.stages.specs.Arith.{Lexed, textEnd, num, name, op, opens, shuts, token}
+use Rattle.stages.specs.Arith.{Tree, Grown, expression, grow, whole, tree, evaluate, Evaluated, arithmeticOf}
 use Rattle.stages.proofs.Outcomes.{done-same}
 use Rattle.arith_int.specs.Answers.{numbered}
 use Rattle.arith_int.specs.declared.Number.{Number}
@@ -23,7 +24,7 @@ answers-shown v counts o h e = subst (Answers v counts o) e h
 whole-tree : (o : Lexed) (l t : Tree) → (o >>= λ s. whole l s) ≡ done t → t ≡ l
 unfolding whole
 whole-tree (refused e) l t h = absurd (never h)
-whole-tree (done (stop, u)) l t h = sym (done-same h)
+whole-tree (done (textEnd, u)) l t h = sym (done-same h)
 whole-tree (done (num z, u)) l t h = absurd (never h)
 whole-tree (done (name x, u)) l t h = absurd (never h)
 whole-tree (done (op o, u)) l t h = absurd (never h)

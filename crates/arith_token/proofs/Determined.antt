@@ -5,7 +5,7 @@ use mathlib.Core.Path.{_≡_, refl, sym, ap, _∙_}
 use lib.ListN.{length, drop, length-drop}
 use Rattle.stages.specs.Bytes.{Text, part}
 use Rattle.stages.specs.Outcome.{refused, done}
-use Rattle.stages.specs.Arith.{Lexed, stop, num, name, op, opens, shuts}
+use Rattle.stages.specs.Arith.{Lexed, textEnd, num, name, op, opens, shuts}
 use Rattle.stages.specs.Arith as arith-stage
 use Rattle.text.proofs.Parts.{part-length}
 use Rattle.arith_int.specs.Answers.{opOf}
@@ -48,7 +48,7 @@ op-back Ne = refl
 -- the code's token of the stage's: a place is where what is behind it begins
 abbrev back : Text → Lexed → Token
 back text (refused e) = code.Refused e
-back text (done (stop, u)) = code.Stop
+back text (done (textEnd, u)) = code.Stop
 back text (done (num z, u)) = code.Number z (length text - length u)
 back text (done (name x, u)) = code.Name (length text - length u - length x) (length text - length u)
 back text (done (op o, u)) = code.Op (opBack o) (length text - length u)

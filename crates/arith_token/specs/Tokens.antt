@@ -6,7 +6,7 @@ use mathlib.Core.List.{[]}
 use lib.ListN.{length, getD, drop}
 use Rattle.stages.specs.Bytes.{Text, part, isBlank, isDigit, isNameStart}
 use Rattle.stages.specs.Outcome.{refused, done}
-use Rattle.stages.specs.Arith.{Lexed, stop, num, name, op, opens, shuts, token, paired}
+use Rattle.stages.specs.Arith.{Lexed, textEnd, num, name, op, opens, shuts, token, paired}
 use Rattle.arith_int.specs.Answers.{opOf}
 use Rattle.arith_int.specs.declared.Op.{Op}
 use Rattle.arith_int.specs.declared.Op.the-variants.{Mul, Div, Rem, Add, Sub, Lt, Le, Gt, Ge, Eq, Ne}
@@ -30,7 +30,7 @@ levelOf Ne = 1
 -- the stage's token, with what is behind it
 abbrev pub lexed : Text → Token → Lexed
 lexed text (code.Refused e) = refused e
-lexed text code.Stop = done (stop, [])
+lexed text code.Stop = done (textEnd, [])
 lexed text (code.Number z next) = done (num z, drop next text)
 lexed text (code.Name from to) = done (name (part text from to), drop to text)
 lexed text (code.Op o next) = done (op (opOf o), drop next text)

@@ -10,8 +10,8 @@ use lib.ListN.{length, take}
 use borrow.Author.Tests.{le-leb, lt-leb, leb-true, leb-false}
 use Rattle.stages.specs.Numbers.{workTooSmall, badVariables, badHomes, badPaths, lineTooLong, zeroByte, outputRoom, workLeast, lineLimit, imageLimit}
 use Rattle.stages.specs.Bytes.{Text, isIn, all, notZero}
-use Rattle.stages.specs.Outcome.{Outcome, refused, done, Placed, refusedAt, doneAt, at, _then_, require, pick}
-use Rattle.stages.specs.Images.{Pairs, isSome, held, variables, homes, pathsOf, recordBytes}
+use Rattle.stages.specs.Outcome.{Outcome, refused, done, Placed, refusedAt, doneAt, placedAt, _then_, require, pick}
+use Rattle.stages.specs.Images.{Pairs, isSome, held, variablesOf, homesOf, pathsOf, recordBytes}
 use Rattle.stages.specs.Syntax.{Word}
 use Rattle.stages.specs.Read.{readLine}
 use Rattle.stages.specs.Line.{Around, Fields, outFits, wordFields, expandWords, expandLine}
@@ -47,46 +47,46 @@ module _ (job : Job) (g : Given) where
   work-small h = record { is = rw (lt-leb workLeast (length (g .work)) h); early = λ p. omega (arith, h, p .tables .area) }
 
   module _ (a : workLeast ≤ length (g .work)) where
-    pub used-beyond : length (g .vars) < g .used → Stopped job g badVariables 0
+    pub used-beyond : length (g .vars) < g .varsUsed → Stopped job g badVariables 0
     unfolding expanded
     used-beyond h =
         record {
-          is = rw (le-leb workLeast (length (g .work)) a, lt-leb (g .used) (length (g .vars)) h);
+          is = rw (le-leb workLeast (length (g .work)) a, lt-leb (g .varsUsed) (length (g .vars)) h);
           early = λ p. omega (arith, h, p .tables .inside);
         }
 
-    module _ (i : g .used ≤ length (g .vars)) where
-      pub variables-bad : isSome (variables (take (g .used) (g .vars))) ≡ false → Stopped job g badVariables 0
+    module _ (i : g .varsUsed ≤ length (g .vars)) where
+      pub variables-bad : isSome (variablesOf (take (g .varsUsed) (g .vars))) ≡ false → Stopped job g badVariables 0
       unfolding expanded orRefused
       variables-bad h =
           record {
-            is = rw (le-leb workLeast (length (g .work)) a, le-leb (g .used) (length (g .vars)) i, none-of (variables (take (g .used) (g .vars))) h);
+            is = rw (le-leb workLeast (length (g .work)) a, le-leb (g .varsUsed) (length (g .vars)) i, none-of (variablesOf (take (g .varsUsed) (g .vars))) h);
             early = λ p. apart h (p .tables .formed);
           }
 
-      module _ (v : isSome (variables (take (g .used) (g .vars))) ≡ true) where
-        pub homes-bad : isSome (homes (g .homes)) ≡ false → Stopped job g badHomes 0
+      module _ (v : isSome (variablesOf (take (g .varsUsed) (g .vars))) ≡ true) where
+        pub homes-bad : isSome (homesOf (g .homes)) ≡ false → Stopped job g badHomes 0
         unfolding expanded orRefused
         homes-bad h =
             record {
               is = rw (
                 le-leb workLeast (length (g .work)) a,
-                le-leb (g .used) (length (g .vars)) i,
+                le-leb (g .varsUsed) (length (g .vars)) i,
                 variables-are _ (vars-of _ v),
                 none-of
-                    (homes (g .homes)) h,
+                    (homesOf (g .homes)) h,
               );
               early = λ p. apart h (p .tables .housed);
             }
 
-        module _ (w : isSome (homes (g .homes)) ≡ true) where
+        module _ (w : isSome (homesOf (g .homes)) ≡ true) where
           pub paths-bad : isSome (pathsOf (g .paths)) ≡ false → Stopped job g badPaths 0
           unfolding expanded orRefused
           paths-bad h =
               record {
                 is = rw (
                   le-leb workLeast (length (g .work)) a,
-                  le-leb (g .used) (length (g .vars)) i,
+                  le-leb (g .varsUsed) (length (g .vars)) i,
                   variables-are _ (vars-of _ v),
                   homes-are _
                       (homes-of _ w),
@@ -99,7 +99,7 @@ module _ (job : Job) (g : Given) where
 
 module _ (job : Job) (g : Given) (t : Tabled g) where
   abbrev v : Pairs
-  v = held (take (g .used) (g .vars))
+  v = held (take (g .varsUsed) (g .vars))
 
   abbrev out : ℕ
   out = roomOf job (length (g .out))
@@ -109,7 +109,7 @@ module _ (job : Job) (g : Given) (t : Tabled g) where
   tables-passed =
       rw (
         le-leb workLeast (length (g .work)) (t .area),
-        le-leb (g .used) (length (g .vars)) (t .inside),
+        le-leb (g .varsUsed) (length (g .vars)) (t .inside),
         variables-are _ (vars-of _ (t .formed)),
         homes-are _ (homes-of _ (t .housed)),
         paths-are _ (paths-of _ (t .listed)),
@@ -164,7 +164,8 @@ module _ (g : Given) (out : ℕ) where
 
   behind-capped : (w : Word) (ws : List Word) (n : ℕ) →
       ((m : ℕ) (v : Pairs) → expandWords (among g out) ws m v ≡ expandWords (among g (capped out)) ws m v)
-      → (o : Outcome (Fields × Pairs)) → (at (w .place) o then behind w ws n (among g out)) ≡ (at (w .place) o then behind w ws n (among g (capped out)))
+      → (o : Outcome (Fields × Pairs))
+      → (placedAt (w .place) o then behind w ws n (among g out)) ≡ (placedAt (w .place) o then behind w ws n (among g (capped out)))
   behind-capped w ws n ih (refused k) = refl
   behind-capped w ws n ih (done r) =
       ap (joined (w .place) (r .0) (expandWords (among g out) ws (n + recordBytes (r .0)) (r .1))) (fits-capped (n + recordBytes (r .0)))
@@ -199,7 +200,7 @@ module _ (job : Job) (g : Given) (t : Tabled g) (l : length (g .line) ≤ lineLi
         byte = b;
         is = line-passed job g t l z (a .all) (a .is)
             (fits-capped g (roomOf job (length (g .out))) 1 ∙ rw (le-leb 1 (capped (roomOf job (length (g .out)))) b)) ∙ words-capped g
-            (roomOf job (length (g .out))) (a .all) 1 (held (take (g .used) (g .vars)));
+            (roomOf job (length (g .out))) (a .all) 1 (held (take (g .varsUsed) (g .vars)));
       }
 
 -- an answer once it is known

@@ -8,7 +8,7 @@ use lib.ListN.{length, take}
 use Rattle.stages.specs.Numbers.{workLeast, lineLimit, imageLimit}
 use Rattle.stages.specs.Bytes.{all, notZero}
 use Rattle.stages.specs.Outcome.{refusedAt, doneAt, pick}
-use Rattle.stages.specs.Images.{isSome, held, heldTexts, variables, homes, pathsOf}
+use Rattle.stages.specs.Images.{isSome, held, heldTexts, variablesOf, homesOf, pathsOf}
 use Rattle.stages.specs.Syntax.{Word}
 use Rattle.stages.specs.Read.{readLine}
 use Rattle.stages.specs.Line.{Around, expandWords}
@@ -29,9 +29,9 @@ among g out = record { room = length (g .vars); out = out; homes = held (g .home
 -- 1 to 4 are passed
 pub record Tabled (g : Given) : Type 0 where
   pub area : workLeast ≤ length (g .work)
-  pub inside : g .used ≤ length (g .vars)
-  pub formed : isSome (variables (take (g .used) (g .vars))) ≡ true
-  pub housed : isSome (homes (g .homes)) ≡ true
+  pub inside : g .varsUsed ≤ length (g .vars)
+  pub formed : isSome (variablesOf (take (g .varsUsed) (g .vars))) ≡ true
+  pub housed : isSome (homesOf (g .homes)) ≡ true
   pub listed : isSome (pathsOf (g .paths)) ≡ true
 
 -- 5, 6, the reading and the empty image's 21 are passed too: the words are all that is left
@@ -42,7 +42,7 @@ pub record Passed (job : Job) (g : Given) : Type 0 where
   pub words : List Word
   pub read : readLine (g .line) ≡ doneAt words
   pub byte : 1 ≤ roomIn job (length (g .out))
-  pub is : worked job g ≡ expandWords (among g (roomIn job (length (g .out)))) words 1 (held (take (g .used) (g .vars)))
+  pub is : worked job g ≡ expandWords (among g (roomIn job (length (g .out)))) words 1 (held (take (g .varsUsed) (g .vars)))
 
 -- the call is refused, and by nothing that comes after the checks
 pub record Stopped (job : Job) (g : Given) (n place : ℕ) : Type 0 where

@@ -16,7 +16,7 @@ pub record Hands (a : stage.Answer) (r : Answer) (vars out : Text) : Type 0 wher
   pub number : r .number ≡ a .number
   pub place : r .place ≡ a .place
   pub outLength : r .«out_len» ≡ a .outLength
-  pub usedLength : r .«used_len» ≡ a .used
+  pub usedLength : r .«used_len» ≡ a .varsUsed
   pub output : out ≡ a .out
   pub variables : vars ≡ a .vars
 

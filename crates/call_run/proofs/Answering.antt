@@ -32,11 +32,11 @@ answer-is Expander g = refl
 answer-is Normaliser g = refl
 
 -- the words, or what is before them, are refused
-hands-refused : (g : Given) (n place : ℕ) → Hands (answered g (refusedAt n place)) (refusedAs n place (g .used)) (g .vars) (g .out)
+hands-refused : (g : Given) (n place : ℕ) → Hands (answered g (refusedAt n place)) (refusedAs n place (g .varsUsed)) (g .vars) (g .out)
 unfolding answered
 hands-refused g n place = record { number = refl; place = refl; outLength = refl; usedLength = refl; output = refl; variables = refl }
 
-pub answer-refused : (job : Job) (g : Given) {n place : ℕ} {r : Answer} → worked job g ≡ refusedAt n place → r ≡ refusedAs n place (g .used)
+pub answer-refused : (job : Job) (g : Given) {n place : ℕ} {r : Answer} → worked job g ≡ refusedAt n place → r ≡ refusedAs n place (g .varsUsed)
     → Hands (answerOf job g) r (g .vars) (g .out)
 answer-refused job g {n = n} {place = place} {r = r} h e =
     subst (λ (a : stage.Answer). Hands a r (g .vars) (g .out))
@@ -59,7 +59,7 @@ output-written Expander out l = fine
 output-written Normaliser out l = quoted-written out l (leb (length (quotedLine l)) lineLimit && leb (length (quotedLine l)) out) refl
 
 hands-written : (g : Given) (v : Pairs) {r : Answer} {vars out : Text} (o : Placed Text) → Written o
-    → Handed (quoting (g .out) o) (image (flat v)) (g .vars) (g .used) r vars out → Hands (answered g (o then λ t. doneAt (t, v))) r vars out
+    → Handed (quoting (g .out) o) (image (flat v)) (g .vars) (g .varsUsed) r vars out → Hands (answered g (o then λ t. doneAt (t, v))) r vars out
 unfolding quoting answered
 hands-written g v (refusedAt n place) full h =
     record { number = h .number; place = h .place; outLength = h .outLength; usedLength = h .usedLength; output = h .output; variables = h .variables }
@@ -76,11 +76,11 @@ writing-is Normaliser l out f n = let e : fieldsOf (image l) ≡ some l = fields
 -- the line is expanded, and what came of it is handed over
 pub answer-handed : (job : Job) (g : Given) {l : Fields} {v : Pairs} {r : Answer} {vars out : Text} → worked job g ≡ doneAt (l, v) → Fine l →
     imageLength l ≤ imageLimit
-    → Handed (writingOf job (image l) (g .out)) (image (flat v)) (g .vars) (g .used) r vars out → Hands (answerOf job g) r vars out
+    → Handed (writingOf job (image l) (g .out)) (image (flat v)) (g .vars) (g .varsUsed) r vars out → Hands (answerOf job g) r vars out
 answer-handed job g {l = l} {v = v} {r = r} {vars = vars} {out = out} h f n k =
     subst (λ (a : stage.Answer). Hands a r vars out) (sym (answer-is job g ∙ ap (λ (o : Placed (Fields × Pairs)). answered g (o then rest job g)) h))
     (hands-written g v (outputOf job (length (g .out)) l) (output-written job (length (g .out)) l)
-    (subst (λ (q : Quoting). Handed q (image (flat v)) (g .vars) (g .used) r vars out) (writing-is job l (g .out) f n) k))
+    (subst (λ (q : Quoting). Handed q (image (flat v)) (g .vars) (g .varsUsed) r vars out) (writing-is job l (g .out) f n) k))
 
 -- "The work area is zero throughout after every call": of every answer
 answered-clear : (g : Given) (o : Placed (Text × Pairs)) → answered g o .work ≡ replicate (length (g .work)) 0

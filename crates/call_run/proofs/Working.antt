@@ -11,7 +11,7 @@ use borrow.Author.Tests.{leb-true, leb-false}
 use Rattle.stages.specs.Numbers.{imageLimit}
 use Rattle.stages.specs.Bytes.{Text}
 use Rattle.stages.specs.Outcome.{Placed, doneAt, _then_, pick}
-use Rattle.stages.specs.Images.{isName, isSome, held, image, variables}
+use Rattle.stages.specs.Images.{isName, isSome, held, image, variablesOf}
 use Rattle.stages.specs.Syntax.{Word}
 use Rattle.stages.specs.Line.{Around, expandWords}
 use Rattle.stages.specs.Call.{Given, over}
@@ -44,11 +44,13 @@ lesser-low n true e = (leb-true n imageLimit e, omega arith)
 lesser-low n false e = (omega arith, omega (arith, leb-false n imageLimit e))
 
 -- the variables' image fits its copy
-pub copy-fits : {job : Job} {g : Given} → Passed job g → (copy : Text) → length copy ≡ imageLimit → length (take (g .used) (g .vars)) ≤ length copy
-copy-fits {g = g} p copy l = omega (arith, vars-of (take (g .used) (g .vars)) (p .tables .formed) .small, l)
+pub copy-fits : {job : Job} {g : Given} → Passed job g → (copy : Text) → length copy ≡ imageLimit
+    → length (take (g .varsUsed) (g .vars)) ≤ length copy
+copy-fits {g = g} p copy l = omega (arith, vars-of (take (g .varsUsed) (g .vars)) (p .tables .formed) .small, l)
 
 module _ {job : Job} {g : Given} (p : Passed job g) (copy copy₁ images : Text) (lc : length copy ≡ imageLimit) (li : length images ≡ imageLimit)
-    (d : copy₁ ≡ take (g .used) (g .vars) ++ drop (length (take (g .used) (g .vars))) copy) (size : ℕ) (e : size ≡ roomIn job (length (g .out))) where
+    (d : copy₁ ≡ take (g .varsUsed) (g .vars) ++ drop (length (take (g .varsUsed) (g .vars))) copy)
+    (size : ℕ) (e : size ≡ roomIn job (length (g .out))) where
   abbrev lent : Text
   lent = take size images
 
@@ -63,28 +65,28 @@ module _ {job : Job} {g : Given} (p : Passed job g) (copy copy₁ images : Text)
   lent-long : length lent ≡ size
   lent-long = length-take-le size images size-within
 
-  used-long : length (take (g .used) (g .vars)) ≡ g .used
-  used-long = length-take-le (g .used) (g .vars) (p .tables .inside)
+  used-long : length (take (g .varsUsed) (g .vars)) ≡ g .varsUsed
+  used-long = length-take-le (g .varsUsed) (g .vars) (p .tables .inside)
 
-  used-low : g .used ≤ imageLimit
-  used-low = omega (arith, used-long, vars-of (take (g .used) (g .vars)) (p .tables .formed) .small)
+  used-low : g .varsUsed ≤ imageLimit
+  used-low = omega (arith, used-long, vars-of (take (g .varsUsed) (g .vars)) (p .tables .formed) .small)
 
-  copied : take (g .used) copy₁ ≡ take (g .used) (g .vars)
+  copied : take (g .varsUsed) copy₁ ≡ take (g .varsUsed) (g .vars)
   copied =
-      ap (take (g .used)) d
-      ∙ take-at (take (g .used) (g .vars)) (drop (length (take (g .used) (g .vars))) copy) (g .used) used-long
+      ap (take (g .varsUsed)) d
+      ∙ take-at (take (g .varsUsed) (g .vars)) (drop (length (take (g .varsUsed) (g .vars))) copy) (g .varsUsed) used-long
 
   copy-long : length copy₁ ≡ imageLimit
   copy-long = ap length d ∙ simp (length-append, length-drop) (omega (arith, used-long, used-low, lc))
 
-  pub line-ready : LineReady (g .line) copy₁ (g .used) (length (g .vars)) (g .homes) (g .paths) (g .work) lent
+  pub line-ready : LineReady (g .line) copy₁ (g .varsUsed) (length (g .vars)) (g .homes) (g .paths) (g .work) lent
   line-ready =
       record {
         words = p .words;
         read = p .read;
         clean = p .clean;
         holds = record {
-          formed = ap (λ (t : Text). isSome (variables t)) copied ∙ p .tables .formed;
+          formed = ap (λ (t : Text). isSome (variablesOf t)) copied ∙ p .tables .formed;
           inside = omega (arith, copy-long, used-low);
           fits = p .tables .inside;
           long = omega (arith, copy-long);
@@ -100,27 +102,27 @@ module _ {job : Job} {g : Given} (p : Passed job g) (copy copy₁ images : Text)
   around out = line-answers.among (length (g .vars)) (g .homes) (g .paths) out
 
   -- what is worked out is what the line gives on the copies
-  worked-line : worked job g ≡ lineOutcome (around (length lent)) (g .line) (held (take (g .used) copy₁))
+  worked-line : worked job g ≡ lineOutcome (around (length lent)) (g .line) (held (take (g .varsUsed) copy₁))
   worked-line =
       p .is
-      ∙ ap (λ (n : ℕ). expandWords (around n) (p .words) 1 (held (take (g .used) (g .vars)))) (sym (lent-long ∙ e))
+      ∙ ap (λ (n : ℕ). expandWords (around n) (p .words) 1 (held (take (g .varsUsed) (g .vars)))) (sym (lent-long ∙ e))
       ∙ ap (λ (t : Text). expandWords (around (length lent)) (p .words) 1 (held t)) (sym copied)
-      ∙ ap (λ (w : Placed (List Word)). w then λ ws. expandWords (around (length lent)) ws 1 (held (take (g .used) copy₁))) (sym (p .read))
+      ∙ ap (λ (w : Placed (List Word)). w then λ ws. expandWords (around (length lent)) ws 1 (held (take (g .varsUsed) copy₁))) (sym (p .read))
 
   module _ (copy₂ image₁ : Text) (got : LineExpanded) (same : length image₁ ≡ length lent)
-      (h : LineSays (length (g .vars)) (lineOutcome (around (length lent)) (g .line) (held (take (g .used) copy₁))) copy₂ lent image₁ got) where
+      (h : LineSays (length (g .vars)) (lineOutcome (around (length lent)) (g .line) (held (take (g .varsUsed) copy₁))) copy₂ lent image₁ got) where
     line-of : {x : LineExpanded} → got ≡ x
-        → LineSays (length (g .vars)) (lineOutcome (around (length lent)) (g .line) (held (take (g .used) copy₁))) copy₂ lent image₁ x
+        → LineSays (length (g .vars)) (lineOutcome (around (length lent)) (g .line) (held (take (g .varsUsed) copy₁))) copy₂ lent image₁ x
     line-of k =
-        subst (λ (x : LineExpanded). LineSays (length (g .vars)) (lineOutcome (around (length lent)) (g .line) (held (take (g .used) copy₁)))
+        subst (λ (x : LineExpanded). LineSays (length (g .vars)) (lineOutcome (around (length lent)) (g .line) (held (take (g .varsUsed) copy₁)))
         copy₂ lent image₁ x) k h
 
-    pub words-refused : {n place : ℕ} {r : Answer} → got ≡ line.Refused n place → r ≡ refusedAs n place (g .used) → Hands (answerOf job g)
+    pub words-refused : {n place : ℕ} {r : Answer} → got ≡ line.Refused n place → r ≡ refusedAs n place (g .varsUsed) → Hands (answerOf job g)
         r (g .vars) (g .out)
     words-refused k f = answer-refused job g (worked-line ∙ line-of k) f
 
     module _ {len have : ℕ} (k : got ≡ line.Done len have) where
-      made : IsLine (length (g .vars)) (lineOutcome (around (length lent)) (g .line) (held (take (g .used) copy₁))) copy₂ lent image₁ len have
+      made : IsLine (length (g .vars)) (lineOutcome (around (length lent)) (g .line) (held (take (g .varsUsed) copy₁))) copy₂ lent image₁ len have
       made = line-of k
 
       abbrev whole : Text
@@ -155,9 +157,9 @@ module _ {job : Job} {g : Given} (p : Passed job g) (copy copy₁ images : Text)
       ready = safe-given (expanded-safe g (roomOf job (length (g .out)))) worked-done
 
       pub words-handed : {r : Answer} {vars out : Text} → Bytes copy₂
-          → Handed (writingOf job (take len whole) (g .out)) (take have copy₂) (g .vars) (g .used) r vars out → Hands (answerOf job g) r vars out
+          → Handed (writingOf job (take len whole) (g .out)) (take have copy₂) (g .vars) (g .varsUsed) r vars out → Hands (answerOf job g) r vars out
       words-handed {r = r} {vars = vars} {out = out} b c =
           answer-handed job g worked-done (ready .fine) (ready .small)
-          (subst (λ (t : Text). Handed (writingOf job (image (made .fields)) (g .out)) t (g .vars) (g .used) r vars out)
+          (subst (λ (t : Text). Handed (writingOf job (image (made .fields)) (g .out)) t (g .vars) (g .varsUsed) r vars out)
           (table-canonical isName (take have copy₂) (vars-of (take have copy₂) (made .holds .formed)) (bytes-take have copy₂ b))
-          (subst (λ (t : Text). Handed (writingOf job t (g .out)) (take have copy₂) (g .vars) (g .used) r vars out) image-there c))
+          (subst (λ (t : Text). Handed (writingOf job t (g .out)) (take have copy₂) (g .vars) (g .varsUsed) r vars out) image-there c))

@@ -9,7 +9,7 @@ use lib.ListN.{length, drop, length-append}
 use Rattle.stages.specs.Numbers.{rowLimit, tooManyUnits}
 use Rattle.stages.specs.Bytes.{Text}
 use Rattle.stages.specs.Outcome.{Outcome, refused, done}
-use Rattle.stages.specs.Units.{Mark, Row, marked, expanded, fit}
+use Rattle.stages.specs.Units.{Mark, Row, marked, expandedMark, fit}
 use Rattle.stages.specs.Call.{over}
 use Rattle.stages.proofs.Bools.{either}
 use Rattle.stages.proofs.Rooms.{fit-full}
@@ -70,11 +70,11 @@ adds-text units on m area r e h = adds-same units on area r (ap (λ (s : Text). 
 -- a text that was given where what is expanded ends
 pub adds-expanded : (row : RowEnd) {there : RowEnd} (on : Onward) {t u : Text} (area : Text) (r : Expanded) → EndsExpanded row there → t ≡ u
     → Adds (there .units) on (done (marked (markOf (there .mark)) t)) area r
-    → Adds (row .units) on (done (marked (expanded (markOf (row .mark))) u)) area r
+    → Adds (row .units) on (done (marked (expandedMark (markOf (row .mark))) u)) area r
 adds-expanded row {there} on {t} {u} area r x e h =
-    subst (λ (n : ℕ). Adds n on (done (marked (expanded (markOf (row .mark))) u)) area r) (x .units)
+    subst (λ (n : ℕ). Adds n on (done (marked (expandedMark (markOf (row .mark))) u)) area r) (x .units)
     (adds-same (there .units) on area r
-    (ap (λ (k : Mark). done (marked k t)) (x .mark) ∙ ap (λ (s : Text). done (marked (expanded (markOf (row .mark))) s)) e) h)
+    (ap (λ (k : Mark). done (marked k t)) (x .mark) ∙ ap (λ (s : Text). done (marked (expandedMark (markOf (row .mark))) s)) e) h)
 
 -- a text that was written at the front ends within the buffer
 pub puts-inside : {text entry exit : Text} {n : ℕ} → Puts text entry exit n → n ≤ length exit

@@ -2,14 +2,13 @@
 use Prim.Native.Nat.{ℕ, suc, _+_, _≤_}
 use native.Mathlib.Omega.{arith}
 use mathlib.Core.Path.{_≡_, refl, sym, ap, _∙_}
-use mathlib.Core.Bool.{Bool}
 use mathlib.Core.List.{[], _∷_, _++_, append-assoc}
 use lib.ListN.{length}
 use Rattle.stages.specs.Bytes.{Text}
 use Rattle.stages.specs.Outcome.{Outcome, refused, done, _>>=_}
 use Rattle.stages.specs.Images.{Pairs}
-use Rattle.stages.specs.Syntax.{Form, Parts, lit, quo, par, len, ari}
-use Rattle.stages.specs.Units.{Mark, Q, cell, N, Row, marked, bytes, expanded, litMark, decimal}
+use Rattle.stages.specs.Syntax.{Escape, Form, Parts, lit, quo, par, len, ari}
+use Rattle.stages.specs.Units.{Mark, Q, cell, N, Row, marked, bytes, expandedMark, litMark, decimal}
 use Rattle.stages.specs.Arith.{arithmeticOf}
 use Rattle.stages.specs.Expand.{Made, value, parameter, onto, adding, expand}
 use Rattle.expand_add.specs.Steps.{beside, placed, quoted, summed, followed}
@@ -36,7 +35,8 @@ module _ (room : ℕ) (p : Parts) (m : Mark) (n : ℕ) where
       ((o >>= λ i. done r) >>= λ s. onto (s .0) (expand room p m (n + length (s .0)) (s .1))))
       n (length (r .0)) refl refl
 
-  pub expand-lit : (q : Bool) (b : ℕ) (v : Pairs) → expand room (lit q b p) m n v ≡ followed room p m n (placed n (done (cell (litMark q m) b ∷ [], v)))
+  pub expand-lit : (q : Escape) (b : ℕ) (v : Pairs)
+      → expand room (lit q b p) m n v ≡ followed room p m n (placed n (done (cell (litMark q m) b ∷ [], v)))
   unfolding expand
   expand-lit q b v = placed-followed (done (cell (litMark q m) b ∷ [], v))
 
@@ -46,9 +46,9 @@ module _ (room : ℕ) (p : Parts) (m : Mark) (n : ℕ) where
   expand-par x f q v = placed-followed (parameter room (λ k w. expand room q k 0 w) x f m v)
 
   pub expand-len : (x : Text) (v : Pairs) → expand room (len x p) m n v ≡ followed room p m n
-      (placed n (done (marked (expanded m) (decimal (length (value v x))), v)))
+      (placed n (done (marked (expandedMark m) (decimal (length (value v x))), v)))
   unfolding expand
-  expand-len x v = placed-followed (done (marked (expanded m) (decimal (length (value v x))), v))
+  expand-len x v = placed-followed (done (marked (expandedMark m) (decimal (length (value v x))), v))
 
   quote-inside : (o : Made)
       → onto (N ∷ []) (o >>= λ r. onto (r .0) (expand room p m (n + 1 + length (r .0)) (r .1)))
@@ -69,17 +69,17 @@ module _ (room : ℕ) (p : Parts) (m : Mark) (n : ℕ) where
 
   abbrev numbered : Text × Pairs → Row × Pairs
   unfolding marked
-  numbered s = (marked (expanded m) (s .0), s .1)
+  numbered s = (marked (expandedMark m) (s .0), s .1)
 
   number-bind : (o : Outcome (Text × Pairs))
-      → (o >>= λ s. adding n (marked (expanded m) (s .0)) λ i. expand room p m i (s .1))
+      → (o >>= λ s. adding n (marked (expandedMark m) (s .0)) λ i. expand room p m i (s .1))
       ≡ ((o >>= λ s. done (numbered s)) >>= λ r. adding n (r .0) λ i. expand room p m i (r .1))
   unfolding marked
   number-bind (refused e) = refl
   number-bind (done s) = refl
 
   sum-bind : (o : Made)
-      → (o >>= λ r. arithmeticOf (r .1) (bytes (r .0)) >>= λ s. adding n (marked (expanded m) (s .0)) λ i. expand room p m i (s .1))
+      → (o >>= λ r. arithmeticOf (r .1) (bytes (r .0)) >>= λ s. adding n (marked (expandedMark m) (s .0)) λ i. expand room p m i (s .1))
       ≡ ((o >>= λ r. summed m r) >>= λ r. adding n (r .0) λ i. expand room p m i (r .1))
   unfolding summed marked
   sum-bind (refused e) = refl

@@ -6,7 +6,7 @@ use lib.ListN.{length}
 use Rattle.stages.specs.Numbers.{rowLimit, tooManyUnits}
 use Rattle.stages.specs.Bytes.{Text}
 use Rattle.stages.specs.Outcome.{Outcome, refused, done, _>>=_, pick}
-use Rattle.stages.specs.Units.{Row, expanded as asExpanded, fit}
+use Rattle.stages.specs.Units.{Row, expandedMark as asExpanded, fit}
 use Rattle.row.specs.Marks.{markOf}
 use Rattle.row.specs.Stands.{Stands}
 use Rattle.row.specs.declared.RowEnd.{RowEnd}

@@ -6,7 +6,7 @@ use lib.ListN.{length, take, drop}
 use Rattle.stages.specs.Numbers.{rowLimit, imageLimit}
 use Rattle.stages.specs.Bytes.{Text, all, notZero}
 use Rattle.stages.specs.Outcome.{refused, done}
-use Rattle.stages.specs.Images.{variables, held, isSome}
+use Rattle.stages.specs.Images.{variablesOf, held, isSome}
 use Rattle.stages.specs.Syntax.{Parts}
 use Rattle.stages.specs.Read.{Taken, parts}
 use Rattle.stages.specs.Units.{Row}
@@ -19,7 +19,7 @@ use Rattle.expand_add.specs.declared.answers.Expanded.the-variants as ex
 
 -- the first `varsUsed` bytes are the image of variables, which may grow to `varsRoom`
 pub record Holds (varsRoom : ℕ) (vars : Text) (varsUsed : ℕ) : Type 0 where
-  pub formed : isSome (variables (take varsUsed vars)) ≡ true
+  pub formed : isSome (variablesOf (take varsUsed vars)) ≡ true
   pub inside : varsUsed ≤ length vars
   pub fits : varsUsed ≤ varsRoom
   pub long : imageLimit ≤ length vars

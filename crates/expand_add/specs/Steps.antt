@@ -5,7 +5,7 @@ use lib.ListN.{length}
 use Rattle.stages.specs.Outcome.{Outcome, done, _>>=_}
 use Rattle.stages.specs.Images.{Pairs}
 use Rattle.stages.specs.Syntax.{Parts}
-use Rattle.stages.specs.Units.{Mark, Q, N, Row, marked, bytes, expanded, fit}
+use Rattle.stages.specs.Units.{Mark, Q, N, Row, marked, bytes, expandedMark, fit}
 use Rattle.stages.specs.Arith.{arithmeticOf}
 use Rattle.stages.specs.Expand.{Made, onto, adding, expand}
 
@@ -26,7 +26,7 @@ quoted room q n v = adding n (N ∷ []) λ i. expand room q Q i v
 -- the number of an arithmetic text that is expanded
 unfoldable pub summed : Mark → Row × Pairs → Made
 unfolding arithmeticOf bytes marked
-summed m p = arithmeticOf (p .1) (bytes (p .0)) >>= λ s. done (marked (expanded m) (s .0), s .1)
+summed m p = arithmeticOf (p .1) (bytes (p .0)) >>= λ s. done (marked (expandedMark m) (s .0), s .1)
 
 -- the number of an arithmetic text
 unfoldable pub summing : ℕ → Parts → Mark → Pairs → Made

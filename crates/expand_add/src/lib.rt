@@ -5,7 +5,7 @@ ghost use Rattle.stages.specs.Numbers.{rowLimit};
 ghost use Rattle.stages.specs.Outcome.{done};
 ghost use Rattle.stages.specs.Images.{held};
 ghost use Rattle.stages.specs.Expand.{value};
-ghost use Rattle.stages.specs.Units.{marked, expanded};
+ghost use Rattle.stages.specs.Units.{marked, expandedMark};
 ghost use Rattle.stages.specs.Constants.{signed};
 ghost use Rattle.row.specs.Marks.{markOf};
 ghost use Rattle.table.specs.Places.{Table};
@@ -49,7 +49,7 @@ pub fn give_text(text: &[u8], row: RowEnd, on: Onward, area: &mut [u8]) -> Expan
 // Adds the value of a name in the image, as what is expanded where literal bytes have the row's mark.
 pub fn give_value(name: &[u8], row: RowEnd, on: Onward, vars: &[u8], area: &mut [u8]) -> Expanded
     requires { ⌜ Table (now vars) × (row .units ≤ rowLimit) × (2 * rowLimit ≤ length (now area) + 2 * row .units) ⌝ }
-    ensures { λ r. ⌜ Adds (row .units) on (done (marked (expanded (markOf (row .mark))) (value (held (now (vars .entry))) (now (name .entry)))))
+    ensures { λ r. ⌜ Adds (row .units) on (done (marked (expandedMark (markOf (row .mark))) (value (held (now (vars .entry))) (now (name .entry)))))
         (now (area .exit)) r ⌝ }
 {
     let value = table_find::value_of(vars, name);
@@ -59,7 +59,7 @@ pub fn give_value(name: &[u8], row: RowEnd, on: Onward, vars: &[u8], area: &mut 
 // Adds the decimal text of a number, which is worked out in `digits`.
 fn give_signed(z: i64, row: RowEnd, on: Onward, digits: &mut [u8], area: &mut [u8]) -> Expanded
     requires { ⌜ (20 ≤ length (now digits)) × (row .units ≤ rowLimit) × (2 * rowLimit ≤ length (now area) + 2 * row .units) ⌝ }
-    ensures { λ r. ⌜ Adds (row .units) on (done (marked (expanded (markOf (row .mark))) (signed z))) (now (area .exit)) r ⌝ }
+    ensures { λ r. ⌜ Adds (row .units) on (done (marked (expandedMark (markOf (row .mark))) (signed z))) (now (area .exit)) r ⌝ }
 {
     let n = text_decimal::put_signed(digits, z);
     give_text(&digits[..n], expanded_end(row), on, area)
@@ -68,7 +68,7 @@ fn give_signed(z: i64, row: RowEnd, on: Onward, digits: &mut [u8], area: &mut [u
 // Adds the decimal text of a number.
 pub fn give_number(z: i64, row: RowEnd, on: Onward, area: &mut [u8]) -> Expanded
     requires { ⌜ (row .units ≤ rowLimit) × (2 * rowLimit ≤ length (now area) + 2 * row .units) ⌝ }
-    ensures { λ r. ⌜ Adds (row .units) on (done (marked (expanded (markOf (row .mark))) (signed z))) (now (area .exit)) r ⌝ }
+    ensures { λ r. ⌜ Adds (row .units) on (done (marked (expandedMark (markOf (row .mark))) (signed z))) (now (area .exit)) r ⌝ }
 {
     let mut digits = [0u8; numbers::MOST_DIGITS];
     give_signed(z, row, on, &mut digits, area)

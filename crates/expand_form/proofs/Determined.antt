@@ -1,7 +1,6 @@
 -- The contracts determine every answer: two outcomes that a contract allows for one input are equal.
 use mathlib.Core.Path.{_≡_, refl, sym, _∙_}
-use mathlib.Core.Bool.{false}
-use Rattle.stages.specs.Syntax.{Form}
+use Rattle.stages.specs.Syntax.{Form, unescaped}
 use Rattle.text.proofs.Determined.{one-answer}
 use Rattle.row.specs.Marks.{markOf}
 use Rattle.row.specs.declared.Mark.{Mark}
@@ -15,4 +14,4 @@ pub plan-of-determined : (f : Form) (found : Found) (r s : Plan) → r ≡ planO
 plan-of-determined f found r s = one-answer
 
 pub operand-mark-determined : (u : Used) (m r s : Mark) → markOf r ≡ operandMark u (markOf m) → markOf s ≡ operandMark u (markOf m) → r ≡ s
-operand-mark-determined u m r s e f = literal-mark-determined false r r s refl (f ∙ sym e)
+operand-mark-determined u m r s e f = literal-mark-determined unescaped r r s refl (f ∙ sym e)

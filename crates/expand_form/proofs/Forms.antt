@@ -2,23 +2,23 @@
 use Prim.Native.Nat.{ℕ, _-_, _≤_}
 use native.Mathlib.Omega.{arith}
 use mathlib.Core.Path.{_≡_, refl, sym, ap, _∙_}
-use mathlib.Core.Bool.{Bool, true, false, _&&_}
+use mathlib.Core.Bool.{Bool}
 use mathlib.Core.List.{[], _∷_}
 use mathlib.Core.Option.{some}
 use borrow.Author.Tests.{eq-eqb, ne-eqb}
-use lib.Dec.{eqb}
 use lib.ListN.{length}
 use Rattle.stages.specs.Bytes.{Text, part}
 use Rattle.stages.specs.Outcome.{refused, done, _>>=_, pick}
 use Rattle.stages.specs.Images.{Pairs, held}
-use Rattle.stages.specs.Syntax.{Form, plain, minus, equals, query, plus, suffix, prefix}
-use Rattle.stages.specs.Units.{Mark, expanded}
+use Rattle.stages.specs.Syntax.{Colon, withColon, noColon, Form, plain, minus, equals, query, plus, removal, suffix, prefix, shortest, longest}
+use Rattle.stages.specs.Units.{Mark, expandedMark}
 use Rattle.stages.specs.Expand.{Made, missing, parameter}
 use Rattle.stages.specs.Expand as stage
 use Rattle.stages.proofs.Bools.{either}
 use Rattle.text.proofs.Parts.{part-length}
 use Rattle.table.specs.Places as places
 use Rattle.table.specs.declared.Found.{Found}
+use Rattle.table.specs.declared.Found.the-variants.{At}
 use Rattle.expand_form.specs.Plans.{planOf, missingIn, operandMark, settled, finished}
 use Rattle.expand_add.specs.Steps.{beside}
 use Rattle.expand_form.specs.declared.Plan.{Plan}
@@ -30,27 +30,26 @@ use Rattle.expand_form.specs.declared.Used.the-variants.{Given, Stored}
 
 -- "missing", by where the value was found
 
-missing-part : (u : Text) (c : Bool) (from to : ℕ) → length u ≡ to - from → from ≤ to → (c && eqb from to) ≡ stage.absent c (some u)
+missing-part : (u : Text) (c : Colon) (from to : ℕ) → length u ≡ to - from → from ≤ to → missingIn (At from to) c ≡ stage.absent c (some u)
 unfolding stage.absent
-missing-part [] true from to e l = eq-eqb from to (omega arith)
-missing-part [] false from to e l = refl
-missing-part (b ∷ u) true from to e l = ne-eqb from to (λ h. absurd (omega arith))
-missing-part (b ∷ u) false from to e l = refl
+missing-part [] withColon from to e l = eq-eqb from to (omega arith)
+missing-part [] noColon from to e l = refl
+missing-part (b ∷ u) withColon from to e l = ne-eqb from to (λ h. absurd (omega arith))
+missing-part (b ∷ u) noColon from to e l = refl
 
-pub missing-found : (t x : Text) (found : Found) → places.Shown t x found → (c : Bool) → missingIn found c ≡ missing c x (held t)
+pub missing-found : (t x : Text) (found : Found) → places.Shown t x found → (c : Colon) → missingIn found c ≡ missing c x (held t)
 unfolding missing stage.absent
 missing-found t x _ (places.absent l) c = rw l
 missing-found t x _ (places.shown {start = from} {end = to} h) c =
     missing-part (part t from to) c from to (part-length t from to (h .low) (h .high)) (h .low) ∙ ap (stage.absent c) (sym (h .gets))
 
-plan-same : (f : Form) (g h : Bool → Bool) → ((c : Bool) → g c ≡ h c) → planOf f g ≡ planOf f h
+plan-same : (f : Form) (g h : Colon → Bool) → ((c : Colon) → g c ≡ h c) → planOf f g ≡ planOf f h
 plan-same plain g h e = refl
 plan-same (minus c) g h e = ap (λ (b : Bool). pick b (plan.Used Given) (plan.Unused Value)) (e c)
 plan-same (equals c) g h e = ap (λ (b : Bool). pick b (plan.Used Stored) (plan.Unused Value)) (e c)
 plan-same (query c) g h e = ap (λ (b : Bool). pick b (plan.Unused Demand) (plan.Unused Value)) (e c)
 plan-same (plus c) g h e = ap (λ (b : Bool). pick b (plan.Unused Nothing) (plan.Used Given)) (e c)
-plan-same (suffix long) g h e = refl
-plan-same (prefix long) g h e = refl
+plan-same (removal side reach) g h e = refl
 
 -- the law of plans
 
@@ -66,12 +65,14 @@ module _ (room : ℕ) (operand : Mark → Pairs → Made) (x : Text) (m : Mark) 
   parameter-plan : (f : Form) → parameter room operand x f m v ≡ byPlan (planOf f (λ c. missing c x v))
   unfolding parameter settled finished
   parameter-plan plain = refl
-  parameter-plan (minus c) = either (missing c x v) (λ e. rw (e, parameter) (bind-done (operand (expanded m) v))) (λ e. rw (e, parameter))
+  parameter-plan (minus c) = either (missing c x v) (λ e. rw (e, parameter) (bind-done (operand (expandedMark m) v))) (λ e. rw (e, parameter))
   parameter-plan (equals c) = either (missing c x v) (λ e. rw (e, parameter)) (λ e. rw (e, parameter))
   parameter-plan (query c) = either (missing c x v) (λ e. rw (e, parameter)) (λ e. rw (e, parameter))
-  parameter-plan (plus c) = either (missing c x v) (λ e. rw (e, parameter)) (λ e. rw (e, parameter) (bind-done (operand (expanded m) v)))
-  parameter-plan (suffix long) = refl
-  parameter-plan (prefix long) = refl
+  parameter-plan (plus c) = either (missing c x v) (λ e. rw (e, parameter)) (λ e. rw (e, parameter) (bind-done (operand (expandedMark m) v)))
+  parameter-plan (removal suffix shortest) = refl
+  parameter-plan (removal suffix longest) = refl
+  parameter-plan (removal prefix shortest) = refl
+  parameter-plan (removal prefix longest) = refl
 
 -- the same by where the value was found in an image
 module _ (room : ℕ) (operand : Mark → Pairs → Made) (x : Text) (m : Mark) (t : Text) (f : Form) (found : Found) (s : places.Shown t x found) {own : Plan}

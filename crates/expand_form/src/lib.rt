@@ -1,5 +1,6 @@
 // What a form of a parameter asks for. "Missing" is tested here, once, before the operand is looked at.
 ghost use mathlib.Core.Path.{_≡_};
+ghost use Rattle.text.specs.Cases.{colonOf};
 ghost use Rattle.read_mode.specs.Modes.{formOf};
 ghost use Rattle.row.specs.Marks.{markOf};
 ghost use Rattle.expand_form.specs.Plans.{planOf, missingIn, operandMark};
@@ -33,7 +34,7 @@ pub enum Used {
 
 // "Missing": unset, or with the colon also empty.
 fn is_missing(colon: bool, found: Found) -> bool
-    ensures { λ r. ⌜ r ≡ missingIn found colon ⌝ }
+    ensures { λ r. ⌜ r ≡ missingIn found (colonOf colon) ⌝ }
 {
     match found {
         Found::Missing => true,

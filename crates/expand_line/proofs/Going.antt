@@ -8,7 +8,7 @@ use lib.ListN.{length, take, drop, set, length-append}
 use lib.Seq.{take-at, drop-at, drop-drop}
 use Rattle.stages.specs.Numbers.{outputRoom}
 use Rattle.stages.specs.Bytes.{Text}
-use Rattle.stages.specs.Outcome.{Outcome, refused, done, _>>=_, Placed, refusedAt, doneAt, at, _then_, require, pick}
+use Rattle.stages.specs.Outcome.{Outcome, refused, done, _>>=_, Placed, refusedAt, doneAt, placedAt, _then_, require, pick}
 use Rattle.stages.specs.Images.{Pairs, written, image, recordBytes}
 use Rattle.stages.specs.Syntax.{Word}
 use Rattle.stages.specs.Read.{words, readLine}
@@ -36,18 +36,18 @@ module _ (a : Around) (w : Word) (ws : List Word) (n : ℕ) (v : Pairs) where
   later r = before (r .0) (expandWords a ws (n + recordBytes (r .0)) (r .1))
 
   by-room : (r : Fields × Pairs) (x : Bool) → (require x outputRoom (w .place) then λ _. later r) ≡
-      (at (w .place) (pick x (done r) (refused outputRoom)) then later)
+      (placedAt (w .place) (pick x (done r) (refused outputRoom)) then later)
   by-room r true = refl
   by-room r false = refl
 
   by-fields : (o : Outcome (Fields × Pairs))
-      → (at (w .place) o then λ r. require (outFits a (n + recordBytes (r .0))) outputRoom (w .place) then λ _. later r)
-      ≡ (at (w .place) (o >>= λ r. pick (outFits a (n + recordBytes (r .0))) (done r) (refused outputRoom)) then later)
+      → (placedAt (w .place) o then λ r. require (outFits a (n + recordBytes (r .0))) outputRoom (w .place) then λ _. later r)
+      ≡ (placedAt (w .place) (o >>= λ r. pick (outFits a (n + recordBytes (r .0))) (done r) (refused outputRoom)) then later)
   by-fields (refused e) = refl
   by-fields (done r) = by-room r (outFits a (n + recordBytes (r .0)))
 
   -- a word's own faults, 21 among them, are met before the words behind it
-  words-step : expandWords a (w ∷ ws) n v ≡ (at (w .place) (wordOutcome a (w .parts) n v) then later)
+  words-step : expandWords a (w ∷ ws) n v ≡ (placedAt (w .place) (wordOutcome a (w .parts) n v) then later)
   unfolding expandWords wordOutcome
   words-step = by-fields (wordFields a (w .parts) v)
 
@@ -101,14 +101,14 @@ module _ {a : Around} {o : Placed (Fields × Pairs)} {line : Text} {from len : �
     abbrev own : Word
     own = record { place = place; parts = first .tree }
 
-    opened : o ≡ before (g .fields) (at place (wordOutcome a (first .tree) len v) then later a own (first .tail) len v)
+    opened : o ≡ before (g .fields) (placedAt place (wordOutcome a (first .tree) len v) then later a own (first .tail) len v)
     opened =
         g .is ∙ ap (λ (ws : List Word). before (g .fields) (expandWords a ws len v)) (first .whole)
         ∙ ap (before (g .fields)) (words-step a own (first .tail) len v)
 
     -- the word is refused
     pub goes-refused : {n : ℕ} → wordOutcome a (first .tree) len v ≡ refused n → o ≡ refusedAt n place
-    goes-refused h = opened ∙ ap (λ (w : Outcome (Fields × Pairs)). before (g .fields) (at place w then later a own (first .tail) len v)) h
+    goes-refused h = opened ∙ ap (λ (w : Outcome (Fields × Pairs)). before (g .fields) (placedAt place w then later a own (first .tail) len v)) h
 
     -- its fields stand behind those before them
     module _ {l : Fields} {u : Pairs} (h : wordOutcome a (first .tree) len v ≡ done (l, u)) {next len' : ℕ}
@@ -136,7 +136,7 @@ module _ {a : Around} {o : Placed (Fields × Pairs)} {line : Text} {from len : �
             ahead = first .more next ends w;
             fields = g .fields ++ l;
             is =
-                opened ∙ ap (λ (w : Outcome (Fields × Pairs)). before (g .fields) (at place w then later a own (first .tail) len v)) h
+                opened ∙ ap (λ (w : Outcome (Fields × Pairs)). before (g .fields) (placedAt place w then later a own (first .tail) len v)) h
                 ∙ before-both (g .fields) l (expandWords a (first .tail) (len + recordBytes l) u)
                 ∙ ap (λ (i : ℕ). before (g .fields ++ l) (expandWords a (first .tail) i u)) (sym e);
             long = k ∙ ap (λ (i : ℕ). i + length (written l)) (g .long) ∙ sym (length-append (image (g .fields)) (written l)) ∙ ap length (sym joined);

@@ -14,7 +14,7 @@ use Rattle.stages.specs.Read.{Taken, parts}
 use Rattle.stages.specs.Units.{Row}
 use Rattle.stages.specs.Expand.{Made, wordRow}
 use Rattle.stages.specs.Split.{fieldsOfRow}
-use Rattle.stages.specs.Paths.{named}
+use Rattle.stages.specs.Paths.{textsOfFields}
 use Rattle.stages.specs.Line.{Around, Fields, wordFields, outFits}
 use Rattle.text.specs.Rows.{rowBytes, rowOf}
 use Rattle.text.proofs.Rows.{rowOf-rowBytes, length-rowBytes}
@@ -80,11 +80,11 @@ module _ (a : Around) (tree : Parts) (n : ℕ) (v : Pairs) where
   outcome-refused h = rw h
 
   module _ {row : Row} {u : Pairs} (h : wordRow (a .room) (a .homes) tree v ≡ done (row, u)) where
-    outcome-class : {e : ℕ} → named (a .paths) (fieldsOfRow u row) ≡ refused e → wordOutcome a tree n v ≡ refused e
+    outcome-class : {e : ℕ} → textsOfFields (a .paths) (fieldsOfRow u row) ≡ refused e → wordOutcome a tree n v ≡ refused e
     unfolding wordOutcome wordFields
     outcome-class k = rw (h, k)
 
-    module _ {l : Fields} (k : named (a .paths) (fieldsOfRow u row) ≡ done l) where
+    module _ {l : Fields} (k : textsOfFields (a .paths) (fieldsOfRow u row) ≡ done l) where
       outcome-full : a .out < n + recordBytes l → wordOutcome a tree n v ≡ refused outputRoom
       unfolding wordOutcome wordFields outFits
       outcome-full f = rw (h, k, lt-leb (n + recordBytes l) (a .out) f)
@@ -135,9 +135,9 @@ module _ {line : Text} {at : ℕ} {vars : Text} {varsUsed room : ℕ} {houses pa
       there = row-of g .0
 
       module _ {out : Text} {r : Written}
-          (p : Puts (named (heldTexts paths) (fieldsOfRow (held (take left vars')) (rowOf (take (2 * units) area)))) used old out r) where
-        split : Says (named (heldTexts paths) (fieldsOfRow (held (take left vars')) (there .row))) used old out r
-        split = subst (λ (x : Row). Says (named (heldTexts paths) (fieldsOfRow (held (take left vars')) x)) used old out r) (row-there there) (p .says)
+          (p : Puts (textsOfFields (heldTexts paths) (fieldsOfRow (held (take left vars')) (rowOf (take (2 * units) area)))) used old out r) where
+        split : Says (textsOfFields (heldTexts paths) (fieldsOfRow (held (take left vars')) (there .row))) used old out r
+        split = subst (λ (x : Row). Says (textsOfFields (heldTexts paths) (fieldsOfRow (held (take left vars')) x)) used old out r) (row-there there) (p .says)
 
         pub word-class : r ≡ Class → WordSays a (parts words depthLimit (drop at line)) line at used v vars' old out (word.Refused bracketClass)
         word-class c = said vars' out (word.Refused bracketClass) (outcome-class a tree used v (there .is) (class-of split c))

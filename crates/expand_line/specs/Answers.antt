@@ -7,7 +7,7 @@ use lib.ListN.{length, take}
 use Rattle.stages.specs.Numbers.{depthLimit, workLeast, imageLimit, outputRoom}
 use Rattle.stages.specs.Bytes.{Text, all, notZero}
 use Rattle.stages.specs.Outcome.{Outcome, refused, done, _>>=_, Placed, refusedAt, doneAt, _then_, pick}
-use Rattle.stages.specs.Images.{Pairs, held, heldTexts, isSome, homes, pathsOf, written, image, recordBytes}
+use Rattle.stages.specs.Images.{Pairs, held, heldTexts, isSome, homesOf, pathsOf, written, image, recordBytes}
 use Rattle.stages.specs.Syntax.{Parts, Word}
 use Rattle.stages.specs.Read.{Taken, readLine}
 use Rattle.stages.specs.Line.{Around, Fields, wordFields, outFits, expandWords}
@@ -36,7 +36,7 @@ lineOutcome a t v = readLine t then λ ws. expandWords a ws 1 v
 pub record WordReady (text : Text) (at : ℕ) (vars : Text) (varsUsed room : ℕ) (houses paths work out : Text) (used : ℕ) : Type 0 where
   pub ready : Ready text at mode.Word depthLimit 0 (length work)
   pub holds : Holds room vars varsUsed
-  pub housed : isSome (homes houses) ≡ true
+  pub housed : isSome (homesOf houses) ≡ true
   pub listed : isSome (pathsOf paths) ≡ true
   pub low : used ≤ length out
   pub few : length out ≤ imageLimit
@@ -66,7 +66,7 @@ pub record LineReady (text vars : Text) (varsUsed room : ℕ) (houses paths work
   pub read : readLine text ≡ doneAt words
   pub clean : all notZero text ≡ true
   pub holds : Holds room vars varsUsed
-  pub housed : isSome (homes houses) ≡ true
+  pub housed : isSome (homesOf houses) ≡ true
   pub listed : isSome (pathsOf paths) ≡ true
   pub area : workLeast ≤ length work
   pub byte : 1 ≤ length out

@@ -14,6 +14,7 @@ use Rattle.stages.specs.Outcome.{done}
 use Rattle.stages.specs.Images.{held}
 use Rattle.stages.specs.Units.{Mark, Row}
 use Rattle.stages.proofs.Bools.{either}
+use Rattle.text.specs.Cases.{sideOf, reachOf}
 use Rattle.text.specs.Rows.{rowBytes}
 use Rattle.text.proofs.Rows.{length-rowBytes}
 use Rattle.row.specs.Stands.{Stands}
@@ -69,12 +70,12 @@ module _ (varsRoom units : ℕ) (on : Onward) (count : ℕ) (name : Text) (m : M
   unfolding finished
   finish-given p {r} q = adds-finishes varsRoom units on (done (rowAt area count)) area vars r (admitted-adds units on count name area p q) w
 
-  pub finish-cut : (isSuffix long : Bool) (left : Text) (r : Expanded)
-      → Adds units on (leftBy isSuffix long name m (rowAt area count) (held (take (on .«vars_used») vars))) left r
+  pub finish-cut : (suffix long : Bool) (left : Text) (r : Expanded)
+      → Adds units on (leftBy (sideOf suffix) (reachOf long) name m (rowAt area count) (held (take (on .«vars_used») vars))) left r
       → Finishes varsRoom units
-      (placed units (finished (used.Removed isSuffix long) varsRoom name m (rowAt area count, held (take (on .«vars_used») vars)))) (on .next) left vars r
+      (placed units (finished (used.Removed suffix long) varsRoom name m (rowAt area count, held (take (on .«vars_used») vars)))) (on .next) left vars r
   unfolding finished
-  finish-cut isSuffix long left r h =
+  finish-cut suffix long left r h =
       finishes-same varsRoom units (on .next) left vars r
-      (ap (placed units) (cut-beside isSuffix long name m (rowAt area count) (held (take (on .«vars_used») vars))))
+      (ap (placed units) (cut-beside (sideOf suffix) (reachOf long) name m (rowAt area count) (held (take (on .«vars_used») vars))))
       (adds-finishes varsRoom units on _ left vars r h w)

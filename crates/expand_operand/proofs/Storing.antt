@@ -11,7 +11,7 @@ use Rattle.stages.specs.Numbers.{imageLimit, variableRoom}
 use Rattle.stages.specs.Bytes.{Text, all, notZero}
 use Rattle.stages.specs.Outcome.{refused, done}
 use Rattle.stages.specs.Images.{Pairs, isName, held, stored, flat, imageLength}
-use Rattle.stages.specs.Units.{Mark, Row, marked, bytes, expanded}
+use Rattle.stages.specs.Units.{Mark, Row, marked, bytes, expandedMark}
 use Rattle.stages.specs.Expand.{value, store, assigned}
 use Rattle.stages.proofs.Bools.{either, same-tests, and-left, and-right, and-both}
 use Rattle.stages.proofs.Tables.{variables-are, is-some}
@@ -133,12 +133,12 @@ module _ (varsRoom units : ℕ) (x : Text) (m : Mark) (row : Row) (v : Pairs) wh
   assign-full next area vars h = placed-refused units _ variableRoom (rw h)
 
   pub assign-given : (on : Onward) (area vars : Text) (r : Expanded) → StoresIn varsRoom x (bytes row) v vars (stored.Used (on .«vars_used»))
-      → Adds units on (done (marked (expanded m) (value (held (take (on .«vars_used») vars)) x))) area r
+      → Adds units on (done (marked (expandedMark m) (value (held (take (on .«vars_used») vars)) x))) area r
       → Finishes varsRoom units (placed units (finished used.Stored varsRoom x m (row, v))) (on .next) area vars r
   unfolding finished assigned
   assign-given on area vars r h g =
       finishes-same varsRoom units (on .next) area vars r (ap (placed units) (sym made)) (adds-finishes varsRoom units on _ area vars r g (h .1))
     where
       made : finished used.Stored varsRoom x m (row, v)
-          ≡ done (marked (expanded m) (value (held (take (on .«vars_used») vars)) x), held (take (on .«vars_used») vars))
+          ≡ done (marked (expandedMark m) (value (held (take (on .«vars_used») vars)) x), held (take (on .«vars_used») vars))
       made = rw (h .0)

@@ -1,13 +1,14 @@
 -- An operand's row where it stands, for what is done with it.
 use Prim.Native.Nat.{ℕ, _*_, _≤_}
 use mathlib.Core.Path.{_≡_}
-use mathlib.Core.Bool.{Bool, true, false}
+use mathlib.Core.Bool.{true}
 use lib.ListN.{length, take}
 use Rattle.stages.specs.Bytes.{Text, all, notZero}
 use Rattle.stages.specs.Outcome.{Outcome, done, _>>=_, refused, pick}
 use Rattle.stages.specs.Images.{Pairs, isName, held}
-use Rattle.stages.specs.Units.{Mark, Row, marked, bytes, expanded}
-use Rattle.stages.specs.Pattern.{pattern}
+use Rattle.stages.specs.Syntax.{Side, Reach}
+use Rattle.stages.specs.Units.{Mark, Row, marked, bytes, expandedMark}
+use Rattle.stages.specs.Pattern.{forRemoval, pattern}
 use Rattle.stages.specs.Removal.{removed}
 use Rattle.stages.specs.Arith.{arithmeticOf}
 use Rattle.stages.specs.Expand.{value, store}
@@ -30,14 +31,14 @@ pub record Operand (name area : Text) (units : ℕ) : Type 0 where
   pub named : isName name ≡ true
 
 -- what a removal leaves of the value, as units
-unfoldable pub leftBy : Bool → Bool → Text → Mark → Row → Pairs → Outcome Row
+unfoldable pub leftBy : Side → Reach → Text → Mark → Row → Pairs → Outcome Row
 unfolding pattern removed marked value
-leftBy isSuffix long x m row v = pattern false row >>= λ es. done (marked (expanded m) (removed isSuffix long es (value v x)))
+leftBy side reach x m row v = pattern forRemoval row >>= λ es. done (marked (expandedMark m) (removed side reach es (value v x)))
 
 -- the number of an arithmetic text, as units
 unfoldable pub sumOf : Mark → Row → Pairs → Outcome Row
 unfolding arithmeticOf bytes marked
-sumOf m row v = arithmeticOf v (bytes row) >>= λ s. done (marked (expanded m) (s .0))
+sumOf m row v = arithmeticOf v (bytes row) >>= λ s. done (marked (expandedMark m) (s .0))
 
 -- "longer than its buffer or 8,192": the lesser of the two
 abbrev pub capOf : ℕ → ℕ

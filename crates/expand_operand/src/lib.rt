@@ -6,6 +6,7 @@ ghost use lib.ListN.{length, take};
 ghost use Rattle.stages.specs.Numbers.{rowLimit};
 ghost use Rattle.stages.specs.Images.{held};
 ghost use Rattle.stages.specs.Units.{bytes};
+ghost use Rattle.text.specs.Cases.{sideOf, reachOf};
 ghost use Rattle.row.specs.Marks.{markOf};
 ghost use Rattle.table.specs.Places.{Table};
 ghost use Rattle.expand_add.specs.Added.{Adds, admitted};
@@ -116,7 +117,7 @@ fn cut(
 ) -> Expanded
     requires { ⌜ Table (now vars) × (2 * units ≤ length (now work)) × (row .units ≤ rowLimit) × (2 * rowLimit ≤ length (now work)) ⌝ }
     ensures { λ r. ⌜ Adds (row .units) on
-        (leftBy suffix long (now (name .entry)) (markOf (row .mark)) (rowAt (now (work .entry)) units) (held (now (vars .entry))))
+        (leftBy (sideOf suffix) (reachOf long) (now (name .entry)) (markOf (row .mark)) (rowAt (now (work .entry)) units) (held (now (vars .entry))))
         (now (work .exit)) r ⌝ }
 {
     let end = 2 * units;

@@ -12,7 +12,7 @@ use Rattle.stages.specs.Outcome.{Outcome, refused, done, _>>=_}
 use Rattle.stages.specs.Images.{Pairs, isName, held}
 use Rattle.stages.specs.Syntax.{Form, Parts, arith as sums}
 use Rattle.stages.specs.Read.{Taken, parts}
-use Rattle.stages.specs.Units.{Mark, Q, N, Row, marked, bytes, expanded}
+use Rattle.stages.specs.Units.{Mark, Q, N, Row, marked, bytes, expandedMark}
 use Rattle.stages.specs.Arith.{arithmeticOf}
 use Rattle.stages.specs.Expand.{Made, parameter, expand, onto}
 use Rattle.stages.proofs.Texts.{all-drop}
@@ -263,10 +263,10 @@ unfolding summed sumOf
 summed-beside m row v = go (arithmeticOf v (bytes row)) (arithmetic-safe (λ (u : Pairs). u ≡ v) v (bytes row) refl)
   where
     go : (o : Outcome (Text × Pairs)) → Safe (λ s. (all notZero (s .0) ≡ true) × (s .1 ≡ v)) o
-        → _≡_ {A = Made} (_>>=_ {B = Row × Pairs} o (λ s. done (marked (expanded m) (s .0), s .1)))
-        (beside v (o >>= λ s. done (marked (expanded m) (s .0))))
+        → _≡_ {A = Made} (_>>=_ {B = Row × Pairs} o (λ s. done (marked (expandedMark m) (s .0), s .1)))
+        (beside v (o >>= λ s. done (marked (expandedMark m) (s .0))))
     go (refused e) s = refl
-    go (done p) (gives s) = ap (λ (u : Pairs). _>>=_ {A = Row × Pairs} {B = Row × Pairs} (done (marked (expanded m) (p .0), u)) (λ r. done r)) (s .1)
+    go (done p) (gives s) = ap (λ (u : Pairs). _>>=_ {A = Row × Pairs} {B = Row × Pairs} (done (marked (expandedMark m) (p .0), u)) (λ r. done r)) (s .1)
 
 -- its text, expanded
 pub record SumExpanded (varsRoom : ℕ) (text : Text) (at d size : ℕ) (vars₀ : Text) (varsUsed units : ℕ) (m : Mark) (ys us : Text) (g : Expanded)

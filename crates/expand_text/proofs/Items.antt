@@ -9,11 +9,12 @@ use lib.ListN.{length, take, drop}
 use Rattle.stages.specs.Bytes.{Text, part, notZero}
 use Rattle.stages.specs.Outcome.{Outcome, refused, done}
 use Rattle.stages.specs.Images.{Pairs, isName, held}
-use Rattle.stages.specs.Syntax.{Form, Parts, plain, end, lit, quo, par, len, ari, arith as sums}
+use Rattle.stages.specs.Syntax.{unescaped, Form, Parts, plain, end, lit, quo, par, len, ari, arith as sums}
 use Rattle.stages.specs.Items.{item}
 use Rattle.stages.specs.Read.{Taken, parts, nest}
-use Rattle.stages.specs.Units.{Mark, cell, Row, marked, expanded, litMark, decimal}
+use Rattle.stages.specs.Units.{Mark, cell, Row, marked, expandedMark, litMark, decimal}
 use Rattle.stages.specs.Expand.{Made, value, parameter, expand}
+use Rattle.text.specs.Cases.{escapeOf}
 use Rattle.stages.proofs.Texts.{all-drop}
 use Rattle.stages.proofs.Outcomes.{safe-done}
 use Rattle.stages.proofs.Safe.{SafeParts, parts-safe}
@@ -140,17 +141,17 @@ module _ {varsRoom : ℕ} {text : Text} {at : ℕ} {mode : Mode} {d : ℕ} {m : 
       known m (x .ready) (x .holds) c area vars₀ (answer.Row 0 next varsUsed)
       (rw n (record { is = refl; none = refl; holds = x .holds; ends = record { ends = refl; onward = s .1; within = s .2 } }))
 
-  pub item-byte : {q : Bool} {b next : ℕ} → r ≡ Byte q b next → {k : Mark} → k ≡ litMark q m → (area : Text) (g : Expanded)
+  pub item-byte : {q : Bool} {b next : ℕ} → r ≡ Byte q b next → {k : Mark} → k ≡ litMark (escapeOf q) m → (area : Text) (g : Expanded)
       → Adds units (record { next = next; «vars_used» = varsUsed }) (done (cell k b ∷ [])) area g → Said area vars₀ g
   item-byte {q} {b} {next} c {k} e area g f =
       let s = shown text at d _ (x .shows) c in
       let o = x .ready .opens in
       let i = s .1 .onward in
-      let t = behind (lit q b) (parts (modeOf mode) d (drop next text)) (x .ready .tree) (x .ready .rest)
-      (sym (at-byte text at (modeOf mode) d q b next (s .0) (s .1 .onward)) ∙ x .ready .is) in
+      let t = behind (lit (escapeOf q) b) (parts (modeOf mode) d (drop next text)) (x .ready .tree) (x .ready .rest)
+      (sym (at-byte text at (modeOf mode) d (escapeOf q) b next (s .0) (s .1 .onward)) ∙ x .ready .is) in
       known m (x .ready) (x .holds) c area vars₀ g
-      (own-added m (x .ready) (x .holds) (t .next) (done (cell (litMark q m) b ∷ []))
-      (ap (λ (x : Parts). expand varsRoom x m units u) (t .whole) ∙ expand-lit varsRoom (t .next) m units q b u)
+      (own-added m (x .ready) (x .holds) (t .next) (done (cell (litMark (escapeOf q) m) b ∷ []))
+      (ap (λ (x : Parts). expand varsRoom x m units u) (t .whole) ∙ expand-lit varsRoom (t .next) m units (escapeOf q) b u)
       next mode (t .read) (omega arith) i (s .1 .within) area g
       (adds-same units (record { next = next; «vars_used» = varsUsed }) area g (ap (λ (j : Mark). done (cell j b ∷ [])) e) f))
 
@@ -162,11 +163,11 @@ module _ {varsRoom : ℕ} {text : Text} {at : ℕ} {mode : Mode} {d : ℕ} {m : 
   item-paren {b} {n} c area g f =
       let s = shown text at d _ (x .shows) c in
       let i = s .1 in
-      let t = behind (lit false b) (parts (sums n) d (drop (at + 1) text)) (x .ready .tree) (x .ready .rest)
+      let t = behind (lit unescaped b) (parts (sums n) d (drop (at + 1) text)) (x .ready .tree) (x .ready .rest)
       (sym (at-paren text at (modeOf mode) d b n (s .0)) ∙ x .ready .is) in
       known m (x .ready) (x .holds) c area vars₀ g
       (own-added m (x .ready) (x .holds) (t .next) (done (cell m b ∷ []))
-      (ap (λ (x : Parts). expand varsRoom x m units u) (t .whole) ∙ expand-lit varsRoom (t .next) m units false b u)
+      (ap (λ (x : Parts). expand varsRoom x m units u) (t .whole) ∙ expand-lit varsRoom (t .next) m units unescaped b u)
       (at + 1) (Arith n) (t .read) (s .2) (omega arith) (omega arith) area g f)
 
   module _ {from to next : ℕ} (c : r ≡ Value from to next) where
@@ -174,7 +175,7 @@ module _ {varsRoom : ℕ} {text : Text} {at : ℕ} {mode : Mode} {d : ℕ} {m : 
     value-name = shown text at d _ (x .shows) c .2
 
     pub item-value : (area : Text) (g : Expanded)
-        → Adds units (record { next = next; «vars_used» = varsUsed }) (done (marked (expanded m) (value u (part text from to)))) area g
+        → Adds units (record { next = next; «vars_used» = varsUsed }) (done (marked (expandedMark m) (value u (part text from to)))) area g
         → Said area vars₀ g
     unfolding parameter
     item-value area g f =
@@ -184,7 +185,7 @@ module _ {varsRoom : ℕ} {text : Text} {at : ℕ} {mode : Mode} {d : ℕ} {m : 
         let t = behind (par (part text from to) plain end) (parts (modeOf mode) d (drop next text)) (x .ready .tree) (x .ready .rest)
         (sym (at-value text at (modeOf mode) d (part text from to) next (s .0) (s .1 .onward)) ∙ x .ready .is) in
         known m (x .ready) (x .holds) c area vars₀ g
-        (own-added m (x .ready) (x .holds) (t .next) (done (marked (expanded m) (value u (part text from to))))
+        (own-added m (x .ready) (x .holds) (t .next) (done (marked (expandedMark m) (value u (part text from to))))
         (ap (λ (x : Parts). expand varsRoom x m units u) (t .whole) ∙ expand-par varsRoom (t .next) m units (part text from to) plain end u)
         next mode (t .read) (omega arith) i (s .1 .within) area g f)
 
@@ -194,7 +195,7 @@ module _ {varsRoom : ℕ} {text : Text} {at : ℕ} {mode : Mode} {d : ℕ} {m : 
 
     pub item-count : (area : Text) (g : Expanded)
         → Adds units (record { next = next; «vars_used» = varsUsed })
-        (done (marked (expanded m) (decimal (length (value u (part text from to)))))) area g
+        (done (marked (expandedMark m) (decimal (length (value u (part text from to)))))) area g
         → Said area vars₀ g
     item-count area g f =
         let s = shown text at d _ (x .shows) c in
@@ -203,7 +204,7 @@ module _ {varsRoom : ℕ} {text : Text} {at : ℕ} {mode : Mode} {d : ℕ} {m : 
         let t = behind (len (part text from to)) (parts (modeOf mode) d (drop next text)) (x .ready .tree) (x .ready .rest)
         (sym (at-count text at (modeOf mode) d (part text from to) next (s .0) (s .1 .onward)) ∙ x .ready .is) in
         known m (x .ready) (x .holds) c area vars₀ g
-        (own-added m (x .ready) (x .holds) (t .next) (done (marked (expanded m) (decimal (length (value u (part text from to))))))
+        (own-added m (x .ready) (x .holds) (t .next) (done (marked (expandedMark m) (decimal (length (value u (part text from to))))))
         (ap (λ (x : Parts). expand varsRoom x m units u) (t .whole) ∙ expand-len varsRoom (t .next) m units (part text from to) u)
         next mode (t .read) (omega arith) i (s .1 .within) area g f)
 

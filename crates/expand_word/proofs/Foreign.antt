@@ -8,7 +8,7 @@ use lib.Dec.{eqb}
 use lib.ListN.{length}
 use Rattle.stages.specs.Bytes.{Text, text, isIn, isNameStart, isBlank, isOperator}
 use Rattle.stages.specs.Outcome.{pick}
-use Rattle.stages.specs.Syntax.{Form, suffix, prefix, word}
+use Rattle.stages.specs.Syntax.{escaped, unescaped, Side, suffix, prefix, word}
 use Rattle.stages.specs.Items.{
   Item,
   fault,
@@ -16,7 +16,7 @@ use Rattle.stages.specs.Items.{
   byte,
   paren,
   quote,
-  value,
+  valueOf,
   count,
   inner,
   sum,
@@ -33,13 +33,13 @@ use Rattle.stages.specs.Items.{
   dollar,
   literal,
   wrong,
-  escaped,
+  behindBackslash,
   quotable,
   behindColon,
-  removal,
+  behindRemoval,
   behindName,
   behindLength,
-  named,
+  nameThen,
   braced,
   parenthesis,
   expansion,
@@ -52,11 +52,11 @@ module _ (f : ℕ → Bool) where
   abbrev pub foreign : Item → Bool
   foreign (fault n) = true
   foreign (stop k) = true
-  foreign (byte true b k) = true
-  foreign (byte false b k) = not (f b)
+  foreign (byte escaped b k) = true
+  foreign (byte unescaped b k) = not (f b)
   foreign (paren b n) = false
   foreign (quote m) = true
-  foreign (value x k) = true
+  foreign (valueOf x k) = true
   foreign (count x k) = true
   foreign (inner x g m k) = true
   foreign sum = true
@@ -78,8 +78,8 @@ module _ (f : ℕ → Bool) where
   colon-foreign x k [] = wrong-foreign 11 []
   colon-foreign x k (b ∷ t) = pick-foreign (isIn b (text "-=?+")) (sure refl) (wrong-foreign 11 (b ∷ t))
 
-  removal-foreign : (x : Text) (g : Bool → Form) (sign k : ℕ) (t : Text) → Foreign (removal x g sign k t)
-  unfolding removal
+  removal-foreign : (x : Text) (g : Side) (sign k : ℕ) (t : Text) → Foreign (behindRemoval x g sign k t)
+  unfolding behindRemoval
   removal-foreign x g sign k [] = sure refl
   removal-foreign x g sign k (b ∷ t) = pick-foreign (eqb b sign) (sure refl) (sure refl)
 
@@ -96,8 +96,8 @@ module _ (f : ℕ → Bool) where
   length-foreign x k [] = wrong-foreign 11 []
   length-foreign x k (b ∷ t) = pick-foreign (eqb b (code "}")) (sure refl) (wrong-foreign 11 (b ∷ t))
 
-  named-foreign : (g : Text → Text → Item) → ((x u : Text) → Foreign (g x u)) → (t : Text) → Foreign (named g t)
-  unfolding named
+  named-foreign : (g : Text → Text → Item) → ((x u : Text) → Foreign (g x u)) → (t : Text) → Foreign (nameThen g t)
+  unfolding nameThen
   named-foreign g h [] = wrong-foreign 10 []
   named-foreign g h (b ∷ t) = pick-foreign (isNameStart b) (h _ _) (wrong-foreign 10 (b ∷ t))
 
@@ -116,7 +116,7 @@ module _ (f : ℕ → Bool) where
   parenthesis-foreign zero (b ∷ t) = pick-foreign (eqb b (code "(")) (sure refl) (sure refl)
   parenthesis-foreign (suc d) (b ∷ t) = pick-foreign (eqb b (code "(")) (sure refl) (sure refl)
 
-  bare-foreign : (c k : ℕ) → f c ≡ false → Foreign (byte false c k)
+  bare-foreign : (c k : ℕ) → f c ≡ false → Foreign (byte unescaped c k)
   bare-foreign c k e = sure (ap not e)
 
   module _ (d : ℕ) (b : ℕ) (t : Text) (byte-no : f b ≡ false) (dollar-no : f (code "$") ≡ false) (slash-no : f (code "\\") ≡ false) where
@@ -128,8 +128,8 @@ module _ (f : ℕ → Bool) where
         (pick-foreign (eqb c (code "(")) (parenthesis-foreign d u)
         (pick-foreign (eqb c (code "{")) (braced-foreign d u) (pick-foreign (notServed word c) (sure refl) (bare-foreign (code "$") 0 dollar-no))))
 
-    escaped-foreign : (u : Text) → Foreign (escaped word u)
-    unfolding escaped
+    escaped-foreign : (u : Text) → Foreign (behindBackslash word u)
+    unfolding behindBackslash
     escaped-foreign [] = sure refl
     escaped-foreign (c ∷ u) = pick-foreign (eqb c (code "\n")) (sure refl) (pick-foreign (quotable word c) (sure refl) (bare-foreign (code "\\") 0 slash-no))
 

@@ -13,8 +13,8 @@ use lib.ListN.{drop}
 use Rattle.stages.specs.Bytes.{Text, text, all, isIn, span, isLetter, isDigit, isNameStart, isNameByte, isLoginByte, isBlank, isOperator, blanks}
 use Rattle.stages.specs.Outcome.{refused, done}
 use Rattle.stages.specs.Images.{Pairs}
-use Rattle.stages.specs.Syntax.{Parts, end, lit, quo, par, len, ari, word, plain, arith as sums}
-use Rattle.stages.specs.Items.{Item, fault, stop, byte, paren, quote, value, count, inner, sum, item, ended, itemOf, sort, Sort, literal}
+use Rattle.stages.specs.Syntax.{escaped, unescaped, Parts, end, lit, quo, par, len, ari, word, plain, arith as sums}
+use Rattle.stages.specs.Items.{Item, fault, stop, byte, paren, quote, valueOf, count, inner, sum, item, ended, itemOf, sort, Sort, literal}
 use Rattle.stages.specs.Read.{Taken, readItem, parts}
 use Rattle.stages.specs.Expand.{login, longerLogin, homed, tilde}
 use Rattle.stages.proofs.Bools.{either, apart, no, or-neither, and-right}
@@ -59,9 +59,9 @@ login-no-slash b l = other b (code "/") l refl
 -- What is read behind a byte that stands for itself, and at a word's end.
 
 module _ (d b : ℕ) (t : Text) (p : Parts) (rest : Text) (h : parts word d (b ∷ t) ≡ done (p, rest)) where
-  literal-behind : sort word b ≡ literal → Behind (lit false b) (parts word d t) p rest
+  literal-behind : sort word b ≡ literal → Behind (lit unescaped b) (parts word d t) p rest
   unfolding item itemOf readItem
-  literal-behind s = behind (lit false b) (parts word d t) p rest (sym (parts-item word d (b ∷ t) (ap (λ (x : Sort). itemOf x word d b t) s)) ∙ h)
+  literal-behind s = behind (lit unescaped b) (parts word d t) p rest (sym (parts-item word d (b ∷ t) (ap (λ (x : Sort). itemOf x word d b t) s)) ∙ h)
 
   blank-end : isBlank b ≡ true → p ≡ end
   unfolding item itemOf readItem sort isBlank
@@ -79,11 +79,11 @@ module _ (d b : ℕ) (t : Text) (p : Parts) (rest : Text) (h : parts word d (b �
   slash-literal e = rw (eqb-true b (code "/") e)
 
   -- what stands here is neither a login byte nor a `/`, nor does the word end
-  bare-none : (c : ℕ) (q : Parts) → not (isLoginByte c || eqb c (code "/")) ≡ true → p ≡ lit false c q → login p ≡ none
+  bare-none : (c : ℕ) (q : Parts) → not (isLoginByte c || eqb c (code "/")) ≡ true → p ≡ lit unescaped c q → login p ≡ none
   unfolding login
   bare-none c q n w = rw w (go (isLoginByte c) refl (eqb c (code "/")) refl)
     where
-      go : (x : Bool) → isLoginByte c ≡ x → (z : Bool) → eqb c (code "/") ≡ z → login (lit false c q) ≡ none
+      go : (x : Bool) → isLoginByte c ≡ x → (z : Bool) → eqb c (code "/") ≡ z → login (lit unescaped c q) ≡ none
       go true u z v = absurd (no (rw u at n))
       go false u true v = absurd (no (rw (u, v) at n))
       go false u false v = rw (v, login, u, login)
@@ -94,10 +94,10 @@ module _ (d b : ℕ) (t : Text) (p : Parts) (rest : Text) (h : parts word d (b �
   none-by (faults {n = n} w) q g =
       absurd (let u : _≡_ {A = Taken} (refused n) (done (p, rest)) = sym (parts-item word d (b ∷ t) q) ∙ h in
       let z : _≡_ {A = ℕ} 0 1 = cc in omega arith)
-  none-by (a-byte {q = true} {b = c} {k = k} w) q g =
-      ap login (behind (lit true c) (parts word d (drop (suc k) (b ∷ t))) p rest (sym (parts-item word d (b ∷ t) q) ∙ h) .whole)
-  none-by (a-byte {q = false} {b = c} {k = k} w) q g = let u =
-      behind (lit false c) (parts word d (drop (suc k) (b ∷ t))) p rest (sym (parts-item word d (b ∷ t) q) ∙ h) in bare-none c (u .next) g (u .whole)
+  none-by (a-byte {q = escaped} {b = c} {k = k} w) q g =
+      ap login (behind (lit escaped c) (parts word d (drop (suc k) (b ∷ t))) p rest (sym (parts-item word d (b ∷ t) q) ∙ h) .whole)
+  none-by (a-byte {q = unescaped} {b = c} {k = k} w) q g = let u =
+      behind (lit unescaped c) (parts word d (drop (suc k) (b ∷ t))) p rest (sym (parts-item word d (b ∷ t) q) ∙ h) in bare-none c (u .next) g (u .whole)
   none-by (a-paren w) q g = absurd (no g)
   none-by (a-quote {m = n}) q g = ap login (within quo (parts n d t) (parts word d) p rest (sym (parts-item word d (b ∷ t) q) ∙ h) .whole)
   none-by (a-value {x = x} {k = k} w) q g =
@@ -121,7 +121,7 @@ module _ (d b : ℕ) (t : Text) (p : Parts) (rest : Text) (h : parts word d (b �
       go true q = let w = literal-behind (slash-literal q) in rw (w .whole) (rw (q, login))
       go false q = rw (blank-end (rw q at e)) refl
 
-login-longer : (b : ℕ) (p : Parts) → isLoginByte b ≡ true → login (lit false b p) ≡ longerLogin b (login p)
+login-longer : (b : ℕ) (p : Parts) → isLoginByte b ≡ true → login (lit unescaped b p) ≡ longerLogin b (login p)
 unfolding login
 login-longer b p l = rw (login-no-slash b l, login, l, login)
 
@@ -182,7 +182,7 @@ unfolding sort isBlank isOperator
 tilde-literal = refl
 
 module _ (d : ℕ) (v homes : Pairs) (p : Parts) (rest : Text) where
-  pub tilde-behind : (t : Text) → parts word d (code "~" ∷ t) ≡ done (p, rest) → Behind (lit false (code "~")) (parts word d t) p rest
+  pub tilde-behind : (t : Text) → parts word d (code "~" ∷ t) ≡ done (p, rest) → Behind (lit unescaped (code "~")) (parts word d t) p rest
   tilde-behind t h = literal-behind d (code "~") t p rest h tilde-literal
 
   pub tilde-homed : (t : Text) (h : parts word d (code "~" ∷ t) ≡ done (p, rest)) → tilde v homes p ≡ homed v homes (login (tilde-behind t h .next))
@@ -197,11 +197,11 @@ module _ (d : ℕ) (v homes : Pairs) (p : Parts) (rest : Text) where
       rw (sym (ap (λ (x : Parts × Text). x .0) w)) refl
 
   module _ (b : ℕ) (t : Text) (h : parts word d (b ∷ t) ≡ done (p, rest)) where
-    bare-no-tilde : (c : ℕ) (q : Parts) → not (eqb c (code "~")) ≡ true → p ≡ lit false c q → tilde v homes p ≡ none
+    bare-no-tilde : (c : ℕ) (q : Parts) → not (eqb c (code "~")) ≡ true → p ≡ lit unescaped c q → tilde v homes p ≡ none
     unfolding tilde
     bare-no-tilde c q n w = rw w (go (eqb c (code "~")) refl)
       where
-        go : (x : Bool) → eqb c (code "~") ≡ x → tilde v homes (lit false c q) ≡ none
+        go : (x : Bool) → eqb c (code "~") ≡ x → tilde v homes (lit unescaped c q) ≡ none
         go true u = absurd (no (rw u at n))
         go false u = rw (u, tilde)
 
@@ -214,14 +214,14 @@ module _ (d : ℕ) (v homes : Pairs) (p : Parts) (rest : Text) where
         let u : _≡_ {A = Taken} (done (end, drop k (b ∷ t))) (done (p, rest)) = sym (parts-item word d (b ∷ t) q) ∙ h in
         let w : _≡_ {A = Parts × Text} (end, drop k (b ∷ t)) (p, rest) = cc in
         rw (sym (ap (λ (x : Parts × Text). x .0) w)) refl
-    no-tilde-by (byte true c k) q g =
-        ap (tilde v homes) (behind (lit true c) (parts word d (drop (suc k) (b ∷ t))) p rest (sym (parts-item word d (b ∷ t) q) ∙ h) .whole)
-    no-tilde-by (byte false c k) q g = let u =
-        behind (lit false c) (parts word d (drop (suc k) (b ∷ t))) p rest (sym (parts-item word d (b ∷ t) q) ∙ h) in
+    no-tilde-by (byte escaped c k) q g =
+        ap (tilde v homes) (behind (lit escaped c) (parts word d (drop (suc k) (b ∷ t))) p rest (sym (parts-item word d (b ∷ t) q) ∙ h) .whole)
+    no-tilde-by (byte unescaped c k) q g = let u =
+        behind (lit unescaped c) (parts word d (drop (suc k) (b ∷ t))) p rest (sym (parts-item word d (b ∷ t) q) ∙ h) in
         bare-no-tilde c (u .next) g (u .whole)
     no-tilde-by (paren c n) q g = absurd (no g)
     no-tilde-by (quote n) q g = ap (tilde v homes) (within quo (parts n d t) (parts word d) p rest (sym (parts-item word d (b ∷ t) q) ∙ h) .whole)
-    no-tilde-by (value x k) q g =
+    no-tilde-by (valueOf x k) q g =
         ap (tilde v homes) (behind (par x plain end) (parts word d (drop (suc k) (b ∷ t))) p rest (sym (parts-item word d (b ∷ t) q) ∙ h) .whole)
     no-tilde-by (count x k) q g =
         ap (tilde v homes) (behind (len x) (parts word d (drop (suc k) (b ∷ t))) p rest (sym (parts-item word d (b ∷ t) q) ∙ h) .whole)

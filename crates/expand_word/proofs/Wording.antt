@@ -16,7 +16,7 @@ use Rattle.stages.specs.Images.{Pairs, held}
 use Rattle.stages.specs.Syntax.{Parts, word}
 use Rattle.stages.specs.Read.{parts}
 use Rattle.stages.specs.Units.{L, Q, N, Row, marked, fit}
-use Rattle.stages.specs.Expand.{expand, onto, directory, housed, homed, tilde, rowOf, wordRow}
+use Rattle.stages.specs.Expand.{expand, onto, directory, housed, homed, tilde, tildeRow, wordRow}
 use Rattle.stages.proofs.Bools.{no}
 use Rattle.stages.proofs.Rooms.{fit-ok}
 use Rattle.read_mode.specs.declared.Mode.{Mode}
@@ -66,7 +66,7 @@ module _ {room : ℕ} {line : Text} {at size : ℕ} {vars₀ : Text} {varsUsed :
 
   -- no tilde: the word is its text
   plain-row : tilde v homes (y .tree) ≡ none → wordRow room homes (y .tree) v ≡ expand room (y .tree) L 0 v
-  unfolding wordRow rowOf
+  unfolding wordRow tildeRow
   plain-row e = rw e
 
   pub plain-word : tilde v homes (y .tree) ≡ none → (area vars : Text) (r : Expanded)
@@ -106,7 +106,7 @@ module _ {room : ℕ} {line : Text} {at size : ℕ} {vars₀ : Text} {varsUsed :
     -- the directory's row, and after it the text
     home-made : (d : Text) → directory v homes (part line (at + 1) to) ≡ some d
         → wordRow room homes (y .tree) v ≡ (fit 0 (length (N ∷ marked Q d)) >>= λ i. onto (N ∷ marked Q d) (expand room (found .more) L i v))
-    unfolding wordRow rowOf housed
+    unfolding wordRow tildeRow housed
     home-made d e = rw (tilde-is ∙ ap (housed (found .more)) e)
 
     pub home-refused : (area vars : Text) {e : ℕ} → Wide (directory v homes (part line (at + 1) to)) e → Worded area vars (answer.Refused e)

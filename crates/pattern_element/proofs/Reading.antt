@@ -16,7 +16,7 @@ use Rattle.stages.specs.Pattern.{
   Signs,
   isLive,
   Element,
-  byte,
+  exactly,
   set,
   Found,
   class,
@@ -24,6 +24,7 @@ use Rattle.stages.specs.Pattern.{
   closedAfter,
   bracket,
   others,
+  senseOf,
   skipped,
   bracketed,
   bracketLength,
@@ -70,7 +71,7 @@ module _ (p : Text) (k : ℕ) where
   bracket-element (closedAfter n) =
       let a = k + 2 * skipped units in
       let e : a + 2 * n - a ≡ 2 * n = omega arith in
-      ap (λ (l : Signs). set (others units) l)
+      ap (λ (l : Signs). set (senseOf (others units)) l)
       (rw e (sym (rw (units-behind (skipped units) (drop k p), units-of n (drop (2 * skipped units) (drop k p)), drop-drop (2 * skipped units) k p))))
 
   bracket-behind : (at : ℕ) → at + 2 ≡ k → (f : Found) → behindOf (setFrom (others units) (k + 2 * skipped units) f) at ≡ k + 2 *

@@ -5,7 +5,7 @@ use mathlib.Core.Bool.{Bool, true, false}
 use mathlib.Core.List.{[], _∷_}
 use Rattle.stages.specs.Bytes.{Text, part}
 use Rattle.stages.specs.Outcome.{pick}
-use Rattle.stages.specs.Pattern.{Signs, isLive, Element, star, one, byte, set, Found, class, unclosed, closedAfter, bracket, others, skipped}
+use Rattle.stages.specs.Pattern.{Signs, isLive, Element, star, one, exactly, set, Found, class, unclosed, closedAfter, bracket, others, senseOf, skipped}
 use Rattle.text.specs.Rows.{signsOf}
 use Rattle.pattern_element.specs.declared.Search.{Search}
 use Rattle.pattern_element.specs.declared.Search.the-variants.{Class as ClassMet, Unclosed, After}
@@ -55,9 +55,9 @@ unfoldable pub elementOf : Text → Piece → Element
 unfolding signsOf
 elementOf p Star = star
 elementOf p One = one
-elementOf p (Byte b) = byte b
-elementOf p Class = byte (code "[")
-elementOf p (Set negative from to) = set negative (signsOf (part p from to))
+elementOf p (Byte b) = exactly b
+elementOf p Class = exactly (code "[")
+elementOf p (Set negative from to) = set (senseOf negative) (signsOf (part p from to))
 
 -- a class was met in its search
 abbrev pub isClassPiece : Piece → Bool

@@ -3,9 +3,11 @@ use mathlib.Core.Path.{_≡_}
 use mathlib.Core.Bool.{Bool}
 use Rattle.stages.specs.Bytes.{Text}
 use Rattle.stages.specs.Pattern.{elements, matches}
+use Rattle.text.specs.Cases.{purposeOf}
 use Rattle.text.specs.Rows.{signsOf}
 use Rattle.text.proofs.Determined.{one-answer}
 
 pub matches-determined : (pattern t : Text) (path : Bool) {r q : Bool}
-    → r ≡ matches path (elements path 0 (signsOf pattern)) t → q ≡ matches path (elements path 0 (signsOf pattern)) t → r ≡ q
+    → r ≡ matches (purposeOf path) (elements path 0 (signsOf pattern)) t
+    → q ≡ matches (purposeOf path) (elements path 0 (signsOf pattern)) t → r ≡ q
 matches-determined pattern t path = one-answer

@@ -10,7 +10,9 @@ use lib.Seq.{drop-cons}
 use borrow.Author.Tests.{eqb-true}
 use Rattle.stages.proofs.Bools.{no, either, same-tests, and-left, and-right}
 use Rattle.stages.specs.Bytes.{Text}
-use Rattle.stages.specs.Pattern.{Element, one, byte, set, passes, takes, inSet, someEnd, matchesFrom}
+use Rattle.stages.specs.Pattern.{Sense, senseOf, Element, one, exactly, set, passes, takes, inSet, elements, someEnd, matchesFrom, matches}
+use Rattle.text.specs.Cases.{purposeOf}
+use Rattle.text.specs.Rows.{signsOf}
 use Rattle.pattern_element.specs.Pieces.{elementOf, Lies}
 use Rattle.pattern_element.specs.declared.Piece.{Piece}
 use Rattle.pattern_element.specs.declared.Piece.the-variants.{Star, One, Byte, Class, Set}
@@ -35,6 +37,13 @@ use Rattle.pattern_match.specs.Steps.{isStar, isSlash, takesOne, behindS
 use Rattle.pattern_match.specs.declared.Run.{Run}
 use Rattle.pattern_match.specs.declared.Run.the-variants.{Whole, Fails, Star as StarMet}
 
+-- a pattern by whether it is for paths
+pub matches-is : (path : Bool) (p t : Text)
+    → matchesFrom path (elements path 0 (signsOf p)) true true t ≡ matches (purposeOf path) (elements path 0 (signsOf p)) t
+unfolding matches
+matches-is true p t = refl
+matches-is false p t = refl
+
 -- an element that is no star, with a byte
 module _ (path head first : Bool) (es : List Element) (b : ℕ) (t : Text) where
   one-step : matchesFrom path (one ∷ es) head first (b ∷ t) ≡ (passes path first b && matchesFrom path es false false t)
@@ -45,7 +54,8 @@ module _ (path head first : Bool) (es : List Element) (b : ℕ) (t : Text) where
       go true = refl
       go false = refl
 
-  byte-step : (c : ℕ) → matchesFrom path (byte c ∷ es) head first (b ∷ t) ≡ (takes path head first c b && matchesFrom path es (eqb c 47) (eqb c 47) t)
+  byte-step : (c : ℕ)
+      → matchesFrom path (exactly c ∷ es) head first (b ∷ t) ≡ (takes path head first c b && matchesFrom path es (eqb c 47) (eqb c 47) t)
   unfolding matchesFrom
   byte-step c = go (takes path head first c b)
     where
@@ -54,7 +64,7 @@ module _ (path head first : Bool) (es : List Element) (b : ℕ) (t : Text) where
       go true = refl
       go false = refl
 
-  set-step : (n : Bool) (m : List _) → matchesFrom path (set n m ∷ es) head first (b ∷ t) ≡
+  set-step : (n : Sense) (m : List _) → matchesFrom path (set n m ∷ es) head first (b ∷ t) ≡
       ((passes path first b && inSet n m b) && matchesFrom path es false false t)
   unfolding matchesFrom
   set-step n m = go (passes path first b && inSet n m b)
@@ -71,7 +81,7 @@ module _ (path head first : Bool) (es : List Element) (b : ℕ) (t : Text) where
   step p One n = one-step
   step p (Byte c) n = byte-step c
   step p Class n = byte-step 91
-  step p (Set negative a e) n = set-step negative _
+  step p (Set negative a e) n = set-step (senseOf negative) _
 
 -- no byte is left for it
 none-left : (path head first : Bool) (es : List Element) (p : Text) (q : Piece) → isStar q ≡ false → matchesFrom path (elementOf p q ∷ es)

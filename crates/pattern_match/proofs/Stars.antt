@@ -6,7 +6,7 @@ use mathlib.Core.List.{List, [], _∷_}
 use lib.Dec.{eqb}
 use Rattle.stages.proofs.Bools.{no, apart, and-left, and-right, or-right, and-both}
 use Rattle.stages.specs.Bytes.{Text}
-use Rattle.stages.specs.Pattern.{Element, star, one, byte, set, passes, takes, someEnd, matchesFrom}
+use Rattle.stages.specs.Pattern.{Element, star, one, exactly, set, passes, takes, someEnd, matchesFrom}
 
 abbrev Rest : Type 0
 Rest = Bool → Text → Bool
@@ -103,8 +103,8 @@ loose [] head h first f (b ∷ t) = refl
 loose (star ∷ es) head h first f t = some-loose (λ x u. matchesFrom false es false x u) (λ x y u. loose es false false x y u) first f t
 loose (one ∷ es) head h first f [] = refl
 loose (one ∷ es) head h first f (b ∷ t) = refl
-loose (byte c ∷ es) head h first f [] = refl
-loose (byte c ∷ es) head h first f (b ∷ t) = refl
+loose (exactly c ∷ es) head h first f [] = refl
+loose (exactly c ∷ es) head h first f (b ∷ t) = refl
 loose (set n m ∷ es) head h first f [] = refl
 loose (set n m ∷ es) head h first f (b ∷ t) = refl
 

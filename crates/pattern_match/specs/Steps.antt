@@ -6,7 +6,7 @@ use mathlib.Core.Bool.{Bool, true, false, _&&_}
 use lib.Dec.{eqb}
 use lib.ListN.{length, drop}
 use Rattle.stages.specs.Bytes.{Text}
-use Rattle.stages.specs.Pattern.{Element, star, one, byte, set, passes, takes, inSet, someEnd, matchesFrom}
+use Rattle.stages.specs.Pattern.{Element, star, one, exactly, set, passes, takes, inSet, someEnd, matchesFrom}
 use Rattle.pattern_element.specs.declared.Piece.{Piece}
 use Rattle.pattern_element.specs.declared.Piece.the-variants.{Star, One, Byte, Class, Set}
 use Rattle.pattern_row.specs.Special.{from}
@@ -33,8 +33,8 @@ unfoldable pub takesOne : Bool → Bool → Bool → Element → ℕ → Bool
 unfolding passes takes inSet
 takesOne path head first star b = false
 takesOne path head first one b = passes path first b
-takesOne path head first (byte c) b = takes path head first c b
-takesOne path head first (set negative members) b = passes path first b && inSet negative members b
+takesOne path head first (exactly c) b = takes path head first c b
+takesOne path head first (set sense members) b = passes path first b && inSet sense members b
 
 -- behind a star that stands before the place `at`: some end of the text matches the rest of the pattern
 unfoldable pub behindStar : Bool → Text → ℕ → Bool → Bool → Text → Bool

@@ -8,6 +8,7 @@ ghost use mathlib.Core.Path.{_≡_};
 ghost use mathlib.Core.Bool.{true, false, _&&_};
 ghost use lib.ListN.{length, drop};
 ghost use Rattle.stages.specs.Pattern.{elements, passes, takes, matches};
+ghost use Rattle.text.specs.Cases.{purposeOf};
 ghost use Rattle.text.specs.Rows.{signsOf};
 ghost use Rattle.pattern_set.specs.Sets.{has};
 ghost use Rattle.pattern_element.specs.Pieces.{elementOf, Lies};
@@ -204,7 +205,7 @@ fn behind_star(
 
 // "The whole text must match." The pattern's bytes and the text's may be any.
 pub fn matches(pattern: &[u8], text: &[u8], path: bool) -> bool
-    ensures { λ r. ⌜ r ≡ matches path (elements path 0 (signsOf (now (pattern .entry)))) (now (text .entry)) ⌝ }
+    ensures { λ r. ⌜ r ≡ matches (purposeOf path) (elements path 0 (signsOf (now (pattern .entry)))) (now (text .entry)) ⌝ }
 {
     match run_to_star(pattern, text, path, 0, 0, true, true) {
         Run::Whole => true,

@@ -10,7 +10,7 @@ use lib.Seq.{length-take-le}
 use Rattle.stages.specs.Bytes.{Text, part}
 use Rattle.stages.specs.Outcome.{pick}
 use Rattle.stages.specs.Images.{texts, orEmpty, heldTexts}
-use Rattle.stages.specs.Pattern.{Element, matches}
+use Rattle.stages.specs.Pattern.{Element, forPaths, matches}
 use Rattle.stages.specs.Paths.{chosen}
 use Rattle.stages.proofs.Tables.{Paths}
 use Rattle.table.specs.Pieces.{pieceAt}
@@ -37,9 +37,9 @@ pub walks-paths : (t : Text) → Paths t → Walks t 1 × (textsFrom t 1 ≡ hel
 walks-paths t h = walks-first t (heldTexts t) (h .table)
 
 -- the first text, chosen or not
-chosen-first : (p : List Element) (t : Text) (l : List Text) → chosen p (t ∷ l) ≡ pick (matches true p t) (t ∷ chosen p l) (chosen p l)
+chosen-first : (p : List Element) (t : Text) (l : List Text) → chosen p (t ∷ l) ≡ pick (matches forPaths p t) (t ∷ chosen p l) (chosen p l)
 unfolding chosen
-chosen-first p t l = go (matches true p t)
+chosen-first p t l = go (matches forPaths p t)
   where
     go : (x : Bool) → elim x [ true ↦ t ∷ chosen p l | false ↦ chosen p l ] ≡ pick x (t ∷ chosen p l) (chosen p l)
     go true = refl
@@ -93,17 +93,17 @@ module _ {p t : Text} {at i : ℕ} (g : Passing p t at i) {r : Piece} (s : r ≡
     here : textsFrom t i ≡ found ∷ textsFrom t end
     here = step .is ∙ ap (λ (l : List Text). found ∷ l) (sym (from-ahead t end (step .more) (step .ahead)))
 
-    next-here : nextIn (pathElements p) i (textsFrom t i) ≡ pick (matches true (pathElements p) found) (Path (i + 2) end)
+    next-here : nextIn (pathElements p) i (textsFrom t i) ≡ pick (matches forPaths (pathElements p) found) (Path (i + 2) end)
         (nextIn (pathElements p) end (textsFrom t end))
     unfolding nextIn
     next-here = ap (λ (l : List Text). nextIn (pathElements p) i l) here
-        ∙ ap (λ (n : ℕ). pick (matches true (pathElements p) found) (Path (i + 2) n) (nextIn (pathElements p) n (textsFrom t end))) ends
+        ∙ ap (λ (n : ℕ). pick (matches forPaths (pathElements p) found) (Path (i + 2) n) (nextIn (pathElements p) n (textsFrom t end))) ends
 
     chosen-here : chosen (pathElements p) (textsFrom t i)
-        ≡ pick (matches true (pathElements p) found) (found ∷ chosen (pathElements p) (textsFrom t end)) (chosen (pathElements p) (textsFrom t end))
+        ≡ pick (matches forPaths (pathElements p) found) (found ∷ chosen (pathElements p) (textsFrom t end)) (chosen (pathElements p) (textsFrom t end))
     chosen-here = ap (λ (l : List Text). chosen (pathElements p) l) here ∙ chosen-first (pathElements p) found (textsFrom t end)
 
-    pub passing-found : matches true (pathElements p) found ≡ true → NextSays p t at (Path (i + 2) end)
+    pub passing-found : matches forPaths (pathElements p) found ≡ true → NextSays p t at (Path (i + 2) end)
     passing-found y = record {
       is = sym (g .next ∙ next-here ∙ ap (λ (b : Bool). pick b (Path (i + 2) end) (nextIn (pathElements p) end (textsFrom t end))) y);
       shows = path (step .low) (step .ahead .within) (walks-ahead t end (step .more) (step .ahead))
@@ -111,7 +111,7 @@ module _ {p t : Text} {at i : ℕ} (g : Passing p t at i) {r : Piece} (s : r ≡
           (λ (b : Bool). pick b (found ∷ chosen (pathElements p) (textsFrom t end)) (chosen (pathElements p) (textsFrom t end))) y);
     }
 
-    pub passing-on : matches true (pathElements p) found ≡ false → Passing p t at end
+    pub passing-on : matches forPaths (pathElements p) found ≡ false → Passing p t at end
     passing-on n = record {
       walks = walks-ahead t end (step .more) (step .ahead);
       next = g .next ∙ next-here ∙ ap (λ (b : Bool). pick b (Path (i + 2) end) (nextIn (pathElements p) end (textsFrom t end))) n;

@@ -8,7 +8,7 @@ use lib.ListN.{length, drop}
 use Rattle.stages.specs.Bytes.{Text, part}
 use Rattle.stages.specs.Outcome.{pick}
 use Rattle.stages.specs.Images.{textsIn, orEmpty}
-use Rattle.stages.specs.Pattern.{Element, elements, matches}
+use Rattle.stages.specs.Pattern.{Element, elements, forPaths, matches}
 use Rattle.stages.specs.Paths.{chosen}
 use Rattle.text.specs.Rows.{signsOf}
 use Rattle.pattern_paths.specs.declared.Next.{Next}
@@ -32,7 +32,7 @@ pathElements p = elements true 0 (signsOf p)
 unfoldable pub nextIn : List Element → ℕ → List Text → Next
 unfolding matches
 nextIn p at [] = Nothing
-nextIn p at (t ∷ l) = pick (matches true p t) (Path (at + 2) (at + 2 + length t)) (nextIn p (at + 2 + length t) l)
+nextIn p at (t ∷ l) = pick (matches forPaths p t) (Path (at + 2) (at + 2 + length t)) (nextIn p (at + 2 + length t) l)
 
 -- what an answer says of the paths that are chosen from a place on
 pub data Shows (p t : Text) (at : ℕ) : Next → Type 0 where

@@ -7,8 +7,10 @@ use native.Mathlib.Numerals.{add-one}
 use lib.ListN.{length}
 use Rattle.stages.specs.Outcome.{pick}
 use Rattle.stages.specs.Bytes.{Text}
+use Rattle.stages.specs.Syntax.{Side, suffix, prefix, Reach}
 use Rattle.stages.specs.Pattern.{elements}
 use Rattle.stages.specs.Removal.{firstCut, cutAt, keepAll, fromEnd, cut}
+use Rattle.text.specs.Cases.{reachOf}
 use Rattle.text.specs.Rows.{signsOf}
 use Rattle.pattern_remove.specs.Cuts.{matchedAt, CutsAt}
 
@@ -22,26 +24,26 @@ one-cut f other at i d = go (f (at i))
     go true = refl
     go false = refl
 
-module _ (suffix down : Bool) (p v : Text) where
+module _ (side : Side) (down : Bool) (p v : Text) where
   abbrev first : ℕ → ℕ → ℕ
-  first i d = firstCut (λ k. matchedAt suffix p v k) (keepAll suffix v) (cutAt down (length v)) i d
+  first i d = firstCut (λ k. matchedAt side p v k) (keepAll side v) (cutAt down (length v)) i d
 
   -- the cut that is taken if none before the i-th is
   abbrev pub cutFrom : ℕ → ℕ
   cutFrom i = first i (suc (length v) - i)
 
-  from-here : (i d : ℕ) → suc (length v) - i ≡ suc d → {x : Bool} → matchedAt suffix p v (cutAt down (length v) i) ≡ x → cutFrom i ≡
+  from-here : (i d : ℕ) → suc (length v) - i ≡ suc d → {x : Bool} → matchedAt side p v (cutAt down (length v) i) ≡ x → cutFrom i ≡
       pick x (cutAt down (length v) i) (first (suc i) d)
   from-here i d e y =
-      ap (first i) e ∙ one-cut (λ k. matchedAt suffix p v k) (keepAll suffix v) (cutAt down (length v)) i d
+      ap (first i) e ∙ one-cut (λ k. matchedAt side p v k) (keepAll side v) (cutAt down (length v)) i d
       ∙ ap (λ (b : Bool). pick b (cutAt down (length v) i) (first (suc i) d)) y
 
   module _ (i : ℕ) {k : ℕ} (h : i ≤ length v) (e : k ≡ cutAt down (length v) i) where
-    pub cut-here : matchedAt suffix p v k ≡ true → k ≡ cutFrom i
-    cut-here y = e ∙ sym (from-here i (length v - i) (omega arith) (sym (ap (λ (n : ℕ). matchedAt suffix p v n) e) ∙ y))
+    pub cut-here : matchedAt side p v k ≡ true → k ≡ cutFrom i
+    cut-here y = e ∙ sym (from-here i (length v - i) (omega arith) (sym (ap (λ (n : ℕ). matchedAt side p v n) e) ∙ y))
 
-    pub cut-on : matchedAt suffix p v k ≡ false → cutFrom i ≡ cutFrom (i + 1)
-    cut-on y = from-here i (suc (length v) - (i + 1)) (omega arith) (sym (ap (λ (n : ℕ). matchedAt suffix p v n) e) ∙ y) ∙ rw (add-one i)
+    pub cut-on : matchedAt side p v k ≡ false → cutFrom i ≡ cutFrom (i + 1)
+    cut-on y = from-here i (suc (length v) - (i + 1)) (omega arith) (sym (ap (λ (n : ℕ). matchedAt side p v n) e) ∙ y) ∙ rw (add-one i)
 
     -- each cut is inside the value
     pub cut-within : k ≤ length v
@@ -51,21 +53,25 @@ module _ (suffix down : Bool) (p v : Text) where
         within true = omega arith
         within false = h
 
-  pub cut-none : (i : ℕ) → length v < i → cutFrom i ≡ keepAll suffix v
+  pub cut-none : (i : ℕ) → length v < i → cutFrom i ≡ keepAll side v
   unfolding firstCut
   cut-none i h = let d : suc (length v) - i ≡ 0 = omega arith in rw d
 
-  pub cuts-at : {k : ℕ} → k ≡ cutFrom 0 → k ≤ length v → CutsAt suffix down p v k
+  pub cuts-at : {k : ℕ} → k ≡ cutFrom 0 → k ≤ length v → CutsAt side down p v k
   cuts-at e h = let d : suc (length v) - 0 ≡ suc (length v) = omega arith in record { first = e ∙ rw d; within = h }
 
--- the other way
-pub turned : (b : Bool) → not b ≡ pick b false true
-turned true = refl
-turned false = refl
+-- the end from which the cuts of a suffix are tried, and of a prefix
+pub from-suffix : (long : Bool) → not long ≡ fromEnd suffix (reachOf long)
+from-suffix true = refl
+from-suffix false = refl
+
+pub from-prefix : (long : Bool) → long ≡ fromEnd prefix (reachOf long)
+from-prefix true = refl
+from-prefix false = refl
 
 -- the cut that the walk finds is the stage's
-pub cut-is : (suffix long : Bool) (p v : Text) {down : Bool} {k : ℕ} → down ≡ fromEnd suffix long → CutsAt suffix down p v k
-    → k ≡ cut suffix long (elements false 0 (signsOf p)) v
+pub cut-is : (side : Side) (reach : Reach) (p v : Text) {down : Bool} {k : ℕ} → down ≡ fromEnd side reach → CutsAt side down p v k
+    → k ≡ cut side reach (elements false 0 (signsOf p)) v
 unfolding cut
-cut-is suffix long p v e c =
-    c .first ∙ ap (λ (d : Bool). firstCut (λ i. matchedAt suffix p v i) (keepAll suffix v) (cutAt d (length v)) 0 (suc (length v))) e
+cut-is side reach p v e c =
+    c .first ∙ ap (λ (d : Bool). firstCut (λ i. matchedAt side p v i) (keepAll side v) (cutAt d (length v)) 0 (suc (length v))) e

@@ -4,10 +4,12 @@ use mathlib.Core.Bool.{Bool, false}
 use Rattle.stages.specs.Bytes.{Text}
 use Rattle.stages.specs.Pattern.{elements}
 use Rattle.stages.specs.Removal.{removed}
+use Rattle.text.specs.Cases.{sideOf, reachOf}
 use Rattle.text.specs.Rows.{signsOf}
 use Rattle.text.proofs.Determined.{one-answer}
 
 pub removed-determined : (value pattern : Text) (suffix long : Bool) {r q : Text}
-    → r ≡ removed suffix long (elements false 0 (signsOf pattern)) value → q ≡ removed suffix long (elements false 0 (signsOf pattern)) value
+    → r ≡ removed (sideOf suffix) (reachOf long) (elements false 0 (signsOf pattern)) value
+    → q ≡ removed (sideOf suffix) (reachOf long) (elements false 0 (signsOf pattern)) value
     → r ≡ q
 removed-determined value pattern suffix long = one-answer

@@ -6,13 +6,14 @@ ghost use Prim.Native.Nat.{_≤_};
 ghost use lib.ListN.{length};
 ghost use Rattle.stages.specs.Pattern.{elements};
 ghost use Rattle.stages.specs.Removal.{removed, fromEnd, cutAt};
+ghost use Rattle.text.specs.Cases.{sideOf, reachOf};
 ghost use Rattle.text.specs.Rows.{signsOf};
 ghost use Rattle.pattern_remove.specs.Cuts.{CutsAt, matchedAt};
 
 // The part that a cut at k drops matches: the suffix from k on, or the prefix up to k.
 fn drops_match(value: &[u8], pattern: &[u8], suffix: bool, k: usize) -> bool
     requires { ⌜ k ≤ length (now value) ⌝ }
-    ensures { λ r. ⌜ r ≡ matchedAt suffix (now (pattern .entry)) (now (value .entry)) k ⌝ }
+    ensures { λ r. ⌜ r ≡ matchedAt (sideOf suffix) (now (pattern .entry)) (now (value .entry)) k ⌝ }
 {
     if suffix {
         return pattern_match::matches(pattern, &value[k..], false);
@@ -33,7 +34,7 @@ fn cut_at(down: bool, n: usize, i: usize) -> usize
 
 // The shortest suffix and the longest prefix are tried from the value's end.
 fn from_end(suffix: bool, long: bool) -> bool
-    ensures { λ r. ⌜ r ≡ fromEnd suffix long ⌝ }
+    ensures { λ r. ⌜ r ≡ fromEnd (sideOf suffix) (reachOf long) ⌝ }
 {
     if suffix {
         return !long;
@@ -43,7 +44,7 @@ fn from_end(suffix: bool, long: bool) -> bool
 
 // Where the value is cut: the first cut tried whose dropped part matches, else the one that drops nothing.
 fn cut_place(value: &[u8], pattern: &[u8], suffix: bool, down: bool) -> usize
-    ensures { λ r. ⌜ CutsAt suffix down (now (pattern .entry)) (now (value .entry)) r ⌝ }
+    ensures { λ r. ⌜ CutsAt (sideOf suffix) down (now (pattern .entry)) (now (value .entry)) r ⌝ }
 {
     let n = value.len();
     let mut i: usize = 0;
@@ -62,7 +63,7 @@ fn cut_place(value: &[u8], pattern: &[u8], suffix: bool, down: bool) -> usize
 
 // What a removal leaves: "a part of the stored value itself".
 pub fn removed<'a>(value: &'a [u8], pattern: &[u8], suffix: bool, long: bool) -> &'a [u8]
-    ensures { λ r. ⌜ now r ≡ removed suffix long (elements false 0 (signsOf (now (pattern .entry)))) (now (value .entry)) ⌝ }
+    ensures { λ r. ⌜ now r ≡ removed (sideOf suffix) (reachOf long) (elements false 0 (signsOf (now (pattern .entry)))) (now (value .entry)) ⌝ }
 {
     let down = from_end(suffix, long);
     let k = cut_place(value, pattern, suffix, down);

@@ -12,7 +12,7 @@ use Rattle.stages.specs.Numbers.{bracketClass}
 use Rattle.stages.specs.Outcome.{refused, done, pick}
 use Rattle.stages.specs.Bytes.{Text}
 use Rattle.stages.specs.Units.{L, E, Q, cell, N, Row}
-use Rattle.stages.specs.Pattern.{signs, hasClass, elements, pattern}
+use Rattle.stages.specs.Pattern.{signs, hasClass, elements, Purpose, isForPaths, pattern}
 use Rattle.text.proofs.Rows.{rowOf-rowBytes}
 use Rattle.text.specs.Rows.{rowBytes, rowOf, unitOf, signsOf}
 use Rattle.pattern_set.proofs.Units.{two-on}
@@ -165,10 +165,11 @@ pub dropped-row : (r : Row) {exit : Text} {count : ℕ} → Dropped (rowBytes r)
 dropped-row r d = dropped-signs d ∙ ap signs (rowOf-rowBytes r)
 
 -- the pattern that a row makes, by the answer for 19
-pub pattern-refused : (path : Bool) (r : Row) → hasClass path 0 (signs r) ≡ true → pattern path r ≡ refused bracketClass
+pub pattern-refused : (purpose : Purpose) (r : Row) → hasClass (isForPaths purpose) 0 (signs r) ≡ true → pattern purpose r ≡ refused bracketClass
 unfolding pattern
-pattern-refused path r y = rw (y, pattern)
+pattern-refused purpose r y = rw (y, pattern)
 
-pub pattern-done : (path : Bool) (r : Row) → hasClass path 0 (signs r) ≡ false → pattern path r ≡ done (elements path 0 (signs r))
+pub pattern-done : (purpose : Purpose) (r : Row) → hasClass (isForPaths purpose) 0 (signs r) ≡ false
+    → pattern purpose r ≡ done (elements (isForPaths purpose) 0 (signs r))
 unfolding pattern
-pattern-done path r n = rw (n, pattern)
+pattern-done purpose r n = rw (n, pattern)

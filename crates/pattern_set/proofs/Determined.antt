@@ -8,7 +8,7 @@ use native.Mathlib.Omega.{arith}
 use lib.ListN.{length, drop}
 use lib.Seq.{ext-getD}
 use Rattle.stages.specs.Bytes.{Text}
-use Rattle.stages.specs.Pattern.{inSet}
+use Rattle.stages.specs.Pattern.{senseOf, inSet}
 use Rattle.text.specs.Rows.{signsOf}
 use Rattle.text.proofs.Determined.{one-answer}
 use Rattle.pattern_set.specs.Sets.{has}
@@ -24,7 +24,7 @@ is-live-determined units at c = one-answer
 
 -- a set that is given flag by flag; its type says that there are 256
 pub set-of-determined : (units : Text) (negative : Bool) (r q : ByteSet) → length (r .on) ≡ 256 → length (q .on) ≡ 256
-    → ((k : ℕ) → k < 256 → has (r .on) k ≡ inSet negative (signsOf units) k)
-    → ((k : ℕ) → k < 256 → has (q .on) k ≡ inSet negative (signsOf units) k) → r ≡ q
+    → ((k : ℕ) → k < 256 → has (r .on) k ≡ inSet (senseOf negative) (signsOf units) k)
+    → ((k : ℕ) → k < 256 → has (q .on) k ≡ inSet (senseOf negative) (signsOf units) k) → r ≡ q
 set-of-determined units negative r q a b e f =
     ap (λ (l : List Bool). record { on = l }) (ext-getD false (r .on) (q .on) (a ∙ sym b) (λ k h. one-answer (e k (omega arith)) (f k (omega arith))))

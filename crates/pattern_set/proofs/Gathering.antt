@@ -2,7 +2,7 @@
 use Prim.Native.Nat.{ℕ, _+_, _-_, _≤_, _<_}
 use Prim.Native.Char.{code}
 use mathlib.Core.Path.{_≡_, refl, sym, _∙_, ap}
-use mathlib.Core.Bool.{Bool, true, false, not, xor, _||_, or-false}
+use mathlib.Core.Bool.{Bool, true, false, not, _||_, or-false}
 use mathlib.Core.List.{[], _∷_}
 use native.Mathlib.Omega.{arith}
 use native.Mathlib.Decide.{decLt}
@@ -11,7 +11,7 @@ use lib.ListN.{length, drop, getD}
 use Rattle.stages.specs.Bytes.{Text, between}
 use Rattle.stages.proofs.Bools.{apart}
 use Rattle.stages.specs.Outcome.{pick}
-use Rattle.stages.specs.Pattern.{Sign, Signs, isLive, listed, inSet}
+use Rattle.stages.specs.Pattern.{Sign, Signs, isLive, these, allOthers, listed, inSet}
 use Rattle.text.specs.Rows.{signsOf}
 use Rattle.pattern_set.specs.Heads.{begins, ranges}
 use Rattle.pattern_set.proofs.Units.{signAt, unit-at, none-at}
@@ -106,20 +106,10 @@ gathered all had now new left e f g = e ∙ rw (f, g) (turned had new now)
     turned false false c = refl
 
 -- a set or all other bytes
-xor-plain : (b : Bool) → xor false b ≡ b
-unfolding xor
-xor-plain true = refl
-xor-plain false = refl
-
-xor-turned : (b : Bool) → xor true b ≡ not b
-unfolding xor
-xor-turned true = refl
-xor-turned false = refl
-
-pub in-members : (members : Signs) (b : ℕ) {r : Bool} → r ≡ listed members b → r ≡ inSet false members b
+pub in-members : (members : Signs) (b : ℕ) {r : Bool} → r ≡ listed members b → r ≡ inSet these members b
 unfolding inSet
-in-members members b h = h ∙ sym (xor-plain (listed members b))
+in-members members b h = h
 
-pub in-others : (members : Signs) (b : ℕ) {r s : Bool} → s ≡ listed members b → r ≡ not s → r ≡ inSet true members b
+pub in-others : (members : Signs) (b : ℕ) {r s : Bool} → s ≡ listed members b → r ≡ not s → r ≡ inSet allOthers members b
 unfolding inSet
-in-others members b h g = g ∙ ap not h ∙ sym (xor-turned (listed members b))
+in-others members b h g = g ∙ ap not h

@@ -6,7 +6,7 @@ ghost use Prim.Native.Nat.{ℕ, _+_, _<_, _≤_};
 ghost use lib.Dec.{eqb};
 ghost use lib.ListN.{length, drop};
 ghost use Rattle.stages.specs.Bytes.{between};
-ghost use Rattle.stages.specs.Pattern.{listed, inSet};
+ghost use Rattle.stages.specs.Pattern.{listed, senseOf, inSet};
 ghost use Rattle.text.specs.Rows.{signsOf};
 ghost use Rattle.pattern_set.specs.Sets.{has};
 ghost use Rattle.pattern_set.specs.Heads.{begins, ranges};
@@ -114,7 +114,7 @@ fn members(units: &[u8]) -> ByteSet
 
 // The set that a bracket stands for: its members, or with the `!` all other bytes.
 pub fn set_of(units: &[u8], negative: bool) -> ByteSet
-    ensures { λ r. ⌜ ((k : ℕ) → k < 256 → has (r .on) k ≡ inSet negative (signsOf (now (units .entry))) k) ⌝ }
+    ensures { λ r. ⌜ ((k : ℕ) → k < 256 → has (r .on) k ≡ inSet (senseOf negative) (signsOf (now (units .entry))) k) ⌝ }
 {
     let set = members(units);
     if negative {

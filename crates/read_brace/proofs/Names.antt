@@ -11,9 +11,9 @@ use lib.Seq.{drop-cons}
 use Rattle.stages.specs.Numbers.{unended, unserved, badSyntax, tooDeep}
 use Rattle.stages.specs.Bytes.{Text, text, part, isIn, isNameStart}
 use Rattle.stages.specs.Outcome.{pick}
-use Rattle.stages.specs.Syntax.{Form, Mode, suffix, prefix, bare}
-use Rattle.stages.specs.Items.{Item, fault, value, count, inner}
-use Rattle.stages.specs.Items.{wrong, braced, named, behindName, behindColon, behindLength, removal, signForm, operandMode}
+use Rattle.stages.specs.Syntax.{Side, suffix, prefix, shortest, longest, removal, withColon, noColon, Mode, bare}
+use Rattle.stages.specs.Items.{Item, fault, valueOf, count, inner}
+use Rattle.stages.specs.Items.{wrong, braced, nameThen, behindName, behindColon, behindLength, behindRemoval, signForm, operandMode}
 use Rattle.text.specs.Classes.{Runs}
 use Rattle.text.specs.declared.Class.the-variants.{NameByte}
 use Rattle.read_brace.specs.Shows.{Behind, isAt, counted}
@@ -28,7 +28,8 @@ module _ (m : Mode) (s x : Text) (k to : ℕ) where
   colon-end l = ap (behindColon m x k) (drop-of-length-le s l)
 
   module _ (l : to < length s) where
-    pub colon-sign : isIn (getD s to 0) (text "-=?+") ≡ true → behindColon m x k (drop to s) ≡ inner x (signForm (getD s to 0) true) (operandMode m) k
+    pub colon-sign : isIn (getD s to 0) (text "-=?+") ≡ true
+        → behindColon m x k (drop to s) ≡ inner x (signForm (getD s to 0) withColon) (operandMode m) k
     unfolding behindColon
     colon-sign e = rw (drop-cons s to 0 l) (rw e)
 
@@ -39,17 +40,18 @@ module _ (m : Mode) (s x : Text) (k to : ℕ) where
 
 -- Behind a removal's sign.
 
-removal-is : (x : Text) (f : Bool → Form) (sign k : ℕ) (t : Text) → removal x f sign k t ≡ pick (isAt sign t) (inner x (f true) bare (suc k))
-    (inner x (f false) bare k)
-unfolding removal
+removal-is : (x : Text) (f : Side) (sign k : ℕ) (t : Text) → behindRemoval x f sign k t ≡ pick (isAt sign t) (inner x (removal f longest) bare (suc k))
+    (inner x (removal f shortest) bare k)
+unfolding behindRemoval
 removal-is x f sign k [] = refl
 removal-is x f sign k (b ∷ t) = refl
 
-pub removal-doubled : (x : Text) (f : Bool → Form) (sign k : ℕ) (t : Text) → isAt sign t ≡ true → removal x f sign k t ≡ inner x (f true)
+pub removal-doubled : (x : Text) (f : Side) (sign k : ℕ) (t : Text) → isAt sign t ≡ true → behindRemoval x f sign k t ≡ inner x (removal f longest)
     bare (suc k)
 removal-doubled x f sign k t e = removal-is x f sign k t ∙ rw e
 
-pub removal-once : (x : Text) (f : Bool → Form) (sign k : ℕ) (t : Text) → isAt sign t ≡ false → removal x f sign k t ≡ inner x (f false) bare k
+pub removal-once : (x : Text) (f : Side) (sign k : ℕ) (t : Text) → isAt sign t ≡ false
+    → behindRemoval x f sign k t ≡ inner x (removal f shortest) bare k
 removal-once x f sign k t e = removal-is x f sign k t ∙ rw e
 
 -- Behind `${name`.
@@ -63,7 +65,7 @@ module _ (m : Mode) (s x : Text) (k to : ℕ) where
     abbrev b : ℕ
     b = getD s to 0
 
-    pub name-close : b ≡ 125 → behindName m x k (drop to s) ≡ value x k
+    pub name-close : b ≡ 125 → behindName m x k (drop to s) ≡ valueOf x k
     unfolding behindName
     name-close e = rw (drop-cons s to 0 l) (rw (eq-eqb _ _ e))
 
@@ -73,17 +75,17 @@ module _ (m : Mode) (s x : Text) (k to : ℕ) where
       name-colon f = rw (drop-cons s to 0 l) (rw (ne-eqb _ _ e, eq-eqb _ _ f))
 
       module _ (f : b ≡ 58 → ⊥) where
-        pub name-sign : isIn b (text "-=?+") ≡ true → behindName m x k (drop to s) ≡ inner x (signForm b false) (operandMode m) k
+        pub name-sign : isIn b (text "-=?+") ≡ true → behindName m x k (drop to s) ≡ inner x (signForm b noColon) (operandMode m) k
         unfolding behindName
         name-sign g = rw (drop-cons s to 0 l) (rw (ne-eqb _ _ e, ne-eqb _ _ f, g))
 
         module _ (g : isIn b (text "-=?+") ≡ false) where
-          pub name-suffix : b ≡ 37 → behindName m x k (drop to s) ≡ removal x suffix b k (drop (suc to) s)
+          pub name-suffix : b ≡ 37 → behindName m x k (drop to s) ≡ behindRemoval x suffix b k (drop (suc to) s)
           unfolding behindName
           name-suffix h = ap (behindName m x k) (drop-cons s to 0 l) ∙ rw (ne-eqb _ _ e, ne-eqb _ _ f, g, eq-eqb _ _ h)
 
           module _ (h : b ≡ 37 → ⊥) where
-            pub name-prefix : b ≡ 35 → behindName m x k (drop to s) ≡ removal x prefix b k (drop (suc to) s)
+            pub name-prefix : b ≡ 35 → behindName m x k (drop to s) ≡ behindRemoval x prefix b k (drop (suc to) s)
             unfolding behindName
             name-prefix i = ap (behindName m x k) (drop-cons s to 0 l) ∙ rw (ne-eqb _ _ e, ne-eqb _ _ f, g, ne-eqb _ _ h, eq-eqb _ _ i)
 
@@ -99,8 +101,8 @@ colon-place m x s at to l =
     let e : suc (to - at) ≡ to + 1 - at = omega arith in
     ap (λ (k : ℕ). behindColon m x k (drop (suc to) s)) e ∙ ap (λ (i : ℕ). behindColon m x (to + 1 - at) (drop i s)) (sym (add-one to))
 
-pub removal-place : (x : Text) (f : Bool → Form) (b k to : ℕ) (s : Text) → removal x f b k (drop (suc to) s) ≡ removal x f b k (drop (to + 1) s)
-removal-place x f b k to s = ap (λ (i : ℕ). removal x f b k (drop i s)) (sym (add-one to))
+pub removal-place : (x : Text) (f : Side) (b k to : ℕ) (s : Text) → behindRemoval x f b k (drop (suc to) s) ≡ behindRemoval x f b k (drop (to + 1) s)
+removal-place x f b k to s = ap (λ (i : ℕ). behindRemoval x f b k (drop i s)) (sym (add-one to))
 
 -- Behind `${#name`.
 
@@ -122,18 +124,19 @@ module _ (s x : Text) (k to : ℕ) where
 -- A name, and what is behind it.
 
 module _ (f : Text → Text → Item) (s : Text) (at : ℕ) where
-  pub named-end : length s ≤ at → named f (drop at s) ≡ fault unended
-  unfolding named wrong
-  named-end l = ap (named f) (drop-of-length-le s l)
+  pub named-end : length s ≤ at → nameThen f (drop at s) ≡ fault unended
+  unfolding nameThen wrong
+  named-end l = ap (nameThen f) (drop-of-length-le s l)
 
   module _ (l : at < length s) where
-    pub named-name : isNameStart (getD s at 0) ≡ true → (to : ℕ) → Runs s at NameByte to → named f (drop at s) ≡ f (part s at to) (drop to s)
-    unfolding named
-    named-name e to r = ap (named f) (drop-cons s at 0 l) ∙ rw e (rw (← drop-cons s at 0 l) (ap (λ (p : Text × Text). f (p .0) (p .1)) (r .is)))
+    pub named-name : isNameStart (getD s at 0) ≡ true → (to : ℕ) → Runs s at NameByte to → nameThen f (drop at s) ≡ f (part s at to) (drop to s)
+    unfolding nameThen
+    named-name e to r = ap (nameThen f) (drop-cons s at 0 l) ∙ rw e (rw (← drop-cons s at 0 l) (ap (λ (p : Text × Text). f (p .0) (p .1)) (r .is)))
 
-    pub named-wrong : isNameStart (getD s at 0) ≡ false → {n : ℕ} → wrong unserved (getD s at 0 ∷ []) ≡ fault n → named f (drop at s) ≡ fault n
-    unfolding named
-    named-wrong e w = ap (named f) (drop-cons s at 0 l) ∙ rw e (wrong-byte unserved (getD s at 0) (drop (suc at) s) [] w)
+    pub named-wrong : isNameStart (getD s at 0) ≡ false → {n : ℕ} → wrong unserved (getD s at 0 ∷ []) ≡ fault n
+        → nameThen f (drop at s) ≡ fault n
+    unfolding nameThen
+    named-wrong e w = ap (nameThen f) (drop-cons s at 0 l) ∙ rw e (wrong-byte unserved (getD s at 0) (drop (suc at) s) [] w)
 
 -- how many bytes belong to `${name` and to `${#name`
 named-width : (s : Text) (at i to : ℕ) → at + i ≤ to → to ≤ length s → length (part s (at + i) to) + i ≡ to - at
@@ -179,9 +182,9 @@ module _ (m : Mode) (d : ℕ) (s : Text) (at : ℕ) (z : d ≡ 0 → ⊥) where
     brace-length e = let n : suc (at + 2) ≡ at + 3 = omega arith in head ∙ rw (eq-eqb _ _ e) (rw n)
 
     module _ (e : getD s (at + 2) 0 ≡ 35 → ⊥) where
-      brace-name : braced m d (drop (at + 2) s) ≡ named (λ x u. behindName m x (length x + 2) u) (drop (at + 2) s)
+      brace-name : braced m d (drop (at + 2) s) ≡ nameThen (λ x u. behindName m x (length x + 2) u) (drop (at + 2) s)
       unfolding braced
-      brace-name = head ∙ rw (ne-eqb _ _ e) (ap (named (λ x u. behindName m x (length x + 2) u)) (sym (drop-cons s (at + 2) 0 l)))
+      brace-name = head ∙ rw (ne-eqb _ _ e) (ap (nameThen (λ x u. behindName m x (length x + 2) u)) (sym (drop-cons s (at + 2) 0 l)))
 
       pub brace-named : isNameStart (getD s (at + 2) 0) ≡ true → (to : ℕ) → Runs s (at + 2) NameByte to
           → braced m d (drop (at + 2) s) ≡ behindName m (part s (at + 2) to) (to - at) (drop to s)

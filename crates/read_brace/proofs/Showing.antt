@@ -10,9 +10,11 @@ use lib.ListN.{length, drop, getD, drop-of-length-le, length-take, length-drop}
 use lib.Seq.{drop-cons}
 use Rattle.stages.specs.Bytes.{Text, part}
 use Rattle.stages.specs.Outcome.{pick}
-use Rattle.stages.specs.Syntax.{Form, Mode}
-use Rattle.stages.specs.Items.{Item, fault, stop, byte, value, count, inner}
+use Rattle.stages.specs.Syntax.{Escape, Form, Mode}
+use Rattle.stages.specs.Items.{Item, fault, stop, byte, valueOf, count, inner}
 use Rattle.stages.specs.Items.{wrong}
+use Rattle.text.specs.Cases.{escapeOf, isEscaped}
+use Rattle.text.proofs.Cases.{escape-there}
 use Rattle.read_mode.specs.Modes.{modeOf, openIn, formOf}
 use Rattle.read_mode.specs.declared.Mode as code-mode
 use Rattle.read_mode.specs.declared.Form as code-form
@@ -30,13 +32,13 @@ module _ (s : Text) (at d next k : ℕ) (e : next ≡ at + suc k) (w : next ≤ 
   past : Behind s at next
   past = record { onward = omega arith; within = w }
 
-  pub shows-byte : (q : Bool) (b : ℕ) {i : Item} → i ≡ byte q b k → Shows s at d (code.Byte q b next) i
-  shows-byte q b h = (h ∙ ap (byte q b) took, past)
+  pub shows-byte : (q : Escape) (b : ℕ) {i : Item} → i ≡ byte q b k → Shows s at d (code.Byte (isEscaped q) b next) i
+  shows-byte q b h = (h ∙ ap (λ (e : Escape). byte e b k) (escape-there q) ∙ ap (byte (escapeOf (isEscaped q)) b) took, past)
 
   module _ (from to : ℕ) (f : from ≤ to) (t : to ≤ length s) where
-    pub shows-value : from ≡ nameOf at (to - from) (next - suc at) → {i : Item} → i ≡ value (part s from to) k → Shows s at d
+    pub shows-value : from ≡ nameOf at (to - from) (next - suc at) → {i : Item} → i ≡ valueOf (part s from to) k → Shows s at d
         (code.Value from to next) i
-    shows-value q h = (h ∙ ap (value (part s from to)) took, past, record { onward = f; within = t }, q)
+    shows-value q h = (h ∙ ap (valueOf (part s from to)) took, past, record { onward = f; within = t }, q)
 
     pub shows-count : from ≡ at + 3 → {i : Item} → i ≡ count (part s from to) k → Shows s at d (code.Count from to next) i
     shows-count q h = (h ∙ ap (count (part s from to)) took, past, record { onward = f; within = t }, q)

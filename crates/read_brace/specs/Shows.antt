@@ -7,9 +7,10 @@ use lib.Dec.{eqb}
 use lib.ListN.{length}
 use Rattle.stages.specs.Bytes.{Text, part}
 use Rattle.stages.specs.Outcome.{pick}
-use Rattle.stages.specs.Syntax.{Form, suffix, prefix}
-use Rattle.stages.specs.Items.{fault, stop, byte, paren, quote, value, count, inner, sum, named, behindLength}
+use Rattle.stages.specs.Syntax.{Side, suffix, prefix}
+use Rattle.stages.specs.Items.{fault, stop, byte, paren, quote, valueOf, count, inner, sum, nameThen, behindLength}
 use Rattle.stages.specs.Items as items
+use Rattle.text.specs.Cases.{escapeOf}
 use Rattle.read_mode.specs.Modes.{modeOf, openIn, formOf}
 use Rattle.read_brace.specs.declared.Item.{Item}
 use Rattle.read_brace.specs.declared.Item.the-variants.{Fault, Stop, Byte, Paren, Quote, Value, Count, Inner, Sum}
@@ -19,15 +20,15 @@ abbrev pub isAt : ℕ → Text → Bool
 isAt b [] = false
 isAt b (c ∷ t) = eqb c b
 
--- the removals, each by whether its sign is doubled
-abbrev pub removalForm : Bool → Bool → Form
-removalForm true = prefix
-removalForm false = suffix
+-- what a removal drops, by whether its sign is `#`
+abbrev pub removalSide : Bool → Side
+removalSide true = prefix
+removalSide false = suffix
 
 -- what `${#` is by the text behind it
 unfoldable pub counted : Text → items.Item
-unfolding named behindLength
-counted t = named (λ x u. behindLength x (length x + 3) u) t
+unfolding nameThen behindLength
+counted t = nameThen (λ x u. behindLength x (length x + 3) u) t
 
 -- the place behind an item
 pub record Behind (text : Text) (at next : ℕ) : Type 0 where
@@ -47,11 +48,11 @@ nameOf at n k = pick (eqb k n) (at + 1) (at + 2)
 abbrev pub Shows : Text → ℕ → ℕ → Item → items.Item → Type 0
 Shows text at depth (Fault e) i = i ≡ fault e
 Shows text at depth (Stop next) i = (i ≡ stop (next - at)) × (at ≤ next) × (next ≤ length text)
-Shows text at depth (Byte q b next) i = (i ≡ byte q b (next - suc at)) × Behind text at next
+Shows text at depth (Byte q b next) i = (i ≡ byte (escapeOf q) b (next - suc at)) × Behind text at next
 Shows text at depth (Paren b n) i = (i ≡ paren b n) × (at < length text) × (n ≤ at + 1)
 Shows text at depth (Quote m) i = (i ≡ quote (modeOf m)) × (at < length text) × (openIn m ≡ 0)
 Shows text at depth (Value from to next) i =
-    (i ≡ value (part text from to) (next - suc at)) × Behind text at next × Name text from to × (from ≡ nameOf at (to - from) (next - suc at))
+    (i ≡ valueOf (part text from to) (next - suc at)) × Behind text at next × Name text from to × (from ≡ nameOf at (to - from) (next - suc at))
 Shows text at depth (Count from to next) i = (i ≡ count (part text from to) (next - suc at)) × Behind text at next × Name text from to × (from ≡ at + 3)
 Shows text at depth (Inner from to f m next) i =
     (i ≡ inner (part text from to) (formOf f) (modeOf m) (next - suc at)) × Behind text at next × Name text from to × (0 < depth) ×

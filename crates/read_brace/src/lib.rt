@@ -9,9 +9,11 @@ ghost use mathlib.Core.Path.{_≡_};
 ghost use Prim.Native.Nat.{_+_, _-_, _≤_, _<_};
 ghost use lib.ListN.{length, drop, getD};
 ghost use Rattle.stages.specs.Bytes.{part};
-ghost use Rattle.stages.specs.Items.{braced, behindLength, behindName, behindColon, removal};
+ghost use Rattle.stages.specs.Syntax.{removal};
+ghost use Rattle.stages.specs.Items.{braced, behindLength, behindName, behindColon, behindRemoval};
+ghost use Rattle.text.specs.Cases.{reachOf};
 ghost use Rattle.read_mode.specs.Modes.{modeOf, formOf};
-ghost use Rattle.read_brace.specs.Shows.{Shows, isAt, removalForm, counted};
+ghost use Rattle.read_brace.specs.Shows.{Shows, isAt, removalSide, counted};
 
 // What stands at a place; `next` is the place behind it, and a name stands from `from` to `to`.
 pub enum Item {
@@ -94,7 +96,7 @@ fn behind_colon(text: &[u8], from: Cursor, to: usize) -> Item
 
 // The form of a removal.
 fn removal_form(prefix: bool, doubled: bool) -> Form
-    ensures { λ r. ⌜ formOf r ≡ removalForm «prefix» doubled ⌝ }
+    ensures { λ r. ⌜ formOf r ≡ removal (removalSide «prefix») (reachOf doubled) ⌝ }
 {
     if prefix {
         return Form::Prefix(doubled);
@@ -106,7 +108,7 @@ fn removal_form(prefix: bool, doubled: bool) -> Form
 fn removal_at(text: &[u8], from: Cursor, to: usize, prefix: bool) -> Item
     requires { ⌜ (from .at + 2 ≤ to) × (to < length (now text)) × (0 < from .depth) ⌝ }
     ensures { λ r. ⌜ Shows (now (text .entry)) (from .at) (from .depth) r
-        (removal (part (now (text .entry)) (from .at + 2) to) (removalForm «prefix») (getD (now (text .entry)) to 0) (to - from .at)
+        (behindRemoval (part (now (text .entry)) (from .at + 2) to) (removalSide «prefix») (getD (now (text .entry)) to 0) (to - from .at)
         (drop (to + 1) (now (text .entry)))) ⌝ }
 {
     let at = from.at;

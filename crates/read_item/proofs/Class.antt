@@ -10,8 +10,8 @@ use lib.ListN.{length, drop, getD, drop-of-length-le}
 use lib.Seq.{drop-cons}
 use Rattle.stages.specs.Numbers.{unended, bareOperator, substitution, unserved, badSyntax, tooDeep}
 use Rattle.stages.specs.Bytes.{Text, part, isNameStart}
-use Rattle.stages.specs.Syntax.{Mode, single, double, arith as sums}
-use Rattle.stages.specs.Items.{Item, fault, stop, byte, paren, quote, value, sum, item, itemOf, ended, escaped, quotable}
+use Rattle.stages.specs.Syntax.{escaped, unescaped, Mode, single, double, arith as sums}
+use Rattle.stages.specs.Items.{Item, fault, stop, byte, paren, quote, valueOf, sum, item, itemOf, ended, behindBackslash, quotable}
 use Rattle.stages.specs.Items.{wrong, expansion, notServed, parenthesis, braced, opened, closed, outer}
 use Rattle.text.specs.Classes.{Runs}
 use Rattle.text.specs.declared.Class.the-variants.{NameByte}
@@ -26,22 +26,22 @@ use Rattle.text.proofs.Parts.{part-length}
 -- Behind a backslash.
 
 module _ (m : Mode) (s : Text) (at : ℕ) where
-  pub escape-end : length s ≤ at + 1 → escaped m (drop (at + 1) s) ≡ fault unended
-  unfolding escaped
-  escape-end l = ap (escaped m) (drop-of-length-le s l)
+  pub escape-end : length s ≤ at + 1 → behindBackslash m (drop (at + 1) s) ≡ fault unended
+  unfolding behindBackslash
+  escape-end l = ap (behindBackslash m) (drop-of-length-le s l)
 
   module _ (l : at + 1 < length s) where
-    pub escape-line : getD s (at + 1) 0 ≡ 10 → escaped m (drop (at + 1) s) ≡ fault badSyntax
-    unfolding escaped
+    pub escape-line : getD s (at + 1) 0 ≡ 10 → behindBackslash m (drop (at + 1) s) ≡ fault badSyntax
+    unfolding behindBackslash
     escape-line e = rw (drop-cons s (at + 1) 0 l) (rw (eq-eqb _ _ e))
 
     module _ (e : getD s (at + 1) 0 ≡ 10 → ⊥) where
-      pub escape-byte : quotable m (getD s (at + 1) 0) ≡ true → escaped m (drop (at + 1) s) ≡ byte true (getD s (at + 1) 0) 1
-      unfolding escaped
+      pub escape-byte : quotable m (getD s (at + 1) 0) ≡ true → behindBackslash m (drop (at + 1) s) ≡ byte escaped (getD s (at + 1) 0) 1
+      unfolding behindBackslash
       escape-byte q = rw (drop-cons s (at + 1) 0 l) (rw (ne-eqb _ _ e, q))
 
-      pub escape-plain : quotable m (getD s (at + 1) 0) ≡ false → escaped m (drop (at + 1) s) ≡ byte false 92 0
-      unfolding escaped
+      pub escape-plain : quotable m (getD s (at + 1) 0) ≡ false → behindBackslash m (drop (at + 1) s) ≡ byte unescaped 92 0
+      unfolding behindBackslash
       escape-plain q = rw (drop-cons s (at + 1) 0 l) (rw (ne-eqb _ _ e, q))
 
 -- Behind `$(`.
@@ -67,7 +67,7 @@ paren-opens (suc d) (b ∷ t) e z = rw e
 -- Behind `$`.
 
 module _ (m : Mode) (d : ℕ) (s : Text) (at : ℕ) where
-  pub dollar-end : length s ≤ at + 1 → expansion m d (drop (at + 1) s) ≡ byte false 36 0
+  pub dollar-end : length s ≤ at + 1 → expansion m d (drop (at + 1) s) ≡ byte unescaped 36 0
   unfolding expansion
   dollar-end l = ap (expansion m d) (drop-of-length-le s l)
 
@@ -79,13 +79,13 @@ module _ (m : Mode) (d : ℕ) (s : Text) (at : ℕ) where
     two = omega arith
 
     pub dollar-name : isNameStart (getD s (at + 1) 0) ≡ true → (to : ℕ) → Runs s (at + 1) NameByte to
-        → expansion m d (drop (at + 1) s) ≡ value (part s (at + 1) to) (to - (at + 1))
+        → expansion m d (drop (at + 1) s) ≡ valueOf (part s (at + 1) to) (to - (at + 1))
     unfolding expansion
     dollar-name e to r =
         top
         ∙ rw e
         (rw (← drop-cons s (at + 1) 0 l)
-        (ap (λ (p : Text × Text). value (p .0) (length (p .0))) (r .is) ∙ ap (value (part s (at + 1) to))
+        (ap (λ (p : Text × Text). valueOf (p .0) (length (p .0))) (r .is) ∙ ap (valueOf (part s (at + 1) to))
         (part-length s (at + 1) to (r .onward) (r .within))))
 
     module _ (e : isNameStart (getD s (at + 1) 0) ≡ false) where
@@ -103,7 +103,7 @@ module _ (m : Mode) (d : ℕ) (s : Text) (at : ℕ) where
           unfolding expansion
           dollar-other h = top ∙ rw (e, ne-eqb _ _ f, ne-eqb _ _ g, h)
 
-          pub dollar-plain : notServed m (getD s (at + 1) 0) ≡ false → expansion m d (drop (at + 1) s) ≡ byte false 36 0
+          pub dollar-plain : notServed m (getD s (at + 1) 0) ≡ false → expansion m d (drop (at + 1) s) ≡ byte unescaped 36 0
           unfolding expansion
           dollar-plain h = top ∙ rw (e, ne-eqb _ _ f, ne-eqb _ _ g, h)
 
@@ -173,7 +173,7 @@ module _ (m : Mode) (d : ℕ) (s : Text) (at : ℕ) (l : at < length s) {r : cod
   unfolding itemOf
   item-quotes2 e = by-sort e
 
-  pub item-backslash : r ≡ sort-of.Backslash → Is (escaped m (drop (at + 1) s))
+  pub item-backslash : r ≡ sort-of.Backslash → Is (behindBackslash m (drop (at + 1) s))
   unfolding itemOf
   item-backslash e = by-sort e
 
@@ -199,7 +199,7 @@ module _ (m : Mode) (d : ℕ) (s : Text) (at : ℕ) (l : at < length s) {r : cod
   unfolding itemOf
   item-closing e = by-sort e ∙ ap (λ (x : Mode). closed x here (drop (at + 1) s)) (closing-mode e)
 
-  pub item-literal : r ≡ sort-of.Literal → Is (byte false here 0)
+  pub item-literal : r ≡ sort-of.Literal → Is (byte unescaped here 0)
   unfolding itemOf
   item-literal e = by-sort e
 

@@ -10,7 +10,7 @@ ghost use mathlib.Core.Path.{_≡_};
 ghost use Prim.Native.Nat.{_+_, _≤_, _<_};
 ghost use lib.ListN.{length, drop, getD};
 ghost use Rattle.stages.specs.Syntax.{arith};
-ghost use Rattle.stages.specs.Items.{item, escaped, expansion, parenthesis, closed};
+ghost use Rattle.stages.specs.Items.{item, behindBackslash, expansion, parenthesis, closed};
 ghost use Rattle.read_mode.specs.Modes.{modeOf, openIn};
 ghost use Rattle.read_brace.specs.Shows.{Shows};
 ghost use Rattle.read_item.specs.After.{modeAfter, isStop};
@@ -19,7 +19,7 @@ ghost use Rattle.read_item.specs.After.{modeAfter, isStop};
 fn escaped_at(text: &[u8], from: Cursor) -> Item
     requires { ⌜ from .at < length (now text) ⌝ }
     ensures { λ r. ⌜ Shows (now (text .entry)) (from .at) (from .depth) r
-        (escaped (modeOf (from .mode)) (drop (from .at + 1) (now (text .entry)))) ⌝ }
+        (behindBackslash (modeOf (from .mode)) (drop (from .at + 1) (now (text .entry)))) ⌝ }
 {
     let at = from.at;
     let mode = from.mode;

@@ -1,3 +1,3 @@
-pub mod Turns
+pub mod Items
 pub mod Lines
 pub mod Determined

@@ -9,7 +9,7 @@ use lib.ListN.{length, drop, getD, length-drop}
 use lib.Seq.{drop-cons}
 use Rattle.stages.specs.Numbers.{depthLimit, bareOperator}
 use Rattle.stages.specs.Bytes.{Text, part, span, isBlank, isOperator}
-use Rattle.stages.specs.Outcome.{refused, done, Placed, refusedAt, doneAt, at, _then_}
+use Rattle.stages.specs.Outcome.{refused, done, Placed, refusedAt, doneAt, placedAt, _then_}
 use Rattle.stages.specs.Syntax.{Parts, Word, word}
 use Rattle.stages.specs.Read.{Taken, Words, parts, words, wordAt, readLine}
 use Rattle.stages.proofs.Read.{Good, stays, leaves, word-good}
@@ -116,7 +116,7 @@ module _ (line : Text) (place : ℕ) (l : place < length line) (e : isBlank (get
 
       abbrev around : Taken → Words
       around r =
-          at place r then λ p.
+          placedAt place r then λ p.
           words (place + (length (drop place line) - length (p .1)), p .1) then λ ws.
           doneAt (record { place = place; parts = p .0 } ∷ ws)
 

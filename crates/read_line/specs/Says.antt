@@ -1,7 +1,7 @@
 -- What the reader's answers say of the stages'.
 use Prim.Native.Nat.{ℕ, _+_, _≤_, _<_}
 use mathlib.Core.Path.{_≡_}
-use mathlib.Core.Bool.{Bool, false}
+use mathlib.Core.Bool.{Bool, true, false}
 use mathlib.Core.List.{[], _∷_}
 use lib.ListN.{length, drop, getD}
 use Rattle.stages.specs.Bytes.{Text, span, isBlank}
@@ -10,11 +10,12 @@ use Rattle.stages.specs.Syntax.{Parts, Word}
 use Rattle.stages.specs.Read.{Taken, Words, put, parts, words}
 use Rattle.read_mode.specs.Modes.{modeOf, openIn}
 use Rattle.read_mode.specs.declared.Mode.{Mode}
+use Rattle.read_mode.specs.declared.Cursor.{Cursor}
 use Rattle.read_brace.specs.Shows.{Behind}
+use Rattle.read_brace.specs.declared.Item.{Item}
+use Rattle.read_item.specs.After.{ItemAt, modeAfter, isStop}
 use Rattle.read_line.specs.declared.Reading.{Reading}
 use Rattle.read_line.specs.declared.Reading.the-variants as reading
-use Rattle.read_line.specs.declared.Step.{Step}
-use Rattle.read_line.specs.declared.Step.the-variants as step
 use Rattle.read_line.specs.declared.NextWord.{NextWord}
 use Rattle.read_line.specs.declared.NextWord.the-variants as next-word
 use Rattle.read_line.specs.declared.LineRead.{LineRead}
@@ -31,22 +32,30 @@ abbrev pub ReadSays : Text → ℕ → Taken → Reading → Type 0
 ReadSays text at o (reading.Fault e) = o ≡ refused e
 ReadSays text at o (reading.End next) = ReadTo text at o next
 
--- one item is read: a part, and what is read behind it in the mode m
-pub record ReadMore (text : Text) (at depth : ℕ) (o : Taken) (next : ℕ) (m : Mode) : Type 0 where
+-- what is read from a place on
+abbrev pub readFrom : Text → Cursor → Taken
+readFrom text from = parts (modeOf (from .mode)) (from .depth) (drop (from .at) text)
+
+-- the item is what stands at the place, and no more parentheses are open there than bytes stand before it
+pub record Here (text : Text) (from : Cursor) (i : Item) : Type 0 where
+  pub is : ItemAt text from i
+  pub few : openIn (from .mode) ≤ from .at
+
+-- an item is read: a part, and what is read from `next` on in the mode m
+pub record ReadMore (text : Text) (from : Cursor) (next : ℕ) (m : Mode) : Type 0 where
   pub before : Parts → Parts
-  pub is : o ≡ put before (parts (modeOf m) depth (drop next text))
-  pub place : Behind text at next
+  pub is : readFrom text from ≡ put before (parts (modeOf m) (from .depth) (drop next text))
+  pub place : Behind text (from .at) next
   pub few : openIn m ≤ next
 
-abbrev pub ReadTurn : Text → ℕ → ℕ → Taken → Step → Type 0
-ReadTurn text at depth o (step.Fault e) = o ≡ refused e
-ReadTurn text at depth o (step.End next) = ReadTo text at o next
-ReadTurn text at depth o (step.Next next m) = ReadMore text at depth o next m
+-- the text ends before `next`, or goes on there
+abbrev pub ReadsOn : Bool → Text → Cursor → ℕ → Mode → Type 0
+ReadsOn true text from next m = ReadTo text (from .at) (readFrom text from) next
+ReadsOn false text from next m = ReadMore text from next m
 
--- an inner text that is read: the outer one goes on behind it
-abbrev pub onward : Mode → Reading → Step
-onward m (reading.Fault e) = step.Fault e
-onward m (reading.End next) = step.Next next m
+abbrev pub ItemSays : Item → Text → Cursor → Reading → Type 0
+ItemSays i text from (reading.Fault e) = readFrom text from ≡ refused e
+ItemSays i text from (reading.End next) = ReadsOn (isStop i) text from next (modeAfter i (from .mode))
 
 -- the place behind the blanks from `at` on
 unfoldable pub blanksEnd : Text → ℕ → ℕ

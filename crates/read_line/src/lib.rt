@@ -12,17 +12,10 @@ ghost use lib.ListN.{length, drop, getD};
 ghost use Rattle.stages.specs.Bytes.{isBlank};
 ghost use Rattle.stages.specs.Read.{parts, readLine};
 ghost use Rattle.read_mode.specs.Modes.{modeOf, openIn};
-ghost use Rattle.read_line.specs.Says.{ReadSays, ReadTurn, onward, NextSays, WordSays, verdict, verdictOf};
+ghost use Rattle.read_line.specs.Says.{ReadSays, Here, ItemSays, NextSays, WordSays, verdict, verdictOf};
 
 // What a text is read as: the place behind it, or the number that refuses it.
 pub enum Reading {
-    End(usize),
-    Fault(u8),
-}
-
-// What one item of a text is read as: the text goes on at a place in a mode, ends before a place, or is refused.
-enum Step {
-    Next { next: usize, mode: Mode },
     End(usize),
     Fault(u8),
 }
@@ -39,68 +32,39 @@ pub enum LineRead {
     Refused { number: u8, place: usize },
 }
 
-// An inner text that is read: the outer one goes on behind it in its own mode.
-fn behind(got: Reading, mode: Mode) -> Step
-    ensures { λ r. ⌜ r ≡ onward mode got ⌝ }
+// Reads an item of a text: answers the place after it, which is that after the text if the item ends it.
+fn read_item(item: Item, text: &[u8], from: Cursor) -> Reading
+    requires { ⌜ Here (now text) from item ⌝ }
+    ensures { λ r. ⌜ ItemSays item (now (text .entry)) from r ⌝ }
 {
-    match got {
-        Reading::Fault(number) => Step::Fault(number),
-        Reading::End(next) => Step::Next {
-            next: next,
-            mode: mode,
-        },
-    }
-}
-
-// Reads what stands at a place.
-fn read_item(text: &[u8], from: Cursor) -> Step
-    requires { ⌜ (from .at ≤ length (now text)) × (openIn (from .mode) ≤ from .at) ⌝ }
-    ensures { λ r. ⌜ ReadTurn (now (text .entry)) (from .at) (from .depth)
-        (parts (modeOf (from .mode)) (from .depth) (drop (from .at) (now (text .entry)))) r ⌝ }
-{
-    let mode = from.mode;
-    let item = read_item::item_at(text, from);
+    let at = from.at;
+    let depth = from.depth;
     match item {
-        Item::Fault(number) => Step::Fault(number),
-        Item::Stop(next) => Step::End(next),
+        Item::Fault(number) => Reading::Fault(number),
+        Item::Stop(next) => Reading::End(next),
         Item::Byte {
             quoted: _,
             byte: _,
             next,
-        } => Step::Next {
-            next: next,
-            mode: mode,
-        },
-        Item::Paren { byte: _, parens } => Step::Next {
-            next: from.at + 1,
-            mode: Mode::Arith(parens),
-        },
+        } => Reading::End(next),
+        Item::Paren { byte: _, parens: _ } => Reading::End(at + 1),
         Item::Value {
             from: _,
             to: _,
             next,
-        } => Step::Next {
-            next: next,
-            mode: mode,
-        },
+        } => Reading::End(next),
         Item::Count {
             from: _,
             to: _,
             next,
-        } => Step::Next {
-            next: next,
-            mode: mode,
-        },
-        Item::Quote(inner) => behind(
-            read_text(
-                text,
-                Cursor {
-                    at: from.at + 1,
-                    mode: inner,
-                    depth: from.depth,
-                },
-            ),
-            mode,
+        } => Reading::End(next),
+        Item::Quote(inner) => read_text(
+            text,
+            Cursor {
+                at: at + 1,
+                mode: inner,
+                depth: depth,
+            },
         ),
         Item::Inner {
             from: _,
@@ -108,27 +72,21 @@ fn read_item(text: &[u8], from: Cursor) -> Step
             form: _,
             mode: inner,
             next,
-        } => behind(
-            read_text(
-                text,
-                Cursor {
-                    at: next,
-                    mode: inner,
-                    depth: from.depth - 1,
-                },
-            ),
-            mode,
+        } => read_text(
+            text,
+            Cursor {
+                at: next,
+                mode: inner,
+                depth: depth - 1,
+            },
         ),
-        Item::Sum { next } => behind(
-            read_text(
-                text,
-                Cursor {
-                    at: next,
-                    mode: Mode::Arith(0),
-                    depth: from.depth - 1,
-                },
-            ),
-            mode,
+        Item::Sum { next } => read_text(
+            text,
+            Cursor {
+                at: next,
+                mode: Mode::Arith(0),
+                depth: depth - 1,
+            },
         ),
     }
 }
@@ -138,27 +96,25 @@ pub fn read_text(text: &[u8], from: Cursor) -> Reading
     requires { ⌜ (from .at ≤ length (now text)) × (openIn (from .mode) ≤ from .at) ⌝ }
     ensures { λ r. ⌜ ReadSays (now (text .entry)) (from .at) (parts (modeOf (from .mode)) (from .depth) (drop (from .at) (now (text .entry)))) r ⌝ }
 {
-    let mut i = from.at;
-    let mut inside = from.mode;
+    let mut here = from;
     loop {
-        let got = read_item(
-            text,
-            Cursor {
-                at: i,
-                mode: inside,
-                depth: from.depth,
-            },
-        );
+        let item = read_item::item_at(text, here);
+        let got = read_item(item, text, here);
         match got {
-            Step::Fault(number) => {
+            Reading::Fault(number) => {
                 return Reading::Fault(number);
             }
-            Step::End(next) => {
-                return Reading::End(next);
-            }
-            Step::Next { next, mode: after } => {
-                i = next;
-                inside = after;
+            Reading::End(next) => {
+                if read_item::is_stop(item) {
+                    return Reading::End(next);
+                }
+                let mode = here.mode;
+                let depth = here.depth;
+                here = Cursor {
+                    at: next,
+                    mode: read_item::mode_after(item, mode),
+                    depth: depth,
+                };
             }
         }
     }

@@ -5,10 +5,12 @@ use native.Mathlib.Omega.{arith}
 use mathlib.Core.Path.{_≡_, refl, sym, ap, _∙_}
 use mathlib.Core.Bool.{Bool, true, false}
 use mathlib.Core.List.{[], _∷_}
-use Rattle.stages.specs.Syntax.{word, bare, single, double, operand, arith as sums, plain, minus, equals, query, plus, suffix, prefix}
+use Rattle.stages.specs.Syntax.{word, bare, single, double, quotedOperand, arith as sums, plain, minus, equals, query, plus, removal, suffix, prefix, Colon}
 use Rattle.stages.specs.Syntax as syntax
 use Rattle.stages.specs.Items.{ended, quotable, notServed, wrong, fault, signForm, closerLength}
 use Rattle.stages.specs.Items as items
+use Rattle.text.specs.Cases.{hasColon, isLongest}
+use Rattle.text.proofs.Cases.{colon-back, reach-back}
 use Rattle.text.proofs.Determined.{one-answer}
 use Rattle.read_mode.specs.Modes.{modeOf, formOf, sortOf, Carries, Sorted, Operands, endsLine}
 use Rattle.read_mode.specs.declared.Mode.{Mode}
@@ -27,7 +29,7 @@ modeBack word = Word
 modeBack bare = Bare
 modeBack single = Single
 modeBack double = Double
-modeBack operand = Operand
+modeBack quotedOperand = Operand
 modeBack (sums n) = Arith n
 
 pub mode-back : (m : Mode) → m ≡ modeBack (modeOf m)
@@ -43,20 +45,20 @@ mode-determined r s e = taken-back modeOf modeBack mode-back r s e
 
 abbrev pub formBack : syntax.Form → Form
 formBack plain = Minus false
-formBack (minus c) = Minus c
-formBack (equals c) = Equals c
-formBack (query c) = Query c
-formBack (plus c) = Plus c
-formBack (suffix d) = Suffix d
-formBack (prefix d) = Prefix d
+formBack (minus c) = Minus (hasColon c)
+formBack (equals c) = Equals (hasColon c)
+formBack (query c) = Query (hasColon c)
+formBack (plus c) = Plus (hasColon c)
+formBack (removal suffix d) = Suffix (isLongest d)
+formBack (removal prefix d) = Prefix (isLongest d)
 
 pub form-back : (f : Form) → f ≡ formBack (formOf f)
-form-back (Minus c) = refl
-form-back (Equals c) = refl
-form-back (Query c) = refl
-form-back (Plus c) = refl
-form-back (Suffix d) = refl
-form-back (Prefix d) = refl
+form-back (Minus c) = ap Minus (colon-back c)
+form-back (Equals c) = ap Equals (colon-back c)
+form-back (Query c) = ap Query (colon-back c)
+form-back (Plus c) = ap Plus (colon-back c)
+form-back (Suffix d) = ap Suffix (reach-back d)
+form-back (Prefix d) = ap Prefix (reach-back d)
 
 pub form-determined : (r s : Form) → formOf r ≡ formOf s → r ≡ s
 form-determined r s e = taken-back formOf formBack form-back r s e
@@ -67,7 +69,7 @@ parensOf word = 0
 parensOf bare = 0
 parensOf single = 0
 parensOf double = 0
-parensOf operand = 0
+parensOf quotedOperand = 0
 parensOf (sums n) = n
 
 abbrev sortBack : syntax.Mode → items.Sort → Sort
@@ -120,5 +122,5 @@ may-end-determined m r s p q = ends-back r s (sym p ∙ q)
 pub wrong-byte-determined : (n b r s : ℕ) → wrong n (b ∷ []) ≡ fault r → wrong n (b ∷ []) ≡ fault s → r ≡ s
 wrong-byte-determined n b r s p q = cc
 
-pub sign-form-determined : (b : ℕ) (colon : Bool) (r s : Form) → formOf r ≡ signForm b colon → formOf s ≡ signForm b colon → r ≡ s
+pub sign-form-determined : (b : ℕ) (colon : Colon) (r s : Form) → formOf r ≡ signForm b colon → formOf s ≡ signForm b colon → r ≡ s
 sign-form-determined b colon r s p q = form-determined r s (one-answer p q)

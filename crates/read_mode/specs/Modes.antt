@@ -6,10 +6,11 @@ use mathlib.Core.Bool.{Bool, true, false}
 use lib.Dec.{eqb}
 use Rattle.stages.specs.Numbers.{unended}
 use Rattle.stages.specs.Outcome.{pick}
-use Rattle.stages.specs.Syntax.{word, bare, single, double, operand, arith}
+use Rattle.stages.specs.Syntax.{word, bare, single, double, quotedOperand, arith}
 use Rattle.stages.specs.Syntax as syntax
 use Rattle.stages.specs.Items.{Item, fault, stop, operandMode, closerLength, sort}
 use Rattle.stages.specs.Items as items
+use Rattle.text.specs.Cases.{colonOf, reachOf}
 use Rattle.read_mode.specs.declared.Mode.{Mode}
 use Rattle.read_mode.specs.declared.Mode.the-variants.{Word, Bare, Single, Double, Operand, Arith}
 use Rattle.read_mode.specs.declared.Form.{Form}
@@ -22,7 +23,7 @@ modeOf Word = word
 modeOf Bare = bare
 modeOf Single = single
 modeOf Double = double
-modeOf Operand = operand
+modeOf Operand = quotedOperand
 modeOf (Arith n) = arith n
 
 -- the open parentheses of a mode
@@ -35,12 +36,12 @@ openIn Operand = 0
 openIn (Arith n) = n
 
 abbrev pub formOf : Form → syntax.Form
-formOf (Minus colon) = syntax.minus colon
-formOf (Equals colon) = syntax.equals colon
-formOf (Query colon) = syntax.query colon
-formOf (Plus colon) = syntax.plus colon
-formOf (Suffix doubled) = syntax.suffix doubled
-formOf (Prefix doubled) = syntax.prefix doubled
+formOf (Minus colon) = syntax.minus (colonOf colon)
+formOf (Equals colon) = syntax.equals (colonOf colon)
+formOf (Query colon) = syntax.query (colonOf colon)
+formOf (Plus colon) = syntax.plus (colonOf colon)
+formOf (Suffix doubled) = syntax.removal syntax.suffix (reachOf doubled)
+formOf (Prefix doubled) = syntax.removal syntax.prefix (reachOf doubled)
 
 abbrev pub sortOf : Sort → items.Sort
 sortOf Backquote = items.backquote

@@ -4,7 +4,8 @@ ghost use mathlib.Core.Path.{_≡_};
 ghost use mathlib.Core.Bool.{_||_};
 ghost use mathlib.Core.List.{[], _∷_};
 ghost use Rattle.stages.specs.Bytes.{isDigit, isIn, text};
-ghost use Rattle.stages.specs.Syntax.{word, bare, single, double, operand, arith};
+ghost use Rattle.stages.specs.Syntax.{word, bare, single, double, quotedOperand, arith};
+ghost use Rattle.text.specs.Cases.{colonOf};
 ghost use Rattle.stages.specs.Items.{quotable, notServed, operandMode, ended, wrong, fault, signForm};
 ghost use Rattle.read_mode.specs.Modes.{modeOf, formOf, Operands, Sorted, Shared, quotesSort, plainSort, endsLine};
 use text::numbers;
@@ -134,7 +135,7 @@ fn sort_double(b: u8) -> Sort
 }
 
 fn sort_operand(b: u8) -> Sort
-    ensures { λ r. ⌜ Sorted operand b r ⌝ }
+    ensures { λ r. ⌜ Sorted quotedOperand b r ⌝ }
 {
     if b == b'`' {
         return Sort::Backquote;
@@ -269,7 +270,7 @@ pub fn wrong_byte(number: u8, b: u8) -> u8
 
 // The form of one of `-=?+`.
 pub fn sign_form(b: u8, colon: bool) -> Form
-    ensures { λ r. ⌜ formOf r ≡ signForm b colon ⌝ }
+    ensures { λ r. ⌜ formOf r ≡ signForm b (colonOf colon) ⌝ }
 {
     if b == b'-' {
         return Form::Minus(colon);

@@ -31,9 +31,9 @@ use Rattle.recipe_answer.specs.Says.{answerTo, Says}
 pub record Alike (a b : stage.Answer) : Type 0 where
   pub words : said a ≡ said b
   pub variables : a .vars ≡ b .vars
-  pub usedLength : a .used ≡ b .used
+  pub usedLength : a .varsUsed ≡ b .varsUsed
 
-answered-alike : (g h : Given) (o : Placed (Text × Pairs)) → g .vars ≡ h .vars → g .used ≡ h .used → Alike (answered g o) (answered h o)
+answered-alike : (g h : Given) (o : Placed (Text × Pairs)) → g .vars ≡ h .vars → g .varsUsed ≡ h .varsUsed → Alike (answered g o) (answered h o)
 unfolding answered said
 answered-alike g h (refusedAt n place) v u = record { words = refl; variables = v; usedLength = u }
 answered-alike g h (doneAt r) v u = record {

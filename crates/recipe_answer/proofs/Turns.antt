@@ -13,8 +13,8 @@ use Rattle.recipe_cut.proofs.Callers.{InBlocks, joined, blocks-lines}
 use Rattle.recipe_answer.specs.Says.{answerTo, Says}
 use Rattle.recipe_answer.specs.declared.Said.{Said}
 
-abbrev variablesOf : Text → ℕ → Variables
-variablesOf vars used = record { bytes = vars; used = used }
+abbrev carried : Text → ℕ → Variables
+carried vars used = record { buffer = vars; varsUsed = used }
 
 -- what is written for lines, turn by turn
 pub data Wrote (homes paths : Text) : Text → ℕ → List Text → Text → Type 0 where
@@ -25,24 +25,24 @@ pub data Wrote (homes paths : Text) : Text → ℕ → List Text → Text → Ty
 
 module _ (homes paths : Text) where
   -- the bytes that are kept of a line are answered as the line is
-  kept-answer : (l vars : Text) (used : ℕ) → answerTo homes paths (cutLine l) vars used ≡ normaliser (givenLine homes paths l (variablesOf vars used))
+  kept-answer : (l vars : Text) (used : ℕ) → answerTo homes paths (cutLine l) vars used ≡ normaliser (givenLine homes paths l (carried vars used))
   unfolding answerTo givenLine
-  kept-answer l vars used = normaliser-cut (givenLine homes paths l (variablesOf vars used)) l
+  kept-answer l vars used = normaliser-cut (givenLine homes paths l (carried vars used)) l
 
   pub turns-said : {vars : Text} {used : ℕ} {ls : List Text} {t : Text} → Wrote homes paths vars used ls t → t ≡ saidOf homes paths
-      (variablesOf vars used) ls
+      (carried vars used) ls
   unfolding saidOf
   turns-said nothing = refl
   turns-said {vars} {used} (wrote {next = next} {old = old} {left = left} {l = l} {ls = ls} {t = t} r s w) =
       let n = kept-answer l vars used in
-      let a = normaliser (givenLine homes paths l (variablesOf vars used)) in
+      let a = normaliser (givenLine homes paths l (carried vars used)) in
       ap (λ (x : Text). x ++ t) (puts-front (s .words) ∙ ap said n)
       ∙ ap (λ (x : Text). said a ++ x)
-      (turns-said w ∙ ap (λ (b : Text). saidOf homes paths (variablesOf b (r .used)) ls) (s .variables ∙ ap (λ (x : Answer). x .vars) n)
-      ∙ ap (λ (u : ℕ). saidOf homes paths (variablesOf (a .vars) u) ls) (s .usedLength ∙ ap (λ (x : Answer). x .used) n))
+      (turns-said w ∙ ap (λ (b : Text). saidOf homes paths (carried b (r .used)) ls) (s .variables ∙ ap (λ (x : Answer). x .vars) n)
+      ∙ ap (λ (u : ℕ). saidOf homes paths (carried (a .vars) u) ls) (s .usedLength ∙ ap (λ (x : Answer). x .varsUsed) n))
 
   -- the lines that ended in blocks, and the last one if it is not empty, are the lines of all that was read
   pub run-said : {vars : Text} {used : ℕ} {blocks ls : List Text} {left t : Text} → InBlocks [] blocks ls left → Wrote homes paths vars used
       (ls ++ linesOf left) t
-      → t ≡ saidOf homes paths (variablesOf vars used) (linesOf (joined blocks))
-  run-said {vars} {used} b w = turns-said w ∙ ap (saidOf homes paths (variablesOf vars used)) (sym (blocks-lines b refl .0))
+      → t ≡ saidOf homes paths (carried vars used) (linesOf (joined blocks))
+  run-said {vars} {used} b w = turns-said w ∙ ap (saidOf homes paths (carried vars used)) (sym (blocks-lines b refl .0))

@@ -15,7 +15,7 @@ use Rattle.stages.specs.Bytes.{Text, all, span}
 use Rattle.stages.specs.Call.{over}
 use Rattle.stages.specs.Program.{linesOf}
 use Rattle.stages.proofs.Bools.{no, clash, some-same, either}
-use Rattle.stages.proofs.Texts.{Stops, span-join, span-all, span-stops}
+use Rattle.stages.proofs.Texts.{take-most, Stops, span-join, span-all, span-stops}
 use Rattle.stages.proofs.Program.{NoNewline, cutLine, lines-first, lines-last}
 use Rattle.recipe_cut.specs.Lines.{notNewline, lineKept, keptOf, came, behind, nextPlace, keptIn, nextIn, Takes, hasLine}
 use Rattle.recipe_cut.specs.declared.Taken.{Taken}
@@ -49,11 +49,6 @@ holding-none line = record { plain = refl; is = refl; long = refl }
 
 pub kept-most : (cur line : Text) (kept : ℕ) → Holding cur line kept → kept ≤ lineKept
 kept-most cur line kept h = omega (arith, h .long, take-most lineKept cur)
-  where
-    take-most : (n : ℕ) (t : Text) → length (take n t) ≤ n
-    take-most zero t = omega arith
-    take-most (suc n) [] = omega arith
-    take-most (suc n) (b ∷ t) = omega (arith, take-most n t)
 
 -- the bytes from a place on are what came and what is behind
 came-behind : (block : Text) (from : ℕ) → came block from ++ behind block from ≡ drop from block

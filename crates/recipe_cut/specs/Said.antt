@@ -9,7 +9,7 @@ use Rattle.stages.specs.Program.{said}
 -- the stage's words for an answer whose output is the line
 unfoldable pub saidBy : ℕ → ℕ → Text → Text
 unfolding said
-saidBy number place line = said (record { number = number; place = place; outLength = length line; used = 0; out = line; vars = []; work = [] })
+saidBy number place line = said (record { number = number; place = place; outLength = length line; varsUsed = 0; out = line; vars = []; work = [] })
 
 -- "`ok `, the quoted line, newline"
 abbrev pub okText : Text → Text

@@ -1,9 +1,9 @@
 -- The contracts determine every answer and every byte: two outcomes that a contract allows for one input are equal.
 use Prim.Native.Nat.{ℕ}
 use mathlib.Core.Path.{_≡_, refl, _∙_, sym}
-use mathlib.Core.Bool.{Bool}
 use mathlib.Core.List.{_∷_, []}
 use Rattle.stages.specs.Bytes.{Text}
+use Rattle.stages.specs.Syntax.{Escape}
 use Rattle.stages.specs.Units as units
 use Rattle.text.specs.Rows.{markByte, rowBytes}
 use Rattle.text.proofs.Determined.{one-answer}
@@ -30,10 +30,10 @@ one-mark r s p q = sym (back-of r) ∙ rw (p, ← q) (back-of s)
 pub mark-byte-determined : (m : Mark) (r s : ℕ) → r ≡ markByte (markOf m) → s ≡ markByte (markOf m) → r ≡ s
 mark-byte-determined m r s = one-answer
 
-pub expanded-mark-determined : (m r s : Mark) → markOf r ≡ units.expanded (markOf m) → markOf s ≡ units.expanded (markOf m) → r ≡ s
+pub expanded-mark-determined : (m r s : Mark) → markOf r ≡ units.expandedMark (markOf m) → markOf s ≡ units.expandedMark (markOf m) → r ≡ s
 expanded-mark-determined m r s = one-mark r s
 
-pub literal-mark-determined : (q : Bool) (m r s : Mark) → markOf r ≡ units.litMark q (markOf m) → markOf s ≡ units.litMark q (markOf m) → r ≡ s
+pub literal-mark-determined : (q : Escape) (m r s : Mark) → markOf r ≡ units.litMark q (markOf m) → markOf s ≡ units.litMark q (markOf m) → r ≡ s
 literal-mark-determined q m r s = one-mark r s
 
 pub put-determined : (row : units.Row) (area r s : Text) → r ≡ fronted (rowBytes row) area → s ≡ fronted (rowBytes row) area → r ≡ s

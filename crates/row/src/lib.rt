@@ -3,7 +3,8 @@ ghost use mathlib.Core.Path.{_≡_};
 ghost use mathlib.Core.List.{_∷_, []};
 ghost use Prim.Native.Nat.{_*_, _≤_};
 ghost use lib.ListN.{length};
-ghost use Rattle.stages.specs.Units.{cell, N, marked, bytes, expanded, litMark};
+ghost use Rattle.stages.specs.Units.{cell, N, marked, bytes, expandedMark, litMark};
+ghost use Rattle.text.specs.Cases.{escapeOf};
 ghost use Rattle.text.specs.Rows.{markByte, rowBytes};
 ghost use Rattle.row.specs.Marks.{markOf};
 ghost use Rattle.row.specs.Stands.{fronted, isMark, Stripped};
@@ -34,7 +35,7 @@ pub fn mark_byte(mark: Mark) -> u8
 
 // The mark of what is expanded where literal bytes have this mark.
 pub fn expanded_mark(mark: Mark) -> Mark
-    ensures { λ r. ⌜ markOf r ≡ expanded (markOf mark) ⌝ }
+    ensures { λ r. ⌜ markOf r ≡ expandedMark (markOf mark) ⌝ }
 {
     match mark {
         Mark::L => Mark::E,
@@ -45,7 +46,7 @@ pub fn expanded_mark(mark: Mark) -> Mark
 
 // The mark of a byte that a backslash quotes, or not, where literal bytes have this mark.
 pub fn literal_mark(quoted: bool, mark: Mark) -> Mark
-    ensures { λ r. ⌜ markOf r ≡ litMark quoted (markOf mark) ⌝ }
+    ensures { λ r. ⌜ markOf r ≡ litMark (escapeOf quoted) (markOf mark) ⌝ }
 {
     if quoted { Mark::Q } else { mark }
 }

@@ -12,9 +12,9 @@ use Rattle.stages.specs.Bytes.{Text, part}
 use Rattle.stages.specs.Outcome.{Outcome, refused, done, _>>=_}
 use Rattle.stages.specs.Images.{recordBytes}
 use Rattle.stages.specs.Units.{Row}
-use Rattle.stages.specs.Pattern.{Element, pattern}
+use Rattle.stages.specs.Pattern.{Element, forPaths, pattern}
 use Rattle.stages.specs.Split.{dropWhite, dropHard, otherRun, fieldsFrom, split}
-use Rattle.stages.specs.Paths.{pathsFor, named}
+use Rattle.stages.specs.Paths.{pathsFor, textsOfFields}
 use Rattle.stages.proofs.Images.{recordBytes-append}
 use Rattle.stages.proofs.Outcomes.{done-same, never}
 use Rattle.text.specs.Rows.{rowOf}
@@ -29,28 +29,28 @@ use Rattle.split_field.proofs.Filling.{Filled, filled-start, filled-then, Given
 -- the first field decides, then the others
 
 module _ (paths : List Text) (r : Row) (rs : List Row) where
-  named-refused : (k : ℕ) → fieldTexts paths r ≡ refused k → named paths (r ∷ rs) ≡ refused k
-  unfolding named fieldTexts
-  named-refused k e = go (pattern true r) refl
+  named-refused : (k : ℕ) → fieldTexts paths r ≡ refused k → textsOfFields paths (r ∷ rs) ≡ refused k
+  unfolding textsOfFields fieldTexts
+  named-refused k e = go (pattern forPaths r) refl
     where
-      no : (p : List Element) → pattern true r ≡ done p → fieldTexts paths r ≡ done (pathsFor paths r p)
+      no : (p : List Element) → pattern forPaths r ≡ done p → fieldTexts paths r ≡ done (pathsFor paths r p)
       no p q = rw q
 
-      go : (o : Outcome (List Element)) → pattern true r ≡ o → named paths (r ∷ rs) ≡ refused k
+      go : (o : Outcome (List Element)) → pattern forPaths r ≡ o → textsOfFields paths (r ∷ rs) ≡ refused k
       go (refused n) q = rw q (rw q at e)
       go (done p) q = absurd (never (sym (no p q) ∙ e))
 
-  named-done : (a : List Text) → fieldTexts paths r ≡ done a → named paths (r ∷ rs) ≡ (named paths rs >>= λ l. done (a ++ l))
-  unfolding named fieldTexts
-  named-done a e = go (pattern true r) refl
+  named-done : (a : List Text) → fieldTexts paths r ≡ done a → textsOfFields paths (r ∷ rs) ≡ (textsOfFields paths rs >>= λ l. done (a ++ l))
+  unfolding textsOfFields fieldTexts
+  named-done a e = go (pattern forPaths r) refl
     where
-      same : (p : List Element) → pattern true r ≡ done p → pathsFor paths r p ≡ a
+      same : (p : List Element) → pattern forPaths r ≡ done p → pathsFor paths r p ≡ a
       same p q = done-same (rw q at e)
 
-      no : (n : ℕ) → pattern true r ≡ refused n → ⊥
+      no : (n : ℕ) → pattern forPaths r ≡ refused n → ⊥
       no n q = let f : refused n ≡ done a = rw q at e in never (sym f)
 
-      go : (o : Outcome (List Element)) → pattern true r ≡ o → named paths (r ∷ rs) ≡ (named paths rs >>= λ l. done (a ++ l))
+      go : (o : Outcome (List Element)) → pattern forPaths r ≡ o → textsOfFields paths (r ∷ rs) ≡ (textsOfFields paths rs >>= λ l. done (a ++ l))
       go (refused n) q = absurd (no n q)
       go (done p) q = rw (q, same p q)
 
@@ -71,7 +71,7 @@ pub data State (used : ℕ) (old : Text) (l : List Text) (n : ℕ) (out : Text) 
 pub record Walk (paths : List Text) (ifs : Text) (o : Outcome (List Text)) (used : ℕ) (old : Text) (size : ℕ) (row : Text) (at n : ℕ)
     (full : Bool) (out : Text) : Type 0 where
   pub texts : List Text
-  pub whole : o ≡ (named paths (fieldsFrom ifs (ahead row at)) >>= λ l. done (texts ++ l))
+  pub whole : o ≡ (textsOfFields paths (fieldsFrom ifs (ahead row at)) >>= λ l. done (texts ++ l))
   pub sized : length row ≡ size
   pub within : at ≤ length row
   pub room : n ≤ length old
@@ -80,11 +80,11 @@ pub record Walk (paths : List Text) (ifs : Text) (o : Outcome (List Text)) (used
 
 pub walk-start : (paths : List Text) (ifs : Text) (used : ℕ) (old row : Text) (at : ℕ) → used ≤ length old → Reaches row 0 at
     (dropWhite ifs (ahead row 0))
-    → Walk paths ifs (named paths (split ifs (rowOf row))) used old (length row) row at used false old
+    → Walk paths ifs (textsOfFields paths (split ifs (rowOf row))) used old (length row) row at used false old
 unfolding split
 walk-start paths ifs used old row at h k = record {
   texts = [];
-  whole = ap (λ (r : Row). named paths (fieldsFrom ifs r)) (sym (k .units)) ∙ in-front (named paths (fieldsFrom ifs (ahead row at)));
+  whole = ap (λ (r : Row). textsOfFields paths (fieldsFrom ifs r)) (sym (k .units)) ∙ in-front (textsOfFields paths (fieldsFrom ifs (ahead row at)));
   sized = refl;
   within = k .within;
   room = h;
@@ -109,10 +109,10 @@ module _ {paths : List Text} {ifs : Text} {o : Outcome (List Text)} {used : ℕ}
   -- no field is left
   module _ (l : length row - at ≤ 1) where
     over : o ≡ done (w .texts)
-    unfolding named
+    unfolding textsOfFields
     over =
         w .whole
-        ∙ ap (λ (rs : List Row). named paths rs >>= λ l. done (w .texts ++ l)) (walk-end ifs row at l)
+        ∙ ap (λ (rs : List Row). textsOfFields paths rs >>= λ l. done (w .texts ++ l)) (walk-end ifs row at l)
         ∙ ap done (append-nil (w .texts))
 
     pub walk-full : full ≡ true → {left : Text} → Says o used old left NoRoom
@@ -148,8 +148,8 @@ module _ {paths : List Text} {ifs : Text} {o : Outcome (List Text)} {used : ℕ}
   cut : otherRun ifs (ahead row at) ≡ (field, ahead row end)
   cut = run-end ifs (t .run) (t .stops)
 
-  step : o ≡ (named paths (field ∷ rest) >>= λ l. done (w .texts ++ l))
-  step = w .whole ∙ ap (λ (rs : List Row). named paths rs >>= λ l. done (w .texts ++ l)) (walk-step ifs row at end next (t .more) cut (t .behind))
+  step : o ≡ (textsOfFields paths (field ∷ rest) >>= λ l. done (w .texts ++ l))
+  step = w .whole ∙ ap (λ (rs : List Row). textsOfFields paths rs >>= λ l. done (w .texts ++ l)) (walk-step ifs row at end next (t .more) cut (t .behind))
 
   pub walk-class : r ≡ Class → {left : Text} → Says o used old left Class
   walk-class e = class
@@ -179,12 +179,12 @@ module _ {paths : List Text} {ifs : Text} {o : Outcome (List Text)} {used : ℕ}
   walk-falls = rw ahead-same (step-falls ifs row at end next (t .more) cut (t .behind))
 
   behind : (a : List Text) → fieldTexts paths field ≡ done a → o ≡
-      (named paths (fieldsFrom ifs (ahead left next)) >>= λ l. done ((w .texts ++ a) ++ l))
+      (textsOfFields paths (fieldsFrom ifs (ahead left next)) >>= λ l. done ((w .texts ++ a) ++ l))
   behind a e =
       step
       ∙ ap (λ (x : Outcome (List Text)). x >>= λ l. done (w .texts ++ l)) (named-done paths field rest a e)
-      ∙ joined (w .texts) a (named paths rest)
-      ∙ ap (λ (x : Row). named paths (fieldsFrom ifs x) >>= λ l. done ((w .texts ++ a) ++ l)) (sym ahead-same)
+      ∙ joined (w .texts) a (textsOfFields paths rest)
+      ∙ ap (λ (x : Row). textsOfFields paths (fieldsFrom ifs x) >>= λ l. done ((w .texts ++ a) ++ l)) (sym ahead-same)
 
   -- with the texts of the field, written or not
   moved : (a : List Text) → fieldTexts paths field ≡ done a → {m : ℕ} → m ≤ length old → {x : Bool} → State used old (w .texts ++ a) m after x

@@ -7,7 +7,7 @@ use Rattle.stages.specs.Bytes.{Text, text, part, blanks}
 use Rattle.stages.specs.Images.{Pairs, lookup, held}
 use Rattle.stages.specs.Units.{Row}
 use Rattle.stages.specs.Split.{split, ifsOr, fieldsOfRow}
-use Rattle.stages.specs.Paths.{named}
+use Rattle.stages.specs.Paths.{textsOfFields}
 use Rattle.table.specs.Places.{Looked}
 use Rattle.table.specs.declared.Found.{Found}
 use Rattle.table.specs.declared.Found.the-variants.{At, Missing}
@@ -30,7 +30,7 @@ unfolding fieldsOfRow
 fields-are v row = refl
 
 pub word-puts : (v : Pairs) (paths : List Text) (row : Row) {ifs : Text} {used : ℕ} {old left : Text} {w : Written} → ifs ≡ ifsOr (lookup (text "IFS") v)
-    → Says (named paths (split ifs row)) used old left w → Puts (named paths (fieldsOfRow v row)) used old left w
+    → Says (textsOfFields paths (split ifs row)) used old left w → Puts (textsOfFields paths (fieldsOfRow v row)) used old left w
 word-puts v paths row {ifs} {used} {old} {left} {w} e s =
-    let t : Says (named paths (fieldsOfRow v row)) used old left w = rw (fields-are v row, ← e) s in
+    let t : Says (textsOfFields paths (fieldsOfRow v row)) used old left w = rw (fields-are v row, ← e) s in
     record { answers = says-answers t; says = t }

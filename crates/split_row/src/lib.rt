@@ -7,7 +7,7 @@ ghost use Rattle.stages.specs.Numbers.{imageLimit};
 ghost use Rattle.stages.specs.Bytes.{text, blanks};
 ghost use Rattle.stages.specs.Images.{lookup, held, heldTexts};
 ghost use Rattle.stages.specs.Split.{split, ifsOr, fieldsOfRow};
-ghost use Rattle.stages.specs.Paths.{named};
+ghost use Rattle.stages.specs.Paths.{textsOfFields};
 ghost use Rattle.text.specs.Rows.{rowOf};
 ghost use Rattle.table.specs.Places.{Table};
 ghost use Rattle.split_field.specs.Answers.{Says, Puts};
@@ -20,7 +20,7 @@ use table::Found;
 fn put_fields(row: &mut [u8], ifs: &[u8], paths: &[u8], out: &mut [u8], used: usize) -> Written
     requires { ⌜ (used ≤ length (now out)) × (length (now out) ≤ imageLimit) ⌝ }
     requires { ⌜ Listed (now paths) ⌝ }
-    ensures { λ r. ⌜ Says (named (heldTexts (now (paths .entry))) (split (now (ifs .entry)) (rowOf (now (row .entry))))) used (now (out .entry))
+    ensures { λ r. ⌜ Says (textsOfFields (heldTexts (now (paths .entry))) (split (now (ifs .entry)) (rowOf (now (row .entry))))) used (now (out .entry))
         (now (out .exit)) r ⌝ }
 {
     let mut at = split_delimiter::skip_white(row, 0, ifs);
@@ -73,7 +73,7 @@ pub fn put_word_fields(
     requires { ⌜ (have ≤ length (now vars)) × Table (take have (now vars)) ⌝ }
     requires { ⌜ (used ≤ length (now out)) × (length (now out) ≤ imageLimit) ⌝ }
     requires { ⌜ Listed (now paths) ⌝ }
-    ensures { λ r. ⌜ Puts (named (heldTexts (now (paths .entry))) (fieldsOfRow (held (take have (now (vars .entry)))) (rowOf (now (row .entry)))))
+    ensures { λ r. ⌜ Puts (textsOfFields (heldTexts (now (paths .entry))) (fieldsOfRow (held (take have (now (vars .entry)))) (rowOf (now (row .entry)))))
         used (now (out .entry)) (now (out .exit)) r ⌝ }
 {
     let ifs = ifs_of(&vars[..have], b" \t\n");

@@ -26,7 +26,7 @@ use Rattle.stages.specs.Numbers.{
 }
 use Rattle.stages.specs.Bytes.{Text}
 use Rattle.stages.specs.Outcome.{Placed, refusedAt, doneAt, _then_}
-use Rattle.stages.specs.Images.{Pairs, isName, isLogin, flat, image, imageLength, held, heldTexts, variables, homes, pathsOf, fieldsOf}
+use Rattle.stages.specs.Images.{Pairs, isName, isLogin, flat, image, imageLength, held, heldTexts, variablesOf, homesOf, pathsOf, fieldsOf}
 use Rattle.stages.specs.Line.{Fields}
 use Rattle.stages.specs.Quote.{quotedLine}
 use Rattle.stages.specs.Call.{Given, Answer, over, orRefused, expanded, cleared, answered, expander, quotedIn, normaliser, Quoting, quoting, quoter}
@@ -58,7 +58,7 @@ pub record Refuses (g : Given) (a : Answer) : Type 0 where
   pub before : a .number ≤ zeroByte → a .place ≡ 0  -- "it is 0 for 1 to 6"
   pub inside : a .place ≤ length (g .line) - 1  -- else "the offset of the first byte of the word", or of the operator, or 0
   pub nothing : a .outLength ≡ 0
-  pub sameUsed : a .used ≡ g .used
+  pub sameUsed : a .varsUsed ≡ g .varsUsed
   pub sameOut : a .out ≡ g .out
   pub sameVars : a .vars ≡ g .vars
 
@@ -69,10 +69,10 @@ pub record Accepts (P : Text → Type 0) (g : Given) (a : Answer) : Type 0 where
   pub outFits : a .outLength ≤ length (g .out)
   pub behindOut : drop (a .outLength) (a .out) ≡ drop (a .outLength) (g .out)
   pub table : Pairs
-  pub stored : variables (take (a .used) (a .vars)) ≡ some table
-  pub varsFit : a .used ≤ length (g .vars)
-  pub small : a .used ≤ imageLimit
-  pub behindVars : drop (a .used) (a .vars) ≡ drop (a .used) (g .vars)
+  pub stored : variablesOf (take (a .varsUsed) (a .vars)) ≡ some table
+  pub varsFit : a .varsUsed ≤ length (g .vars)
+  pub small : a .varsUsed ≤ imageLimit
+  pub behindVars : drop (a .varsUsed) (a .vars) ≡ drop (a .varsUsed) (g .vars)
 
 -- "The work area is zero throughout after every call of expander or normaliser", and no buffer has another length
 pub record Fits (P : Text → Type 0) (g : Given) (a : Answer) : Type 0 where
@@ -110,7 +110,7 @@ module _ (g : Given) where
     kept-fits : length (image (flat v)) ≤ length (g .vars)
     kept-fits = rw (length-image (flat v)) (k .fits)
 
-    kept-stored : variables (take (length (image (flat v))) (over (image (flat v)) (g .vars))) ≡ some v
+    kept-stored : variablesOf (take (length (image (flat v))) (over (image (flat v)) (g .vars))) ≡ some v
     kept-stored =
         rw (over-front (image (flat v)) (g .vars))
         (variables-are (image (flat v)) (table-image isName v (k .fine) (k .passes) (k .rises) (k .small)) ∙ ap some (held-image v (k .fine)))
@@ -152,8 +152,8 @@ unfolding orRefused
 some-safe size n none e = early e
 some-safe size n (some a) e = givesAt refl
 
-vars-kept : (vars : Text) (used : ℕ) (v : Pairs) → used ≤ length vars → variables (take used vars) ≡ some v → Kept (length vars) v
-unfolding variables
+vars-kept : (vars : Text) (used : ℕ) (v : Pairs) → used ≤ length vars → variablesOf (take used vars) ≡ some v → Kept (length vars) v
+unfolding variablesOf
 vars-kept vars used v l e =
     let b : (held (take used vars) ≡ v) × Table isName (take used vars) = table-of isName (take used vars) v e in
     let n : length (take used vars) ≡ used = length-take-le used vars l in
@@ -166,8 +166,8 @@ vars-kept vars used v l e =
       small = omega (arith, b .1 .small);
     })
 
-homes-fine : (t : Text) (h : Pairs) → homes t ≡ some h → Fine (flat h)
-unfolding homes
+homes-fine : (t : Text) (h : Pairs) → homesOf t ≡ some h → Fine (flat h)
+unfolding homesOf
 homes-fine t h e = let b : (held t ≡ h) × Table isLogin t = table-of isLogin t h e in rw (← b .0) (table-fine isLogin t (b .1))
 
 paths-fine : (t : Text) (l : List Text) → pathsOf t ≡ some l → Fine l
@@ -177,12 +177,12 @@ pub expanded-safe : (g : Given) (out : ℕ) → SafeAt (length (g .line)) (Ready
 unfolding expanded
 expanded-safe g out =
     safe-then _ (safe-require (leb workLeast (length (g .work))) workTooSmall 0 (early refl))
-    (λ _ _. safe-then _ (safe-require (leb (g .used) (length (g .vars))) badVariables 0 (early refl))
-    (λ _ l. safe-then _ (some-safe (length (g .line)) badVariables (variables (take (g .used) (g .vars))) refl)
-    (λ v e. safe-then _ (some-safe (length (g .line)) badHomes (homes (g .homes)) refl)
+    (λ _ _. safe-then _ (safe-require (leb (g .varsUsed) (length (g .vars))) badVariables 0 (early refl))
+    (λ _ l. safe-then _ (some-safe (length (g .line)) badVariables (variablesOf (take (g .varsUsed) (g .vars))) refl)
+    (λ v e. safe-then _ (some-safe (length (g .line)) badHomes (homesOf (g .homes)) refl)
     (λ h f. safe-then _ (some-safe (length (g .line)) badPaths (pathsOf (g .paths)) refl)
     (λ p i. line-safe (record { room = length (g .vars); out = out; homes = h; paths = p }) (homes-fine (g .homes) h f) (paths-fine (g .paths) p i) (g .line) v
-    (vars-kept (g .vars) (g .used) v (leb-true (g .used) (length (g .vars)) l) e))))))
+    (vars-kept (g .vars) (g .varsUsed) v (leb-true (g .varsUsed) (length (g .vars)) l) e))))))
 
 -- the expander
 

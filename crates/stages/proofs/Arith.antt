@@ -14,7 +14,7 @@ use Rattle.stages.specs.Numbers.{tooDeep, arithmeticSyntax}
 use Rattle.stages.specs.Bytes.{Text, span, isBlank, isDigit, isNameStart, isNameByte}
 use Rattle.stages.specs.Outcome.{Outcome, refused, done, _>>=_, choose}
 use Rattle.stages.specs.Constants.{constant, fits, ranged, number}
-use Rattle.stages.specs.Arith.{Op, mul, div, rem, add, sub, lt, le, gt, ge, eq, ne, Token, stop, num, name, op, opens, shuts, Lexed, paired, token}
+use Rattle.stages.specs.Arith.{Op, mul, div, rem, add, sub, lt, le, gt, ge, eq, ne, Token, textEnd, num, name, op, opens, shuts, Lexed, paired, token}
 use Rattle.stages.specs.Arith.{
   level,
   Tree,
@@ -38,8 +38,9 @@ use Rattle.stages.specs.Arith.{
   growSize,
   grow,
 }
-use Rattle.stages.proofs.Bools.{or-right}
+use Rattle.stages.proofs.Bools.{no, or-right}
 use Rattle.stages.proofs.Texts.{start-name-byte, span-join, span-more}
+use Rattle.stages.proofs.Outcomes.{isFault, Safe, refuses, gives}
 
 pub digit-name-byte : (b : ℕ) → isDigit b ≡ true → isNameByte b ≡ true
 unfolding isNameByte
@@ -49,27 +50,26 @@ digit-name-byte b e = or-right (isNameStart b) e
 
 -- a token that is no end leaves less of a text of n bytes; no refusal is 0, the value of a reader that is stuck
 pub data Lexes (n : ℕ) : Lexed → Type 0 where
-  lex-refused : {e : ℕ} → 0 < e → Lexes n (refused e)
-  lex-end : {u : Text} → length u ≤ n → Lexes n (done (stop, u))
+  lex-refused : {e : ℕ} → isFault e ≡ true → Lexes n (refused e)
+  lex-end : {u : Text} → length u ≤ n → Lexes n (done (textEnd, u))
   lex-more : {k : Token} {u : Text} → length u < n → Lexes n (done (k, u))
 
--- a refusal's number is one of the table
-abbrev Numbered : Outcome ℤ → Type 0
-Numbered (refused e) = 0 < e
-Numbered (done z) = Unit {0}
+-- refused with a number of the table, or done, whatever with
+abbrev pub Numbered : {A : Type 0} → Outcome A → Type 0
+Numbered o = Safe (λ a. Unit {0}) o
 
-ranged-numbered : (z : ℤ) → Numbered (ranged z)
+pub ranged-safe : (z : ℤ) → Numbered (ranged z)
 unfolding ranged
-ranged-numbered z = go (fits z) refl
+ranged-safe z = go (fits z) refl
   where
     go : (x : Bool) → fits z ≡ x → Numbered (ranged z)
-    go true e = rw (e, ranged) tt
-    go false e = rw (e, ranged) (omega arith)
+    go true e = rw (e, ranged) (gives tt)
+    go false e = rw (e, ranged) (refuses refl)
 
-number-numbered : (sign : ℕ → ℤ) (o : Option ℕ) → Numbered (number sign o)
+pub number-safe : (sign : ℕ → ℤ) (o : Option ℕ) → Numbered (number sign o)
 unfolding number
-number-numbered sign none = omega arith
-number-numbered sign (some n) = ranged-numbered (sign n)
+number-safe sign none = refuses refl
+number-safe sign (some n) = ranged-safe (sign n)
 
 module _ {n : ℕ} where
   lex-choose : (f g : Unit {0} → Lexed) (x : Bool) → (x ≡ true → Lexes n (f tt)) → (x ≡ false → Lexes n (g tt)) → Lexes n (choose x f g)
@@ -86,9 +86,9 @@ module _ {n : ℕ} where
       go true e = rw (e, paired) (lex-more {u = t} (omega arith))
       go false e = rw (e, paired) l
 
-  lex-number : (u : Text) (o : Outcome ℤ) → length u < n → Numbered o → Lexes n (o >>= λ z. done (num z, u))
-  lex-number u (refused e) h w = lex-refused w
-  lex-number u (done z) h w = lex-more h
+  lex-number : (u : Text) {o : Outcome ℤ} → length u < n → Numbered o → Lexes n (o >>= λ z. done (num z, u))
+  lex-number u h (refuses w) = lex-refused w
+  lex-number u h (gives w) = lex-more h
 
 lex-wider : {n : ℕ} {o : Lexed} → Lexes n o → Lexes (suc n) o
 lex-wider (lex-refused w) = lex-refused w
@@ -109,8 +109,8 @@ token-left (b ∷ t) =
     let l : length t < suc (length t) = omega arith in
     lex-choose _ _ (isBlank b) (λ e. lex-wider (token-left t)) λ e.
     lex-choose _ _ (isDigit b)
-    (λ d. lex-number (span isNameByte (b ∷ t) .1) (number pos (constant (span isNameByte (b ∷ t) .0)))
-    (span-shorter isNameByte b t (digit-name-byte b d)) (number-numbered pos (constant (span isNameByte (b ∷ t) .0)))) λ e.
+    (λ d. lex-number (span isNameByte (b ∷ t) .1) (span-shorter isNameByte b t (digit-name-byte b d))
+    (number-safe pos (constant (span isNameByte (b ∷ t) .0)))) λ e.
     lex-choose _ _ (isNameStart b) (λ s. lex-more (span-shorter isNameByte b t (start-name-byte b s))) λ e.
     lex-choose _ _ (eqb b (code "(")) (λ e. lex-more l) λ e.
     lex-choose _ _ (eqb b (code ")")) (λ e. lex-more l) λ e.
@@ -121,21 +121,21 @@ token-left (b ∷ t) =
     lex-choose _ _ (eqb b (code "-")) (λ e. lex-more l) λ e.
     lex-choose _ _ (eqb b (code "<")) (λ e. lex-paired (op le) t l (lex-more l)) λ e.
     lex-choose _ _ (eqb b (code ">")) (λ e. lex-paired (op ge) t l (lex-more l)) λ e.
-    lex-choose _ _ (eqb b (code "=")) (λ e. lex-paired (op eq) t l (lex-refused (omega arith))) λ e.
-    lex-choose _ _ (eqb b (code "!")) (λ e. lex-paired (op ne) t l (lex-refused (omega arith))) λ e. lex-refused (omega arith)
+    lex-choose _ _ (eqb b (code "=")) (λ e. lex-paired (op eq) t l (lex-refused refl)) λ e.
+    lex-choose _ _ (eqb b (code "!")) (λ e. lex-paired (op ne) t l (lex-refused refl)) λ e. lex-refused refl
 
 -- the reader is never stuck
 
 -- at most n bytes are left
 pub data Leaves (n : ℕ) : Grown → Type 0 where
-  none-left : {e : ℕ} → 0 < e → Leaves n (refused e)
+  none-left : {e : ℕ} → isFault e ≡ true → Leaves n (refused e)
   some-left : {p : Tree × Text} → length (p .1) ≤ n → Leaves n (done p)
 
 syntax-left : {n : ℕ} → Leaves n (refused arithmeticSyntax)
-syntax-left = none-left {e = arithmeticSyntax} (omega arith)
+syntax-left = none-left {e = arithmeticSyntax} refl
 
 deep-left : {n : ℕ} → Leaves n (refused tooDeep)
-deep-left = none-left {e = tooDeep} (omega arith)
+deep-left = none-left {e = tooDeep} refl
 
 leaves-wider : {n k : ℕ} {r : Grown} → Leaves n r → n ≤ k → Leaves k r
 leaves-wider (none-left w) h = none-left w
@@ -152,7 +152,7 @@ module _ (k : ℕ) (f : Grow) (good : (a : Task × ℕ × Text) → growSize a <
   shut-left : (l : Tree) (n : ℕ) (o : Lexed) → Lexes n o → Leaves n (o >>= λ s. shut l s)
   unfolding shut
   shut-left l n (refused e) (lex-refused w) = none-left w
-  shut-left l n (done (stop, u)) h = syntax-left
+  shut-left l n (done (textEnd, u)) h = syntax-left
   shut-left l n (done (num z, u)) h = syntax-left
   shut-left l n (done (name x, u)) h = syntax-left
   shut-left l n (done (op o, u)) h = syntax-left
@@ -191,7 +191,7 @@ module _ (k : ℕ) (f : Grow) (good : (a : Task × ℕ × Text) → growSize a <
   operand-left : (n d : ℕ) (o : Lexed) → Lexes n o → n ≤ k → Leaves n (o >>= λ p. operandAt f d p)
   unfolding operandAt
   operand-left n d (refused e) (lex-refused w) h = none-left w
-  operand-left n d (done (stop, u)) l h = syntax-left
+  operand-left n d (done (textEnd, u)) l h = syntax-left
   operand-left n d (done (num z, u)) (lex-more l) h = some-left {p = (constantOf z, u)} (omega arith)
   operand-left n d (done (name x, u)) (lex-more l) h = some-left {p = (nameOf x, u)} (omega arith)
   operand-left n d (done (op o, u)) (lex-more l) h = leaves-wider (sign-left o d u (omega arith)) (omega arith)
@@ -206,7 +206,7 @@ module _ (k : ℕ) (f : Grow) (good : (a : Task × ℕ × Text) → growSize a <
       (o >>= λ p. furtherAt f d j l t p)
   unfolding furtherAt
   further-left d j l t (refused e) (lex-refused w) h = none-left w
-  further-left d j l t (done (stop, u)) w h = some-left {p = (l, t)} (omega arith)
+  further-left d j l t (done (textEnd, u)) w h = some-left {p = (l, t)} (omega arith)
   further-left d j l t (done (num z, u)) w h = some-left {p = (l, t)} (omega arith)
   further-left d j l t (done (name x, u)) w h = some-left {p = (l, t)} (omega arith)
   further-left d j l t (done (op o, u)) (lex-more w) h = go (leb j (level o)) refl
@@ -279,7 +279,7 @@ module _ (k : ℕ) (f g : Grow) (same : (a : Task × ℕ × Text) → growSize a
   operand-same : (n d : ℕ) (o : Lexed) → Lexes n o → n ≤ k → (o >>= λ p. operandAt f d p) ≡ (o >>= λ p. operandAt g d p)
   unfolding operandAt
   operand-same n d (refused e) l h = refl
-  operand-same n d (done (stop, u)) l h = refl
+  operand-same n d (done (textEnd, u)) l h = refl
   operand-same n d (done (num z, u)) l h = refl
   operand-same n d (done (name x, u)) l h = refl
   operand-same n d (done (op o, u)) (lex-more l) h = sign-same o d u (omega arith)
@@ -290,7 +290,7 @@ module _ (k : ℕ) (f g : Grow) (same : (a : Task × ℕ × Text) → growSize a
       (o >>= λ p. furtherAt g d j l t p)
   unfolding furtherAt
   further-same n d j l t (refused e) w h = refl
-  further-same n d j l t (done (stop, u)) w h = refl
+  further-same n d j l t (done (textEnd, u)) w h = refl
   further-same n d j l t (done (num z, u)) w h = refl
   further-same n d j l t (done (name x, u)) w h = refl
   further-same n d j l t (done (op o, u)) (lex-more w) h = go (leb j (level o)) refl
@@ -321,7 +321,7 @@ grow-eq a = grow-below a ∙ step-same (growSize a) (shorter (growSize a)) grow 
 
 -- the value of a reader that is stuck is no answer
 refusal-numbered : {n : ℕ} {r : Grown} → Leaves n r → r ≡ refused 0 → ⊥
-refusal-numbered (none-left {e = e} w) q = let z : e ≡ 0 = cc in omega arith
+refusal-numbered (none-left {e = e} w) q = let z : e ≡ 0 = cc in no (rw z at w)
 refusal-numbered (some-left l) q = let z : _≡_ {A = ℕ} 0 1 = cc in omega arith
 
 pub grow-never-stuck : (a : Task × ℕ × Text) → grow a ≡ refused 0 → ⊥

@@ -11,7 +11,7 @@ use borrow.Author.Tests.{le-leb}
 use Rattle.stages.specs.Numbers.{accepted, workLeast, lineLimit, imageLimit}
 use Rattle.stages.specs.Bytes.{Text}
 use Rattle.stages.specs.Outcome.{doneAt, _then_}
-use Rattle.stages.specs.Images.{Pairs, flat, image, imageLength, variables, homes, pathsOf, fieldsOf, held, isSome}
+use Rattle.stages.specs.Images.{Pairs, flat, image, imageLength, variablesOf, homesOf, pathsOf, fieldsOf, held, isSome}
 use Rattle.stages.specs.Line.{Fields}
 use Rattle.stages.specs.Quote.{quotedLine}
 use Rattle.stages.specs.Call.{Given, Answer, over, orRefused, expanded, cleared, answered, expander, quotedIn, normaliser, quoting, quoter}
@@ -36,10 +36,10 @@ use Rattle.stages.proofs.Rooms.{over-front}
 -- a call whose tables are well formed and whose work area is large enough; the variables' buffer holds bytes, which is known of a slice
 pub record WellFormed (h : Given) : Type 0 where
   pub work : workLeast ≤ length (h .work)
-  pub used : h .used ≤ length (h .vars)
+  pub used : h .varsUsed ≤ length (h .vars)
   pub bytes : Bytes (h .vars)
-  pub vars : isSome (variables (take (h .used) (h .vars))) ≡ true
-  pub homes : isSome (homes (h .homes)) ≡ true
+  pub vars : isSome (variablesOf (take (h .varsUsed) (h .vars))) ≡ true
+  pub homes : isSome (homesOf (h .homes)) ≡ true
   pub paths : isSome (pathsOf (h .paths)) ≡ true
 
 -- the answer that accepts, writes this text to the output and these bytes to the variables' buffer
@@ -48,7 +48,7 @@ writes h t w = record {
   number = accepted;
   place = 0;
   outLength = length t;
-  used = length w;
+  varsUsed = length w;
   out = over t (h .out);
   vars = over w (h .vars);
   work = cleared (h .work);
@@ -60,7 +60,7 @@ unchanged h t = record {
   number = accepted;
   place = 0;
   outLength = length t;
-  used = h .used;
+  varsUsed = h .varsUsed;
   out = over t (h .out);
   vars = h .vars;
   work = cleared (h .work);
@@ -83,15 +83,17 @@ fields-fine t l e = rw (fields-held t l e .0) at (texts-held-fine t (fields-held
 module _ (h : Given) (r : WellFormed h) where
   -- the variables that are given
   abbrev given : Pairs
-  given = held (take (h .used) (h .vars))
+  given = held (take (h .varsUsed) (h .vars))
 
-  given-image : image (flat given) ≡ take (h .used) (h .vars)
-  given-image = sym (table-canonical _ (take (h .used) (h .vars)) (vars-of (take (h .used) (h .vars)) (r .vars)) (bytes-take (h .used) (h .vars) (r .bytes)))
+  given-image : image (flat given) ≡ take (h .varsUsed) (h .vars)
+  given-image =
+      sym (table-canonical _ (take (h .varsUsed) (h .vars)) (vars-of (take (h .varsUsed) (h .vars)) (r .vars))
+      (bytes-take (h .varsUsed) (h .vars) (r .bytes)))
 
   -- written again, they leave the buffer as it was
   kept : (t : Text) → answered h (doneAt (t, given)) ≡ unchanged h t
   unfolding answered
-  kept t = ap (writes h t) given-image ∙ rw (over-own (h .used) (h .vars) (r .used), length-take-le (h .used) (h .vars) (r .used))
+  kept t = ap (writes h t) given-image ∙ rw (over-own (h .varsUsed) (h .vars) (r .used), length-take-le (h .varsUsed) (h .vars) (r .used))
 
   -- the quoted line of fields without a zero byte, expanded
   module _ (l : Fields) (f : Fine l) (e : h .line ≡ quotedLine l) (short : length (quotedLine l) ≤ lineLimit) where
@@ -100,8 +102,8 @@ module _ (h : Given) (r : WellFormed h) where
     line-returns out o =
         rw (
           le-leb workLeast (length (h .work)) (r .work),
-          le-leb (h .used) (length (h .vars)) (r .used),
-          variables-are (take (h .used) (h .vars)) (vars-of (take (h .used) (h .vars)) (r .vars)),
+          le-leb (h .varsUsed) (length (h .vars)) (r .used),
+          variables-are (take (h .varsUsed) (h .vars)) (vars-of (take (h .varsUsed) (h .vars)) (r .vars)),
           homes-are (h .homes) (homes-of (h .homes) (r .homes)),
           paths-are (h .paths) (paths-of (h .paths) (r .paths)),
           e,

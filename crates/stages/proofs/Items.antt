@@ -11,10 +11,10 @@ use Rattle.stages.specs.Numbers.{unended, unserved, badSyntax, tooDeep}
 use Rattle.stages.specs.Bytes.{Text, text, between, isIn, isBlank, isOperator, isNameStart, isNameByte, span}
 use Rattle.stages.specs.Outcome.{pick}
 use Rattle.stages.specs.Images.{isName}
-use Rattle.stages.specs.Syntax.{Form, Mode, suffix, prefix, word, bare, single, double, operand, arith}
-use Rattle.stages.specs.Items.{Item, fault, stop, byte, paren, quote, value, count, inner, sum, item, ended, itemOf, sort, Sort}
+use Rattle.stages.specs.Syntax.{Escape, Side, suffix, prefix, Form, Mode, word, bare, single, double, quotedOperand, arith}
+use Rattle.stages.specs.Items.{Item, fault, stop, byte, paren, quote, valueOf, count, inner, sum, item, ended, itemOf, sort, Sort}
 use Rattle.stages.specs.Items.{backquote, closes, operator, quotes, quotes2, backslash, dollar, bad, opening, closing, literal}
-use Rattle.stages.specs.Items.{wrong, quotable, notServed, escaped, behindColon, removal, behindName, behindLength, named, braced}
+use Rattle.stages.specs.Items.{wrong, quotable, notServed, behindBackslash, behindColon, behindRemoval, behindName, behindLength, nameThen, braced}
 use Rattle.stages.specs.Items.{parenthesis, expansion, outer, opened, closed}
 use Rattle.stages.proofs.Bools.{and-both}
 use Rattle.stages.proofs.Texts.{span-all, span-more, start-name-byte}
@@ -24,10 +24,10 @@ use Rattle.stages.proofs.Outcomes.{Each}
 pub data Fair (P : ℕ → Type 0) : Bool → Item → Type 0 where
   faults : {s : Bool} {n : ℕ} → between unended n tooDeep ≡ true → Fair P s (fault n)
   stops : {k : ℕ} → Fair P true (stop k)
-  a-byte : {s q : Bool} {b k : ℕ} → P b → Fair P s (byte q b k)
+  a-byte : {s : Bool} {q : Escape} {b k : ℕ} → P b → Fair P s (byte q b k)
   a-paren : {s : Bool} {b n : ℕ} → P b → Fair P s (paren b n)
   a-quote : {s : Bool} {m : Mode} → Fair P s (quote m)
-  a-value : {s : Bool} {x : Text} {k : ℕ} → isName x ≡ true → Fair P s (value x k)
+  a-value : {s : Bool} {x : Text} {k : ℕ} → isName x ≡ true → Fair P s (valueOf x k)
   a-count : {s : Bool} {x : Text} {k : ℕ} → isName x ≡ true → Fair P s (count x k)
   an-inner : {s : Bool} {x : Text} {f : Form} {m : Mode} {k : ℕ} → isName x ≡ true → Fair P s (inner x f m k)
   a-sum : {s : Bool} → Fair P s sum
@@ -56,8 +56,8 @@ module _ (P : ℕ → Type 0) (s : Bool) where
     colon-fair m k [] = wrong-fair badSyntax [] refl
     colon-fair m k (b ∷ t) = pick-fair (isIn b (text "-=?+")) (an-inner e) (wrong-fair badSyntax (b ∷ t) refl)
 
-    removal-fair : (f : Bool → Form) (sign k : ℕ) (t : Text) → Fair P s (removal x f sign k t)
-    unfolding removal
+    removal-fair : (f : Side) (sign k : ℕ) (t : Text) → Fair P s (behindRemoval x f sign k t)
+    unfolding behindRemoval
     removal-fair f sign k [] = an-inner e
     removal-fair f sign k (b ∷ t) = pick-fair (eqb b sign) (an-inner e) (an-inner e)
 
@@ -76,8 +76,8 @@ module _ (P : ℕ → Type 0) (s : Bool) where
     length-fair k [] = wrong-fair badSyntax [] refl
     length-fair k (b ∷ t) = pick-fair (eqb b (code "}")) (a-count e) (wrong-fair badSyntax (b ∷ t) refl)
 
-  named-fair : (f : Text → Text → Item) → ((x u : Text) → isName x ≡ true → Fair P s (f x u)) → (t : Text) → Fair P s (named f t)
-  unfolding named
+  named-fair : (f : Text → Text → Item) → ((x u : Text) → isName x ≡ true → Fair P s (f x u)) → (t : Text) → Fair P s (nameThen f t)
+  unfolding nameThen
   named-fair f h [] = wrong-fair unserved [] refl
   named-fair f h (b ∷ t) =
       pick-where (isNameStart b) (λ e. h (span isNameByte (b ∷ t) .0) (span isNameByte (b ∷ t) .1) (span-name b t e)) (wrong-fair unserved (b ∷ t) refl)
@@ -104,7 +104,7 @@ module _ (P : ℕ → Type 0) (s : Bool) where
   opened-fair bare b p = a-byte p
   opened-fair single b p = a-byte p
   opened-fair double b p = a-byte p
-  opened-fair operand b p = a-byte p
+  opened-fair quotedOperand b p = a-byte p
   opened-fair (arith n) b p = a-paren p
 
 outer-fair : (P : ℕ → Type 0) (t : Text) → Fair P true (outer t)
@@ -118,14 +118,14 @@ closed-fair P word b t p = a-byte p
 closed-fair P bare b t p = a-byte p
 closed-fair P single b t p = a-byte p
 closed-fair P double b t p = a-byte p
-closed-fair P operand b t p = a-byte p
+closed-fair P quotedOperand b t p = a-byte p
 closed-fair P (arith zero) b t p = outer-fair P t
 closed-fair P (arith (suc n)) b t p = a-paren p
 
 -- P holds of the two bytes that may stand for themselves
 module _ (P : ℕ → Type 0) (p : P (code "$")) (q : P (code "\\")) where
-  escaped-fair : (s : Bool) (m : Mode) (t : Text) → Each P t → Fair P s (escaped m t)
-  unfolding escaped
+  escaped-fair : (s : Bool) (m : Mode) (t : Text) → Each P t → Fair P s (behindBackslash m t)
+  unfolding behindBackslash
   escaped-fair s m [] h = faults refl
   escaped-fair s m (b ∷ t) h = pick-fair (eqb b (code "\n")) (faults refl) (pick-fair (quotable m b) (a-byte (h .0)) (a-byte q))
 
@@ -189,7 +189,7 @@ Named (stop k) = Unit {0}
 Named (byte q b k) = Unit {0}
 Named (paren b n) = Unit {0}
 Named (quote m) = Unit {0}
-Named (value x k) = isName x ≡ true
+Named (valueOf x k) = isName x ≡ true
 Named (count x k) = isName x ≡ true
 Named (inner x f m k) = isName x ≡ true
 Named sum = Unit {0}
@@ -211,7 +211,7 @@ ended-named word = tt
 ended-named bare = tt
 ended-named single = tt
 ended-named double = tt
-ended-named operand = tt
+ended-named quotedOperand = tt
 ended-named (arith n) = tt
 
 pub item-named : (m : Mode) (d : ℕ) (t : Text) (i : Item) → item m d t ≡ i → Named i

@@ -7,7 +7,7 @@ use mathlib.Core.List.{List, [], _∷_, _++_}
 use Rattle.stages.specs.Numbers.{workTooSmall, zeroByte, unended, outputRoom}
 use Rattle.stages.specs.Bytes.{between}
 use Rattle.stages.specs.Recur.{below, below-ok, fix, fix-eq, by-size}
-use Rattle.stages.specs.Outcome.{Outcome, refused, done, _>>=_, Placed, refusedAt, doneAt, at, _then_, require, choose}
+use Rattle.stages.specs.Outcome.{Outcome, refused, done, _>>=_, Placed, refusedAt, doneAt, placedAt, _then_, require, choose}
 
 -- what holds of every element of a list
 abbrev pub Each : {A : Type 0} → (A → Type 0) → List A → Type 0
@@ -94,7 +94,8 @@ safe-weakerAt f (early e) = early e
 safe-weakerAt f (refusesAt e l) = refusesAt e l
 safe-weakerAt f (givesAt {a = a} p) = givesAt (f a p)
 
-pub safe-at : {A : Type 0} {size : ℕ} {P : A → Type 0} {o : Outcome A} (place : ℕ) → place ≤ size - 1 → Safe P o → SafeAt size P (at place o)
+pub safe-at : {A : Type 0} {size : ℕ} {P : A → Type 0} {o : Outcome A} (place : ℕ) → place ≤ size - 1 → Safe P o
+    → SafeAt size P (placedAt place o)
 safe-at place l (refuses e) = refusesAt e l
 safe-at place l (gives p) = givesAt p
 

@@ -41,7 +41,7 @@ line-cut a t v = either (leb (length t) lineLimit) short long
 
 -- what is given, with another line
 abbrev pub withLine : Given → Text → Given
-withLine g t = record { work = g .work; vars = g .vars; used = g .used; homes = g .homes; paths = g .paths; line = t; out = g .out }
+withLine g t = record { work = g .work; vars = g .vars; varsUsed = g .varsUsed; homes = g .homes; paths = g .paths; line = t; out = g .out }
 
 module _ (g : Given) (t : Text) where
   expanded-cut : (out : ℕ) → expanded (withLine g (cutLine t)) out ≡ expanded (withLine g t) out

@@ -11,7 +11,7 @@ use lib.ListN.{length, length-append}
 use Rattle.stages.specs.Numbers.{depthLimit}
 use Rattle.stages.specs.Bytes.{Text, text, isBlank, isOperator}
 use Rattle.stages.specs.Outcome.{done, doneAt, pick}
-use Rattle.stages.specs.Syntax.{Parts, Word, end, lit, quo, par, len, ari, word, single}
+use Rattle.stages.specs.Syntax.{escaped, unescaped, Parts, Word, end, lit, quo, par, len, ari, word, single}
 use Rattle.stages.specs.Items.{item, byte}
 use Rattle.stages.specs.Read.{parts, put, nest, readItem, words, wordAt, readLine}
 use Rattle.stages.specs.Quote.{quotedBytes, quotedField, quotedLine, blanked}
@@ -33,7 +33,7 @@ module _ (P : Text → Type 0) (none : P []) (quote : (t : Text) → P t → P (
 -- backslash and opens the next run.
 abbrev pub runs : Text → Parts × Parts
 runs [] = (end, end)
-runs (b ∷ t) = pick (eqb b 39) (end, lit true b (quo (runs t .0) (runs t .1))) (lit false b (runs t .0), runs t .1)
+runs (b ∷ t) = pick (eqb b 39) (end, lit escaped b (quo (runs t .0) (runs t .1))) (lit unescaped b (runs t .0), runs t .1)
 
 abbrev pub fieldParts : Text → Parts
 fieldParts t = quo (runs t .0) (runs t .1)
@@ -46,9 +46,9 @@ fieldWords place (t ∷ l) = record { place = place; parts = fieldParts t } ∷ 
 -- READING A FIELD
 
 -- a byte of a run
-run-byte : (b : ℕ) (t : Text) (d : ℕ) → eqb b 39 ≡ false → parts single d (b ∷ t) ≡ put (lit false b) (parts single d t)
+run-byte : (b : ℕ) (t : Text) (d : ℕ) → eqb b 39 ≡ false → parts single d (b ∷ t) ≡ put (lit unescaped b) (parts single d t)
 unfolding item readItem
-run-byte b t d e = parts-item single d (b ∷ t) {i = byte false b 0} (rw (e, item))
+run-byte b t d e = parts-item single d (b ∷ t) {i = byte unescaped b 0} (rw (e, item))
 
 -- the quote that closes a run
 run-end : (t : Text) (d : ℕ) → parts single d (39 ∷ t) ≡ done (end, t)
@@ -61,7 +61,7 @@ unfolding item readItem
 run-opens t d = parts-item word d (39 ∷ t) refl
 
 -- a quote behind a backslash
-escaped-quote : (t : Text) (d : ℕ) → parts word d (92 ∷ 39 ∷ t) ≡ put (lit true 39) (parts word d t)
+escaped-quote : (t : Text) (d : ℕ) → parts word d (92 ∷ 39 ∷ t) ≡ put (lit escaped 39) (parts word d t)
 unfolding item readItem
 escaped-quote t d = parts-item word d (92 ∷ 39 ∷ t) refl
 

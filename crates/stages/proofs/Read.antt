@@ -6,14 +6,16 @@ use native.Mathlib.Omega.{arith}
 use mathlib.Core.Path.{_≡_, refl, sym, ap, _∙_}
 use mathlib.Core.Bool.{Bool, true, false}
 use mathlib.Core.List.{List, [], _∷_}
-use lib.ListN.{length, drop, length-drop}
+use lib.ListN.{length, drop}
 use lib.Seq.{drop-drop}
 use Rattle.stages.specs.Recur.{below, below-ok, fix-eq, by-size}
 use Rattle.stages.specs.Bytes.{Text, between, isBlank}
 use Rattle.stages.specs.Outcome.{Outcome, refused, done, _>>=_}
-use Rattle.stages.specs.Syntax.{Form, Parts, Mode, plain, end, lit, quo, par, len, ari, word, bare, single, double, operand, arith as sums}
-use Rattle.stages.specs.Items.{Item, fault, stop, byte, paren, quote, value, count, inner, sum, item, ended}
+use Rattle.stages.specs.Syntax.{Form, plain, Escape, unescaped, Parts, end, lit, quo, par, len, ari}
+use Rattle.stages.specs.Syntax.{Mode, word, bare, single, double, quotedOperand, arith as sums}
+use Rattle.stages.specs.Items.{Item, fault, stop, byte, paren, quote, valueOf, count, inner, sum, item, ended}
 use Rattle.stages.specs.Read.{Taken, Reader, put, nest, readItem, Ask, askSize, askStep, parts}
+use Rattle.stages.proofs.Texts.{drop-short}
 use Rattle.stages.proofs.Items.{
   AnyByte,
   Fair,
@@ -47,9 +49,6 @@ put-good : {n i : ℕ} (f : Parts → Parts) {r : Taken} → Good n r → n ≤ 
 put-good f (stays g) h = stays g
 put-good f (leaves {p = p} g) h = leaves {p = (f (p .0), p .1)} (omega arith)
 
-drop-le : (k : ℕ) (t : Text) → length (drop k t) ≤ length t
-drop-le k t = rw length-drop (omega arith)
-
 module _ (k : ℕ) (rec : Reader) (g : (m : Mode) (d : ℕ) (t : Text) → length t < k → Good (length t) (rec m d t)) where
   nest-good : (f : Parts → Parts → Parts) (m : Mode) (d i j : ℕ) {r : Taken} → Good i r → i < k → i ≤ j → Good j (nest f r (rec m d))
   nest-good f m d i j (stays h) l n = stays h
@@ -58,19 +57,19 @@ module _ (k : ℕ) (rec : Reader) (g : (m : Mode) (d : ℕ) (t : Text) → lengt
   going-good : (m : Mode) (d b : ℕ) (t : Text) {i : Item} → Fair AnyByte false i → length t < k → Good (length t) (readItem rec m d (b ∷ t) i)
   unfolding readItem
   going-good m d b t (faults w) h = stays w
-  going-good m d b t (a-byte {k = n} _) h = let e = drop-le n t in put-good _ (g m d (drop n t) (omega arith)) e
+  going-good m d b t (a-byte {k = n} _) h = let e = drop-short n t in put-good _ (g m d (drop n t) (omega arith)) e
   going-good m d b t (a-paren {n = n} _) h = put-good _ (g (sums n) d t h) (omega arith)
   going-good m d b t (a-quote {m = n}) h = nest-good quo m d (length t) (length t) (g n d t h) h (omega arith)
-  going-good m d b t (a-value {k = n} _) h = let e = drop-le n t in put-good _ (g m d (drop n t) (omega arith)) e
-  going-good m d b t (a-count {k = n} _) h = let e = drop-le n t in put-good _ (g m d (drop n t) (omega arith)) e
+  going-good m d b t (a-value {k = n} _) h = let e = drop-short n t in put-good _ (g m d (drop n t) (omega arith)) e
+  going-good m d b t (a-count {k = n} _) h = let e = drop-short n t in put-good _ (g m d (drop n t) (omega arith)) e
   going-good m d b t (an-inner {x = x} {f = f} {m = n} {k = j} _) h =
-      let e = drop-le j t in nest-good (par x f) m d (length (drop j t)) (length t) (g n (d - 1) (drop j t) (omega arith)) (omega arith) e
+      let e = drop-short j t in nest-good (par x f) m d (length (drop j t)) (length t) (g n (d - 1) (drop j t) (omega arith)) (omega arith) e
   going-good m d b t a-sum h =
-      let e = drop-le 2 t in nest-good ari m d (length (drop 2 t)) (length t) (g (sums 0) (d - 1) (drop 2 t) (omega arith)) (omega arith) e
+      let e = drop-short 2 t in nest-good ari m d (length (drop 2 t)) (length t) (g (sums 0) (d - 1) (drop 2 t) (omega arith)) (omega arith) e
 
   fair-good : (m : Mode) (d b : ℕ) (t : Text) {i : Item} → View AnyByte i → length t < k → Good (suc (length t)) (readItem rec m d (b ∷ t) i)
   unfolding readItem
-  fair-good m d b t (ends {k = n}) h = leaves {p = (end, drop n (b ∷ t))} (drop-le n (b ∷ t))
+  fair-good m d b t (ends {k = n}) h = leaves {p = (end, drop n (b ∷ t))} (drop-short n (b ∷ t))
   fair-good m d b t (on w) h = wider (going-good m d b t w h) (omega arith)
 
   item-good : (m : Mode) (d : ℕ) (t : Text) → length t ≤ k → Good (length t) (readItem rec m d t (item m d t))
@@ -79,7 +78,7 @@ module _ (k : ℕ) (rec : Reader) (g : (m : Mode) (d : ℕ) (t : Text) → lengt
   item-good bare d [] h = stays refl
   item-good single d [] h = stays refl
   item-good double d [] h = stays refl
-  item-good operand d [] h = stays refl
+  item-good quotedOperand d [] h = stays refl
   item-good (sums n) d [] h = stays refl
   item-good m d (b ∷ t) h = fair-good m d b t (view (item-fair m d b t)) (omega arith)
 
@@ -120,12 +119,12 @@ nest-ok k f m d i (leaves {p = p} l) h = ap (put (f (p .0))) (shorter-ok k m d (
 
 module _ (m : Mode) (d b : ℕ) (t : Text) where
   put-ok : (f : Parts → Parts) (j : ℕ) → put f (shorter (suc (length t)) m d (drop j t)) ≡ put f (parts m d (drop j t))
-  put-ok f j = let e = drop-le j t in ap (put f) (shorter-ok _ m d (drop j t) (omega arith))
+  put-ok f j = let e = drop-short j t in ap (put f) (shorter-ok _ m d (drop j t) (omega arith))
 
   nested-ok : (f : Parts → Parts → Parts) (n : Mode) (c j : ℕ)
       → nest f (shorter (suc (length t)) n c (drop j t)) (shorter (suc (length t)) m d) ≡ nest f (parts n c (drop j t)) (parts m d)
   nested-ok f n c j =
-      let e = drop-le j t in
+      let e = drop-short j t in
       ap (λ (r : Taken). nest f r (shorter (suc (length t)) m d)) (shorter-ok _ n c (drop j t) (omega arith))
       ∙ nest-ok _ f m d (length (drop j t)) (parts-good n c (drop j t)) (omega arith)
 
@@ -134,9 +133,9 @@ module _ (m : Mode) (d b : ℕ) (t : Text) where
   by-item (fault n) = refl
   by-item (stop n) = refl
   by-item (byte q c n) = put-ok (lit q c) n
-  by-item (paren c n) = ap (put (lit false c)) (shorter-ok _ (sums n) d t (omega arith))
+  by-item (paren c n) = ap (put (lit unescaped c)) (shorter-ok _ (sums n) d t (omega arith))
   by-item (quote n) = nested-ok quo n d 0
-  by-item (value x n) = put-ok (par x plain end) n
+  by-item (valueOf x n) = put-ok (par x plain end) n
   by-item (count x n) = put-ok (len x) n
   by-item (inner x f n j) = nested-ok (par x f) n (d - 1) j
   by-item sum = nested-ok ari (sums 0) (d - 1) 2
@@ -147,7 +146,7 @@ by-ended word d = refl
 by-ended bare d = refl
 by-ended single d = refl
 by-ended double d = refl
-by-ended operand d = refl
+by-ended quotedOperand d = refl
 by-ended (sums n) d = refl
 
 by-first : (m : Mode) (d : ℕ) (t : Text) → readItem (shorter (length t)) m d t (item m d t) ≡ readItem parts m d t (item m d t)
@@ -178,16 +177,16 @@ module _ (text : Text) (at : ℕ) where
     unfolding readItem
     at-stop next h l = parts-item m d (drop at text) h ∙ ap (λ (t : Text). done (end, t)) (stopped next l)
 
-    pub at-byte : (q : Bool) (b next : ℕ) → item m d (drop at text) ≡ byte q b (next - suc at) → at < next → here
+    pub at-byte : (q : Escape) (b next : ℕ) → item m d (drop at text) ≡ byte q b (next - suc at) → at < next → here
         (put (lit q b) (parts m d (drop next text)))
     unfolding readItem
     at-byte q b next h l = parts-item m d (drop at text) h ∙ ap (λ (t : Text). put (lit q b) (parts m d t)) (place next l)
 
-    pub at-paren : (b n : ℕ) → item m d (drop at text) ≡ paren b n → here (put (lit false b) (parts (sums n) d (drop (at + 1) text)))
+    pub at-paren : (b n : ℕ) → item m d (drop at text) ≡ paren b n → here (put (lit unescaped b) (parts (sums n) d (drop (at + 1) text)))
     unfolding readItem
-    at-paren b n h = parts-item m d (drop at text) h ∙ ap (λ (t : Text). put (lit false b) (parts (sums n) d t)) (drop-drop 1 at text)
+    at-paren b n h = parts-item m d (drop at text) h ∙ ap (λ (t : Text). put (lit unescaped b) (parts (sums n) d t)) (drop-drop 1 at text)
 
-    pub at-value : (x : Text) (next : ℕ) → item m d (drop at text) ≡ value x (next - suc at) → at < next → here
+    pub at-value : (x : Text) (next : ℕ) → item m d (drop at text) ≡ valueOf x (next - suc at) → at < next → here
         (put (par x plain end) (parts m d (drop next text)))
     unfolding readItem
     at-value x next h l = parts-item m d (drop at text) h ∙ ap (λ (t : Text). put (par x plain end) (parts m d t)) (place next l)

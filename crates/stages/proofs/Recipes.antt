@@ -73,37 +73,54 @@ card = ".hid.raw" ∷ "a b.raw" ∷ "n/p1.raw" ∷ "p1.raw" ∷ "p2.raw" ∷ []
 abbrev gives : String → List String → Case
 gives s fs = record { line = s; vars = season; homes = []; paths = card; answer = doneAt (fs, season) }
 
+abbrev C1 : Case
+C1 = gives "cp \"$job\" $job" ("cp" ∷ "north field" ∷ "north" ∷ "field" ∷ [])
+
+abbrev C2 : Case
+C2 = gives "*.raw" ("a b.raw" ∷ "p1.raw" ∷ "p2.raw" ∷ [])
+
+abbrev C3 : Case
+C3 = gives "\"*\".raw" ("*.raw" ∷ [])
+
+abbrev C4 : Case
+C4 = gives "$tilt \"$tilt\"" ("" ∷ [])
+
+abbrev C5 : Case
+C5 = gives "${tilt:-\"a b\" c}" ("a b" ∷ "c" ∷ [])
+
+abbrev C6 : Case
+C6 = record {
+  line = "${tilt:=\"a b\"}";
+  vars = season;
+  homes = [];
+  paths = card;
+  answer = doneAt ("a" ∷ "b" ∷ [], ("HOME", "/home/crew") ∷ ("job", "north field") ∷ ("note", "") ∷ ("tilt", "a b") ∷ []);
+}
+
+-- what is set for C7
+abbrev colons : Settings
+colons = ("HOME", "/home/crew") ∷ ("IFS", ":") ∷ ("job", "north field") ∷ ("note", "") ∷ ("x", ":a::b:") ∷ []
+
+abbrev C7 : Case
+C7 = record { line = "$x"; vars = colons; homes = []; paths = card; answer = doneAt ("" ∷ "a" ∷ "" ∷ "b" ∷ [], colons) }
+
+abbrev C8 : Case
+C8 = gives "${job%% *} ${job##*o}" ("north" ∷ "rth" ∷ "field" ∷ [])
+
+abbrev C9 : Case
+C9 = gives "$((7/-2)) $((-7%3))" ("-3" ∷ "-1" ∷ [])
+
+abbrev C10 : Case
+C10 = gives "~/out '~'/out ~nobody" ("/home/crew/out" ∷ "~/out" ∷ "~nobody" ∷ [])
+
+abbrev C11 : Case
+C11 = record { line = "${note:?}"; vars = season; homes = []; paths = card; answer = refusedAt 13 0 }
+
+abbrev C12 : Case
+C12 = gives "''" ("" ∷ [])
+
 table : List Case
-table =
-    gives "cp \"$job\" $job" ("cp" ∷ "north field" ∷ "north" ∷ "field" ∷ [])
-    ∷ gives "*.raw" ("a b.raw" ∷ "p1.raw" ∷ "p2.raw" ∷ [])
-    ∷ gives "\"*\".raw" ("*.raw" ∷ [])
-    ∷ gives "$tilt \"$tilt\"" ("" ∷ [])
-    ∷ gives "${tilt:-\"a b\" c}" ("a b" ∷ "c" ∷ [])
-    ∷ record {
-      line = "${tilt:=\"a b\"}";
-      vars = season;
-      homes = [];
-      paths = card;
-      answer = doneAt ("a" ∷ "b" ∷ [], ("HOME", "/home/crew") ∷ ("job", "north field") ∷ ("note", "") ∷ ("tilt", "a b") ∷ []);
-    }
-    ∷ record {
-      line = "$x";
-      vars = ("HOME", "/home/crew") ∷ ("IFS", ":") ∷ ("job", "north field") ∷ ("note", "") ∷ ("x", ":a::b:") ∷ [];
-      homes = [];
-      paths = card;
-      answer = doneAt (
-        "" ∷ "a" ∷ "" ∷ "b" ∷ [],
-        ("HOME", "/home/crew") ∷ ("IFS", ":") ∷ ("job", "north field") ∷ ("note", "") ∷
-            ("x", ":a::b:") ∷ [],
-      );
-    }
-    ∷ gives "${job%% *} ${job##*o}" ("north" ∷ "rth" ∷ "field" ∷ [])
-    ∷ gives "$((7/-2)) $((-7%3))" ("-3" ∷ "-1" ∷ [])
-    ∷ gives "~/out '~'/out ~nobody" ("/home/crew/out" ∷ "~/out" ∷ "~nobody" ∷ [])
-    ∷ record { line = "${note:?}"; vars = season; homes = []; paths = card; answer = refusedAt 13 0 }
-    ∷ gives "''" ("" ∷ [])
-    ∷ []
+table = C1 ∷ C2 ∷ C3 ∷ C4 ∷ C5 ∷ C6 ∷ C7 ∷ C8 ∷ C9 ∷ C10 ∷ C11 ∷ C12 ∷ []
 
 -- C1 to C12
 recipes : allPass table ≡ true
@@ -141,17 +158,31 @@ unfolding alone
 edgesPass [] = true
 edgesPass (e ∷ l) = eqb (alone (e .line) (e .vars)) (e .comes) && edgesPass l
 
--- "`"$v"` with 2,047 bytes in v passes, with 2,048 it is 14; `$((9223372036854775807))` passes, with `+1` it is 17"; a line of 2,048 bytes
--- passes, one of 2,049 is 5
+-- "`"$v"` with 2,047 bytes in v passes, ..
+abbrev fullRow : Edge
+fullRow = record { line = text "\"$v\""; vars = (text "v", replicate 2047 97) ∷ []; comes = 101 }
+
+-- .. with 2,048 it is 14; ..
+abbrev longRow : Edge
+longRow = record { line = text "\"$v\""; vars = (text "v", replicate 2048 97) ∷ []; comes = 14 }
+
+-- .. `$((9223372036854775807))` passes, ..
+abbrev largest : Edge
+largest = record { line = text "$((9223372036854775807))"; vars = []; comes = 101 }
+
+-- .. with `+1` it is 17"
+abbrev oneMore : Edge
+oneMore = record { line = text "$((9223372036854775807+1))"; vars = []; comes = 17 }
+
+-- a line of 2,048 bytes passes, one of 2,049 is 5
+abbrev fullLine : Edge
+fullLine = record { line = replicate 2048 97; vars = []; comes = 101 }
+
+abbrev longLine : Edge
+longLine = record { line = replicate 2049 97; vars = []; comes = 5 }
+
 edges : List Edge
-edges =
-    record { line = text "\"$v\""; vars = (text "v", replicate 2047 97) ∷ []; comes = 101 }
-    ∷ record { line = text "\"$v\""; vars = (text "v", replicate 2048 97) ∷ []; comes = 14 }
-    ∷ record { line = text "$((9223372036854775807))"; vars = []; comes = 101 }
-    ∷ record { line = text "$((9223372036854775807+1))"; vars = []; comes = 17 }
-    ∷ record { line = replicate 2048 97; vars = []; comes = 101 }
-    ∷ record { line = replicate 2049 97; vars = []; comes = 5 }
-    ∷ []
+edges = fullRow ∷ longRow ∷ largest ∷ oneMore ∷ fullLine ∷ longLine ∷ []
 
 edges-hold : edgesPass edges ≡ true
 unfolding alone edges

@@ -15,10 +15,10 @@ use Rattle.stages.specs.Images.{Pairs, lookup, recordBytes, imageLength}
 use Rattle.stages.specs.Syntax.{Parts, Word}
 use Rattle.stages.specs.Read.{readLine}
 use Rattle.stages.specs.Units.{L, Q, cell, N, Row, bytes}
-use Rattle.stages.specs.Expand.{expand, tilde, rowOf, wordRow}
+use Rattle.stages.specs.Expand.{expand, tilde, tildeRow, wordRow}
 use Rattle.stages.specs.Split.{dropWhite, dropHard, otherRun, fieldsStep, fieldsFrom, split, ifsOr, fieldsOfRow}
 use Rattle.stages.specs.Pattern.{signs, elements, hasClass, pattern}
-use Rattle.stages.specs.Paths.{active, pathsFor, named}
+use Rattle.stages.specs.Paths.{active, pathsFor, textsOfFields}
 use Rattle.stages.specs.Quote.{quotedBytes, quotedField, quotedLine, blanked}
 use Rattle.stages.specs.Line.{Around, Fields, wordFields, expandWords, expandLine, outFits}
 use Rattle.stages.proofs.Bools.{and-left, and-right, and-both}
@@ -140,25 +140,25 @@ quiet-active (a-mark q) = quiet-active q
 quiet-active (a-byte q) = quiet-active q
 
 -- its field is its own bytes
-quiet-named : (paths : List Text) {r : Row} → Quiet r → named paths (r ∷ []) ≡ done (bytes r ∷ [])
-unfolding named pattern pathsFor
+quiet-named : (paths : List Text) {r : Row} → Quiet r → textsOfFields paths (r ∷ []) ≡ done (bytes r ∷ [])
+unfolding textsOfFields pattern pathsFor
 quiet-named paths q = rw (quiet-class q, pattern, quiet-active q, pathsFor)
 
 -- THE LINE
 
 -- a word's row and its fields make the word
 word-steps : (a : Around) (p : Parts) (v w : Pairs) (r : Row) (l : Fields) → wordRow (a .room) (a .homes) p v ≡ done (r, w)
-    → named (a .paths) (fieldsOfRow w r) ≡ done l → wordFields a p v ≡ done (l, w)
+    → textsOfFields (a .paths) (fieldsOfRow w r) ≡ done l → wordFields a p v ≡ done (l, w)
 unfolding wordFields
 word-steps a p v w r l e f = rw (e, f)
 
 -- one word: a quoted field becomes that field, and nothing is stored
 field-row : (a : Around) (t : Text) (v : Pairs) → length (quotedField t) ≤ lineLimit → wordRow (a .room) (a .homes) (fieldParts t) v ≡ done
     (fieldRow t, v)
-unfolding wordRow rowOf tilde
+unfolding wordRow tildeRow tilde
 field-row a t v h = field-expands (a .room) v t (omega (arith, row-fits-field t))
 
-field-named : (a : Around) (t : Text) (v : Pairs) → named (a .paths) (fieldsOfRow v (fieldRow t)) ≡ done (t ∷ [])
+field-named : (a : Around) (t : Text) (v : Pairs) → textsOfFields (a .paths) (fieldsOfRow v (fieldRow t)) ≡ done (t ∷ [])
 unfolding bytes
 field-named a t v = rw (quiet-field v (rows-quiet t), quiet-named (a .paths) (a-mark (rows-quiet t)), rows-bytes t)
 

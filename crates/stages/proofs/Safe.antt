@@ -4,16 +4,16 @@ use native.Mathlib.Omega.{arith}
 use mathlib.Core.Path.{_≡_, refl}
 use mathlib.Core.Bool.{true, false}
 use mathlib.Core.List.{[], _∷_}
-use lib.ListN.{length, drop, length-drop}
+use lib.ListN.{length, drop}
 use Rattle.stages.specs.Numbers.{unended, tooDeep, outputRoom}
 use Rattle.stages.specs.Bytes.{between, Text, all, notZero}
 use Rattle.stages.specs.Outcome.{refused, done}
 use Rattle.stages.specs.Images.{isName}
-use Rattle.stages.specs.Syntax.{plain, Parts, Mode, end, lit, quo, par, len, ari, word, bare, single, double, operand, arith as sums}
+use Rattle.stages.specs.Syntax.{plain, unescaped, Parts, Mode, end, lit, quo, par, len, ari, word, bare, single, double, quotedOperand, arith as sums}
 use Rattle.stages.specs.Items.{Item, item, ended}
 use Rattle.stages.specs.Read.{Taken, Reader, put, nest, readItem, Ask, askSize, askStep, parts}
 use Rattle.stages.proofs.Bools.{and-left, and-right, and-both, between-bounds, between-true}
-use Rattle.stages.proofs.Texts.{all-drop}
+use Rattle.stages.proofs.Texts.{drop-short, all-drop}
 use Rattle.stages.proofs.Items.{Fair, faults, stops, a-byte, a-paren, a-quote, a-value, a-count, an-inner, a-sum, item-passes}
 use Rattle.stages.proofs.Outcomes.{Each, isFault, Safe, refuses, gives, safe-bind, by-fix}
 
@@ -53,9 +53,6 @@ put-safe : (f : Parts → Parts) (u t : Text) {r : Taken} → ((p : Parts) → S
 put-safe f u t h l s =
     safe-bind (λ p. done (f (p .0), p .1)) s (λ p k. gives (record { clean = h (p .0) (k .clean); behind = k .behind; short = omega arith }))
 
-drop-short : (k : ℕ) (u : Text) → length (drop k u) ≤ length u
-drop-short k u = simp length-drop (omega arith)
-
 module _ (b : ℕ) (u : Text) (rec : Ask → Taken)
     (ih : (a : Ask) → length (a .2) < suc (length u) → NoZero (a .2) → Safe (SafeTaken (a .2)) (rec a)) (z : NoZero u) where
   next-safe : (f : Parts → Parts) (m : Mode) (d k : ℕ) → ((p : Parts) → SafeParts p → SafeParts (f p)) → Safe (SafeTaken (b ∷ u))
@@ -79,7 +76,7 @@ module _ (b : ℕ) (u : Text) (rec : Ask → Taken)
   read-safe m d y (faults {n = n} e) = refuses (reading-fault n e)
   read-safe m d y (stops {k = k}) = gives (record { clean = tt; behind = all-drop notZero k (b ∷ u) (and-both y z); short = drop-short k (b ∷ u) })
   read-safe m d y (a-byte {q = q} {b = c} {k = k} e) = next-safe (lit q c) m d k (λ p s. (e, s))
-  read-safe m d y (a-paren {b = c} {n = n} e) = next-safe (lit false c) (sums n) d 0 (λ p s. (e, s))
+  read-safe m d y (a-paren {b = c} {n = n} e) = next-safe (lit unescaped c) (sums n) d 0 (λ p s. (e, s))
   read-safe m d y (a-quote {m = n}) = nest-safe quo n d 0 m d (λ q p r s. (r, s))
   read-safe m d y (a-value {x = x} {k = k} e) = next-safe (par x plain end) m d k (λ p s. (e, tt, s))
   read-safe m d y (a-count {x = x} {k = k} e) = next-safe (len x) m d k (λ p s. (e, s))
@@ -92,7 +89,7 @@ ended-read rec word d = gives {a = (end, [])} (record { clean = tt; behind = ref
 ended-read rec bare d = refuses refl
 ended-read rec single d = refuses refl
 ended-read rec double d = refuses refl
-ended-read rec operand d = refuses refl
+ended-read rec quotedOperand d = refuses refl
 ended-read rec (sums n) d = refuses refl
 
 step-safe : (a : Ask) (rec : Ask → Taken) → ((b : Ask) → askSize b < askSize a → NoZero (b .2) → Safe (SafeTaken (b .2)) (rec b)) → NoZero (a .2)

@@ -13,10 +13,11 @@ use Rattle.stages.specs.Numbers.{rowLimit, imageLimit}
 use Rattle.stages.specs.Bytes.{Text, text, all, notZero, isLoginByte}
 use Rattle.stages.specs.Outcome.{done, pick}
 use Rattle.stages.specs.Images.{Pairs, isName, keys, allTexts, rising, lookup, stored, flat, imageLength, orEmpty}
-use Rattle.stages.specs.Syntax.{Form, plain, minus, equals, query, plus, suffix, prefix, Parts, end, lit, quo, par, len, ari}
-use Rattle.stages.specs.Units.{Mark, L, Q, Cell, cell, N, Row, marked, bytes, expanded, litMark, fit, decimal}
-use Rattle.stages.specs.Pattern.{Element, signs, hasClass, pattern, matches}
-use Rattle.stages.specs.Removal.{removed, cut}
+use Rattle.stages.specs.Syntax.{Side, suffix, prefix, Reach, Form, plain, minus, equals, query, plus, removal}
+use Rattle.stages.specs.Syntax.{escaped, unescaped, Parts, end, lit, quo, par, len, ari}
+use Rattle.stages.specs.Units.{Mark, L, Q, Cell, cell, N, Row, marked, bytes, expandedMark, litMark, fit, decimal}
+use Rattle.stages.specs.Pattern.{Element, signs, hasClass, Purpose, forPaths, forRemoval, isForPaths, pattern, matches}
+use Rattle.stages.specs.Removal.{removed, left, cut}
 use Rattle.stages.specs.Expand.{
   Made,
   value,
@@ -35,10 +36,10 @@ use Rattle.stages.specs.Expand.{
   housed,
   homed,
   tilde,
-  rowOf,
+  tildeRow,
   wordRow,
 }
-use Rattle.stages.specs.Paths.{chosen, active, orElse, pathsFor, named}
+use Rattle.stages.specs.Paths.{chosen, active, orElse, pathsFor, textsOfFields}
 use Rattle.stages.proofs.Bools.{either, and-left, and-right, and-both}
 use Rattle.stages.proofs.Texts.{all-take, all-drop}
 use Rattle.stages.proofs.Images.{Fine, fine-append}
@@ -103,34 +104,34 @@ store-safe room x t v n z k =
 abbrev pub SafeMade : ℕ → Row × Pairs → Type 0
 SafeMade room p = Each SafeCell (p .0) × Kept room (p .1)
 
-left-safe : (x : Bool) (k : ℕ) (t : Text) → NoZero t → NoZero (pick x (take k t) (drop k t))
-left-safe true k t z = all-take notZero k t z
-left-safe false k t z = all-drop notZero k t z
+left-safe : (s : Side) (k : ℕ) (t : Text) → NoZero t → NoZero (left s t k)
+left-safe suffix k t z = all-take notZero k t z
+left-safe prefix k t z = all-drop notZero k t z
 
-pub removed-safe : (x long : Bool) (p : List Element) (t : Text) → NoZero t → NoZero (removed x long p t)
+pub removed-safe : (s : Side) (reach : Reach) (p : List Element) (t : Text) → NoZero t → NoZero (removed s reach p t)
 unfolding removed
-removed-safe x long p t z = left-safe x (cut x long p t) t z
+removed-safe s reach p t z = left-safe s (cut s reach p t) t z
 
-pub pattern-safe : (path : Bool) (r : Row) → Safe (λ (p : List Element). Unit {0}) (pattern path r)
+pub pattern-safe : (purpose : Purpose) (r : Row) → Safe (λ (p : List Element). Unit {0}) (pattern purpose r)
 unfolding pattern
-pattern-safe path r = either (hasClass path 0 (signs r)) (λ e. rw (e, pattern) (refuses refl)) (λ e. rw (e, pattern) (gives tt))
+pattern-safe purpose r = either (hasClass (isForPaths purpose) 0 (signs r)) (λ e. rw (e, pattern) (refuses refl)) (λ e. rw (e, pattern) (gives tt))
 
 module _ (room : ℕ) (x : Text) (n : isName x ≡ true) where
   given-safe : (m : Mark) (v : Pairs) → Kept room v → Safe (SafeMade room) (given x m v)
   unfolding value marked
-  given-safe m v k = gives (marked-safe (expanded m) (value v x) (value-safe v x (k .fine)), k)
+  given-safe m v k = gives (marked-safe (expandedMark m) (value v x) (value-safe v x (k .fine)), k)
 
   assigned-safe : (m : Mark) (p : Row × Pairs) → SafeMade room p → Safe (SafeMade room) (assigned room x m p)
   unfolding assigned
   assigned-safe m p h = safe-bind _ (store-safe room x (bytes (p .0)) (p .1) n (bytes-safe (p .0) (h .0)) (h .1)) (λ w k. given-safe _ w k)
 
-  cut-safe : (s long : Bool) (m : Mark) (p : Row × Pairs) → SafeMade room p → Safe (SafeMade room) (cutBy s long x m p)
+  cut-safe : (s : Side) (reach : Reach) (m : Mark) (p : Row × Pairs) → SafeMade room p → Safe (SafeMade room) (cutBy s reach x m p)
   unfolding cutBy
-  cut-safe s long m p h =
-      safe-bind _ (pattern-safe false (p .0))
+  cut-safe s reach m p h =
+      safe-bind _ (pattern-safe forRemoval (p .0))
       (λ es _. gives (
-        marked-safe (expanded m) (removed s long es (value (p .1) x))
-            (removed-safe s long es (value (p .1) x) (value-safe (p .1) x (h .1 .fine))),
+        marked-safe (expandedMark m) (removed s reach es (value (p .1) x))
+            (removed-safe s reach es (value (p .1) x) (value-safe (p .1) x (h .1 .fine))),
         h .1,
       ))
 
@@ -139,15 +140,14 @@ module _ (room : ℕ) (x : Text) (n : isName x ≡ true) where
       → Safe (SafeMade room) (parameter room q x f m v)
   unfolding parameter
   parameter-safe q h plain m v k = given-safe m v k
-  parameter-safe q h (minus c) m v k = either (missing c x v) (λ e. rw (e, parameter) (h (expanded m) v k)) (λ e. rw (e, parameter) (given-safe m v k))
+  parameter-safe q h (minus c) m v k = either (missing c x v) (λ e. rw (e, parameter) (h (expandedMark m) v k)) (λ e. rw (e, parameter) (given-safe m v k))
   parameter-safe q h (equals c) m v k =
       either (missing c x v)
       (λ e. rw (e, parameter) (safe-bind (λ p. assigned room x m p) (h m v k) (λ p l. assigned-safe m p l)))
       (λ e. rw (e, parameter) (given-safe m v k))
   parameter-safe q h (query c) m v k = either (missing c x v) (λ e. rw (e, parameter) (refuses refl)) (λ e. rw (e, parameter) (given-safe m v k))
-  parameter-safe q h (plus c) m v k = either (missing c x v) (λ e. rw (e, parameter) (gives (tt, k))) (λ e. rw (e, parameter) (h (expanded m) v k))
-  parameter-safe q h (suffix long) m v k = safe-bind _ (h L v k) (λ p l. cut-safe true long m p l)
-  parameter-safe q h (prefix long) m v k = safe-bind _ (h L v k) (λ p l. cut-safe false long m p l)
+  parameter-safe q h (plus c) m v k = either (missing c x v) (λ e. rw (e, parameter) (gives (tt, k))) (λ e. rw (e, parameter) (h (expandedMark m) v k))
+  parameter-safe q h (removal s reach) m v k = safe-bind _ (h L v k) (λ p l. cut-safe s reach m p l)
 
 -- parts
 
@@ -175,13 +175,14 @@ expand-safe room (par x f q p) s m n v k =
     safe-bind _ (parameter-safe room x (s .0) (λ j w. expand room q j 0 w) (λ j w l. expand-safe room q (s .1) j 0 w l) f m v k)
     (λ r h. adding-safe room n (r .0) _ (h .0) (λ i. expand-safe room p (s .2) m i (r .1) (h .1)))
 expand-safe room (len x p) s m n v k =
-    adding-safe room n (marked (expanded m) (decimal (length (value v x)))) _
-    (marked-safe (expanded m) (decimal (length (value v x))) (decimal-safe (length (value v x))))
+    adding-safe room n (marked (expandedMark m) (decimal (length (value v x)))) _
+    (marked-safe (expandedMark m) (decimal (length (value v x))) (decimal-safe (length (value v x))))
     (λ i. expand-safe room p (s .1) m i v k)
 expand-safe room (ari q p) s m n v k =
     safe-bind _ (expand-safe room q (s .0) Q 0 v k)
     (λ r h. safe-bind _ (arithmetic-safe (Kept room) (r .1) (bytes (r .0)) (h .1))
-    (λ t l. adding-safe room n (marked (expanded m) (t .0)) _ (marked-safe (expanded m) (t .0) (l .0)) (λ i. expand-safe room p (s .1) m i (t .1) (l .1))))
+    (λ t l. adding-safe room n (marked (expandedMark m) (t .0)) _ (marked-safe (expandedMark m) (t .0) (l .0))
+    (λ i. expand-safe room p (s .1) m i (t .1) (l .1))))
 
 -- the tilde
 
@@ -204,11 +205,11 @@ longer-safe b (some r) h = h
 login-safe : (p : Parts) → SafeParts p → If (λ r. SafeParts (r .1)) (login p)
 unfolding login
 login-safe end s = tt
-login-safe (lit true b p) s = tt
-login-safe (lit false b p) s = go (login-safe p (s .1)) (eqb b (code "/")) refl (isLoginByte b) refl
+login-safe (lit escaped b p) s = tt
+login-safe (lit unescaped b p) s = go (login-safe p (s .1)) (eqb b (code "/")) refl (isLoginByte b) refl
   where
     go : If (λ r. SafeParts (r .1)) (login p) → (x : Bool) → eqb b (code "/") ≡ x → (y : Bool) → isLoginByte b ≡ y → If
-        (λ r. SafeParts (r .1)) (login (lit false b p))
+        (λ r. SafeParts (r .1)) (login (lit unescaped b p))
     go ih true e y d = rw (e, login) s
     go ih false e true d = rw (e, login, d, login) (longer-safe b (login p) ih)
     go ih false e false d = rw (e, login, d, login) tt
@@ -240,16 +241,16 @@ module _ (v homes : Pairs) (f : Fine (flat v)) (g : Fine (flat homes)) where
   tilde-safe : (p : Parts) → SafeParts p → Housed (tilde v homes p)
   unfolding tilde
   tilde-safe end s = tt
-  tilde-safe (lit true b p) s = tt
-  tilde-safe (lit false b p) s = either (eqb b (code "~")) (λ e. rw (e, tilde) (homed-safe (login p) (login-safe p (s .1)))) (λ e. rw (e, tilde) tt)
+  tilde-safe (lit escaped b p) s = tt
+  tilde-safe (lit unescaped b p) s = either (eqb b (code "~")) (λ e. rw (e, tilde) (homed-safe (login p) (login-safe p (s .1)))) (λ e. rw (e, tilde) tt)
   tilde-safe (quo q p) s = tt
   tilde-safe (par x f q p) s = tt
   tilde-safe (len x p) s = tt
   tilde-safe (ari q p) s = tt
 
 row-of-safe : (room : ℕ) (p : Parts) (v : Pairs) (o : Option (Text × Parts)) → SafeParts p → Kept room v → Housed o → Safe (SafeMade room)
-    (rowOf room p v o)
-unfolding rowOf
+    (tildeRow room p v o)
+unfolding tildeRow
 row-of-safe room p v none s k h = expand-safe room p s L 0 v k
 row-of-safe room p v (some d) s k h =
     adding-safe room 0 (N ∷ marked Q (d .0)) _ (tt, marked-safe Q (d .0) (h .0)) (λ i. expand-safe room (d .1) (h .1) L i v k)
@@ -264,9 +265,9 @@ row-safe room homes p v f s k = row-of-safe room p v (tilde v homes p) s k (tild
 chosen-safe : (p : List Element) (l : List Text) → Fine l → Fine (chosen p l)
 unfolding chosen
 chosen-safe p [] f = tt
-chosen-safe p (t ∷ l) f = go (chosen-safe p l (f .1)) (matches true p t) refl
+chosen-safe p (t ∷ l) f = go (chosen-safe p l (f .1)) (matches forPaths p t) refl
   where
-    go : Fine (chosen p l) → (x : Bool) → matches true p t ≡ x → Fine (chosen p (t ∷ l))
+    go : Fine (chosen p l) → (x : Bool) → matches forPaths p t ≡ x → Fine (chosen p (t ∷ l))
     go ih true e = rw (e, chosen) (f .0, ih)
     go ih false e = rw (e, chosen) ih
 
@@ -280,9 +281,9 @@ paths-for-safe paths r p f h =
     either (active p) (λ e. rw (e, pathsFor) (or-else-safe (chosen p paths) (bytes r) (chosen-safe p paths f) (bytes-safe r h)))
     (λ e. rw (e, pathsFor) (bytes-safe r h, tt))
 
-pub named-safe : (paths : List Text) (rs : List Row) → Fine paths → Each (Each SafeCell) rs → Safe Fine (named paths rs)
-unfolding named
+pub named-safe : (paths : List Text) (rs : List Row) → Fine paths → Each (Each SafeCell) rs → Safe Fine (textsOfFields paths rs)
+unfolding textsOfFields
 named-safe paths [] f h = gives tt
 named-safe paths (r ∷ rs) f h =
-    safe-bind _ (pattern-safe true r)
+    safe-bind _ (pattern-safe forPaths r)
     (λ p _. safe-bind _ (named-safe paths rs f (h .1)) (λ l g. gives (fine-append (pathsFor paths r p) l (paths-for-safe paths r p f (h .0)) g)))

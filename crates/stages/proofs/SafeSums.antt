@@ -32,7 +32,7 @@ use Rattle.stages.specs.Arith.{
   eq,
   ne,
   Token,
-  stop,
+  textEnd,
   num,
   name,
   op,
@@ -64,27 +64,11 @@ use Rattle.stages.specs.Arith.{
 use Rattle.stages.specs.Arith.{growStep, growSize, grow, whole, tree, isZero, divided, apply, withVariables, evaluate, arithmeticOf}
 use Rattle.stages.proofs.Bools.{or-right, and-both}
 use Rattle.stages.proofs.Texts.{all-append, span-join, span-more, start-name-byte}
-use Rattle.stages.proofs.Outcomes.{Safe, refuses, gives, safe-bind, safe-weaker, safe-choose, safe-where, by-fix}
-use Rattle.stages.proofs.Arith.{digit-name-byte}
-
--- refused with a number, or done, whatever with
-abbrev Numbered : {A : Type 0} → Outcome A → Type 0
-Numbered o = Safe (λ a. Unit {0}) o
+use Rattle.stages.proofs.Outcomes.{Safe, refuses, gives, safe-bind, safe-choose}
+use Rattle.stages.proofs.Arith.{Numbered, ranged-safe, number-safe, Lexes, lex-refused, lex-end, lex-more, token-left}
+use Rattle.stages.proofs.Arith.{Leaves, none-left, some-left, expression-left, grow-left}
 
 -- numbers
-
-ranged-safe : (z : ℤ) → Numbered (ranged z)
-unfolding ranged
-ranged-safe z = go (fits z) refl
-  where
-    go : (x : Bool) → fits z ≡ x → Numbered (ranged z)
-    go true e = rw (e, ranged) (gives tt)
-    go false e = rw (e, ranged) (refuses refl)
-
-number-safe : (f : ℕ → ℤ) (o : Option ℕ) → Numbered (number f o)
-unfolding number
-number-safe f none = refuses refl
-number-safe f (some n) = ranged-safe (f n)
 
 valued-safe : (t : Text) → Numbered (valued t)
 unfolding valued
@@ -133,135 +117,20 @@ module _ (K : Pairs → Type 0) where
   evaluate-safe (binary o a b) v k =
       safe-bind _ (evaluate-safe a v k) (λ p l. safe-bind _ (evaluate-safe b (p .1) l) (λ q m. with-safe (q .1) m (apply-safe o (p .0) (q .0))))
 
--- tokens: what is behind one is shorter than the text, but for an empty one
-
-abbrev pub Lexes : Text → Token × Text → Type 0
-Lexes t p = length (p .1) ≤ length t - 1
-
-paired-safe : (b : ℕ) (t : Text) (alone : Lexed) (both : Token) → Safe (Lexes (b ∷ t)) alone → Safe (Lexes (b ∷ t)) (paired alone both t)
-unfolding paired
-paired-safe b [] alone both s = s
-paired-safe b (c ∷ t) alone both s = go (eqb c (code "=")) refl
-  where
-    go : (x : Bool) → eqb c (code "=") ≡ x → Safe (Lexes (b ∷ c ∷ t)) (paired alone both (c ∷ t))
-    go true e = rw (e, paired) (gives {a = (both, t)} (omega arith))
-    go false e = rw (e, paired) s
-
-run-short : (b : ℕ) (t : Text) → isNameByte b ≡ true → length (span isNameByte (b ∷ t) .1) ≤ length (b ∷ t) - 1
-run-short b t e =
-    let l : length (span isNameByte t .0 ++ span isNameByte t .1) ≡ length t = ap length (span-join isNameByte t) in
-    rw (span-more isNameByte b t e) (omega (arith, simp length-append at l))
-
-pub token-safe : (t : Text) → Safe (Lexes t) (token t)
-unfolding token
-token-safe [] = gives {a = (stop, [])} (omega arith)
-token-safe (b ∷ t) =
-    safe-choose _ _ _ (safe-weaker (λ p l. omega arith) (token-safe t))
-    (safe-where (isDigit b) _ _
-    (λ e. safe-bind (λ z. done (num z, span isNameByte (b ∷ t) .1)) (number-safe pos (constant (span isNameByte (b ∷ t) .0)))
-    (λ z _. gives (run-short b t (digit-name-byte b e))))
-    (safe-where (isNameStart b) _ _ (λ e. gives (run-short b t (start-name-byte b e)))
-    (safe-choose _ _ _ one
-    (safe-choose _ _ _ one (safe-choose _ _ _ one (safe-choose _ _ _ one (safe-choose _ _ _ one (safe-choose _ _ _ one (safe-choose _ _ _ one
-    (safe-choose _ _ _ (paired-safe b t _ _ one) (safe-choose _ _ _ (paired-safe b t _ _ one)
-    (safe-choose _ _ _ (paired-safe b t _ _ (refuses refl)) (safe-choose _ _ _ (paired-safe b t _ _ (refuses refl)) (refuses refl))))))))))))))
-  where
-    one : {k : Token} → Safe (Lexes (b ∷ t)) (done (k, t))
-    one {k} = gives {a = (k, t)} (omega arith)
-
 -- the reader of an expression
 
--- what is behind the tree is no longer than the text
-abbrev pub Grows : ℕ → Tree × Text → Type 0
-Grows n q = length (q .1) ≤ n
+lexed-safe : {n : ℕ} {o : Lexed} → Lexes n o → Numbered o
+lexed-safe (lex-refused w) = refuses w
+lexed-safe (lex-end l) = gives tt
+lexed-safe (lex-more l) = gives tt
 
-module _ (n : ℕ) (rec : Grow) (ih : (a : Task × ℕ × Text) → length (a .2) < n → Safe (Grows (length (a .2))) (rec a)) where
-  pub expression-safe : (d k : ℕ) (t : Text) → length t < n → Safe (Grows (length t)) (expression rec d k t)
-  expression-safe d k t h =
-      safe-bind (λ p. rec (further k (p .0), d, p .1)) (ih (operand, d, t) h)
-      (λ p l. safe-weaker (λ q m. omega arith) (ih (further k (p .0), d, p .1) (omega arith)))
-
-  shut-safe : (i : ℕ) (l : Tree) (k : Token) (t : Text) → length t ≤ i → Safe (Grows i) (shut l (k, t))
-  unfolding shut
-  shut-safe i l stop t h = refuses refl
-  shut-safe i l (num z) t h = refuses refl
-  shut-safe i l (name x) t h = refuses refl
-  shut-safe i l (op o) t h = refuses refl
-  shut-safe i l opens t h = refuses refl
-  shut-safe i l shuts t h = gives {a = (l, t)} h
-
-  enclosed-safe : (d : ℕ) (t : Text) → length t < n → Safe (Grows (length t)) (enclosed rec d t)
-  unfolding enclosed
-  enclosed-safe zero t h = refuses refl
-  enclosed-safe (suc d) t h =
-      safe-bind _ (expression-safe d 1 t h) (λ q l. safe-bind _ (token-safe (q .1)) (λ s m. shut-safe (length t) (q .0) (s .0) (s .1) (omega arith)))
-
-  sign-safe : (o : Op) (d : ℕ) (t : Text) → length t < n → Safe (Grows (length t)) (sign rec o d t)
-  unfolding sign
-  sign-safe mul d t h = refuses refl
-  sign-safe div d t h = refuses refl
-  sign-safe rem d t h = refuses refl
-  sign-safe add zero t h = refuses refl
-  sign-safe add (suc d) t h = ih (operand, d, t) h
-  sign-safe sub zero t h = refuses refl
-  sign-safe sub (suc d) t h = safe-bind _ (ih (operand, d, t) h) (λ p l. gives {a = (negated (p .0), p .1)} l)
-  sign-safe lt d t h = refuses refl
-  sign-safe le d t h = refuses refl
-  sign-safe gt d t h = refuses refl
-  sign-safe ge d t h = refuses refl
-  sign-safe eq d t h = refuses refl
-  sign-safe ne d t h = refuses refl
-
-  operand-safe : (d : ℕ) (k : Token) (t : Text) → length t < n → Safe (Grows (length t)) (operandAt rec d (k, t))
-  unfolding operandAt
-  operand-safe d stop t h = refuses refl
-  operand-safe d (num z) t h = gives {a = (constantOf z, t)} (omega arith)
-  operand-safe d (name x) t h = gives {a = (nameOf x, t)} (omega arith)
-  operand-safe d (op o) t h = sign-safe o d t h
-  operand-safe d opens t h = enclosed-safe d t h
-  operand-safe d shuts t h = refuses refl
-
-  binary-safe : (d k : ℕ) (l : Tree) (t : Text) (o : Op) (u : Text) → length t ≤ n → length u < length t → Safe (Grows (length t))
-      (furtherAt rec d k l t (op o, u))
-  unfolding furtherAt
-  binary-safe d k l t o u h j = go (leb k (level o)) refl
-    where
-      go : (x : Bool) → leb k (level o) ≡ x → Safe (Grows (length t)) (furtherAt rec d k l t (op o, u))
-      go true e =
-          rw (e, furtherAt)
-          (safe-bind (λ r. rec (further k (binary o l (r .0)), d, r .1)) (expression-safe d (suc (level o)) u (omega arith))
-          (λ r m. safe-weaker (λ q w. omega arith) (ih (further k (binary o l (r .0)), d, r .1) (omega arith))))
-      go false e = rw (e, furtherAt) (gives {a = (l, t)} (omega arith))
-
-  further-safe : (d k : ℕ) (l : Tree) (t : Text) (s : Token) (u : Text) → length t ≤ n → length u < length t → Safe (Grows (length t))
-      (furtherAt rec d k l t (s, u))
-  unfolding furtherAt
-  further-safe d k l t stop u h j = gives {a = (l, t)} (omega arith)
-  further-safe d k l t (num z) u h j = gives {a = (l, t)} (omega arith)
-  further-safe d k l t (name x) u h j = gives {a = (l, t)} (omega arith)
-  further-safe d k l t (op o) u h j = binary-safe d k l t o u h j
-  further-safe d k l t opens u h j = gives {a = (l, t)} (omega arith)
-  further-safe d k l t shuts u h j = gives {a = (l, t)} (omega arith)
-
-grow-step-safe : (a : Task × ℕ × Text) (rec : Grow) → ((b : Task × ℕ × Text) → growSize b < growSize a → Safe (Grows (length (b .2))) (rec b))
-    → Safe (Grows (length (a .2))) (growStep rec a)
-unfolding growStep token operandAt furtherAt
-grow-step-safe (operand, d, []) rec ih = refuses refl
-grow-step-safe (further k l, d, []) rec ih = gives {a = (l, [])} (omega arith)
-grow-step-safe (operand, d, b ∷ t) rec ih =
-    safe-bind (λ p. operandAt rec d p) (token-safe (b ∷ t))
-    (λ p h. safe-weaker (λ q l. omega arith) (operand-safe (suc (length t)) rec ih d (p .0) (p .1) (omega arith)))
-grow-step-safe (further k l, d, b ∷ t) rec ih =
-    safe-bind (λ p. furtherAt rec d k l (b ∷ t) p) (token-safe (b ∷ t))
-    (λ p h. further-safe (suc (length t)) rec ih d k l (b ∷ t) (p .0) (p .1) (omega arith) (omega arith))
-
-pub grow-safe : (a : Task × ℕ × Text) → Safe (Grows (length (a .2))) (grow a)
-unfolding grow
-grow-safe a = by-fix growSize (refused 0) growStep (λ (b : Task × ℕ × Text) (r : Grown). Safe (Grows (length (b .2))) r) grow-step-safe a
+grown-safe : {n : ℕ} {r : Grown} → Leaves n r → Numbered r
+grown-safe (none-left w) = refuses w
+grown-safe (some-left l) = gives tt
 
 whole-safe : (l : Tree) (k : Token) (t : Text) → Numbered (whole l (k, t))
 unfolding whole
-whole-safe l stop t = gives tt
+whole-safe l textEnd t = gives tt
 whole-safe l (num z) t = refuses refl
 whole-safe l (name x) t = refuses refl
 whole-safe l (op o) t = refuses refl
@@ -271,8 +140,8 @@ whole-safe l shuts t = refuses refl
 pub tree-safe : (t : Text) → Numbered (tree t)
 unfolding tree
 tree-safe t =
-    safe-bind _ (expression-safe (suc (length t)) grow (λ a _. grow-safe a) openLimit 1 t (omega arith))
-    (λ p l. safe-bind _ (token-safe (p .1)) (λ s m. whole-safe (p .0) (s .0) (s .1)))
+    safe-bind _ (grown-safe (expression-left (suc (length t)) grow (λ a _. grow-left a) openLimit 1 t (omega arith)))
+    (λ p _. safe-bind _ (lexed-safe (token-left (p .1))) (λ s _. whole-safe (p .0) (s .0) (s .1)))
 
 -- the text of a result
 

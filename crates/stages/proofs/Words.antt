@@ -11,7 +11,7 @@ use lib.Seq.{drop-cons}
 use Rattle.stages.specs.Recur.{below, below-ok, fix-eq, by-size}
 use Rattle.stages.specs.Numbers.{depthLimit, bareOperator}
 use Rattle.stages.specs.Bytes.{Text, between, isBlank, isOperator}
-use Rattle.stages.specs.Outcome.{refused, done, Placed, refusedAt, doneAt, at, _then_, choose}
+use Rattle.stages.specs.Outcome.{refused, done, Placed, refusedAt, doneAt, placedAt, _then_, choose}
 use Rattle.stages.specs.Syntax.{Parts, Word, word}
 use Rattle.stages.specs.Read.{Taken, parts, Words, wordAt, wordsStep, wordsSize, words}
 use Rattle.stages.proofs.Read.{Good, stays, leaves, parts-good, word-good}
@@ -51,7 +51,7 @@ module _ (place b : ℕ) (t : Text) where
     abbrev rest : (ℕ × Text → Words) → Parts × Text → Words
     rest rec p = rec (place + (suc (length t) - length (p .1)), p .1) then λ ws. doneAt (record { place = place; parts = p .0 } ∷ ws)
 
-    rest-ok : {r : Taken} → Good (length t) r → (at place r then rest (fewer (suc (length t)))) ≡ (at place r then rest words)
+    rest-ok : {r : Taken} → Good (length t) r → (placedAt place r then rest (fewer (suc (length t)))) ≡ (placedAt place r then rest words)
     rest-ok (stays g) = refl
     rest-ok (leaves {p = p} l) =
         ap (λ (w : Words). w then λ ws. doneAt (record { place = place; parts = p .0 } ∷ ws))
@@ -71,7 +71,7 @@ module _ (place b : ℕ) (t : Text) (h : (q : ℕ × Text) → length (q .1) < s
   then-sound f (refuses e) = refuses e
   then-sound f accepts = accepts
 
-  rest-sound : (e : isBlank b ≡ false) {r : Taken} → Good (length t) r → Sound (at place r then rest place b t e words)
+  rest-sound : (e : isBlank b ≡ false) {r : Taken} → Good (length t) r → Sound (placedAt place r then rest place b t e words)
   rest-sound e (stays g) = refuses g
   rest-sound e (leaves {p = p} l) =
       then-sound (λ ws. record { place = place; parts = p .0 } ∷ ws) (h (place + (suc (length t) - length (p .1)), p .1) (omega arith))
@@ -125,7 +125,7 @@ rest-place line from next rest e l n g = omega (arith, length-drop from line, le
 module _ (line : Text) (from : ℕ) (l : from < length line) (e : isBlank (getD line from 0) ≡ false) (ws : List Word) where
   abbrev around : (r : Taken) → Words
   around r =
-      at from r then λ p.
+      placedAt from r then λ p.
       words (from + (length (drop from line) - length (p .1)), p .1) then λ us.
       doneAt (record { place = from; parts = p .0 } ∷ us)
 

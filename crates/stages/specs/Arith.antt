@@ -18,7 +18,7 @@ pub data Op : Type 0 where
   mul div rem add sub lt le gt ge eq ne : Op
 
 pub data Token : Type 0 where
-  stop : Token
+  textEnd : Token
   num : ℤ → Token
   name : Text → Token
   op : Op → Token
@@ -36,7 +36,7 @@ paired alone both (b ∷ t) = elim (eqb b (code "=")) [ true ↦ done (both, t) 
 -- the token at the start of a text: "Blanks, tabs, newlines separate. Signs are single tokens". A constant is judged here.
 unfoldable pub token : Text → Lexed
 unfolding isBlank isDigit isNameStart isNameByte span number constant paired
-token [] = done (stop, [])
+token [] = done (textEnd, [])
 token (b ∷ t) =
     cases (
     (isBlank b, λ _. token t)
@@ -98,7 +98,7 @@ expression rec d k t = rec (operand, d, t) >>= λ p. rec (further k (p .0), d, p
 -- the close of a parenthesis
 unfoldable pub shut : Tree → Token × Text → Grown
 shut l p = elim (p .0) [
-  | stop ↦ refused arithmeticSyntax
+  | textEnd ↦ refused arithmeticSyntax
   | num z ↦ refused arithmeticSyntax
   | name x ↦ refused arithmeticSyntax
   | op o ↦ refused arithmeticSyntax
@@ -131,7 +131,7 @@ sign rec ne d t = refused arithmeticSyntax
 -- an operand that begins with a token
 unfoldable pub operandAt : Grow → ℕ → Token × Text → Grown
 unfolding sign enclosed
-operandAt rec d (stop, t) = refused arithmeticSyntax
+operandAt rec d (textEnd, t) = refused arithmeticSyntax
 operandAt rec d (num z, t) = done (constantOf z, t)
 operandAt rec d (name x, t) = done (nameOf x, t)
 operandAt rec d (op o, t) = sign rec o d t
@@ -141,7 +141,7 @@ operandAt rec d (shuts, t) = refused arithmeticSyntax
 -- behind the tree l, before the text t, whose token and rest are given: a binary operator of at least level k, or the end of the expression
 unfoldable pub furtherAt : Grow → ℕ → ℕ → Tree → Text → Token × Text → Grown
 unfolding level
-furtherAt rec d k l t (stop, u) = done (l, t)
+furtherAt rec d k l t (textEnd, u) = done (l, t)
 furtherAt rec d k l t (num z, u) = done (l, t)
 furtherAt rec d k l t (name x, u) = done (l, t)
 furtherAt rec d k l t (op o, u) =
@@ -160,6 +160,7 @@ growStep rec (further k l, d, t) = token t >>= λ p. furtherAt rec d k l t p
 abbrev pub growSize : Task × ℕ × Text → ℕ
 growSize a = length (a .2)
 
+-- the reader; never stuck by `grow-eq` and `grow-never-stuck` of proofs/Arith
 unfoldable pub grow : Grow
 unfolding growStep fix
 grow a = fix growSize (refused 0) growStep a
@@ -167,7 +168,7 @@ grow a = fix growSize (refused 0) growStep a
 -- nothing behind the expression
 unfoldable pub whole : Tree → Token × Text → Outcome Tree
 whole l p = elim (p .0) [
-  | stop ↦ done l
+  | textEnd ↦ done l
   | num z ↦ refused arithmeticSyntax
   | name x ↦ refused arithmeticSyntax
   | op o ↦ refused arithmeticSyntax

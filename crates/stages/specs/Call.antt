@@ -8,7 +8,7 @@ use lib.ListN.{length, take, drop, replicate}
 use Rattle.stages.specs.Numbers.{accepted, workTooSmall, badVariables, badHomes, badPaths, outputRoom, badFields, workLeast, lineLimit, imageLimit}
 use Rattle.stages.specs.Bytes.{Text}
 use Rattle.stages.specs.Outcome.{Placed, refusedAt, doneAt, _then_, require}
-use Rattle.stages.specs.Images.{Pairs, flat, image, variables, homes, pathsOf, fieldsOf}
+use Rattle.stages.specs.Images.{Pairs, flat, image, variablesOf, homesOf, pathsOf, fieldsOf}
 use Rattle.stages.specs.Line.{Around, Fields, expandLine}
 use Rattle.stages.specs.Quote.{quotedLine}
 
@@ -16,7 +16,7 @@ use Rattle.stages.specs.Quote.{quotedLine}
 pub record Given : Type 0 where
   pub work : Text
   pub vars : Text
-  pub used : ℕ
+  pub varsUsed : ℕ
   pub homes : Text
   pub paths : Text
   pub line : Text
@@ -27,7 +27,7 @@ pub record Answer : Type 0 where
   pub number : ℕ
   pub place : ℕ
   pub outLength : ℕ
-  pub used : ℕ
+  pub varsUsed : ℕ
   pub out : Text
   pub vars : Text
   pub work : Text
@@ -42,12 +42,12 @@ orRefused n (some a) = doneAt a
 
 -- "Order: 1 to 6 as numbered": the fields and the variables, for an output of so many bytes
 unfoldable pub expanded : Given → ℕ → Placed (Fields × Pairs)
-unfolding orRefused variables homes pathsOf expandLine
+unfolding orRefused variablesOf homesOf pathsOf expandLine
 expanded g out =
     require (leb workLeast (length (g .work))) workTooSmall 0 then λ _.
-    require (leb (g .used) (length (g .vars))) badVariables 0 then λ _.
-    orRefused badVariables (variables (take (g .used) (g .vars))) then λ v.
-    orRefused badHomes (homes (g .homes)) then λ h.
+    require (leb (g .varsUsed) (length (g .vars))) badVariables 0 then λ _.
+    orRefused badVariables (variablesOf (take (g .varsUsed) (g .vars))) then λ v.
+    orRefused badHomes (homesOf (g .homes)) then λ h.
     orRefused badPaths (pathsOf (g .paths)) then λ p.
     expandLine (record { room = length (g .vars); out = out; homes = h; paths = p }) (g .line) v
 
@@ -63,7 +63,7 @@ answered g (refusedAt n place) = record {
   number = n;
   place = place;
   outLength = 0;
-  used = g .used;
+  varsUsed = g .varsUsed;
   out = g .out;
   vars = g .vars;
   work = cleared (g .work);
@@ -72,7 +72,7 @@ answered g (doneAt r) = record {
   number = accepted;
   place = 0;
   outLength = length (r .0);
-  used = length (image (flat (r .1)));
+  varsUsed = length (image (flat (r .1)));
   out = over (r .0) (g .out);
   vars = over (image (flat (r .1))) (g .vars);
   work = cleared (g .work);

@@ -10,10 +10,11 @@ use Rattle.stages.specs.Numbers.{demanded, variableRoom, imageLimit}
 use Rattle.stages.specs.Bytes.{Text, text, isLoginByte}
 use Rattle.stages.specs.Outcome.{Outcome, refused, done, _>>=_}
 use Rattle.stages.specs.Images.{Pairs, lookup, stored, flat, imageLength, orEmpty}
-use Rattle.stages.specs.Syntax.{Form, Parts, plain, minus, equals, query, plus, suffix, prefix, end, lit, quo, par, len, ari}
-use Rattle.stages.specs.Units.{Mark, L, E, Q, Cell, cell, N, Row, marked, bytes, expanded, litMark, fit, decimal}
+use Rattle.stages.specs.Syntax.{Colon, withColon, noColon, Side, Reach, Form, plain, minus, equals, query, plus, removal}
+use Rattle.stages.specs.Syntax.{escaped, unescaped, Parts, end, lit, quo, par, len, ari}
+use Rattle.stages.specs.Units.{Mark, L, E, Q, Cell, cell, N, Row, marked, bytes, expandedMark, litMark, fit, decimal}
 use Rattle.stages.specs.Arith.{arithmeticOf}
-use Rattle.stages.specs.Pattern.{pattern}
+use Rattle.stages.specs.Pattern.{pattern, forRemoval}
 use Rattle.stages.specs.Removal.{removed}
 
 -- a row, and the variables behind its stores
@@ -26,12 +27,13 @@ unfolding lookup
 value v x = orEmpty (lookup x v)
 
 -- "missing": "unset, or with the colon also empty"
-unfoldable pub absent : Bool → Option Text → Bool
+unfoldable pub absent : Colon → Option Text → Bool
 absent colon none = true
-absent colon (some []) = colon
+absent withColon (some []) = true
+absent noColon (some []) = false
 absent colon (some (b ∷ t)) = false
 
-unfoldable pub missing : Bool → Text → Pairs → Bool
+unfoldable pub missing : Colon → Text → Pairs → Bool
 unfolding absent lookup
 missing colon x v = absent colon (lookup x v)
 
@@ -47,7 +49,7 @@ store room x t v =
 -- the value as units, and the variables as they are
 abbrev pub given : Text → Mark → Pairs → Made
 unfolding value marked
-given x m v = done (marked (expanded m) (value v x), v)
+given x m v = done (marked (expandedMark m) (value v x), v)
 
 -- "`=`: if missing, the operand's bytes without marks are stored; then the value is given, whatever quotes the operand had"
 unfoldable pub assigned : ℕ → Text → Mark → Row × Pairs → Made
@@ -56,21 +58,20 @@ assigned room x m p = store room x (bytes (p .0)) (p .1) >>= λ w. given x m w
 
 -- "`%`, `%%`: the shortest, longest matching suffix is dropped; `#`, `##` the same for prefixes. .. The operand is always expanded, then the
 -- value is read, empty if unset."
-unfoldable pub cutBy : Bool → Bool → Text → Mark → Row × Pairs → Made
+unfoldable pub cutBy : Side → Reach → Text → Mark → Row × Pairs → Made
 unfolding value pattern removed marked
-cutBy isSuffix long x m p = pattern false (p .0) >>= λ es. done (marked (expanded m) (removed isSuffix long es (value (p .1) x)), p .1)
+cutBy side reach x m p = pattern forRemoval (p .0) >>= λ es. done (marked (expandedMark m) (removed side reach es (value (p .1) x)), p .1)
 
 -- one parameter in each form; `operand` expands its operand, literal bytes having the mark that it is handed. "Bare literal bytes of an operand
 -- of `-` or `+` become E; Q and N stay." "An unused operand is not expanded."
 unfoldable pub parameter : ℕ → (Mark → Pairs → Made) → Text → Form → Mark → Pairs → Made
 unfolding value missing assigned cutBy
 parameter room operand x plain m v = given x m v
-parameter room operand x (minus c) m v = elim (missing c x v) [ true ↦ operand (expanded m) v | false ↦ given x m v ]
+parameter room operand x (minus c) m v = elim (missing c x v) [ true ↦ operand (expandedMark m) v | false ↦ given x m v ]
 parameter room operand x (equals c) m v = elim (missing c x v) [ true ↦ operand m v >>= (λ p. assigned room x m p) | false ↦ given x m v ]
 parameter room operand x (query c) m v = elim (missing c x v) [ true ↦ refused demanded | false ↦ given x m v ]
-parameter room operand x (plus c) m v = elim (missing c x v) [ true ↦ done ([], v) | false ↦ operand (expanded m) v ]
-parameter room operand x (suffix long) m v = operand L v >>= λ p. cutBy true long x m p
-parameter room operand x (prefix long) m v = operand L v >>= λ p. cutBy false long x m p
+parameter room operand x (plus c) m v = elim (missing c x v) [ true ↦ done ([], v) | false ↦ operand (expandedMark m) v ]
+parameter room operand x (removal side reach) m v = operand L v >>= λ p. cutBy side reach x m p
 
 -- units in front of what is expanded behind them
 abbrev pub onto : Row → Made → Made
@@ -88,9 +89,9 @@ expand room end m n v = done ([], v)
 expand room (lit q b p) m n v = adding n (cell (litMark q m) b ∷ []) λ i. expand room p m i v
 expand room (quo q p) m n v = adding n (N ∷ []) λ i. expand room q Q i v >>= λ r. onto (r .0) (expand room p m (i + length (r .0)) (r .1))
 expand room (par x f q p) m n v = parameter room (λ k w. expand room q k 0 w) x f m v >>= λ r. adding n (r .0) λ i. expand room p m i (r .1)
-expand room (len x p) m n v = adding n (marked (expanded m) (decimal (length (value v x)))) λ i. expand room p m i v
+expand room (len x p) m n v = adding n (marked (expandedMark m) (decimal (length (value v x)))) λ i. expand room p m i v
 expand room (ari q p) m n v =
-    expand room q Q 0 v >>= λ r. arithmeticOf (r .1) (bytes (r .0)) >>= λ s. adding n (marked (expanded m) (s .0)) λ i. expand room p m i (s .1)
+    expand room q Q 0 v >>= λ r. arithmeticOf (r .1) (bytes (r .0)) >>= λ s. adding n (marked (expandedMark m) (s .0)) λ i. expand room p m i (s .1)
 
 abbrev pub longerLogin : ℕ → Option (Text × Parts) → Option (Text × Parts)
 longerLogin b none = none
@@ -100,9 +101,9 @@ longerLogin b (some p) = some (b ∷ p .0, p .1)
 unfoldable pub login : Parts → Option (Text × Parts)
 unfolding isLoginByte
 login end = some ([], end)
-login (lit true b p) = none
-login (lit false b p) =
-    elim (eqb b (code "/")) [ true ↦ some ([], lit false b p) | false ↦ elim (isLoginByte b) [ true ↦ longerLogin b (login p) | false ↦ none ] ]
+login (lit escaped b p) = none
+login (lit unescaped b p) =
+    elim (eqb b (code "/")) [ true ↦ some ([], lit unescaped b p) | false ↦ elim (isLoginByte b) [ true ↦ longerLogin b (login p) | false ↦ none ] ]
 login (quo q p) = none
 login (par x f q p) = none
 login (len x p) = none
@@ -127,20 +128,20 @@ homed v homes (some p) = housed (p .1) (directory v homes (p .0))
 unfoldable pub tilde : Pairs → Pairs → Parts → Option (Text × Parts)
 unfolding login homed
 tilde v homes end = none
-tilde v homes (lit true b p) = none
-tilde v homes (lit false b p) = elim (eqb b (code "~")) [ true ↦ homed v homes (login p) | false ↦ none ]
+tilde v homes (lit escaped b p) = none
+tilde v homes (lit unescaped b p) = elim (eqb b (code "~")) [ true ↦ homed v homes (login p) | false ↦ none ]
 tilde v homes (quo q p) = none
 tilde v homes (par x f q p) = none
 tilde v homes (len x p) = none
 tilde v homes (ari q p) = none
 
 -- "Found: an N, then the directory as Q. Not found: literal."
-unfoldable pub rowOf : ℕ → Parts → Pairs → Option (Text × Parts) → Made
+unfoldable pub tildeRow : ℕ → Parts → Pairs → Option (Text × Parts) → Made
 unfolding expand fit marked
-rowOf room p v none = expand room p L 0 v
-rowOf room p v (some d) = adding 0 (N ∷ marked Q (d .0)) λ i. expand room (d .1) L i v
+tildeRow room p v none = expand room p L 0 v
+tildeRow room p v (some d) = adding 0 (N ∷ marked Q (d .0)) λ i. expand room (d .1) L i v
 
 -- the row of a word of the line
 unfoldable pub wordRow : ℕ → Pairs → Parts → Pairs → Made
-unfolding rowOf tilde
-wordRow room homes p v = rowOf room p v (tilde v homes p)
+unfolding tildeRow tilde
+wordRow room homes p v = tildeRow room p v (tilde v homes p)

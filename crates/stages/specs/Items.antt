@@ -8,8 +8,9 @@ use lib.ListN.{length}
 use Rattle.stages.specs.Numbers.{unended, bareOperator, substitution, unserved, badSyntax, tooDeep}
 use Rattle.stages.specs.Bytes.{Text, text, isIn, span, isNameStart, isNameByte, isDigit, isBlank, isOperator}
 use Rattle.stages.specs.Outcome.{pick}
-use Rattle.stages.specs.Syntax.{Form, Mode, word, bare, single, double, operand, arith}
-use Rattle.stages.specs.Syntax.{plain, minus, equals, query, plus, suffix, prefix}
+use Rattle.stages.specs.Syntax.{Mode, word, bare, single, double, quotedOperand, arith, Escape, escaped, unescaped}
+use Rattle.stages.specs.Syntax.{Colon, withColon, noColon, Side, suffix, prefix, shortest, longest}
+use Rattle.stages.specs.Syntax.{Form, minus, equals, query, plus, removal}
 
 -- what a byte is where it stands
 pub data Sort : Type 0 where
@@ -30,7 +31,7 @@ sort single b = pick (eqb b (code "'")) closes literal
 sort double b =
     pick (eqb b (code "`")) backquote (pick (eqb b (code "\"")) closes
     (pick (eqb b (code "\\")) backslash (pick (eqb b (code "$")) dollar literal)))
-sort operand b =
+sort quotedOperand b =
     pick (eqb b (code "`")) backquote (pick (eqb b (code "}")) closes (pick (eqb b (code "\"")) bad
     (pick (eqb b (code "\\")) backslash (pick (eqb b (code "$")) dollar literal))))
 sort (arith n) b =
@@ -41,10 +42,10 @@ sort (arith n) b =
 pub data Item : Type 0 where
   fault : ℕ → Item  -- refused with the number
   stop : ℕ → Item  -- the text ends here, and so many bytes are taken
-  byte : Bool → ℕ → ℕ → Item  -- a byte; whether a backslash quotes it
+  byte : Escape → ℕ → ℕ → Item  -- a byte that stands for itself
   paren : ℕ → ℕ → Item  -- a parenthesis of an arithmetic text; how many are open behind it
   quote : Mode → Item  -- a quote opens
-  value : Text → ℕ → Item  -- $name, ${name}
+  valueOf : Text → ℕ → Item  -- $name, ${name}
   count : Text → ℕ → Item  -- ${#name}
   inner : Text → Form → Mode → ℕ → Item  -- ${name FORM, and the operand's mode
   sum : Item  -- $((
@@ -54,56 +55,57 @@ unfoldable pub wrong : ℕ → Text → Item
 wrong n [] = fault unended
 wrong n (b ∷ t) = pick (eqb b (code "`")) (fault substitution) (fault n)
 
--- "A bare backslash quotes the next byte"; "Within `"..."` a backslash quotes only `$`, backquote, `"`, `\`"; "`\}` gives `}`"
+-- "A bare backslash quotes the next byte"; "Within `"..."` a backslash quotes only `$`, backquote, `"`, `\`"; "`\}` gives `}`". Never asked of '...',
+-- where a backslash is literal, nor of arithmetic, where it is 11
 unfoldable pub quotable : Mode → ℕ → Bool
 quotable word b = true
 quotable bare b = true
 quotable single b = false
 quotable double b = isIn b (text "$`\"\\")
-quotable operand b = isIn b (text "$`\"\\}")
+quotable quotedOperand b = isIn b (text "$`\"\\}")
 quotable (arith n) b = false
 
 -- behind a backslash: "before a newline it is 11, also in double quotes"; "otherwise it is itself"
-unfoldable pub escaped : Mode → Text → Item
+unfoldable pub behindBackslash : Mode → Text → Item
 unfolding quotable
-escaped m [] = fault unended
-escaped m (b ∷ t) = pick (eqb b (code "\n")) (fault badSyntax) (pick (quotable m b) (byte true b 1) (byte false (code "\\") 0))
+behindBackslash m [] = fault unended
+behindBackslash m (b ∷ t) = pick (eqb b (code "\n")) (fault badSyntax) (pick (quotable m b) (byte escaped b 1) (byte unescaped (code "\\") 0))
 
--- "inside double quotes or arithmetic, the operands of `-=?+` are read as double-quoted text"
+-- "inside double quotes or arithmetic, the operands of `-=?+` are read as double-quoted text". Never asked of '...', where a `$` is literal
 unfoldable pub operandMode : Mode → Mode
 operandMode word = bare
 operandMode bare = bare
 operandMode single = bare
-operandMode double = operand
-operandMode operand = operand
-operandMode (arith n) = operand
+operandMode double = quotedOperand
+operandMode quotedOperand = quotedOperand
+operandMode (arith n) = quotedOperand
 
 -- the form of one of `-=?+`
-unfoldable pub signForm : ℕ → Bool → Form
+unfoldable pub signForm : ℕ → Colon → Form
 signForm b colon = pick (eqb b (code "-")) (minus colon) (pick (eqb b (code "=")) (equals colon) (pick (eqb b (code "?")) (query colon) (plus colon)))
 
 -- behind `${name:`, k bytes with the next one: "`:` and one of `-=?+`"
 unfoldable pub behindColon : Mode → Text → ℕ → Text → Item
 unfolding wrong operandMode signForm
 behindColon m x k [] = wrong badSyntax []
-behindColon m x k (b ∷ t) = pick (isIn b (text "-=?+")) (inner x (signForm b true) (operandMode m) k) (wrong badSyntax (b ∷ t))
+behindColon m x k (b ∷ t) = pick (isIn b (text "-=?+")) (inner x (signForm b withColon) (operandMode m) k) (wrong badSyntax (b ∷ t))
 
 -- behind `${name%` or `${name#`: "the longer of `%%`, `%`, or of `##`, `#`"; "Operands of the four removals are always read as bare text"
-unfoldable pub removal : Text → (Bool → Form) → ℕ → ℕ → Text → Item
-removal x f sign k [] = inner x (f false) bare k
-removal x f sign k (b ∷ t) = pick (eqb b sign) (inner x (f true) bare (suc k)) (inner x (f false) bare k)
+unfoldable pub behindRemoval : Text → Side → ℕ → ℕ → Text → Item
+behindRemoval x side sign k [] = inner x (removal side shortest) bare k
+behindRemoval x side sign k (b ∷ t) = pick (eqb b sign) (inner x (removal side longest) bare (suc k)) (inner x (removal side shortest) bare k)
 
 -- behind `${name`, k bytes with the next one: "After `${name` comes `}`, or `:` and one of `-=?+`, or one of these alone, or the longer of
 -- `%%`, `%`, or of `##`, `#`; anything else is 11."
 unfoldable pub behindName : Mode → Text → ℕ → Text → Item
-unfolding wrong operandMode signForm behindColon removal
+unfolding wrong operandMode signForm behindColon behindRemoval
 behindName m x k [] = wrong badSyntax []
 behindName m x k (b ∷ t) =
-    pick (eqb b (code "}")) (value x k)
+    pick (eqb b (code "}")) (valueOf x k)
     (pick (eqb b (code ":")) (behindColon m x (suc k) t)
-    (pick (isIn b (text "-=?+")) (inner x (signForm b false) (operandMode m) k)
-    (pick (eqb b (code "%")) (removal x suffix b k t)
-    (pick (eqb b (code "#")) (removal x prefix b k t) (wrong badSyntax (b ∷ t))))))
+    (pick (isIn b (text "-=?+")) (inner x (signForm b noColon) (operandMode m) k)
+    (pick (eqb b (code "%")) (behindRemoval x suffix b k t)
+    (pick (eqb b (code "#")) (behindRemoval x prefix b k t) (wrong badSyntax (b ∷ t))))))
 
 -- behind `${#name`: "only `}` may come"
 unfoldable pub behindLength : Text → ℕ → Text → Item
@@ -112,20 +114,20 @@ behindLength x k [] = wrong badSyntax []
 behindLength x k (b ∷ t) = pick (eqb b (code "}")) (count x k) (wrong badSyntax (b ∷ t))
 
 -- a name, and what it is followed by: "a byte that cannot begin the name is 10"
-unfoldable pub named : (Text → Text → Item) → Text → Item
+unfoldable pub nameThen : (Text → Text → Item) → Text → Item
 unfolding wrong isNameStart isNameByte span
-named behind [] = wrong unserved []
-named behind (b ∷ t) = pick (isNameStart b) (behind (span isNameByte (b ∷ t) .0) (span isNameByte (b ∷ t) .1)) (wrong unserved (b ∷ t))
+nameThen behind [] = wrong unserved []
+nameThen behind (b ∷ t) = pick (isNameStart b) (behind (span isNameByte (b ∷ t) .0) (span isNameByte (b ∷ t) .1)) (wrong unserved (b ∷ t))
 
 -- behind `${`, where d expansions may still open: "`${` takes a name, or `#` and a name for the length"
 unfoldable pub braced : Mode → ℕ → Text → Item
-unfolding wrong named behindName behindLength
+unfolding wrong nameThen behindName behindLength
 braced m zero t = fault tooDeep
 braced m (suc d) [] = wrong unserved []
 braced m (suc d) (b ∷ t) =
     pick (eqb b (code "#"))
-    (named (λ x u. behindLength x (length x + 3) u) t)
-    (named (λ x u. behindName m x (length x + 2) u) (b ∷ t))
+    (nameThen (λ x u. behindLength x (length x + 3) u) t)
+    (nameThen (λ x u. behindName m x (length x + 2) u) (b ∷ t))
 
 -- behind `$(`: "`$((` opens arithmetic; `$(` otherwise is 9"
 unfoldable pub parenthesis : ℕ → Text → Item
@@ -133,57 +135,58 @@ parenthesis d [] = fault substitution
 parenthesis zero (b ∷ t) = pick (eqb b (code "(")) (fault tooDeep) (fault substitution)
 parenthesis (suc d) (b ∷ t) = pick (eqb b (code "(")) sum (fault substitution)
 
--- "`$` before a digit or one of `@*#?-$!` is 10, and so is `$'` in bare text"
+-- "`$` before a digit or one of `@*#?-$!` is 10, and so is `$'` in bare text". Never asked of '...', where a `$` is literal
 unfoldable pub notServed : Mode → ℕ → Bool
 unfolding isDigit
 notServed word b = isDigit b || isIn b (text "@*#?-$!'")
 notServed bare b = isDigit b || isIn b (text "@*#?-$!'")
 notServed single b = false
 notServed double b = isDigit b || isIn b (text "@*#?-$!")
-notServed operand b = isDigit b || isIn b (text "@*#?-$!")
+notServed quotedOperand b = isDigit b || isIn b (text "@*#?-$!")
 notServed (arith n) b = isDigit b || isIn b (text "@*#?-$!")
 
 -- behind `$`: "`$` before a letter or `_` takes the longest name." "Any other `$` is literal."
 unfoldable pub expansion : Mode → ℕ → Text → Item
 unfolding isNameStart isNameByte span parenthesis braced notServed
-expansion m d [] = byte false (code "$") 0
+expansion m d [] = byte unescaped (code "$") 0
 expansion m d (b ∷ t) =
-    pick (isNameStart b) (value (span isNameByte (b ∷ t) .0) (length (span isNameByte (b ∷ t) .0)))
+    pick (isNameStart b) (valueOf (span isNameByte (b ∷ t) .0) (length (span isNameByte (b ∷ t) .0)))
     (pick (eqb b (code "(")) (parenthesis d t)
     (pick (eqb b (code "{")) (braced m d t)
-    (pick (notServed m b) (fault unserved) (byte false (code "$") 0))))
+    (pick (notServed m b) (fault unserved) (byte unescaped (code "$") 0))))
 
 -- behind an outer `)`: "ends at `))`; an outer `)` followed by another byte or the line's end .. is 11"
 unfoldable pub outer : Text → Item
 outer [] = fault badSyntax
 outer (b ∷ t) = pick (eqb b (code ")")) (stop 2) (pick (eqb b (code "`")) (fault substitution) (fault badSyntax))
 
--- "Arithmetic text balances its parentheses"
+-- "Arithmetic text balances its parentheses". Never asked: the first five cases, since only arithmetic has the sort `opening`
 unfoldable pub opened : Mode → ℕ → Item
-opened word b = byte false b 0
-opened bare b = byte false b 0
-opened single b = byte false b 0
-opened double b = byte false b 0
-opened operand b = byte false b 0
+opened word b = byte unescaped b 0
+opened bare b = byte unescaped b 0
+opened single b = byte unescaped b 0
+opened double b = byte unescaped b 0
+opened quotedOperand b = byte unescaped b 0
 opened (arith n) b = paren b (suc n)
 
+-- The same for the sort `closing`. Never asked: the first five cases
 unfoldable pub closed : Mode → ℕ → Text → Item
 unfolding outer
-closed word b t = byte false b 0
-closed bare b t = byte false b 0
-closed single b t = byte false b 0
-closed double b t = byte false b 0
-closed operand b t = byte false b 0
+closed word b t = byte unescaped b 0
+closed bare b t = byte unescaped b 0
+closed single b t = byte unescaped b 0
+closed double b t = byte unescaped b 0
+closed quotedOperand b t = byte unescaped b 0
 closed (arith zero) b t = outer t
 closed (arith (suc n)) b t = paren b n
 
--- how many bytes end a text: a word's blank is not part of it
+-- how many bytes end a text: a word's blank is not part of it. Never asked of arithmetic, where no byte has the sort `closes`
 unfoldable pub closerLength : Mode → ℕ
 closerLength word = 0
 closerLength bare = 1
 closerLength single = 1
 closerLength double = 1
-closerLength operand = 1
+closerLength quotedOperand = 1
 closerLength (arith n) = 1
 
 -- "line ends inside a quote, brace or arithmetic"
@@ -192,22 +195,22 @@ ended word = stop 0
 ended bare = fault unended
 ended single = fault unended
 ended double = fault unended
-ended operand = fault unended
+ended quotedOperand = fault unended
 ended (arith n) = fault unended
 
 unfoldable pub itemOf : Sort → Mode → ℕ → ℕ → Text → Item
-unfolding closerLength escaped expansion opened closed
+unfolding closerLength behindBackslash expansion opened closed
 itemOf backquote m d b t = fault substitution
 itemOf closes m d b t = stop (closerLength m)
 itemOf operator m d b t = fault bareOperator
 itemOf quotes m d b t = quote single
 itemOf quotes2 m d b t = quote double
-itemOf backslash m d b t = escaped m t
+itemOf backslash m d b t = behindBackslash m t
 itemOf dollar m d b t = expansion m d t
 itemOf bad m d b t = fault badSyntax
 itemOf opening m d b t = opened m b
 itemOf closing m d b t = closed m b t
-itemOf literal m d b t = byte false b 0
+itemOf literal m d b t = byte unescaped b 0
 
 -- what stands at the head of a text, where d expansions may still open
 unfoldable pub item : Mode → ℕ → Text → Item

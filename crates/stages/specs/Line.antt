@@ -6,13 +6,13 @@ use lib.Dec.{leb}
 use lib.ListN.{length}
 use Rattle.stages.specs.Numbers.{lineTooLong, zeroByte, outputRoom, lineLimit, imageLimit}
 use Rattle.stages.specs.Bytes.{Text, isIn}
-use Rattle.stages.specs.Outcome.{Outcome, refused, done, _>>=_, Placed, refusedAt, doneAt, at, _then_, require}
+use Rattle.stages.specs.Outcome.{Outcome, refused, done, _>>=_, Placed, refusedAt, doneAt, placedAt, _then_, require}
 use Rattle.stages.specs.Images.{Pairs, recordBytes}
 use Rattle.stages.specs.Syntax.{Parts, Word}
 use Rattle.stages.specs.Read.{readLine}
 use Rattle.stages.specs.Expand.{wordRow}
 use Rattle.stages.specs.Split.{fieldsOfRow}
-use Rattle.stages.specs.Paths.{named}
+use Rattle.stages.specs.Paths.{textsOfFields}
 
 -- what a line is expanded among
 pub record Around : Type 0 where
@@ -26,8 +26,8 @@ Fields = List Text
 
 -- the fields of one word, and the variables behind its stores
 unfoldable pub wordFields : Around → Parts → Pairs → Outcome (Fields × Pairs)
-unfolding wordRow fieldsOfRow named
-wordFields a p v = wordRow (a .room) (a .homes) p v >>= λ r. named (a .paths) (fieldsOfRow (r .1) (r .0)) >>= λ l. done (l, r .1)
+unfolding wordRow fieldsOfRow textsOfFields
+wordFields a p v = wordRow (a .room) (a .homes) p v >>= λ r. textsOfFields (a .paths) (fieldsOfRow (r .1) (r .0)) >>= λ l. done (l, r .1)
 
 -- room in the output for an image of n bytes: "longer than the output or 8,192"
 unfoldable pub outFits : Around → ℕ → Bool
@@ -39,7 +39,7 @@ unfoldable pub expandWords : Around → List Word → ℕ → Pairs → Placed (
 unfolding wordFields outFits recordBytes
 expandWords a [] n v = doneAt ([], v)
 expandWords a (w ∷ ws) n v =
-    at (w .place) (wordFields a (w .parts) v) then λ r.
+    placedAt (w .place) (wordFields a (w .parts) v) then λ r.
     require (outFits a (n + recordBytes (r .0))) outputRoom (w .place) then λ _.
     expandWords a ws (n + recordBytes (r .0)) (r .1) then λ s.
     doneAt (r .0 ++ s .0, s .1)

@@ -1,73 +1,97 @@
 -- Document 01, the table of numbers: each refusal's number and each limit under one name.
 use Prim.Native.Nat.{ℕ}
 
--- The refusals, in the order of the table; 0 is an acceptance.
+-- The numbers of the table, each under its line "Given when"; 0 is an acceptance.
+
+-- "accepted, place 0"
 abbrev pub accepted : ℕ
 accepted = 0
 
+-- "work area below 65,536 bytes"
 abbrev pub workTooSmall : ℕ
 workTooSmall = 1
 
+-- "variables malformed, too long, or used length beyond the buffer"
 abbrev pub badVariables : ℕ
 badVariables = 2
 
+-- "homes malformed or too long"
 abbrev pub badHomes : ℕ
 badHomes = 3
 
+-- "paths malformed or too long"
 abbrev pub badPaths : ℕ
 badPaths = 4
 
+-- "line above 2,048 bytes"
 abbrev pub lineTooLong : ℕ
 lineTooLong = 5
 
+-- "zero byte in the line"
 abbrev pub zeroByte : ℕ
 zeroByte = 6
 
+-- "line ends inside a quote, brace or arithmetic, or after a backslash"
 abbrev pub unended : ℕ
 unended = 7
 
+-- "bare operator"
 abbrev pub bareOperator : ℕ
 bareOperator = 8
 
+-- "command substitution"
 abbrev pub substitution : ℕ
 substitution = 9
 
+-- "parameter not served"
 abbrev pub unserved : ℕ
 unserved = 10
 
+-- "other bad syntax"
 abbrev pub badSyntax : ℕ
 badSyntax = 11
 
+-- "too deep"
 abbrev pub tooDeep : ℕ
 tooDeep = 12
 
+-- "`?` form on a missing value"
 abbrev pub demanded : ℕ
 demanded = 13
 
+-- "above 2,048 units"
 abbrev pub tooManyUnits : ℕ
 tooManyUnits = 14
 
+-- "not a number"
 abbrev pub notNumber : ℕ
 notNumber = 15
 
+-- "arithmetic syntax"
 abbrev pub arithmeticSyntax : ℕ
 arithmeticSyntax = 16
 
+-- "overflow"
 abbrev pub overflow : ℕ
 overflow = 17
 
+-- "zero divisor"
 abbrev pub zeroDivisor : ℕ
 zeroDivisor = 18
 
+-- "bracket class"
 abbrev pub bracketClass : ℕ
 bracketClass = 19
 
+-- "no room for a variable"
 abbrev pub variableRoom : ℕ
 variableRoom = 20
 
+-- "no room for output"
 abbrev pub outputRoom : ℕ
 outputRoom = 21
 
+-- "fields image malformed or too long"
 abbrev pub badFields : ℕ
 badFields = 22
 

@@ -19,9 +19,9 @@ pub data Placed (A : Type 0) : Type 0 where
   doneAt : A → Placed A
 
 -- an outcome at a place
-abbrev pub at : {A : Type 0} → ℕ → Outcome A → Placed A
-at place (refused n) = refusedAt n place
-at place (done a) = doneAt a
+abbrev pub placedAt : {A : Type 0} → ℕ → Outcome A → Placed A
+placedAt place (refused n) = refusedAt n place
+placedAt place (done a) = doneAt a
 
 infixl 20 _then_
 abbrev pub _then_ : {A B : Type 0} → Placed A → (A → Placed B) → Placed B

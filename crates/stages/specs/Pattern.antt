@@ -1,7 +1,7 @@
 -- Document 01, "Patterns": what a pattern's units are read as, and which texts it matches.
 use Prim.Native.Nat.{ℕ, zero, suc, _+_}
 use Prim.Native.Char.{code}
-use mathlib.Core.Bool.{Bool, true, false, _&&_, _||_, not, xor}
+use mathlib.Core.Bool.{Bool, true, false, _&&_, _||_, not}
 use mathlib.Core.List.{List, [], _∷_, _++_}
 use lib.Dec.{eqb, leb, ltb}
 use lib.ListN.{length, take, drop}
@@ -30,11 +30,15 @@ signs (N ∷ r) = signs r
 abbrev pub isLive : ℕ → Sign → Bool
 isLive b s = s .live && eqb (s .byte) b
 
--- "`*` is any bytes, `?` one byte. A bracket stands for a set of the 256 byte values": its members, or all other bytes
+-- a set is these members, or with "an optional active `!`" all other bytes
+pub data Sense : Type 0 where
+  these allOthers : Sense
+
+-- "`*` is any bytes, `?` one byte. A bracket stands for a set of the 256 byte values"; any other unit is exactly its byte
 pub data Element : Type 0 where
   star one : Element
-  byte : ℕ → Element
-  set : Bool → Signs → Element
+  exactly : ℕ → Element
+  set : Sense → Signs → Element
 
 -- what the search for a bracket's end finds: a class, no end, or the end behind so many members
 pub data Found : Type 0 where
@@ -65,6 +69,10 @@ unfoldable pub others : Signs → Bool
 others [] = false
 others (s ∷ r) = isLive (code "!") s
 
+abbrev pub senseOf : Bool → Sense
+senseOf true = allOthers
+senseOf false = these
+
 -- how many units the `!` takes, and what the search behind it finds
 abbrev pub skipped : Signs → ℕ
 unfolding others
@@ -77,9 +85,9 @@ bracket path r = find path true (drop (skipped r) r)
 -- the element of a bracket, by what its search finds: "Unclosed, `[` is itself."
 unfoldable pub bracketed : Signs → Found → Element
 unfolding others
-bracketed r class = byte (code "[")
-bracketed r unclosed = byte (code "[")
-bracketed r (closedAfter n) = set (others r) (take n (drop (skipped r) r))
+bracketed r class = exactly (code "[")
+bracketed r unclosed = exactly (code "[")
+bracketed r (closedAfter n) = set (senseOf (others r)) (take n (drop (skipped r) r))
 
 -- how many units behind its `[` a bracket has
 unfoldable pub bracketLength : Signs → Found → ℕ
@@ -94,7 +102,7 @@ unfolding bracket bracketed
 element path s r =
     pick (isLive (code "*") s) star
     (pick (isLive (code "?") s) one
-    (pick (isLive (code "[") s) (bracketed r (bracket path r)) (byte (s .byte))))
+    (pick (isLive (code "[") s) (bracketed r (bracket path r)) (exactly (s .byte))))
 
 unfoldable pub extra : Bool → Sign → Signs → ℕ
 unfolding bracket bracketLength
@@ -119,10 +127,19 @@ hasClass path k [] = false
 hasClass path zero (s ∷ r) = (isLive (code "[") s && isClass (bracket path r)) || hasClass path (extra path s r) r
 hasClass path (suc k) (s ∷ r) = hasClass path k r
 
+-- what a pattern is for; only one for paths heeds slashes and leading dots
+pub data Purpose : Type 0 where
+  forPaths forRemoval : Purpose
+
+abbrev pub isForPaths : Purpose → Bool
+isForPaths forPaths = true
+isForPaths forRemoval = false
+
 -- the pattern that a row's units make, the one place of 19
-unfoldable pub pattern : Bool → Row → Outcome (List Element)
+unfoldable pub pattern : Purpose → Row → Outcome (List Element)
 unfolding signs hasClass elements
-pattern path r = elim (hasClass path 0 (signs r)) [ true ↦ refused bracketClass | false ↦ done (elements path 0 (signs r)) ]
+pattern purpose r =
+    elim (hasClass (isForPaths purpose) 0 (signs r)) [ true ↦ refused bracketClass | false ↦ done (elements (isForPaths purpose) 0 (signs r)) ]
 
 -- "An active `-` between two members is a range; falling ranges are empty and `[a-c-e]` is a to c, `-`, e."
 unfoldable pub listed : Signs → ℕ → Bool
@@ -135,9 +152,10 @@ listed (m ∷ s ∷ n ∷ r) b =
       | false ↦ eqb (m .byte) b || listed (s ∷ n ∷ r) b
     ]
 
-unfoldable pub inSet : Bool → Signs → ℕ → Bool
-unfolding listed xor
-inSet negative members b = xor negative (listed members b)
+unfoldable pub inSet : Sense → Signs → ℕ → Bool
+unfolding listed
+inSet these members b = listed members b
+inSet allOthers members b = not (listed members b)
 
 -- for paths: "a slash is matched only by a pattern's slash", "a `.` at the start of a path or after a slash only by a `.` first in the pattern
 -- or right after its slash". `first`: a path or a part of it starts here. What `*`, `?` and brackets may take:
@@ -163,13 +181,13 @@ matchesFrom path [] head first (b ∷ t) = false
 matchesFrom path (star ∷ p) head first t = someEnd path (λ f u. matchesFrom path p false f u) first t
 matchesFrom path (one ∷ p) head first [] = false
 matchesFrom path (one ∷ p) head first (b ∷ t) = elim (passes path first b) [ true ↦ matchesFrom path p false false t | false ↦ false ]
-matchesFrom path (byte c ∷ p) head first [] = false
-matchesFrom path (byte c ∷ p) head first (b ∷ t) =
+matchesFrom path (exactly c ∷ p) head first [] = false
+matchesFrom path (exactly c ∷ p) head first (b ∷ t) =
     elim (takes path head first c b) [ true ↦ matchesFrom path p (eqb c (code "/")) (eqb c (code "/")) t | false ↦ false ]
-matchesFrom path (set negative members ∷ p) head first [] = false
-matchesFrom path (set negative members ∷ p) head first (b ∷ t) =
-    elim (passes path first b && inSet negative members b) [ true ↦ matchesFrom path p false false t | false ↦ false ]
+matchesFrom path (set sense members ∷ p) head first [] = false
+matchesFrom path (set sense members ∷ p) head first (b ∷ t) =
+    elim (passes path first b && inSet sense members b) [ true ↦ matchesFrom path p false false t | false ↦ false ]
 
-unfoldable pub matches : Bool → List Element → Text → Bool
+unfoldable pub matches : Purpose → List Element → Text → Bool
 unfolding matchesFrom
-matches path p t = matchesFrom path p true true t
+matches purpose p t = matchesFrom (isForPaths purpose) p true true t

@@ -35,14 +35,14 @@ buffered t = take imageLimit t ++ replicate (imageLimit - length t) 0
 
 -- the variables' buffer and its used length
 pub record Variables : Type 0 where
-  pub bytes : Text
-  pub used : ℕ
+  pub buffer : Text
+  pub varsUsed : ℕ
 
 unfoldable pub givenLine : Text → Text → Text → Variables → Given
 givenLine homes paths line v = record {
   work = replicate workLeast 0;
-  vars = v .bytes;
-  used = v .used;
+  vars = v .buffer;
+  varsUsed = v .varsUsed;
   homes = homes;
   paths = paths;
   line = line;
@@ -64,12 +64,12 @@ unfolding givenLine normaliser said
 saidOf homes paths v [] = []
 saidOf homes paths v (l ∷ ls) =
     said (normaliser (givenLine homes paths l v))
-    ++ saidOf homes paths (record { bytes = normaliser (givenLine homes paths l v) .vars; used = normaliser (givenLine homes paths l v) .used }) ls
+    ++ saidOf homes paths (record { buffer = normaliser (givenLine homes paths l v) .vars; varsUsed = normaliser (givenLine homes paths l v) .varsUsed }) ls
 
 -- what the program writes: the files `vars.tab`, `homes.tab`, `paths.tab` where they are there, and standard input
 unfoldable pub program : Option Text → Option Text → Option Text → Text → Text
 unfolding tableOr buffered saidOf linesOf
 program vars homes paths input =
     saidOf (tableOr homes) (tableOr paths)
-    (record { bytes = buffered (tableOr vars); used = length (tableOr vars) })
+    (record { buffer = buffered (tableOr vars); varsUsed = length (tableOr vars) })
     (linesOf input)

@@ -8,9 +8,9 @@ use lib.ListN.{length, drop}
 use Rattle.stages.specs.Recur.{fix}
 use Rattle.stages.specs.Numbers.{bareOperator, depthLimit}
 use Rattle.stages.specs.Bytes.{Text, isBlank, isOperator}
-use Rattle.stages.specs.Outcome.{Outcome, refused, done, _>>=_, Placed, refusedAt, doneAt, at, _then_, cases}
-use Rattle.stages.specs.Syntax.{Parts, Mode, Word, plain, word, arith, end, lit, quo, par, len, ari}
-use Rattle.stages.specs.Items.{Item, item, fault, stop, byte, paren, quote, value, count, inner, sum}
+use Rattle.stages.specs.Outcome.{Outcome, refused, done, _>>=_, Placed, refusedAt, doneAt, placedAt, _then_, cases}
+use Rattle.stages.specs.Syntax.{Parts, Mode, Word, plain, unescaped, word, arith, end, lit, quo, par, len, ari}
+use Rattle.stages.specs.Items.{Item, item, fault, stop, byte, paren, quote, valueOf, count, inner, sum}
 
 -- a text's parts, and what is behind the text
 abbrev pub Taken : Type 0
@@ -33,9 +33,9 @@ unfoldable pub readItem : Reader → Mode → ℕ → Text → Item → Taken
 readItem rec m d t (fault n) = refused n
 readItem rec m d t (stop k) = done (end, drop k t)
 readItem rec m d t (byte q b k) = put (lit q b) (rec m d (drop (suc k) t))
-readItem rec m d t (paren b n) = put (lit false b) (rec (arith n) d (drop 1 t))
+readItem rec m d t (paren b n) = put (lit unescaped b) (rec (arith n) d (drop 1 t))
 readItem rec m d t (quote n) = nest quo (rec n d (drop 1 t)) (rec m d)
-readItem rec m d t (value x k) = put (par x plain end) (rec m d (drop (suc k) t))
+readItem rec m d t (valueOf x k) = put (par x plain end) (rec m d (drop (suc k) t))
 readItem rec m d t (count x k) = put (len x) (rec m d (drop (suc k) t))
 readItem rec m d t (inner x f n k) = nest (par x f) (rec n (d - 1) (drop (suc k) t)) (rec m d)
 readItem rec m d t sum = nest ari (rec (arith 0) (d - 1) (drop 3 t)) (rec m d)
@@ -51,7 +51,7 @@ unfoldable pub askStep : (Ask → Taken) → Ask → Taken
 unfolding readItem item
 askStep rec a = readItem (λ m d t. rec (m, d, t)) (a .0) (a .1) (a .2) (item (a .0) (a .1) (a .2))
 
--- the parts of a text in a mode, where d expansions may still open, and what is behind the text
+-- the parts of a text in a mode, where d expansions may still open, and what is behind the text; never stuck by `parts-item` of proofs/Read
 unfoldable pub parts : Reader
 unfolding askStep fix
 parts m d t = fix askSize (refused 0) askStep (m, d, t)
@@ -63,7 +63,7 @@ Words = Placed (List Word)
 unfoldable pub wordAt : (ℕ × Text → Words) → ℕ → Text → Words
 unfolding parts
 wordAt rec place t =
-    at place (parts word depthLimit t) then λ p.
+    placedAt place (parts word depthLimit t) then λ p.
     rec (place + (length t - length (p .1)), p .1) then λ ws.
     doneAt (record { place = place; parts = p .0 } ∷ ws)
 
@@ -81,7 +81,7 @@ wordsStep rec (place, b ∷ t) =
 abbrev pub wordsSize : ℕ × Text → ℕ
 wordsSize p = length (p .1)
 
--- the words of a text that begins at `place` of the line
+-- the words of a text that begins at `place` of the line; never stuck by `words-sound` of proofs/Words
 unfoldable pub words : ℕ × Text → Words
 unfolding wordsStep fix
 words p = fix wordsSize (refusedAt 0 0) wordsStep p

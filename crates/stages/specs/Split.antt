@@ -47,6 +47,7 @@ unfolding otherRun dropWhite dropHard
 fieldsStep ifs rec [] = []
 fieldsStep ifs rec (c ∷ r) = otherRun ifs (c ∷ r) .0 ∷ rec (dropHard ifs (dropWhite ifs (otherRun ifs (c ∷ r) .1)))
 
+-- never stuck by `fields-from` of proofs/Split
 unfoldable pub fieldsFrom : Text → Row → List Row
 unfolding fieldsStep fix
 fieldsFrom ifs r = fix length [] (fieldsStep ifs) r

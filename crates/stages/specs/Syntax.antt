@@ -1,19 +1,34 @@
 -- Document 01, "Reading a line": what a word is read as.
 use Prim.Native.Nat.{ℕ}
-use mathlib.Core.Bool.{Bool}
 use mathlib.Core.List.{List}
 use Rattle.stages.specs.Bytes.{Text}
 
--- what stands behind the name in `${name`: a Bool says whether a colon stands before `-=?+`, or whether a removal's sign is doubled
+-- whether a colon stands before one of `-=?+`
+pub data Colon : Type 0 where
+  withColon noColon : Colon
+
+-- "`%`, `%%`: the shortest, longest matching suffix is dropped; `#`, `##` the same for prefixes": which end of a value a removal drops ..
+pub data Side : Type 0 where
+  suffix prefix : Side
+
+-- .. and how much of it
+pub data Reach : Type 0 where
+  shortest longest : Reach
+
+-- what stands behind the name in `${name`
 pub data Form : Type 0 where
   plain : Form
-  minus equals query plus : Bool → Form
-  suffix prefix : Bool → Form
+  minus equals query plus : Colon → Form
+  removal : Side → Reach → Form
+
+-- whether a backslash quotes a byte
+pub data Escape : Type 0 where
+  escaped unescaped : Escape
 
 -- A text is a row of parts; each constructor has the rest of the row last.
 pub data Parts : Type 0 where
   end : Parts
-  lit : Bool → ℕ → Parts → Parts  -- a byte that stands for itself; whether a backslash quotes it
+  lit : Escape → ℕ → Parts → Parts  -- a byte that stands for itself
   quo : Parts → Parts → Parts  -- '...' or "..."
   par : Text → Form → Parts → Parts → Parts  -- $name, ${name}, ${name FORM operand}
   len : Text → Parts → Parts  -- ${#name}
@@ -22,7 +37,7 @@ pub data Parts : Type 0 where
 -- where a text stands: a word of the line, an operand read as bare text, '...', "...", an operand read as double-quoted text,
 -- arithmetic with so many open parentheses
 pub data Mode : Type 0 where
-  word bare single double operand : Mode
+  word bare single double quotedOperand : Mode
   arith : ℕ → Mode
 
 -- a word of the line, and the offset of its first byte

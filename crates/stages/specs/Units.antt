@@ -7,6 +7,7 @@ use lib.Dec.{leb, ltb}
 use Rattle.stages.specs.Numbers.{rowLimit, tooManyUnits}
 use Rattle.stages.specs.Bytes.{Text}
 use Rattle.stages.specs.Outcome.{Outcome, refused, done}
+use Rattle.stages.specs.Syntax.{Escape, escaped, unescaped}
 
 -- "L (literal), E (from an expansion, bare) or Q (quoted)"
 pub data Mark : Type 0 where
@@ -32,21 +33,21 @@ bytes (cell m b ∷ r) = b ∷ bytes r
 bytes (N ∷ r) = bytes r
 
 -- the mark of what is expanded where literal bytes have the mark m: "within double quotes everything is Q"
-abbrev pub expanded : Mark → Mark
-expanded L = E
-expanded E = E
-expanded Q = Q
+abbrev pub expandedMark : Mark → Mark
+expandedMark L = E
+expandedMark E = E
+expandedMark Q = Q
 
--- the mark of a byte that a backslash quotes, or not
-abbrev pub litMark : Bool → Mark → Mark
-litMark true m = Q
-litMark false m = m
+-- the mark of a literal byte: one that a backslash quotes is Q
+abbrev pub litMark : Escape → Mark → Mark
+litMark escaped m = Q
+litMark unescaped m = m
 
 -- "holds at most 2,048 units": the count behind n with k more, the one place of 14
 unfoldable pub fit : ℕ → ℕ → Outcome ℕ
 fit n k = elim (leb (n + k) rowLimit) [ true ↦ done (n + k) | false ↦ refused tooManyUnits ]
 
--- the decimal digits of n, which has at most k
+-- the decimal digits of n, which has at most k. Never asked: no digits, where k is 20 at first and n below 10^20 (proofs/Digits: `decimal-value`)
 unfoldable pub digits : ℕ → ℕ → Text
 digits zero n = []
 digits (suc k) n = elim (ltb n 10) [ true ↦ (code "0" + n) ∷ [] | false ↦ digits k (n / 10) ++ ((code "0" + n % 10) ∷ []) ]

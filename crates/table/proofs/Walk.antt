@@ -14,8 +14,8 @@ use Rattle.stages.specs.Images.{
   isName,
   isLogin,
   isSome,
-  variables,
-  homes,
+  variablesOf,
+  homesOf,
   pathsOf,
   fieldsOf,
   textsIn,
@@ -175,7 +175,7 @@ unfolding sized
 sized-over n t r h = rw (lt-leb (length t) n h, sized)
 
 pub too-long : (k : Kind) (t : Text) → limitOf k < length t → false ≡ wellFormed k t
-unfolding variables homes pathsOf fieldsOf
+unfolding variablesOf homesOf pathsOf fieldsOf
 too-long Variables t h = rw (sized-over imageLimit t _ h)
 too-long Homes t h = rw (sized-over imageLimit t _ h)
 too-long Paths t h = rw (sized-over pathsLimit t _ h)
@@ -189,7 +189,7 @@ judge Paths o = isSome (pathsChecked o)
 judge Fields o = isSome o
 
 judged : (k : Kind) (t : Text) → length t ≤ limitOf k → wellFormed k t ≡ judge k (texts t)
-unfolding variables homes pathsOf fieldsOf
+unfolding variablesOf homesOf pathsOf fieldsOf
 judged Variables t h = rw (sized-fits imageLimit t (pairsChecked isName (pairsOf (texts t))) h)
 judged Homes t h = rw (sized-fits imageLimit t (pairsChecked isLogin (pairsOf (texts t))) h)
 judged Paths t h = rw (sized-fits pathsLimit t (pathsChecked (texts t)) h)

@@ -4,7 +4,7 @@ use mathlib.Core.Bool.{Bool, true, false, _&&_}
 use Rattle.stages.specs.Numbers.{imageLimit, pathsLimit}
 use Rattle.stages.specs.Bytes.{Text, ltText}
 use Rattle.stages.specs.Outcome.{pick}
-use Rattle.stages.specs.Images.{isName, isLogin, isSome, variables, homes, pathsOf, fieldsOf}
+use Rattle.stages.specs.Images.{isName, isLogin, isSome, variablesOf, homesOf, pathsOf, fieldsOf}
 use Rattle.table.specs.Pieces.{pieceAt}
 use Rattle.table.specs.declared.Kind.{Kind}
 use Rattle.table.specs.declared.Kind.the-variants.{Variables, Homes, Paths, Fields}
@@ -13,8 +13,8 @@ use Rattle.table.specs.declared.Piece.the-variants.{At}
 
 -- an image of the kind: numbers 2, 3, 4 and 22 are for one that is not
 abbrev pub wellFormed : Kind → Text → Bool
-wellFormed Variables t = isSome (variables t)
-wellFormed Homes t = isSome (homes t)
+wellFormed Variables t = isSome (variablesOf t)
+wellFormed Homes t = isSome (homesOf t)
 wellFormed Paths t = isSome (pathsOf t)
 wellFormed Fields t = isSome (fieldsOf t)
 

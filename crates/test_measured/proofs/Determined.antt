@@ -5,6 +5,7 @@ use mathlib.Core.Bool.{Bool}
 use Rattle.stages.specs.Bytes.{Text}
 use Rattle.stages.specs.Read.{readLine}
 use Rattle.stages.specs.Pattern.{matches, elements}
+use Rattle.text.specs.Cases.{purposeOf}
 use Rattle.text.specs.Rows.{signsOf}
 use Rattle.text.proofs.Determined.{one-answer}
 use Rattle.table.specs.Kinds.{wellFormed}
@@ -15,7 +16,8 @@ pub paths-formed-determined : (image : Text) (r s : Bool) → r ≡ wellFormed P
 paths-formed-determined image r s = one-answer
 
 pub matches-determined : (pattern text : Text) (path r s : Bool)
-    → r ≡ matches path (elements path 0 (signsOf pattern)) text → s ≡ matches path (elements path 0 (signsOf pattern)) text → r ≡ s
+    → r ≡ matches (purposeOf path) (elements path 0 (signsOf pattern)) text
+    → s ≡ matches (purposeOf path) (elements path 0 (signsOf pattern)) text → r ≡ s
 matches-determined pattern text path r s = one-answer
 
 pub read-determined : (line : Text) (r s : ℕ) → r ≡ numberOf (readLine line) → s ≡ numberOf (readLine line) → r ≡ s

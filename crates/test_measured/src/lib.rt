@@ -2,6 +2,7 @@
 ghost use mathlib.Core.Path.{_≡_};
 ghost use Rattle.stages.specs.Read.{readLine};
 ghost use Rattle.stages.specs.Pattern.{matches, elements};
+ghost use Rattle.text.specs.Cases.{purposeOf};
 ghost use Rattle.text.specs.Rows.{signsOf};
 ghost use Rattle.table.specs.Kinds.{wellFormed};
 ghost use Rattle.test_measured.specs.Numbers.{numberOf};
@@ -19,7 +20,7 @@ pub extern "C" fn measured_paths_formed(image: &[u8]) -> bool
 // Does the whole text match the units of a pattern, by the rules for paths where `path` says so?
 #[no_mangle]
 pub extern "C" fn measured_matches(pattern: &[u8], text: &[u8], path: bool) -> bool
-    ensures { λ r. ⌜ r ≡ matches path (elements path 0 (signsOf (now (pattern .entry)))) (now (text .entry)) ⌝ }
+    ensures { λ r. ⌜ r ≡ matches (purposeOf path) (elements path 0 (signsOf (now (pattern .entry)))) (now (text .entry)) ⌝ }
 {
     pattern_match::matches(pattern, text, path)
 }

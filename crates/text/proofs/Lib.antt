@@ -7,3 +7,4 @@ pub mod Orders
 pub mod Runs
 pub mod Parts
 pub mod Filling
+pub mod Cases

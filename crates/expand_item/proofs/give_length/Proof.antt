@@ -1,7 +1,7 @@
 -- The length of the value that is found.
 use Rattle.expand_add.proofs.Fitting.{adds-text}
 use Rattle.stages.specs.Bytes.{Text}
-use Rattle.stages.specs.Units.{expanded, decimal}
+use Rattle.stages.specs.Units.{expandedMark, decimal}
 use Rattle.row.specs.Marks.{markOf}
 use borrow.Author.Needs.{needs}
 use lib.ListN.{length}
@@ -26,7 +26,7 @@ returns c =
     let g = c .before .before .before .give-count in
     let found = c .before .before .before .before .before .before in
     let a = found .before .before .before .before .args in
-    adds-text (a .row .units) (a .on) (expanded (markOf (a .row .mark))) (g .last .1 .1 .1 .1 .0) (g .result)
+    adds-text (a .row .units) (a .on) (expandedMark (markOf (a .row .mark))) (g .last .1 .1 .1 .1 .0) (g .result)
     (ap (λ (t : Text). decimal (length t)) (found .value-of .ensures)) (g .ensures)
 
 pub give-length-spec : {M : Type 1} → statement M

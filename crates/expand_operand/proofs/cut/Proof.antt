@@ -3,6 +3,7 @@ use mathlib.Core.Path.{sym, _∙_}
 use borrow.Author.Needs.{needs}
 use lib.Seq.{length-take-le}
 use Rattle.stages.specs.Images.{held}
+use Rattle.text.specs.Cases.{sideOf, reachOf}
 use Rattle.expand_operand.proofs.Fronts.{dropped-front, dropped-inside, dropped-length}
 use Rattle.expand_operand.proofs.Removing.{cut-class, cut-given}
 use Rattle.expand_operand.proofs.cut.Statement.{statement}
@@ -40,7 +41,7 @@ returns : tie.Need-returns
 returns c =
     let d = c .before .before .before .before .before in
     let a = start d .args in
-    cut-class (a .suffix) (a .long) (a .name .now) (a .row) (a .on) (held (a .vars .now)) _ (dropped-front _ (d .drop-empty .ensures))
+    cut-class (sideOf (a .suffix)) (reachOf (a .long)) (a .name .now) (a .row) (a .on) (held (a .vars .now)) _ (dropped-front _ (d .drop-empty .ensures))
     (sym (c .before .has-class .ensures) ∙ c .if1 .taken)
 
 value-of-requires : tie.Need-value-of-requires
@@ -71,7 +72,7 @@ returns-2 c =
     let found = end .before .before .before in
     let d = found .before .before .before .before .before .before in
     let a = start d .args in
-    cut-given (a .suffix) (a .long) (a .name .now) (a .row) (a .on) (held (a .vars .now)) _ (dropped-front _ (d .drop-empty .ensures))
+    cut-given (sideOf (a .suffix)) (reachOf (a .long)) (a .name .now) (a .row) (a .on) (held (a .vars .now)) _ (dropped-front _ (d .drop-empty .ensures))
     (g .last .1 .1 .1 .0) (g .result) (sym (found .before .before .has-class .ensures) ∙ found .before .if1 .left) (found .value-of .ensures)
     (end .before .removed .ensures) (end .expanded-end .ensures) (g .ensures)
 

@@ -3,7 +3,7 @@ use mathlib.Core.Path.{sym, _∙_}
 use mathlib.Core.Bool.{true}
 use borrow.Author.Needs.{needs}
 use Rattle.stages.specs.Pattern.{matches}
-use Rattle.pattern_match.proofs.Matching.{says-whole, says-fails, says-star}
+use Rattle.pattern_match.proofs.Matching.{says-whole, says-fails, says-star, matches-is}
 use Rattle.pattern_match.proofs.matches.Statement.{statement}
 use Rattle.pattern_match.proofs.matches.Tie as tie
 
@@ -30,12 +30,14 @@ unfolding matches
 returns c =
     let a = c .before .before .before .before .before .args in
     sym (says-whole (a .path) (a .pattern .now) (a .text .now) 0 0 true true (c .before .before .run-to-star .ensures) (c .enum-told .given .1))
+    ∙ matches-is (a .path) (a .pattern .now) (a .text .now)
 
 returns-2 : tie.Need-returns-2
 unfolding matches
 returns-2 c =
     let a = c .before .before .before .before .before .args in
     sym (says-fails (a .path) (a .pattern .now) (a .text .now) 0 0 true true (c .before .before .run-to-star .ensures) (c .enum-told2 .given .1))
+    ∙ matches-is (a .path) (a .pattern .now) (a .text .now)
 
 returns-3 : tie.Need-returns-3
 unfolding matches
@@ -43,7 +45,7 @@ returns-3 c =
     let a = c .before .before .before .before .before .before .before .args in
     let m = says-star (a .path) (a .pattern .now) (a .text .now) 0 0 true true (c .before .before .before .before .run-to-star .ensures)
     (c .before .before .at .given .1) in
-    c .behind-star .ensures ∙ sym (m .says)
+    c .behind-star .ensures ∙ sym (m .says) ∙ matches-is (a .path) (a .pattern .now) (a .text .now)
 
 pub matches-spec : {M : Type 1} → statement M
 matches-spec =

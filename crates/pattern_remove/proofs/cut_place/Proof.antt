@@ -3,13 +3,14 @@ use Prim.Native.Nat.{suc, _≤_, _-_}
 use mathlib.Core.Path.{_≡_, refl, sym, _∙_}
 use native.Mathlib.Omega.{arith}
 use lib.ListN.{length}
+use Rattle.text.specs.Cases.{sideOf}
 use Rattle.pattern_remove.proofs.Cutting.{cutFrom, cut-here, cut-on, cut-none, cut-within, cuts-at}
 use Rattle.pattern_remove.proofs.cut_place.Statement.{statement}
 use Rattle.pattern_remove.proofs.cut_place.Tie as tie
 
 abbrev Inv-loop : tie.InvT-loop
 Inv-loop value pattern suffix down n i₀ i =
-    (n ≡ length value) × (i ≤ suc n) × (cutFrom suffix down pattern value 0 ≡ cutFrom suffix down pattern value i)
+    (n ≡ length value) × (i ≤ suc n) × (cutFrom (sideOf suffix) down pattern value 0 ≡ cutFrom (sideOf suffix) down pattern value i)
 
 abbrev μ-loop : tie.MeasureT-loop
 μ-loop value pattern suffix down n i₀ i = suc n - i
@@ -24,16 +25,16 @@ drops-match-requires : tie.Need-drops-match-requires Inv-loop μ-loop
 drops-match-requires c κs =
     let a = c .before .before .before .before .before .args in
     let l = c .before .before .loop in
-    cut-within (a .suffix) (a .down) (a .pattern .now) (a .value .now) (l .i) (c .before .loop-test .taken) (c .cut-at .ensures)
+    cut-within (sideOf (a .suffix)) (a .down) (a .pattern .now) (a .value .now) (l .i) (c .before .loop-test .taken) (c .cut-at .ensures)
 
 returns : tie.Need-returns Inv-loop μ-loop
 returns c =
     let a = c .before .before .before .before .before .before .before .args in
     let l = c .before .before .before .before .loop in
-    cuts-at (a .suffix) (a .down) (a .pattern .now) (a .value .now)
-    (cut-here (a .suffix) (a .down) (a .pattern .now) (a .value .now) (l .i) (c .before .before .before .loop-test .taken)
+    cuts-at (sideOf (a .suffix)) (a .down) (a .pattern .now) (a .value .now)
+    (cut-here (sideOf (a .suffix)) (a .down) (a .pattern .now) (a .value .now) (l .i) (c .before .before .before .loop-test .taken)
     (c .before .before .cut-at .ensures) (sym (c .before .drops-match .ensures) ∙ c .if1 .taken) ∙ sym (l .inv .2))
-    (cut-within (a .suffix) (a .down) (a .pattern .now) (a .value .now) (l .i) (c .before .before .before .loop-test .taken)
+    (cut-within (sideOf (a .suffix)) (a .down) (a .pattern .now) (a .value .now) (l .i) (c .before .before .before .loop-test .taken)
     (c .before .before .cut-at .ensures))
 
 add-i : tie.Need-add-i Inv-loop μ-loop
@@ -48,7 +49,7 @@ loop-again c =
     let l = c .before .before .before .before .loop in (
       refl,
       omega arith,
-      l .inv .2 ∙ cut-on (a .suffix) (a .down) (a .pattern .now) (a .value .now) (l .i) (c .before .before .before .loop-test .taken)
+      l .inv .2 ∙ cut-on (sideOf (a .suffix)) (a .down) (a .pattern .now) (a .value .now) (l .i) (c .before .before .before .loop-test .taken)
           (c .before .before .cut-at .ensures) (sym (c .before .drops-match .ensures) ∙ c .if1 .left),
     )
 
@@ -56,16 +57,16 @@ returns-2 : tie.Need-returns-2 Inv-loop μ-loop
 returns-2 c =
     let a = c .before .before .before .before .before .args in
     let l = c .before .before .loop in
-    cuts-at (a .suffix) (a .down) (a .pattern .now) (a .value .now)
-    (sym (l .inv .2 ∙ cut-none (a .suffix) (a .down) (a .pattern .now) (a .value .now) (l .i) (c .before .loop-test .left) ∙ rw (c .if2 .taken)))
+    cuts-at (sideOf (a .suffix)) (a .down) (a .pattern .now) (a .value .now)
+    (sym (l .inv .2 ∙ cut-none (sideOf (a .suffix)) (a .down) (a .pattern .now) (a .value .now) (l .i) (c .before .loop-test .left) ∙ rw (c .if2 .taken)))
     (omega arith)
 
 returns-3 : tie.Need-returns-3 Inv-loop μ-loop
 returns-3 c =
     let a = c .before .before .before .before .before .args in
     let l = c .before .before .loop in
-    cuts-at (a .suffix) (a .down) (a .pattern .now) (a .value .now)
-    (sym (l .inv .2 ∙ cut-none (a .suffix) (a .down) (a .pattern .now) (a .value .now) (l .i) (c .before .loop-test .left) ∙ rw (c .if2 .left)))
+    cuts-at (sideOf (a .suffix)) (a .down) (a .pattern .now) (a .value .now)
+    (sym (l .inv .2 ∙ cut-none (sideOf (a .suffix)) (a .down) (a .pattern .now) (a .value .now) (l .i) (c .before .loop-test .left) ∙ rw (c .if2 .left)))
     (omega arith)
 
 pub cut-place-spec : {M : Type 1} → statement M

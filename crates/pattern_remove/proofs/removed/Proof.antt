@@ -6,6 +6,7 @@ use lib.ListN.{take, drop}
 use lib.Seq.{length-take-le}
 use Rattle.stages.specs.Pattern.{elements}
 use Rattle.stages.specs.Removal.{cut, left, removed}
+use Rattle.text.specs.Cases.{sideOf, reachOf}
 use Rattle.text.specs.Rows.{signsOf}
 use Rattle.pattern_set.proofs.Units.{to-end}
 use Rattle.pattern_remove.proofs.Cutting.{cut-is}
@@ -27,8 +28,10 @@ unfolding removed
 returns c =
     let a = c .before .before .before .before .before .before .args in
     ap (λ (k : ℕ). take k (a .value .now))
-    (cut-is (a .suffix) (a .long) (a .pattern .now) (a .value .now) (c .before .before .before .from-end .ensures) (c .before .before .cut-place .ensures))
-    ∙ ap (λ (s : Bool). left s (a .value .now) (cut (a .suffix) (a .long) (elements false 0 (signsOf (a .pattern .now))) (a .value .now)))
+    (cut-is (sideOf (a .suffix)) (reachOf (a .long)) (a .pattern .now) (a .value .now)
+    (c .before .before .before .from-end .ensures) (c .before .before .cut-place .ensures))
+    ∙ ap (λ (s : Bool). left (sideOf s) (a .value .now)
+    (cut (sideOf (a .suffix)) (reachOf (a .long)) (elements false 0 (signsOf (a .pattern .now))) (a .value .now)))
     (sym (c .before .if1 .taken))
 
 sub-result : tie.Need-sub-result
@@ -46,8 +49,10 @@ returns-2 c =
     let a = c .before .before .before .before .before .before .args in
     to-end (a .value .now) (c .before .before .cut-place .result)
     ∙ ap (λ (k : ℕ). drop k (a .value .now))
-    (cut-is (a .suffix) (a .long) (a .pattern .now) (a .value .now) (c .before .before .before .from-end .ensures) (c .before .before .cut-place .ensures))
-    ∙ ap (λ (s : Bool). left s (a .value .now) (cut (a .suffix) (a .long) (elements false 0 (signsOf (a .pattern .now))) (a .value .now)))
+    (cut-is (sideOf (a .suffix)) (reachOf (a .long)) (a .pattern .now) (a .value .now)
+    (c .before .before .before .from-end .ensures) (c .before .before .cut-place .ensures))
+    ∙ ap (λ (s : Bool). left (sideOf s) (a .value .now)
+    (cut (sideOf (a .suffix)) (reachOf (a .long)) (elements false 0 (signsOf (a .pattern .now))) (a .value .now)))
     (sym (c .before .if1 .left))
 
 pub removed-spec : {M : Type 1} → statement M

@@ -2,7 +2,7 @@
 use mathlib.Core.Path.{sym, _∙_, ap}
 use mathlib.Core.Bool.{Bool}
 use Rattle.text.specs.Rows.{signsOf}
-use Rattle.stages.specs.Pattern.{inSet}
+use Rattle.stages.specs.Pattern.{senseOf, inSet}
 use Rattle.pattern_set.proofs.Gathering.{in-members, in-others}
 use borrow.Author.Needs.{needs}
 use Rattle.pattern_set.proofs.set_of.Statement.{statement}
@@ -18,12 +18,12 @@ returns : tie.Need-returns
 returns c =
     let a = c .before .before .before .before .args in
     λ k h. in-others (signsOf (a .units .now)) k (c .before .before .members .ensures k h) (c .others .ensures k h) ∙ ap
-    (λ (b : Bool). inSet b (signsOf (a .units .now)) k) (sym (c .before .if1 .taken))
+    (λ (b : Bool). inSet (senseOf b) (signsOf (a .units .now)) k) (sym (c .before .if1 .taken))
 
 returns-2 : tie.Need-returns-2
 returns-2 c =
     let a = c .before .before .before .args in
-    λ k h. in-members (signsOf (a .units .now)) k (c .before .members .ensures k h) ∙ ap (λ (b : Bool). inSet b (signsOf (a .units .now)) k)
+    λ k h. in-members (signsOf (a .units .now)) k (c .before .members .ensures k h) ∙ ap (λ (b : Bool). inSet (senseOf b) (signsOf (a .units .now)) k)
     (sym (c .if1 .left))
 
 pub set-of-spec : {M : Type 1} → statement M

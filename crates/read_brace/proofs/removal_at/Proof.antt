@@ -3,9 +3,12 @@ use Prim.Native.Nat.{suc, _+_, _-_}
 use mathlib.Core.Path.{_≡_, refl, sym, ap, _∙_}
 use native.Mathlib.Omega.{arith}
 use lib.ListN.{drop, getD}
+use mathlib.Core.Bool.{Bool}
 use Rattle.stages.specs.Bytes.{part}
+use Rattle.stages.specs.Syntax.{removal}
+use Rattle.text.specs.Cases.{reachOf}
 use Rattle.read_mode.specs.declared.Mode.the-variants as mode
-use Rattle.read_brace.specs.Shows.{removalForm}
+use Rattle.read_brace.specs.Shows.{removalSide}
 use Rattle.read_brace.proofs.Showing.{at-within, shows-inner, inner-same}
 use Rattle.read_brace.proofs.Names.{removal-doubled, removal-once}
 use borrow.Author.Needs.{needs}
@@ -41,9 +44,9 @@ returns c =
     let w = at-within (getD (a .text .now) (a .to) 0) (a .to + 1) (a .text .now) e in
     shows-inner (a .text .now) (a .from .at) (a .from .depth) (a .to + 2) (suc (a .to - a .from .at)) (omega (arith, start .pre .0)) (omega (arith, start .pre .1))
     (a .from .at + 2) (a .to) (start .pre .0) (omega (arith, start .pre .1)) refl (c .before .removal-form .result) mode.Bare (start .pre .2) refl
-    (removal-doubled (part (a .text .now) (a .from .at + 2) (a .to)) (removalForm (a .prefix)) (getD (a .text .now) (a .to) 0) (a .to - a .from .at)
+    (removal-doubled (part (a .text .now) (a .from .at + 2) (a .to)) (removalSide (a .prefix)) (getD (a .text .now) (a .to) 0) (a .to - a .from .at)
     (drop (a .to + 1) (a .text .now)) e ∙ inner-same (part (a .text .now) (a .from .at + 2) (a .to)) (suc (a .to - a .from .at))
-    (sym (c .before .removal-form .ensures ∙ ap (removalForm (a .prefix)) (c .if1 .taken))) refl)
+    (sym (c .before .removal-form .ensures ∙ ap (λ (d : Bool). removal (removalSide (a .prefix)) (reachOf d)) (c .if1 .taken))) refl)
 
 returns-2 : tie.Need-returns-2
 returns-2 c =
@@ -52,9 +55,9 @@ returns-2 c =
     let e = sym (c .before .before .is-at .ensures) ∙ c .if1 .left in
     shows-inner (a .text .now) (a .from .at) (a .from .depth) (a .to + 1) (a .to - a .from .at) (omega (arith, start .pre .0)) (omega (arith, start .pre .1))
     (a .from .at + 2) (a .to) (start .pre .0) (omega (arith, start .pre .1)) refl (c .before .removal-form .result) mode.Bare (start .pre .2) refl
-    (removal-once (part (a .text .now) (a .from .at + 2) (a .to)) (removalForm (a .prefix)) (getD (a .text .now) (a .to) 0) (a .to - a .from .at)
+    (removal-once (part (a .text .now) (a .from .at + 2) (a .to)) (removalSide (a .prefix)) (getD (a .text .now) (a .to) 0) (a .to - a .from .at)
     (drop (a .to + 1) (a .text .now)) e ∙ inner-same (part (a .text .now) (a .from .at + 2) (a .to)) (a .to - a .from .at)
-    (sym (c .before .removal-form .ensures ∙ ap (removalForm (a .prefix)) (c .if1 .left))) refl)
+    (sym (c .before .removal-form .ensures ∙ ap (λ (d : Bool). removal (removalSide (a .prefix)) (reachOf d)) (c .if1 .left))) refl)
 
 pub removal-at-spec : {M : Type 1} → statement M
 removal-at-spec =

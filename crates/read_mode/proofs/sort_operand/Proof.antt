@@ -1,7 +1,7 @@
 -- `modes::sort_operand` meets its contract: each test decides as in the stage.
 use mathlib.Core.Path.{_≡_, refl, sym, _∙_}
 use borrow.Author.Tests.{eq-eqb, ne-eqb}
-use Rattle.stages.specs.Syntax.{operand}
+use Rattle.stages.specs.Syntax.{quotedOperand}
 use Rattle.stages.specs.Items.{sort, closerLength}
 use Rattle.read_mode.specs.Modes.{plainSort}
 use borrow.Author.Needs.{needs}
@@ -31,7 +31,7 @@ returns-4 c =
     record {
       is = rw (ne-eqb _ _ (c .before .before .before .if1 .left), ne-eqb _ _ (c .before .before .if2 .left), ne-eqb _ _ (c .before .if3 .left))
           (c .sort-plain .ensures .is);
-      carries = c .sort-plain .ensures .carries operand;
+      carries = c .sort-plain .ensures .carries quotedOperand;
     }
 
 pub sort-operand-spec : {M : Type 1} → statement M

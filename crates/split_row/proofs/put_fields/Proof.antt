@@ -7,7 +7,7 @@ use borrow.Author.Tests.{not-true, not-false}
 use lib.ListN.{length}
 use Rattle.stages.specs.Images.{heldTexts}
 use Rattle.stages.specs.Split.{split}
-use Rattle.stages.specs.Paths.{named}
+use Rattle.stages.specs.Paths.{textsOfFields}
 use Rattle.text.specs.Rows.{rowOf}
 use Rattle.split_delimiter.specs.Places.{ahead}
 use Rattle.split_row.proofs.Runs.{Run, run-start, run-fits, run-on, run-further}
@@ -24,7 +24,7 @@ abbrev μ-loop2 : tie.MeasureT-loop2
 
 abbrev Inv-loop : tie.InvT-loop
 Inv-loop row₀ ifs paths out₀ used at₀ len₀ full₀ row out at len full =
-    Walk (heldTexts paths) ifs (named (heldTexts paths) (split ifs (rowOf row₀))) used out₀ (length row₀) row at len full out
+    Walk (heldTexts paths) ifs (textsOfFields (heldTexts paths) (split ifs (rowOf row₀))) used out₀ (length row₀) row at len full out
 
 abbrev μ-loop : tie.MeasureT-loop
 μ-loop row₀ ifs paths out₀ used at₀ len₀ full₀ row out at len full = length (ahead row at)
@@ -33,7 +33,7 @@ turn : (c : tie.After-slice-known4 Inv-loop2 μ-loop2 Inv-loop μ-loop) →
     let a = c .before .before .before .before .before .before .before .before .before .before .before .before .before .before .before .before .before .before .before .before .before .args in
     let l = c .before .before .before .before .before .before .before .before .before .before .before .before .before .before .loop in
     let p = c .before .before .before .before .put-field in
-    Taken (heldTexts (a .paths .now)) (a .ifs .now) (named (heldTexts (a .paths .now)) (split (a .ifs .now) (rowOf (a .row .now)))) (a .used)
+    Taken (heldTexts (a .paths .now)) (a .ifs .now) (textsOfFields (heldTexts (a .paths .now)) (split (a .ifs .now) (rowOf (a .row .now)))) (a .used)
     (a .out .now) (length (a .row .now))
     (l .row) (l .at) (l .len) (l .full) (l .out)
     (c .before .before .before .before .before .before .before .before .before .before .before .before .loop2 .end)

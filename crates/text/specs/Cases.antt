@@ -1,0 +1,45 @@
+-- The two-case types of the stages by the Booleans of the code, and back.
+use mathlib.Core.Bool.{Bool, true, false}
+use Rattle.stages.specs.Syntax.{Escape, escaped, unescaped, Colon, withColon, noColon, Side, suffix, prefix, Reach, shortest, longest}
+use Rattle.stages.specs.Pattern.{Purpose, forPaths, forRemoval}
+
+-- whether a backslash quotes a byte
+abbrev pub escapeOf : Bool → Escape
+escapeOf true = escaped
+escapeOf false = unescaped
+
+abbrev pub isEscaped : Escape → Bool
+isEscaped escaped = true
+isEscaped unescaped = false
+
+-- whether a colon stands before one of `-=?+`
+abbrev pub colonOf : Bool → Colon
+colonOf true = withColon
+colonOf false = noColon
+
+abbrev pub hasColon : Colon → Bool
+hasColon withColon = true
+hasColon noColon = false
+
+-- whether a removal drops a suffix
+abbrev pub sideOf : Bool → Side
+sideOf true = suffix
+sideOf false = prefix
+
+abbrev pub isSuffix : Side → Bool
+isSuffix suffix = true
+isSuffix prefix = false
+
+-- whether it drops the longest one, its sign being doubled
+abbrev pub reachOf : Bool → Reach
+reachOf true = longest
+reachOf false = shortest
+
+abbrev pub isLongest : Reach → Bool
+isLongest longest = true
+isLongest shortest = false
+
+-- whether a pattern is for paths
+abbrev pub purposeOf : Bool → Purpose
+purposeOf true = forPaths
+purposeOf false = forRemoval
