@@ -4,7 +4,7 @@
  * between calls, use no heap, always return, and may run in several threads at once on buffers of their own. How soon they return is not proved: a removal
  * tries its pattern at each place of the value, so that a long pattern that does not match a long value can take minutes. Who takes patterns or lines from
  * strangers should bound the call's time from outside.
- * Link target/staticlib/libexported.a, which `rt staticlib exported` builds (x86-64 Linux).
+ * Link target/staticlib/libdrunquill_c.a, which `rt staticlib drunquill_c` builds (x86-64 Linux).
  *
  * BUFFERS. Each is a pointer and a length in bytes.
  *  - No pointer may be NULL, also where the length is 0. Each must have that many bytes, readable; `vars`, `work` and `out` writable too.

@@ -1,4 +1,4 @@
-//! Links the archive of the proved functions, which `rt staticlib exported` builds: that of this repository, or the one in the folder that DRUNQUILL_ARCHIVE
+//! Links the archive of the proved functions, which `rt staticlib drunquill_c` builds: that of this repository, or the one in the folder that DRUNQUILL_ARCHIVE
 //! names.
 
 use std::env;
@@ -10,9 +10,9 @@ fn main() {
         Some(folder) => PathBuf::from(folder),
         None => PathBuf::from(env::var_os("CARGO_MANIFEST_DIR").expect("set by cargo")).join("../target/staticlib"),
     };
-    let archive = folder.join("libexported.a");
-    assert!(archive.exists(), "there is no {}; `rt staticlib exported` builds it", archive.display());
+    let archive = folder.join("libdrunquill_c.a");
+    assert!(archive.exists(), "there is no {}; `rt staticlib drunquill_c` builds it", archive.display());
     println!("cargo:rerun-if-changed={}", archive.display());
     println!("cargo:rustc-link-search=native={}", folder.display());
-    println!("cargo:rustc-link-lib=static=exported");
+    println!("cargo:rustc-link-lib=static=drunquill_c");
 }

@@ -13,7 +13,7 @@ typedef struct drunquill_answer job(const uint8_t *, size_t, uint8_t *, size_t, 
                                     uint8_t *, size_t);
 
 static void fail(const char *name, const char *what) {
-    printf("test-c: %s: %s\n", name, what);
+    printf("tests/built/c: %s: %s\n", name, what);
     exit(1);
 }
 
@@ -52,7 +52,7 @@ static void call(const char *name, job *f, unsigned number, size_t place) {
     struct drunquill_answer a = f(line.at, line.len, lent(&vars), vars_len, used, homes_image.at, homes_image.len, paths_image.at, paths_image.len, lent(&work),
                                   work_len, lent(&out), out_len);
     if (a.number != number) {
-        printf("test-c: %s: number %u, not %u\n", name, a.number, number);
+        printf("tests/built/c: %s: number %u, not %u\n", name, a.number, number);
         exit(1);
     }
     if (a.place != place) fail(name, "place");

@@ -57,7 +57,7 @@ static void measure(const char *name, unsigned number) {
     for (normalising = 0; normalising <= 1; normalising++) {
         size_t depth = used_by_call();
         if (answer.number != number) {
-            printf("test-c: stack: %s: number %u, not %u\n", name, answer.number, number);
+            printf("tests/built/c: stack: %s: number %u, not %u\n", name, answer.number, number);
             exit(1);
         }
         printf("  %-52s %-10s %6zu\n", name, normalising ? "normaliser" : "expander", depth);

@@ -1,5 +1,6 @@
-// What stands at a place of a text, and of that what stands behind `${`: a name or `#` and a name, then a form. A place `at` is that of the `$`, `to` is
-// the end of the name, and `depth` says how many expansions may still open.
+// What stands at a place of a text, and of that what stands behind `${`: a name or `#` and a name, then a form. A text is read from its `$` on, and `to`
+// is the end of the name.
+use read_mode::Cursor;
 use read_mode::Form;
 use read_mode::Mode;
 use text::Class;
@@ -67,12 +68,14 @@ pub fn is_at(text: &[u8], at: usize, b: u8) -> bool
     text[at] == b
 }
 
-// What `${name:` at `at` is, whose colon is at `to`.
-fn behind_colon(text: &[u8], at: usize, mode: Mode, depth: usize, to: usize) -> Item
-    requires { ⌜ (at + 2 ≤ to) × (to < length (now text)) × (0 < depth) ⌝ }
-    ensures { λ r. ⌜ Shows (now (text .entry)) at depth r
-        (behindColon (modeOf mode) (part (now (text .entry)) (at + 2) to) (to + 1 - at) (drop (to + 1) (now (text .entry)))) ⌝ }
+// What `${name:` is, whose colon is at `to`.
+fn behind_colon(text: &[u8], from: Cursor, to: usize) -> Item
+    requires { ⌜ (from .at + 2 ≤ to) × (to < length (now text)) × (0 < from .depth) ⌝ }
+    ensures { λ r. ⌜ Shows (now (text .entry)) (from .at) (from .depth) r
+        (behindColon (modeOf (from .mode)) (part (now (text .entry)) (from .at + 2) to) (to + 1 - from .at) (drop (to + 1) (now (text .entry)))) ⌝ }
 {
+    let at = from.at;
+    let mode = from.mode;
     if to + 1 >= text.len() {
         return Item::Fault(numbers::REFUSED_UNENDED);
     }
@@ -99,13 +102,14 @@ fn removal_form(prefix: bool, doubled: bool) -> Form
     Form::Suffix(doubled)
 }
 
-// What a removal `${name%` or `${name#` at `at` is, whose sign is at `to`.
-fn removal_at(text: &[u8], at: usize, depth: usize, to: usize, prefix: bool) -> Item
-    requires { ⌜ (at + 2 ≤ to) × (to < length (now text)) × (0 < depth) ⌝ }
-    ensures { λ r. ⌜ Shows (now (text .entry)) at depth r
-        (removal (part (now (text .entry)) (at + 2) to) (removalForm «prefix») (getD (now (text .entry)) to 0) (to - at)
+// What a removal `${name%` or `${name#` is, whose sign is at `to`.
+fn removal_at(text: &[u8], from: Cursor, to: usize, prefix: bool) -> Item
+    requires { ⌜ (from .at + 2 ≤ to) × (to < length (now text)) × (0 < from .depth) ⌝ }
+    ensures { λ r. ⌜ Shows (now (text .entry)) (from .at) (from .depth) r
+        (removal (part (now (text .entry)) (from .at + 2) to) (removalForm «prefix») (getD (now (text .entry)) to 0) (to - from .at)
         (drop (to + 1) (now (text .entry)))) ⌝ }
 {
+    let at = from.at;
     let doubled = is_at(text, to + 1, text[to]);
     Item::Inner {
         from: at + 2,
@@ -116,12 +120,14 @@ fn removal_at(text: &[u8], at: usize, depth: usize, to: usize, prefix: bool) -> 
     }
 }
 
-// What `${name` at `at` is, whose name ends at `to`.
-fn behind_name(text: &[u8], at: usize, mode: Mode, depth: usize, to: usize) -> Item
-    requires { ⌜ (at + 2 ≤ to) × (to ≤ length (now text)) × (0 < depth) ⌝ }
-    ensures { λ r. ⌜ Shows (now (text .entry)) at depth r
-        (behindName (modeOf mode) (part (now (text .entry)) (at + 2) to) (to - at) (drop to (now (text .entry)))) ⌝ }
+// What `${name` is, whose name ends at `to`.
+fn behind_name(text: &[u8], from: Cursor, to: usize) -> Item
+    requires { ⌜ (from .at + 2 ≤ to) × (to ≤ length (now text)) × (0 < from .depth) ⌝ }
+    ensures { λ r. ⌜ Shows (now (text .entry)) (from .at) (from .depth) r
+        (behindName (modeOf (from .mode)) (part (now (text .entry)) (from .at + 2) to) (to - from .at) (drop to (now (text .entry)))) ⌝ }
 {
+    let at = from.at;
+    let mode = from.mode;
     if to >= text.len() {
         return Item::Fault(numbers::REFUSED_UNENDED);
     }
@@ -134,7 +140,7 @@ fn behind_name(text: &[u8], at: usize, mode: Mode, depth: usize, to: usize) -> I
         };
     }
     if b == b':' {
-        return behind_colon(text, at, mode, depth, to);
+        return behind_colon(text, from, to);
     }
     if text::is_in(b, b"-=?+") {
         return Item::Inner {
@@ -146,19 +152,21 @@ fn behind_name(text: &[u8], at: usize, mode: Mode, depth: usize, to: usize) -> I
         };
     }
     if b == b'%' {
-        return removal_at(text, at, depth, to, false);
+        return removal_at(text, from, to, false);
     }
     if b == b'#' {
-        return removal_at(text, at, depth, to, true);
+        return removal_at(text, from, to, true);
     }
     Item::Fault(read_mode::wrong_byte(numbers::REFUSED_SYNTAX, b))
 }
 
-// What `${#name` at `at` is, whose name ends at `to`.
-fn behind_length(text: &[u8], at: usize, depth: usize, to: usize) -> Item
-    requires { ⌜ (at + 3 ≤ to) × (to ≤ length (now text)) ⌝ }
-    ensures { λ r. ⌜ Shows (now (text .entry)) at depth r (behindLength (part (now (text .entry)) (at + 3) to) (to - at) (drop to (now (text .entry)))) ⌝ }
+// What `${#name` is, whose name ends at `to`.
+fn behind_length(text: &[u8], from: Cursor, to: usize) -> Item
+    requires { ⌜ (from .at + 3 ≤ to) × (to ≤ length (now text)) ⌝ }
+    ensures { λ r. ⌜ Shows (now (text .entry)) (from .at) (from .depth) r
+        (behindLength (part (now (text .entry)) (from .at + 3) to) (to - from .at) (drop to (now (text .entry)))) ⌝ }
 {
+    let at = from.at;
     if to >= text.len() {
         return Item::Fault(numbers::REFUSED_UNENDED);
     }
@@ -173,28 +181,31 @@ fn behind_length(text: &[u8], at: usize, depth: usize, to: usize) -> Item
     }
 }
 
-// What `${#` at `at` is.
-fn length_at(text: &[u8], at: usize, depth: usize) -> Item
-    requires { ⌜ at + 2 < length (now text) ⌝ }
-    ensures { λ r. ⌜ Shows (now (text .entry)) at depth r (counted (drop (at + 3) (now (text .entry)))) ⌝ }
+// What `${#` is.
+fn length_at(text: &[u8], from: Cursor) -> Item
+    requires { ⌜ from .at + 2 < length (now text) ⌝ }
+    ensures { λ r. ⌜ Shows (now (text .entry)) (from .at) (from .depth) r (counted (drop (from .at + 3) (now (text .entry)))) ⌝ }
 {
+    let at = from.at;
     if at + 3 >= text.len() {
         return Item::Fault(numbers::REFUSED_UNENDED);
     }
     let b = text[at + 3];
     if text::in_class(Class::NameStart, b) {
         let to = text::run_end(text, at + 3, Class::NameByte);
-        return behind_length(text, at, depth, to);
+        return behind_length(text, from, to);
     }
     Item::Fault(read_mode::wrong_byte(numbers::REFUSED_UNSERVED, b))
 }
 
-// What `${` at `at` is.
-pub fn braced_at(text: &[u8], at: usize, mode: Mode, depth: usize) -> Item
-    requires { ⌜ at + 1 < length (now text) ⌝ }
-    ensures { λ r. ⌜ Shows (now (text .entry)) at depth r (braced (modeOf mode) depth (drop (at + 2) (now (text .entry)))) ⌝ }
+// What `${` is.
+pub fn braced_at(text: &[u8], from: Cursor) -> Item
+    requires { ⌜ from .at + 1 < length (now text) ⌝ }
+    ensures { λ r. ⌜ Shows (now (text .entry)) (from .at) (from .depth) r
+        (braced (modeOf (from .mode)) (from .depth) (drop (from .at + 2) (now (text .entry)))) ⌝ }
 {
-    if depth == 0 {
+    let at = from.at;
+    if from.depth == 0 {
         return Item::Fault(numbers::REFUSED_DEPTH);
     }
     if at + 2 >= text.len() {
@@ -202,11 +213,11 @@ pub fn braced_at(text: &[u8], at: usize, mode: Mode, depth: usize) -> Item
     }
     let b = text[at + 2];
     if b == b'#' {
-        return length_at(text, at, depth);
+        return length_at(text, from);
     }
     if text::in_class(Class::NameStart, b) {
         let to = text::run_end(text, at + 2, Class::NameByte);
-        return behind_name(text, at, mode, depth, to);
+        return behind_name(text, from, to);
     }
     Item::Fault(read_mode::wrong_byte(numbers::REFUSED_UNSERVED, b))
 }

@@ -1,2 +1,3 @@
+pub mod After
 pub mod Class
 pub mod Determined

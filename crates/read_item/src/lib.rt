@@ -1,22 +1,28 @@
-// What stands at a place of a text: document 01's "Reading a line", a question for each function, none of them recursive. A place `at` is that of
-// the first byte of what stands there; `depth` says how many expansions may still open.
+// What stands at a place of a text: document 01's "Reading a line", a question for each function, none of them recursive. A text is read from the first
+// byte of what stands there.
 use read_brace::Item;
+use read_mode::Cursor;
 use read_mode::Mode;
 use read_mode::Sort;
 use text::Class;
 use text::numbers;
+ghost use mathlib.Core.Path.{_≡_};
 ghost use Prim.Native.Nat.{_+_, _≤_, _<_};
 ghost use lib.ListN.{length, drop, getD};
 ghost use Rattle.stages.specs.Syntax.{arith};
 ghost use Rattle.stages.specs.Items.{item, escaped, expansion, parenthesis, closed};
 ghost use Rattle.read_mode.specs.Modes.{modeOf, openIn};
 ghost use Rattle.read_brace.specs.Shows.{Shows};
+ghost use Rattle.read_item.specs.After.{modeAfter, isStop};
 
-// What a backslash at `at` is.
-fn escaped_at(text: &[u8], at: usize, mode: Mode, depth: usize) -> Item
-    requires { ⌜ at < length (now text) ⌝ }
-    ensures { λ r. ⌜ Shows (now (text .entry)) at depth r (escaped (modeOf mode) (drop (at + 1) (now (text .entry)))) ⌝ }
+// What a backslash is.
+fn escaped_at(text: &[u8], from: Cursor) -> Item
+    requires { ⌜ from .at < length (now text) ⌝ }
+    ensures { λ r. ⌜ Shows (now (text .entry)) (from .at) (from .depth) r
+        (escaped (modeOf (from .mode)) (drop (from .at + 1) (now (text .entry)))) ⌝ }
 {
+    let at = from.at;
+    let mode = from.mode;
     if at + 1 >= text.len() {
         return Item::Fault(numbers::REFUSED_UNENDED);
     }
@@ -38,13 +44,15 @@ fn escaped_at(text: &[u8], at: usize, mode: Mode, depth: usize) -> Item
     }
 }
 
-// What `$(` at `at` is.
-fn parenthesis_at(text: &[u8], at: usize, depth: usize) -> Item
-    requires { ⌜ at + 1 < length (now text) ⌝ }
-    ensures { λ r. ⌜ Shows (now (text .entry)) at depth r (parenthesis depth (drop (at + 2) (now (text .entry)))) ⌝ }
+// What `$(` is.
+fn parenthesis_at(text: &[u8], from: Cursor) -> Item
+    requires { ⌜ from .at + 1 < length (now text) ⌝ }
+    ensures { λ r. ⌜ Shows (now (text .entry)) (from .at) (from .depth) r
+        (parenthesis (from .depth) (drop (from .at + 2) (now (text .entry)))) ⌝ }
 {
+    let at = from.at;
     if read_brace::is_at(text, at + 2, b'(') {
-        if depth == 0 {
+        if from.depth == 0 {
             return Item::Fault(numbers::REFUSED_DEPTH);
         }
         return Item::Sum { next: at + 3 };
@@ -52,11 +60,14 @@ fn parenthesis_at(text: &[u8], at: usize, depth: usize) -> Item
     Item::Fault(numbers::REFUSED_SUBSTITUTION)
 }
 
-// What `$` at `at` is.
-fn expansion_at(text: &[u8], at: usize, mode: Mode, depth: usize) -> Item
-    requires { ⌜ at < length (now text) ⌝ }
-    ensures { λ r. ⌜ Shows (now (text .entry)) at depth r (expansion (modeOf mode) depth (drop (at + 1) (now (text .entry)))) ⌝ }
+// What `$` is.
+fn expansion_at(text: &[u8], from: Cursor) -> Item
+    requires { ⌜ from .at < length (now text) ⌝ }
+    ensures { λ r. ⌜ Shows (now (text .entry)) (from .at) (from .depth) r
+        (expansion (modeOf (from .mode)) (from .depth) (drop (from .at + 1) (now (text .entry)))) ⌝ }
 {
+    let at = from.at;
+    let mode = from.mode;
     if at + 1 >= text.len() {
         return Item::Byte {
             quoted: false,
@@ -74,10 +85,10 @@ fn expansion_at(text: &[u8], at: usize, mode: Mode, depth: usize) -> Item
         };
     }
     if b == b'(' {
-        return parenthesis_at(text, at, depth);
+        return parenthesis_at(text, from);
     }
     if b == b'{' {
-        return read_brace::braced_at(text, at, mode, depth);
+        return read_brace::braced_at(text, from);
     }
     if read_mode::is_not_served(mode, b) {
         return Item::Fault(numbers::REFUSED_UNSERVED);
@@ -89,11 +100,13 @@ fn expansion_at(text: &[u8], at: usize, mode: Mode, depth: usize) -> Item
     }
 }
 
-// What a `)` at `at` of an arithmetic text is, with so many open parentheses before it.
-fn closed_at(text: &[u8], at: usize, depth: usize, parens: usize) -> Item
-    requires { ⌜ (at < length (now text)) × (parens ≤ at) ⌝ }
-    ensures { λ r. ⌜ Shows (now (text .entry)) at depth r (closed (arith parens) (getD (now (text .entry)) at 0) (drop (at + 1) (now (text .entry)))) ⌝ }
+// What a `)` of an arithmetic text is, with so many open parentheses before it.
+fn closed_at(text: &[u8], from: Cursor, parens: usize) -> Item
+    requires { ⌜ (from .at < length (now text)) × (parens ≤ from .at) ⌝ }
+    ensures { λ r. ⌜ Shows (now (text .entry)) (from .at) (from .depth) r
+        (closed (arith parens) (getD (now (text .entry)) (from .at) 0) (drop (from .at + 1) (now (text .entry)))) ⌝ }
 {
+    let at = from.at;
     if parens > 0 {
         return Item::Paren {
             byte: text[at],
@@ -110,11 +123,14 @@ fn closed_at(text: &[u8], at: usize, depth: usize, parens: usize) -> Item
     Item::Fault(read_mode::wrong_byte(numbers::REFUSED_SYNTAX, b))
 }
 
-// What stands at a place of a text that is read in a mode, where `depth` expansions may still open.
-pub fn item_at(text: &[u8], at: usize, mode: Mode, depth: usize) -> Item
-    requires { ⌜ (at ≤ length (now text)) × (openIn mode ≤ at) ⌝ }
-    ensures { λ r. ⌜ Shows (now (text .entry)) at depth r (item (modeOf mode) depth (drop at (now (text .entry)))) ⌝ }
+// What stands where a text is read.
+pub fn item_at(text: &[u8], from: Cursor) -> Item
+    requires { ⌜ (from .at ≤ length (now text)) × (openIn (from .mode) ≤ from .at) ⌝ }
+    ensures { λ r. ⌜ Shows (now (text .entry)) (from .at) (from .depth) r
+        (item (modeOf (from .mode)) (from .depth) (drop (from .at) (now (text .entry)))) ⌝ }
 {
+    let at = from.at;
+    let mode = from.mode;
     if at >= text.len() {
         if read_mode::may_end(mode) {
             return Item::Stop(at);
@@ -129,18 +145,38 @@ pub fn item_at(text: &[u8], at: usize, mode: Mode, depth: usize) -> Item
         Sort::Operator => Item::Fault(numbers::REFUSED_OPERATOR),
         Sort::Quotes => Item::Quote(Mode::Single),
         Sort::Quotes2 => Item::Quote(Mode::Double),
-        Sort::Backslash => escaped_at(text, at, mode, depth),
-        Sort::Dollar => expansion_at(text, at, mode, depth),
+        Sort::Backslash => escaped_at(text, from),
+        Sort::Dollar => expansion_at(text, from),
         Sort::Bad => Item::Fault(numbers::REFUSED_SYNTAX),
         Sort::Opening(parens) => Item::Paren {
             byte: b,
             parens: parens + 1,
         },
-        Sort::Closing(parens) => closed_at(text, at, depth, parens),
+        Sort::Closing(parens) => closed_at(text, from, parens),
         Sort::Literal => Item::Byte {
             quoted: false,
             byte: b,
             next: at + 1,
         },
+    }
+}
+
+// The mode in which a text goes on after an item: a parenthesis changes it, nothing else does.
+pub fn mode_after(item: Item, mode: Mode) -> Mode
+    ensures { λ r. ⌜ r ≡ modeAfter item mode ⌝ }
+{
+    match item {
+        Item::Paren { byte: _, parens } => Mode::Arith(parens),
+        _ => mode,
+    }
+}
+
+// Does the text end with the item?
+pub fn is_stop(item: Item) -> bool
+    ensures { λ r. ⌜ r ≡ isStop item ⌝ }
+{
+    match item {
+        Item::Stop(_) => true,
+        _ => false,
     }
 }

@@ -1,6 +1,7 @@
 // Reading: the end of a text, the words of a line. One reader finds a text's faults, skips an operand that is not used, and says where a text ends;
 // it builds nothing, and looks at each byte once for each expansion that it stands in.
 use read_brace::Item;
+use read_mode::Cursor;
 use read_mode::Mode;
 use text::Class;
 use text::numbers;
@@ -52,11 +53,13 @@ fn behind(got: Reading, mode: Mode) -> Step
 }
 
 // Reads what stands at a place.
-fn read_item(text: &[u8], at: usize, mode: Mode, depth: usize) -> Step
-    requires { ⌜ (at ≤ length (now text)) × (openIn mode ≤ at) ⌝ }
-    ensures { λ r. ⌜ ReadTurn (now (text .entry)) at depth (parts (modeOf mode) depth (drop at (now (text .entry)))) r ⌝ }
+fn read_item(text: &[u8], from: Cursor) -> Step
+    requires { ⌜ (from .at ≤ length (now text)) × (openIn (from .mode) ≤ from .at) ⌝ }
+    ensures { λ r. ⌜ ReadTurn (now (text .entry)) (from .at) (from .depth)
+        (parts (modeOf (from .mode)) (from .depth) (drop (from .at) (now (text .entry)))) r ⌝ }
 {
-    let item = read_item::item_at(text, at, mode, depth);
+    let mode = from.mode;
+    let item = read_item::item_at(text, from);
     match item {
         Item::Fault(number) => Step::Fault(number),
         Item::Stop(next) => Step::End(next),
@@ -69,7 +72,7 @@ fn read_item(text: &[u8], at: usize, mode: Mode, depth: usize) -> Step
             mode: mode,
         },
         Item::Paren { byte: _, parens } => Step::Next {
-            next: at + 1,
+            next: from.at + 1,
             mode: Mode::Arith(parens),
         },
         Item::Value {
@@ -88,27 +91,64 @@ fn read_item(text: &[u8], at: usize, mode: Mode, depth: usize) -> Step
             next: next,
             mode: mode,
         },
-        Item::Quote(inner) => behind(read_text(text, at + 1, inner, depth), mode),
+        Item::Quote(inner) => behind(
+            read_text(
+                text,
+                Cursor {
+                    at: from.at + 1,
+                    mode: inner,
+                    depth: from.depth,
+                },
+            ),
+            mode,
+        ),
         Item::Inner {
             from: _,
             to: _,
             form: _,
             mode: inner,
             next,
-        } => behind(read_text(text, next, inner, depth - 1), mode),
-        Item::Sum { next } => behind(read_text(text, next, Mode::Arith(0), depth - 1), mode),
+        } => behind(
+            read_text(
+                text,
+                Cursor {
+                    at: next,
+                    mode: inner,
+                    depth: from.depth - 1,
+                },
+            ),
+            mode,
+        ),
+        Item::Sum { next } => behind(
+            read_text(
+                text,
+                Cursor {
+                    at: next,
+                    mode: Mode::Arith(0),
+                    depth: from.depth - 1,
+                },
+            ),
+            mode,
+        ),
     }
 }
 
-// Reads a text from `at` to its end, in a mode, where `depth` expansions may still open.
-pub fn read_text(text: &[u8], at: usize, mode: Mode, depth: usize) -> Reading
-    requires { ⌜ (at ≤ length (now text)) × (openIn mode ≤ at) ⌝ }
-    ensures { λ r. ⌜ ReadSays (now (text .entry)) at (parts (modeOf mode) depth (drop at (now (text .entry)))) r ⌝ }
+// Reads a text to its end.
+pub fn read_text(text: &[u8], from: Cursor) -> Reading
+    requires { ⌜ (from .at ≤ length (now text)) × (openIn (from .mode) ≤ from .at) ⌝ }
+    ensures { λ r. ⌜ ReadSays (now (text .entry)) (from .at) (parts (modeOf (from .mode)) (from .depth) (drop (from .at) (now (text .entry)))) r ⌝ }
 {
-    let mut i = at;
-    let mut inside = mode;
+    let mut i = from.at;
+    let mut inside = from.mode;
     loop {
-        let got = read_item(text, i, inside, depth);
+        let got = read_item(
+            text,
+            Cursor {
+                at: i,
+                mode: inside,
+                depth: from.depth,
+            },
+        );
         match got {
             Step::Fault(number) => {
                 return Reading::Fault(number);
@@ -148,7 +188,14 @@ fn read_word(line: &[u8], place: usize) -> Reading
     if b == b'#' {
         return Reading::Fault(numbers::REFUSED_OPERATOR);
     }
-    read_text(line, place, Mode::Word, numbers::DEPTH_LIMIT)
+    read_text(
+        line,
+        Cursor {
+            at: place,
+            mode: Mode::Word,
+            depth: numbers::DEPTH_LIMIT,
+        },
+    )
 }
 
 // Reads the whole line: the first fault's number and the place of its word, if there is a fault.

@@ -16,7 +16,7 @@ add-if1 c = search needs
 returns : tie.Need-returns
 returns c =
     let a = c .before .before .args in
-    colon-end (modeOf (a .mode)) (a .text .now) (part (a .text .now) (a .at + 2) (a .to)) (a .to + 1 - a .at) (a .to + 1) (c .if1 .taken)
+    colon-end (modeOf (a .from .mode)) (a .text .now) (part (a .text .now) (a .from .at + 2) (a .to)) (a .to + 1 - a .from .at) (a .to + 1) (c .if1 .taken)
 
 add-b : tie.Need-add-b
 add-b c = search needs
@@ -45,16 +45,16 @@ add-t19 c = search needs
 returns-2 : tie.Need-returns-2
 returns-2 c =
     let a = c .before .before .before .before .before .before .before .before .args in
-    shows-inner (a .text .now) (a .at) (a .depth) (a .to + 2) (a .to + 1 - a .at)
+    shows-inner (a .text .now) (a .from .at) (a .from .depth) (a .to + 2) (a .to + 1 - a .from .at)
     (omega (arith, c .before .before .before .before .before .before .before .before .pre .0))
-    (omega (arith, c .before .before .before .before .before .before .if1 .left)) (a .at + 2) (a .to)
+    (omega (arith, c .before .before .before .before .before .before .if1 .left)) (a .from .at + 2) (a .to)
     (c .before .before .before .before .before .before .before .before .pre .0)
     (omega (arith, c .before .before .before .before .before .before .before .before .pre .1)) refl (c .before .sign-form .result)
     (c .operand-mode .result) (c .before .before .before .before .before .before .before .before .pre .2) (c .operand-mode .ensures .closed)
-    (colon-sign (modeOf (a .mode)) (a .text .now) (part (a .text .now) (a .at + 2) (a .to)) (a .to + 1 - a .at) (a .to + 1)
+    (colon-sign (modeOf (a .from .mode)) (a .text .now) (part (a .text .now) (a .from .at + 2) (a .to)) (a .to + 1 - a .from .at) (a .to + 1)
     (omega (arith, c .before .before .before .before .before .before .if1 .left))
-    (sym (c .before .before .before .is-in .ensures) ∙ c .before .before .if2 .taken) ∙ inner-same (part (a .text .now) (a .at + 2) (a .to))
-    (a .to + 1 - a .at) (sym (c .before .sign-form .ensures)) (sym (c .operand-mode .ensures .is)))
+    (sym (c .before .before .before .is-in .ensures) ∙ c .before .before .if2 .taken) ∙ inner-same (part (a .text .now) (a .from .at + 2) (a .to))
+    (a .to + 1 - a .from .at) (sym (c .before .sign-form .ensures)) (sym (c .operand-mode .ensures .is)))
 
 wrong-byte-requires : tie.Need-wrong-byte-requires
 wrong-byte-requires c κs = search needs
@@ -62,7 +62,7 @@ wrong-byte-requires c κs = search needs
 returns-3 : tie.Need-returns-3
 returns-3 c =
     let a = c .before .before .before .before .before .before .before .args in
-    colon-wrong (modeOf (a .mode)) (a .text .now) (part (a .text .now) (a .at + 2) (a .to)) (a .to + 1 - a .at) (a .to + 1)
+    colon-wrong (modeOf (a .from .mode)) (a .text .now) (part (a .text .now) (a .from .at + 2) (a .to)) (a .to + 1 - a .from .at) (a .to + 1)
     (omega (arith, c .before .before .before .before .before .if1 .left)) (sym (c .before .before .is-in .ensures) ∙ c .before .if2 .left)
     (c .wrong-byte .ensures)
 

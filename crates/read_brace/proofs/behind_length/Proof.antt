@@ -12,7 +12,7 @@ use Rattle.read_brace.proofs.behind_length.Tie as tie
 returns : tie.Need-returns
 returns c =
     let a = c .before .before .args in
-    length-end (a .text .now) (part (a .text .now) (a .at + 3) (a .to)) (a .to - a .at) (a .to) (c .if1 .taken)
+    length-end (a .text .now) (part (a .text .now) (a .from .at + 3) (a .to)) (a .to - a .from .at) (a .to) (c .if1 .taken)
 
 shared-slice-read-b : tie.Need-shared-slice-read-b
 shared-slice-read-b c = search needs
@@ -23,7 +23,7 @@ wrong-byte-requires c κs = search needs
 returns-2 : tie.Need-returns-2
 returns-2 c =
     let a = c .before .before .before .before .before .args in
-    length-wrong (a .text .now) (part (a .text .now) (a .at + 3) (a .to)) (a .to - a .at) (a .to)
+    length-wrong (a .text .now) (part (a .text .now) (a .from .at + 3) (a .to)) (a .to - a .from .at) (a .to)
     (omega (arith, c .before .before .before .if1 .left)) (c .before .if2 .taken) (c .wrong-byte .ensures)
 
 add-t6 : tie.Need-add-t6
@@ -35,10 +35,10 @@ add-t11 c = search needs
 returns-3 : tie.Need-returns-3
 returns-3 c =
     let a = c .before .before .before .before .args in
-    shows-count (a .text .now) (a .at) (a .depth) (a .to + 1) (a .to - a .at) (omega (arith, c .before .before .before .before .pre .0))
-    (omega (arith, c .before .before .if1 .left)) (a .at + 3) (a .to) (c .before .before .before .before .pre .0)
+    shows-count (a .text .now) (a .from .at) (a .from .depth) (a .to + 1) (a .to - a .from .at) (omega (arith, c .before .before .before .before .pre .0))
+    (omega (arith, c .before .before .if1 .left)) (a .from .at + 3) (a .to) (c .before .before .before .before .pre .0)
     (c .before .before .before .before .pre .1) refl
-    (length-close (a .text .now) (part (a .text .now) (a .at + 3) (a .to)) (a .to - a .at) (a .to) (omega (arith, c .before .before .if1 .left)) (c .if2 .left))
+    (length-close (a .text .now) (part (a .text .now) (a .from .at + 3) (a .to)) (a .to - a .from .at) (a .to) (omega (arith, c .before .before .if1 .left)) (c .if2 .left))
 
 pub behind-length-spec : {M : Type 1} → statement M
 behind-length-spec =

@@ -10,16 +10,16 @@ use Rattle.read_brace.proofs.braced_at.Tie as tie
 
 returns : tie.Need-returns
 returns c =
-    let a = c .before .before .args in
-    brace-deep (modeOf (a .mode)) (a .depth) _ (c .if1 .taken)
+    let a = c .before .before .before .args in
+    brace-deep (modeOf (a .from .mode)) (a .from .depth) _ (c .if1 .taken)
 
 add-if2 : tie.Need-add-if2
 add-if2 c = search needs
 
 returns-2 : tie.Need-returns-2
 returns-2 c =
-    let a = c .before .before .before .args in
-    brace-end (modeOf (a .mode)) (a .depth) (a .text .now) (a .at) (c .before .if1 .left) (c .if2 .taken)
+    let a = c .before .before .before .before .args in
+    brace-end (modeOf (a .from .mode)) (a .from .depth) (a .text .now) (a .from .at) (c .before .if1 .left) (c .if2 .taken)
 
 add-b : tie.Need-add-b
 add-b c = search needs
@@ -32,9 +32,9 @@ length-at-requires c κs = search needs
 
 returns-3 : tie.Need-returns-3
 returns-3 c =
-    let a = c .before .before .before .before .before .before .args in
-    same-item (a .text .now) (a .at) (a .depth) (c .length-at .result)
-    (brace-length (modeOf (a .mode)) (a .depth) (a .text .now) (a .at) (c .before .before .before .before .if1 .left)
+    let a = c .before .before .before .before .before .before .before .args in
+    same-item (a .text .now) (a .from .at) (a .from .depth) (c .length-at .result)
+    (brace-length (modeOf (a .from .mode)) (a .from .depth) (a .text .now) (a .from .at) (c .before .before .before .before .if1 .left)
     (omega (arith, c .before .before .before .if2 .left)) (c .before .if3 .taken)) (c .length-at .ensures)
 
 in-class-requires : tie.Need-in-class-requires
@@ -51,9 +51,9 @@ behind-name-requires c κs = search needs
 
 returns-4 : tie.Need-returns-4
 returns-4 c =
-    let a = c .before .before .before .before .before .before .before .before .before .args in
-    same-item (a .text .now) (a .at) (a .depth) (c .behind-name .result)
-    (brace-named (modeOf (a .mode)) (a .depth) (a .text .now) (a .at) (c .before .before .before .before .before .before .before .if1 .left)
+    let a = c .before .before .before .before .before .before .before .before .before .before .args in
+    same-item (a .text .now) (a .from .at) (a .from .depth) (c .behind-name .result)
+    (brace-named (modeOf (a .from .mode)) (a .from .depth) (a .text .now) (a .from .at) (c .before .before .before .before .before .before .before .if1 .left)
     (omega (arith, c .before .before .before .before .before .before .if2 .left)) (c .before .before .before .before .if3 .left)
     (sym (c .before .before .before .in-class .ensures) ∙ c .before .before .if4 .taken) _ (c .before .run-end .ensures)) (c .behind-name .ensures)
 
@@ -62,8 +62,8 @@ wrong-byte-requires c κs = search needs
 
 returns-5 : tie.Need-returns-5
 returns-5 c =
-    let a = c .before .before .before .before .before .before .before .before .args in
-    brace-wrong (modeOf (a .mode)) (a .depth) (a .text .now) (a .at) (c .before .before .before .before .before .before .if1 .left)
+    let a = c .before .before .before .before .before .before .before .before .before .args in
+    brace-wrong (modeOf (a .from .mode)) (a .from .depth) (a .text .now) (a .from .at) (c .before .before .before .before .before .before .if1 .left)
     (omega (arith, c .before .before .before .before .before .if2 .left)) (c .before .before .before .if3 .left)
     (sym (c .before .before .in-class .ensures) ∙ c .before .if4 .left) (c .wrong-byte .ensures)
 

@@ -13,7 +13,7 @@ add-if1 c = search needs
 returns : tie.Need-returns
 returns c =
     let a = c .before .before .args in
-    counted-end (a .text .now) (a .at) (c .if1 .taken)
+    counted-end (a .text .now) (a .from .at) (c .if1 .taken)
 
 add-b : tie.Need-add-b
 add-b c = search needs
@@ -36,8 +36,8 @@ behind-length-requires c κs = search needs
 returns-2 : tie.Need-returns-2
 returns-2 c =
     let a = c .before .before .before .before .before .before .before .args in
-    same-item (a .text .now) (a .at) (a .depth) (c .behind-length .result)
-    (counted-name (a .text .now) (a .at) (omega (arith, c .before .before .before .before .before .if1 .left))
+    same-item (a .text .now) (a .from .at) (a .from .depth) (c .behind-length .result)
+    (counted-name (a .text .now) (a .from .at) (omega (arith, c .before .before .before .before .before .if1 .left))
     (sym (c .before .before .before .in-class .ensures) ∙ c .before .before .if2 .taken) _ (c .before .run-end .ensures)) (c .behind-length .ensures)
 
 wrong-byte-requires : tie.Need-wrong-byte-requires
@@ -46,7 +46,7 @@ wrong-byte-requires c κs = search needs
 returns-3 : tie.Need-returns-3
 returns-3 c =
     let a = c .before .before .before .before .before .before .args in
-    counted-wrong (a .text .now) (a .at) (omega (arith, c .before .before .before .before .if1 .left))
+    counted-wrong (a .text .now) (a .from .at) (omega (arith, c .before .before .before .before .if1 .left))
     (sym (c .before .before .in-class .ensures) ∙ c .before .if2 .left) (c .wrong-byte .ensures)
 
 pub length-at-spec : {M : Type 1} → statement M

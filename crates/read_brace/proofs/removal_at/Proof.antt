@@ -39,10 +39,10 @@ returns c =
     let a = start .args in
     let e = sym (c .before .before .is-at .ensures) ∙ c .if1 .taken in
     let w = at-within (getD (a .text .now) (a .to) 0) (a .to + 1) (a .text .now) e in
-    shows-inner (a .text .now) (a .at) (a .depth) (a .to + 2) (suc (a .to - a .at)) (omega (arith, start .pre .0)) (omega (arith, start .pre .1))
-    (a .at + 2) (a .to) (start .pre .0) (omega (arith, start .pre .1)) refl (c .before .removal-form .result) mode.Bare (start .pre .2) refl
-    (removal-doubled (part (a .text .now) (a .at + 2) (a .to)) (removalForm (a .prefix)) (getD (a .text .now) (a .to) 0) (a .to - a .at)
-    (drop (a .to + 1) (a .text .now)) e ∙ inner-same (part (a .text .now) (a .at + 2) (a .to)) (suc (a .to - a .at))
+    shows-inner (a .text .now) (a .from .at) (a .from .depth) (a .to + 2) (suc (a .to - a .from .at)) (omega (arith, start .pre .0)) (omega (arith, start .pre .1))
+    (a .from .at + 2) (a .to) (start .pre .0) (omega (arith, start .pre .1)) refl (c .before .removal-form .result) mode.Bare (start .pre .2) refl
+    (removal-doubled (part (a .text .now) (a .from .at + 2) (a .to)) (removalForm (a .prefix)) (getD (a .text .now) (a .to) 0) (a .to - a .from .at)
+    (drop (a .to + 1) (a .text .now)) e ∙ inner-same (part (a .text .now) (a .from .at + 2) (a .to)) (suc (a .to - a .from .at))
     (sym (c .before .removal-form .ensures ∙ ap (removalForm (a .prefix)) (c .if1 .taken))) refl)
 
 returns-2 : tie.Need-returns-2
@@ -50,10 +50,10 @@ returns-2 c =
     let start = c .before .before .before .before .before in
     let a = start .args in
     let e = sym (c .before .before .is-at .ensures) ∙ c .if1 .left in
-    shows-inner (a .text .now) (a .at) (a .depth) (a .to + 1) (a .to - a .at) (omega (arith, start .pre .0)) (omega (arith, start .pre .1))
-    (a .at + 2) (a .to) (start .pre .0) (omega (arith, start .pre .1)) refl (c .before .removal-form .result) mode.Bare (start .pre .2) refl
-    (removal-once (part (a .text .now) (a .at + 2) (a .to)) (removalForm (a .prefix)) (getD (a .text .now) (a .to) 0) (a .to - a .at)
-    (drop (a .to + 1) (a .text .now)) e ∙ inner-same (part (a .text .now) (a .at + 2) (a .to)) (a .to - a .at)
+    shows-inner (a .text .now) (a .from .at) (a .from .depth) (a .to + 1) (a .to - a .from .at) (omega (arith, start .pre .0)) (omega (arith, start .pre .1))
+    (a .from .at + 2) (a .to) (start .pre .0) (omega (arith, start .pre .1)) refl (c .before .removal-form .result) mode.Bare (start .pre .2) refl
+    (removal-once (part (a .text .now) (a .from .at + 2) (a .to)) (removalForm (a .prefix)) (getD (a .text .now) (a .to) 0) (a .to - a .from .at)
+    (drop (a .to + 1) (a .text .now)) e ∙ inner-same (part (a .text .now) (a .from .at + 2) (a .to)) (a .to - a .from .at)
     (sym (c .before .removal-form .ensures ∙ ap (removalForm (a .prefix)) (c .if1 .left))) refl)
 
 pub removal-at-spec : {M : Type 1} → statement M

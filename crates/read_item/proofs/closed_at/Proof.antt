@@ -17,7 +17,7 @@ sub-t9 c = search needs
 returns : tie.Need-returns
 returns c =
     let a = c .before .before .before .args in (
-      closed-paren (a .parens) (getD (a .text .now) (a .at) 0) (a .text .now) (a .at) (omega (arith, c .before .if1 .taken)),
+      closed-paren (a .parens) (getD (a .text .now) (a .from .at) 0) (a .text .now) (a .from .at) (omega (arith, c .before .if1 .taken)),
       c .before .before .before .pre .0,
       omega (arith, c .before .before .before .pre .1),
     )
@@ -28,7 +28,7 @@ add-if2 c = search needs
 returns-2 : tie.Need-returns-2
 returns-2 c =
     let a = c .before .before .before .args in
-    closed-end (a .parens) (getD (a .text .now) (a .at) 0) (a .text .now) (a .at) (omega (arith, c .before .if1 .left)) (c .if2 .taken)
+    closed-end (a .parens) (getD (a .text .now) (a .from .at) 0) (a .text .now) (a .from .at) (omega (arith, c .before .if1 .left)) (c .if2 .taken)
 
 add-b : tie.Need-add-b
 add-b c = search needs
@@ -42,8 +42,8 @@ add-t14 c = search needs
 returns-3 : tie.Need-returns-3
 returns-3 c =
     let a = c .before .before .before .before .before .args in
-    shows-stop (a .text .now) (a .at) (a .depth) (a .at + 2) 2 (omega arith) (omega (arith, c .before .before .if2 .left))
-    (closed-stop (a .parens) (getD (a .text .now) (a .at) 0) (a .text .now) (a .at) (omega (arith, c .before .before .before .if1 .left))
+    shows-stop (a .text .now) (a .from .at) (a .from .depth) (a .from .at + 2) 2 (omega arith) (omega (arith, c .before .before .if2 .left))
+    (closed-stop (a .parens) (getD (a .text .now) (a .from .at) 0) (a .text .now) (a .from .at) (omega (arith, c .before .before .before .if1 .left))
     (omega (arith, c .before .before .if2 .left)) (c .if3 .taken))
 
 wrong-byte-requires : tie.Need-wrong-byte-requires
@@ -52,7 +52,7 @@ wrong-byte-requires c κs = search needs
 returns-4 : tie.Need-returns-4
 returns-4 c =
     let a = c .before .before .before .before .before .before .args in
-    closed-wrong (a .parens) (getD (a .text .now) (a .at) 0) (a .text .now) (a .at) (omega (arith, c .before .before .before .before .if1 .left))
+    closed-wrong (a .parens) (getD (a .text .now) (a .from .at) 0) (a .text .now) (a .from .at) (omega (arith, c .before .before .before .before .if1 .left))
     (omega (arith, c .before .before .before .if2 .left)) (c .before .if3 .left) (c .wrong-byte .ensures)
 
 pub closed-at-spec : {M : Type 1} → statement M

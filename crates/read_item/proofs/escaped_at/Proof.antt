@@ -14,7 +14,7 @@ add-if1 c = search needs
 returns : tie.Need-returns
 returns c =
     let a = c .before .before .args in
-    escape-end (modeOf (a .mode)) (a .text .now) (a .at) (c .if1 .taken)
+    escape-end (modeOf (a .from .mode)) (a .text .now) (a .from .at) (c .if1 .taken)
 
 add-b : tie.Need-add-b
 add-b c = search needs
@@ -25,7 +25,7 @@ shared-slice-read-b c = search needs
 returns-2 : tie.Need-returns-2
 returns-2 c =
     let a = c .before .before .before .before .args in
-    escape-line (modeOf (a .mode)) (a .text .now) (a .at) (omega (arith, c .before .before .if1 .left)) (c .if2 .taken)
+    escape-line (modeOf (a .from .mode)) (a .text .now) (a .from .at) (omega (arith, c .before .before .if1 .left)) (c .if2 .taken)
 
 is-quotable-requires : tie.Need-is-quotable-requires
 is-quotable-requires c κs = search needs
@@ -36,8 +36,8 @@ add-t12 c = search needs
 returns-3 : tie.Need-returns-3
 returns-3 c =
     let a = c .before .before .before .before .before .before .args in
-    shows-byte (a .text .now) (a .at) (a .depth) _ 1 (omega arith) (omega (arith, c .before .before .before .before .if1 .left)) _ _
-    (escape-byte (modeOf (a .mode)) (a .text .now) (a .at) (omega (arith, c .before .before .before .before .if1 .left))
+    shows-byte (a .text .now) (a .from .at) (a .from .depth) _ 1 (omega arith) (omega (arith, c .before .before .before .before .if1 .left)) _ _
+    (escape-byte (modeOf (a .from .mode)) (a .text .now) (a .from .at) (omega (arith, c .before .before .before .before .if1 .left))
     (c .before .before .if2 .left) (sym (c .before .is-quotable .ensures) ∙ c .if3 .taken))
 
 add-t7 : tie.Need-add-t7
@@ -46,8 +46,8 @@ add-t7 c = search needs
 returns-4 : tie.Need-returns-4
 returns-4 c =
     let a = c .before .before .before .before .before .before .args in
-    shows-byte (a .text .now) (a .at) (a .depth) _ 0 (omega arith) (omega (arith, c .before .before .before .before .if1 .left)) _ _
-    (escape-plain (modeOf (a .mode)) (a .text .now) (a .at) (omega (arith, c .before .before .before .before .if1 .left))
+    shows-byte (a .text .now) (a .from .at) (a .from .depth) _ 0 (omega arith) (omega (arith, c .before .before .before .before .if1 .left)) _ _
+    (escape-plain (modeOf (a .from .mode)) (a .text .now) (a .from .at) (omega (arith, c .before .before .before .before .if1 .left))
     (c .before .before .if2 .left) (sym (c .before .is-quotable .ensures) ∙ c .if3 .left))
 
 pub escaped-at-spec : {M : Type 1} → statement M

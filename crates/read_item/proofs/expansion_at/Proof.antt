@@ -17,8 +17,8 @@ add-t10 c = search needs
 returns : tie.Need-returns
 returns c =
     let a = c .before .before .args in
-    shows-byte (a .text .now) (a .at) (a .depth) _ 0 (omega arith) (omega (arith, c .before .before .pre)) _ _
-    (dollar-end (modeOf (a .mode)) (a .depth) (a .text .now) (a .at) (c .if1 .taken))
+    shows-byte (a .text .now) (a .from .at) (a .from .depth) _ 0 (omega arith) (omega (arith, c .before .before .pre)) _ _
+    (dollar-end (modeOf (a .from .mode)) (a .from .depth) (a .text .now) (a .from .at) (c .if1 .taken))
 
 add-b : tie.Need-add-b
 add-b c = search needs
@@ -42,9 +42,9 @@ returns-2 : tie.Need-returns-2
 returns-2 c =
     let a = c .before .before .before .before .before .before .args in
     let r = c .run-end .ensures in
-    shows-value (a .text .now) (a .at) (a .depth) _ _ (omega (arith, r .onward)) (r .within) _ _ (r .onward) (r .within)
-    (plain-name (a .at) _ (r .onward))
-    (dollar-name (modeOf (a .mode)) (a .depth) (a .text .now) (a .at) (omega (arith, c .before .before .before .before .if1 .left))
+    shows-value (a .text .now) (a .from .at) (a .from .depth) _ _ (omega (arith, r .onward)) (r .within) _ _ (r .onward) (r .within)
+    (plain-name (a .from .at) _ (r .onward))
+    (dollar-name (modeOf (a .from .mode)) (a .from .depth) (a .text .now) (a .from .at) (omega (arith, c .before .before .before .before .if1 .left))
     (sym (c .before .before .in-class .ensures) ∙ c .before .if2 .taken) _ r)
 
 parenthesis-at-requires : tie.Need-parenthesis-at-requires
@@ -53,8 +53,8 @@ parenthesis-at-requires c κs = search needs
 returns-3 : tie.Need-returns-3
 returns-3 c =
     let a = c .before .before .before .before .before .before .before .args in
-    same-item (a .text .now) (a .at) (a .depth) (c .parenthesis-at .result)
-    (dollar-paren (modeOf (a .mode)) (a .depth) (a .text .now) (a .at) (omega (arith, c .before .before .before .before .before .if1 .left))
+    same-item (a .text .now) (a .from .at) (a .from .depth) (c .parenthesis-at .result)
+    (dollar-paren (modeOf (a .from .mode)) (a .from .depth) (a .text .now) (a .from .at) (omega (arith, c .before .before .before .before .before .if1 .left))
     (sym (c .before .before .before .in-class .ensures) ∙ c .before .before .if2 .left) (c .before .if3 .taken)) (c .parenthesis-at .ensures)
 
 braced-at-requires : tie.Need-braced-at-requires
@@ -63,8 +63,8 @@ braced-at-requires c κs = search needs
 returns-4 : tie.Need-returns-4
 returns-4 c =
     let a = c .before .before .before .before .before .before .before .before .args in
-    same-item (a .text .now) (a .at) (a .depth) (c .braced-at .result)
-    (dollar-brace (modeOf (a .mode)) (a .depth) (a .text .now) (a .at) (omega (arith, c .before .before .before .before .before .before .if1 .left))
+    same-item (a .text .now) (a .from .at) (a .from .depth) (c .braced-at .result)
+    (dollar-brace (modeOf (a .from .mode)) (a .from .depth) (a .text .now) (a .from .at) (omega (arith, c .before .before .before .before .before .before .if1 .left))
     (sym (c .before .before .before .before .in-class .ensures) ∙ c .before .before .before .if2 .left) (c .before .before .if3 .left)
     (c .before .if4 .taken)) (c .braced-at .ensures)
 
@@ -74,7 +74,7 @@ is-not-served-requires c κs = search needs
 returns-5 : tie.Need-returns-5
 returns-5 c =
     let a = c .before .before .before .before .before .before .before .before .before .args in
-    dollar-other (modeOf (a .mode)) (a .depth) (a .text .now) (a .at)
+    dollar-other (modeOf (a .from .mode)) (a .from .depth) (a .text .now) (a .from .at)
     (omega (arith, c .before .before .before .before .before .before .before .if1 .left))
     (sym (c .before .before .before .before .before .in-class .ensures) ∙ c .before .before .before .before .if2 .left)
     (c .before .before .before .if3 .left) (c .before .before .if4 .left) (sym (c .before .is-not-served .ensures) ∙ c .if5 .taken)
@@ -85,9 +85,9 @@ add-t8 c = search needs
 returns-6 : tie.Need-returns-6
 returns-6 c =
     let a = c .before .before .before .before .before .before .before .before .before .args in
-    shows-byte (a .text .now) (a .at) (a .depth) _ 0 (omega arith)
+    shows-byte (a .text .now) (a .from .at) (a .from .depth) _ 0 (omega arith)
     (omega (arith, c .before .before .before .before .before .before .before .before .before .pre)) _ _
-    (dollar-plain (modeOf (a .mode)) (a .depth) (a .text .now) (a .at)
+    (dollar-plain (modeOf (a .from .mode)) (a .from .depth) (a .text .now) (a .from .at)
     (omega (arith, c .before .before .before .before .before .before .before .if1 .left))
     (sym (c .before .before .before .before .before .in-class .ensures) ∙ c .before .before .before .before .if2 .left)
     (c .before .before .before .if3 .left) (c .before .before .if4 .left) (sym (c .before .is-not-served .ensures) ∙ c .if5 .left))

@@ -30,14 +30,14 @@ may-end-requires c κs = search needs
 returns : tie.Need-returns
 returns c =
     let a = c .before .before .before .before .args in
-    shows-stop (a .text .now) (a .at) (a .depth) _ 0 (omega arith) (c .before .before .before .before .pre .0)
-    (item-end (modeOf (a .mode)) (a .depth) (a .text .now) (a .at) (c .before .before .if1 .taken) ∙ c .before .may-end .ensures ∙ ap endsLine
+    shows-stop (a .text .now) (a .from .at) (a .from .depth) _ 0 (omega arith) (c .before .before .before .before .pre .0)
+    (item-end (modeOf (a .from .mode)) (a .from .depth) (a .text .now) (a .from .at) (c .before .before .if1 .taken) ∙ c .before .may-end .ensures ∙ ap endsLine
     (c .if2 .taken))
 
 returns-2 : tie.Need-returns-2
 returns-2 c =
     let a = c .before .before .before .before .args in
-    item-end (modeOf (a .mode)) (a .depth) (a .text .now) (a .at) (c .before .before .if1 .taken) ∙ c .before .may-end .ensures ∙ ap endsLine (c .if2 .left)
+    item-end (modeOf (a .from .mode)) (a .from .depth) (a .text .now) (a .from .at) (c .before .before .if1 .taken) ∙ c .before .may-end .ensures ∙ ap endsLine (c .if2 .left)
 
 shared-slice-read-b : tie.Need-shared-slice-read-b
 shared-slice-read-b c = search needs
@@ -54,7 +54,7 @@ enum-known-sort c = search needs
 add-t16 : tie.Need-add-t16
 add-t16 c =
     let a = c .before .before .before .before .before .before .before .args in
-    let h = item-closes (modeOf (a .mode)) (a .depth) (a .text .now) (a .at) (omega (arith, c .before .before .before .before .before .if1 .left))
+    let h = item-closes (modeOf (a .from .mode)) (a .from .depth) (a .text .now) (a .from .at) (omega (arith, c .before .before .before .before .before .if1 .left))
     (c .before .before .before .sort-at .ensures) (c .before .sort .given .1) in
     omega (arith, h .1, c .before .before .before .before .before .if1 .left)
 
@@ -88,8 +88,8 @@ enum-known-sort-2 c = search needs
 add-t19 : tie.Need-add-t19
 add-t19 c =
     let a = c .before .before .before .before .before .before .before .args in
-    let h = open-is (a .mode) _
-    (opening-mode (modeOf (a .mode)) (a .depth) (a .text .now) (a .at) (omega (arith, c .before .before .before .before .before .if1 .left))
+    let h = open-is (a .from .mode) _
+    (opening-mode (modeOf (a .from .mode)) (a .from .depth) (a .text .now) (a .from .at) (omega (arith, c .before .before .before .before .before .if1 .left))
     (c .before .before .before .sort-at .ensures) (c .before .sort2 .given .1)) in
     omega (arith, c .before .before .before .before .before .before .before .pre .1, c .before .before .before .before .before .if1 .left)
 
@@ -99,8 +99,8 @@ enum-known-sort-3 c = search needs
 closed-at-requires : tie.Need-closed-at-requires
 closed-at-requires c κs =
     let a = c .before .before .before .before .before .before .before .args in
-    let h = open-is (a .mode) _
-    (closing-mode (modeOf (a .mode)) (a .depth) (a .text .now) (a .at) (omega (arith, c .before .before .before .before .before .if1 .left))
+    let h = open-is (a .from .mode) _
+    (closing-mode (modeOf (a .from .mode)) (a .from .depth) (a .text .now) (a .from .at) (omega (arith, c .before .before .before .before .before .if1 .left))
     (c .before .before .before .sort-at .ensures) (c .before .sort3 .given .1)) in
     omega (arith, c .before .before .before .before .before .before .before .pre .1, c .before .before .before .before .before .if1 .left)
 
@@ -113,26 +113,26 @@ add-t20 c = search needs
 returns-3 : tie.Need-returns-3
 returns-3 c =
     let a = c .before .before .before .before .before .before .args in
-    item-backquote (modeOf (a .mode)) (a .depth) (a .text .now) (a .at) (omega (arith, c .before .before .before .before .if1 .left))
+    item-backquote (modeOf (a .from .mode)) (a .from .depth) (a .text .now) (a .from .at) (omega (arith, c .before .before .before .before .if1 .left))
     (c .before .before .sort-at .ensures) (c .enum-told .given .1)
 
 returns-4 : tie.Need-returns-4
 returns-4 c =
     let a = c .before .before .before .before .before .before .before .args in
-    let h = item-closes (modeOf (a .mode)) (a .depth) (a .text .now) (a .at) (omega (arith, c .before .before .before .before .before .if1 .left))
+    let h = item-closes (modeOf (a .from .mode)) (a .from .depth) (a .text .now) (a .from .at) (omega (arith, c .before .before .before .before .before .if1 .left))
     (c .before .before .before .sort-at .ensures) (c .before .sort .given .1) in
-    shows-stop (a .text .now) (a .at) (a .depth) _ _ refl (omega (arith, h .1, c .before .before .before .before .before .if1 .left)) (h .0)
+    shows-stop (a .text .now) (a .from .at) (a .from .depth) _ _ refl (omega (arith, h .1, c .before .before .before .before .before .if1 .left)) (h .0)
 
 returns-5 : tie.Need-returns-5
 returns-5 c =
     let a = c .before .before .before .before .before .before .args in
-    item-operator (modeOf (a .mode)) (a .depth) (a .text .now) (a .at) (omega (arith, c .before .before .before .before .if1 .left))
+    item-operator (modeOf (a .from .mode)) (a .from .depth) (a .text .now) (a .from .at) (omega (arith, c .before .before .before .before .if1 .left))
     (c .before .before .sort-at .ensures) (c .enum-told2 .given .1)
 
 returns-6 : tie.Need-returns-6
 returns-6 c =
     let a = c .before .before .before .before .before .before .args in (
-      item-quotes (modeOf (a .mode)) (a .depth) (a .text .now) (a .at) (omega (arith, c .before .before .before .before .if1 .left))
+      item-quotes (modeOf (a .from .mode)) (a .from .depth) (a .text .now) (a .from .at) (omega (arith, c .before .before .before .before .if1 .left))
           (c .before .before .sort-at .ensures) (c .enum-told3 .given .1),
       omega (arith, c .before .before .before .before .if1 .left),
       refl,
@@ -141,7 +141,7 @@ returns-6 c =
 returns-7 : tie.Need-returns-7
 returns-7 c =
     let a = c .before .before .before .before .before .before .args in (
-      item-quotes2 (modeOf (a .mode)) (a .depth) (a .text .now) (a .at) (omega (arith, c .before .before .before .before .if1 .left))
+      item-quotes2 (modeOf (a .from .mode)) (a .from .depth) (a .text .now) (a .from .at) (omega (arith, c .before .before .before .before .if1 .left))
           (c .before .before .sort-at .ensures) (c .enum-told4 .given .1),
       omega (arith, c .before .before .before .before .if1 .left),
       refl,
@@ -150,30 +150,30 @@ returns-7 c =
 returns-8 : tie.Need-returns-8
 returns-8 c =
     let a = c .before .before .before .before .before .before .before .args in
-    same-item (a .text .now) (a .at) (a .depth) (c .escaped-at .result)
-    (item-backslash (modeOf (a .mode)) (a .depth) (a .text .now) (a .at) (omega (arith, c .before .before .before .before .before .if1 .left))
+    same-item (a .text .now) (a .from .at) (a .from .depth) (c .escaped-at .result)
+    (item-backslash (modeOf (a .from .mode)) (a .from .depth) (a .text .now) (a .from .at) (omega (arith, c .before .before .before .before .before .if1 .left))
     (c .before .before .before .sort-at .ensures) (c .before .enum-told5 .given .1)) (c .escaped-at .ensures)
 
 returns-9 : tie.Need-returns-9
 returns-9 c =
     let a = c .before .before .before .before .before .before .before .args in
-    same-item (a .text .now) (a .at) (a .depth) (c .expansion-at .result)
-    (item-dollar (modeOf (a .mode)) (a .depth) (a .text .now) (a .at) (omega (arith, c .before .before .before .before .before .if1 .left))
+    same-item (a .text .now) (a .from .at) (a .from .depth) (c .expansion-at .result)
+    (item-dollar (modeOf (a .from .mode)) (a .from .depth) (a .text .now) (a .from .at) (omega (arith, c .before .before .before .before .before .if1 .left))
     (c .before .before .before .sort-at .ensures) (c .before .enum-told6 .given .1)) (c .expansion-at .ensures)
 
 returns-10 : tie.Need-returns-10
 returns-10 c =
     let a = c .before .before .before .before .before .before .args in
-    item-bad (modeOf (a .mode)) (a .depth) (a .text .now) (a .at) (omega (arith, c .before .before .before .before .if1 .left))
+    item-bad (modeOf (a .from .mode)) (a .from .depth) (a .text .now) (a .from .at) (omega (arith, c .before .before .before .before .if1 .left))
     (c .before .before .sort-at .ensures) (c .enum-told7 .given .1)
 
 returns-11 : tie.Need-returns-11
 returns-11 c =
     let a = c .before .before .before .before .before .before .before .args in
-    let h = open-is (a .mode) _
-    (opening-mode (modeOf (a .mode)) (a .depth) (a .text .now) (a .at) (omega (arith, c .before .before .before .before .before .if1 .left))
+    let h = open-is (a .from .mode) _
+    (opening-mode (modeOf (a .from .mode)) (a .from .depth) (a .text .now) (a .from .at) (omega (arith, c .before .before .before .before .before .if1 .left))
     (c .before .before .before .sort-at .ensures) (c .before .sort2 .given .1)) in (
-      item-opening (modeOf (a .mode)) (a .depth) (a .text .now) (a .at) (omega (arith, c .before .before .before .before .before .if1 .left))
+      item-opening (modeOf (a .from .mode)) (a .from .depth) (a .text .now) (a .from .at) (omega (arith, c .before .before .before .before .before .if1 .left))
           (c .before .before .before .sort-at .ensures) (c .before .sort2 .given .1),
       omega (arith, c .before .before .before .before .before .if1 .left),
       omega (arith, c .before .before .before .before .before .before .before .pre .1),
@@ -182,15 +182,15 @@ returns-11 c =
 returns-12 : tie.Need-returns-12
 returns-12 c =
     let a = c .before .before .before .before .before .before .before .before .args in
-    same-item (a .text .now) (a .at) (a .depth) (c .closed-at .result)
-    (item-closing (modeOf (a .mode)) (a .depth) (a .text .now) (a .at) (omega (arith, c .before .before .before .before .before .before .if1 .left))
+    same-item (a .text .now) (a .from .at) (a .from .depth) (c .closed-at .result)
+    (item-closing (modeOf (a .from .mode)) (a .from .depth) (a .text .now) (a .from .at) (omega (arith, c .before .before .before .before .before .before .if1 .left))
     (c .before .before .before .before .sort-at .ensures) (c .before .before .sort3 .given .1)) (c .closed-at .ensures)
 
 returns-13 : tie.Need-returns-13
 returns-13 c =
     let a = c .before .before .before .before .before .before .args in
-    shows-byte (a .text .now) (a .at) (a .depth) _ 0 (omega arith) (omega (arith, c .before .before .before .before .if1 .left)) _ _
-    (item-literal (modeOf (a .mode)) (a .depth) (a .text .now) (a .at) (omega (arith, c .before .before .before .before .if1 .left))
+    shows-byte (a .text .now) (a .from .at) (a .from .depth) _ 0 (omega arith) (omega (arith, c .before .before .before .before .if1 .left)) _ _
+    (item-literal (modeOf (a .from .mode)) (a .from .depth) (a .text .now) (a .from .at) (omega (arith, c .before .before .before .before .if1 .left))
     (c .before .before .sort-at .ensures) (c .enum-told8 .given .1))
 
 pub item-at-spec : {M : Type 1} → statement M

@@ -17,17 +17,17 @@ is-at-requires c κs = search needs
 
 returns : tie.Need-returns
 returns c =
-    let a = c .before .before .before .before .args in
-    paren-deep (a .depth) (drop (a .at + 2) (a .text .now)) (sym (c .before .before .is-at .ensures) ∙ c .before .if1 .taken) (c .if2 .taken)
+    let a = c .before .before .before .before .before .args in
+    paren-deep (a .from .depth) (drop (a .from .at + 2) (a .text .now)) (sym (c .before .before .before .is-at .ensures) ∙ c .before .before .if1 .taken) (c .if2 .taken)
 
 add-t7 : tie.Need-add-t7
 add-t7 c = search needs
 
 returns-2 : tie.Need-returns-2
 returns-2 c =
-    let a = c .before .before .before .before .args in
-    let w = at-within 40 (a .at + 2) (a .text .now) (sym (c .before .before .is-at .ensures) ∙ c .before .if1 .taken) in (
-      paren-opens (a .depth) (drop (a .at + 2) (a .text .now)) (sym (c .before .before .is-at .ensures) ∙ c .before .if1 .taken) (c .if2 .left),
+    let a = c .before .before .before .before .before .args in
+    let w = at-within 40 (a .from .at + 2) (a .text .now) (sym (c .before .before .before .is-at .ensures) ∙ c .before .before .if1 .taken) in (
+      paren-opens (a .from .depth) (drop (a .from .at + 2) (a .text .now)) (sym (c .before .before .before .is-at .ensures) ∙ c .before .before .if1 .taken) (c .if2 .left),
       refl,
       omega arith,
       omega (arith, c .if2 .left),
@@ -36,7 +36,7 @@ returns-2 c =
 returns-3 : tie.Need-returns-3
 returns-3 c =
     let a = c .before .before .before .args in
-    paren-other (a .depth) (drop (a .at + 2) (a .text .now)) (sym (c .before .is-at .ensures) ∙ c .if1 .left)
+    paren-other (a .from .depth) (drop (a .from .at + 2) (a .text .now)) (sym (c .before .is-at .ensures) ∙ c .if1 .left)
 
 pub parenthesis-at-spec : {M : Type 1} → statement M
 parenthesis-at-spec =

@@ -40,10 +40,10 @@ use Rattle.read_line.proofs.+read_item+read_text.{statement}
 use Rattle.read_line.proofs.+read_item+read_text.Tie.{close}
 
 abbrev μ-read-item : Measures 1 read-item-kinds.ps ℕ
-μ-read-item κs a = 2 * (length (now (a .0)) - a .1 .0)
+μ-read-item κs a = 2 * (length (now (a .0)) - a .1 .0 .at)
 
 abbrev μ-read-text : Measures 1 read-text-kinds.ps ℕ
-μ-read-text κs a = 2 * (length (now (a .0)) - a .1 .0) + 1
+μ-read-text κs a = 2 * (length (now (a .0)) - a .1 .0 .at) + 1
 
 abbrev read-item-at : ℕ → In 1 read-item-kinds.ps
 read-item-at t = and 1 read-item-kinds.ps (is 1 read-item-kinds.ps μ-read-item t) read-item.Pre
@@ -79,9 +79,9 @@ module _ (t : ℕ) where
   read-item-enum-known-item-4 : read-item-lts.Need-enum-known-item-4 (read-item-callees t) (read-item-at t) read-item.Post
   read-item-enum-known-item-4 c = search needs
 
-  read-item-add-t17 : read-item-lts.Need-add-t17 (read-item-callees t) (read-item-at t) read-item.Post
-  read-item-add-t17 c =
-      let s = shown _ _ _ _ (c .before .before .before .item-at .ensures) (c .before .item4 .given .1) in
+  read-item-add-t16 : read-item-lts.Need-add-t16 (read-item-callees t) (read-item-at t) read-item.Post
+  read-item-add-t16 c =
+      let s = shown _ _ _ _ (c .before .before .before .before .item-at .ensures) (c .before .before .item4 .given .1) in
       omega (arith, s .1)
 
   read-item-enum-known-item-5 : read-item-lts.Need-enum-known-item-5 (read-item-callees t) (read-item-at t) read-item.Post
@@ -93,15 +93,15 @@ module _ (t : ℕ) where
   read-item-enum-known-item-7 : read-item-lts.Need-enum-known-item-7 (read-item-callees t) (read-item-at t) read-item.Post
   read-item-enum-known-item-7 c = search needs
 
-  read-item-add-read-text : read-item-lts.Need-add-read-text (read-item-callees t) (read-item-at t) read-item.Post
-  read-item-add-read-text c =
-      let s = shown _ _ _ _ (c .before .before .before .item-at .ensures) (c .before .item7 .given .1) in
+  read-item-add-t19 : read-item-lts.Need-add-t19 (read-item-callees t) (read-item-at t) read-item.Post
+  read-item-add-t19 c =
+      let s = shown _ _ _ _ (c .before .before .before .before .item-at .ensures) (c .before .before .item7 .given .1) in
       omega (arith, s .1)
 
   read-item-read-text-requires : read-item-lts.Need-read-text-requires (read-item-callees t) (read-item-at t) read-item.Post
   read-item-read-text-requires c κs =
-      let s = shown _ _ _ _ (c .before .before .before .item-at .ensures) (c .before .item7 .given .1) in
-      omega (arith, c .before .before .before .before .before .pre, s .1, s .2)
+      let s = shown _ _ _ _ (c .before .before .before .before .item-at .ensures) (c .before .before .item7 .given .1) in
+      omega (arith, c .before .before .before .before .before .before .pre, s .1, s .2)
 
   read-item-behind-requires : read-item-lts.Need-behind-requires (read-item-callees t) (read-item-at t) read-item.Post
   read-item-behind-requires c κs = search needs
@@ -109,15 +109,15 @@ module _ (t : ℕ) where
   read-item-enum-known-item-8 : read-item-lts.Need-enum-known-item-8 (read-item-callees t) (read-item-at t) read-item.Post
   read-item-enum-known-item-8 c = search needs
 
-  read-item-sub-read-text : read-item-lts.Need-sub-read-text (read-item-callees t) (read-item-at t) read-item.Post
-  read-item-sub-read-text c =
-      let s = shown _ _ _ _ (c .before .before .before .item-at .ensures) (c .before .item8 .given .1) in
+  read-item-sub-t22 : read-item-lts.Need-sub-t22 (read-item-callees t) (read-item-at t) read-item.Post
+  read-item-sub-t22 c =
+      let s = shown _ _ _ _ (c .before .before .before .before .item-at .ensures) (c .before .before .item8 .given .1) in
       omega (arith, s .3)
 
   read-item-read-text-requires-2 : read-item-lts.Need-read-text-requires-2 (read-item-callees t) (read-item-at t) read-item.Post
   read-item-read-text-requires-2 c κs =
-      let s = shown _ _ _ _ (c .before .before .before .item-at .ensures) (c .before .item8 .given .1) in
-      omega (arith, c .before .before .before .before .before .pre, s .1 .onward, s .1 .within, s .4)
+      let s = shown _ _ _ _ (c .before .before .before .before .item-at .ensures) (c .before .before .item8 .given .1) in
+      omega (arith, c .before .before .before .before .before .before .pre, s .1 .onward, s .1 .within, s .4)
 
   read-item-behind-requires-2 : read-item-lts.Need-behind-requires-2 (read-item-callees t) (read-item-at t) read-item.Post
   read-item-behind-requires-2 c κs = search needs
@@ -125,15 +125,15 @@ module _ (t : ℕ) where
   read-item-enum-known-item-9 : read-item-lts.Need-enum-known-item-9 (read-item-callees t) (read-item-at t) read-item.Post
   read-item-enum-known-item-9 c = search needs
 
-  read-item-sub-read-text-2 : read-item-lts.Need-sub-read-text-2 (read-item-callees t) (read-item-at t) read-item.Post
-  read-item-sub-read-text-2 c =
-      let s = shown _ _ _ _ (c .before .before .before .item-at .ensures) (c .before .item9 .given .1) in
+  read-item-sub-t26 : read-item-lts.Need-sub-t26 (read-item-callees t) (read-item-at t) read-item.Post
+  read-item-sub-t26 c =
+      let s = shown _ _ _ _ (c .before .before .before .before .item-at .ensures) (c .before .before .item9 .given .1) in
       omega (arith, s .3)
 
   read-item-read-text-requires-3 : read-item-lts.Need-read-text-requires-3 (read-item-callees t) (read-item-at t) read-item.Post
   read-item-read-text-requires-3 c κs =
-      let s = shown _ _ _ _ (c .before .before .before .item-at .ensures) (c .before .item9 .given .1) in
-      omega (arith, c .before .before .before .before .before .pre, s .1, s .2)
+      let s = shown _ _ _ _ (c .before .before .before .before .item-at .ensures) (c .before .before .item9 .given .1) in
+      omega (arith, c .before .before .before .before .before .before .pre, s .1, s .2)
 
   read-item-behind-requires-3 : read-item-lts.Need-behind-requires-3 (read-item-callees t) (read-item-at t) read-item.Post
   read-item-behind-requires-3 c κs = search needs
@@ -141,77 +141,78 @@ module _ (t : ℕ) where
   read-item-returns : read-item-lts.Need-returns (read-item-callees t) (read-item-at t) read-item.Post
   read-item-returns c =
       let a = c .before .before .before .before .before .args in
-      turn-fault (a .text .now) (a .at) (a .depth) (a .mode) (omega (arith, c .before .before .before .before .before .pre))
+      turn-fault (a .text .now) (a .from .at) (a .from .depth) (a .from .mode) (omega (arith, c .before .before .before .before .before .pre))
       (c .before .before .before .item-at .ensures) (c .before .item .given .1)
 
   read-item-returns-2 : read-item-lts.Need-returns-2 (read-item-callees t) (read-item-at t) read-item.Post
   read-item-returns-2 c =
       let a = c .before .before .before .before .before .args in
-      turn-stop (a .text .now) (a .at) (a .depth) (a .mode) (omega (arith, c .before .before .before .before .before .pre))
+      turn-stop (a .text .now) (a .from .at) (a .from .depth) (a .from .mode) (omega (arith, c .before .before .before .before .before .pre))
       (c .before .before .before .item-at .ensures) (c .before .item2 .given .1)
 
   read-item-returns-3 : read-item-lts.Need-returns-3 (read-item-callees t) (read-item-at t) read-item.Post
   read-item-returns-3 c =
       let a = c .before .before .before .before .before .args in
-      turn-byte (a .text .now) (a .at) (a .depth) (a .mode) (omega (arith, c .before .before .before .before .before .pre))
+      turn-byte (a .text .now) (a .from .at) (a .from .depth) (a .from .mode) (omega (arith, c .before .before .before .before .before .pre))
       (c .before .before .before .item-at .ensures) (c .before .item3 .given .1)
 
   read-item-returns-4 : read-item-lts.Need-returns-4 (read-item-callees t) (read-item-at t) read-item.Post
   read-item-returns-4 c =
-      let a = c .before .before .before .before .before .args in
-      turn-paren (a .text .now) (a .at) (a .depth) (a .mode) (omega (arith, c .before .before .before .before .before .pre))
-      (c .before .before .before .item-at .ensures) (c .before .item4 .given .1)
+      let a = c .before .before .before .before .before .before .args in
+      turn-paren (a .text .now) (a .from .at) (a .from .depth) (a .from .mode) (omega (arith, c .before .before .before .before .before .before .pre))
+      (c .before .before .before .before .item-at .ensures) (c .before .before .item4 .given .1)
 
   read-item-returns-5 : read-item-lts.Need-returns-5 (read-item-callees t) (read-item-at t) read-item.Post
   read-item-returns-5 c =
       let a = c .before .before .before .before .before .args in
-      turn-value (a .text .now) (a .at) (a .depth) (a .mode) (omega (arith, c .before .before .before .before .before .pre))
+      turn-value (a .text .now) (a .from .at) (a .from .depth) (a .from .mode) (omega (arith, c .before .before .before .before .before .pre))
       (c .before .before .before .item-at .ensures) (c .before .item5 .given .1)
 
   read-item-returns-6 : read-item-lts.Need-returns-6 (read-item-callees t) (read-item-at t) read-item.Post
   read-item-returns-6 c =
       let a = c .before .before .before .before .before .args in
-      turn-count (a .text .now) (a .at) (a .depth) (a .mode) (omega (arith, c .before .before .before .before .before .pre))
+      turn-count (a .text .now) (a .from .at) (a .from .depth) (a .from .mode) (omega (arith, c .before .before .before .before .before .pre))
       (c .before .before .before .item-at .ensures) (c .before .item6 .given .1)
 
   read-item-returns-7 : read-item-lts.Need-returns-7 (read-item-callees t) (read-item-at t) read-item.Post
   read-item-returns-7 c =
-      let a = c .before .before .before .before .before .before .before .args in
-      turn-shown (a .text .now) (a .at) (a .depth) _
-      (turn-quote (a .text .now) (a .at) (a .depth) (a .mode) (omega (arith, c .before .before .before .before .before .before .before .pre))
-      (c .before .before .before .before .before .item-at .ensures) (c .before .before .before .item7 .given .1) (c .before .read-text .result)
+      let a = c .before .before .before .before .before .before .before .before .args in
+      turn-shown (a .text .now) (a .from .at) (a .from .depth) _
+      (turn-quote (a .text .now) (a .from .at) (a .from .depth) (a .from .mode) (omega (arith, c .before .before .before .before .before .before .before .before .pre))
+      (c .before .before .before .before .before .before .item-at .ensures) (c .before .before .before .before .item7 .given .1) (c .before .read-text .result)
       (c .before .read-text .ensures)) (sym (c .behind .ensures))
 
   read-item-returns-8 : read-item-lts.Need-returns-8 (read-item-callees t) (read-item-at t) read-item.Post
   read-item-returns-8 c =
-      let a = c .before .before .before .before .before .before .before .args in
-      turn-shown (a .text .now) (a .at) (a .depth) _
-      (turn-inner (a .text .now) (a .at) (a .depth) (a .mode) (omega (arith, c .before .before .before .before .before .before .before .pre))
-      (c .before .before .before .before .before .item-at .ensures) (c .before .before .before .item8 .given .1) (c .before .read-text2 .result)
+      let a = c .before .before .before .before .before .before .before .before .args in
+      turn-shown (a .text .now) (a .from .at) (a .from .depth) _
+      (turn-inner (a .text .now) (a .from .at) (a .from .depth) (a .from .mode) (omega (arith, c .before .before .before .before .before .before .before .before .pre))
+      (c .before .before .before .before .before .before .item-at .ensures) (c .before .before .before .before .item8 .given .1) (c .before .read-text2 .result)
       (c .before .read-text2 .ensures)) (sym (c .behind2 .ensures))
 
   read-item-returns-9 : read-item-lts.Need-returns-9 (read-item-callees t) (read-item-at t) read-item.Post
   read-item-returns-9 c =
-      let a = c .before .before .before .before .before .before .before .args in
-      turn-shown (a .text .now) (a .at) (a .depth) _
-      (turn-sum (a .text .now) (a .at) (a .depth) (a .mode) (omega (arith, c .before .before .before .before .before .before .before .pre))
-      (c .before .before .before .before .before .item-at .ensures) (c .before .before .before .item9 .given .1) (c .before .read-text3 .result)
+      let a = c .before .before .before .before .before .before .before .before .args in
+      turn-shown (a .text .now) (a .from .at) (a .from .depth) _
+      (turn-sum (a .text .now) (a .from .at) (a .from .depth) (a .from .mode) (omega (arith, c .before .before .before .before .before .before .before .before .pre))
+      (c .before .before .before .before .before .before .item-at .ensures) (c .before .before .before .before .item9 .given .1) (c .before .read-text3 .result)
       (c .before .read-text3 .ensures)) (sym (c .behind3 .ensures))
 
 abbrev read-text-callees : ℕ → read-text-lts.Claims
 read-text-callees t = (read-item-below t, read-item.Post)
 
 abbrev read-text-Inv-loop : read-text-lts.InvT-loop
-read-text-Inv-loop text at depth i₀ inside₀ i inside = Reads text at depth (parts (modeOf inside₀) depth (drop at text)) i inside
+read-text-Inv-loop text from i₀ inside₀ i inside =
+    Reads text (from .at) (from .depth) (parts (modeOf (from .mode)) (from .depth) (drop (from .at) text)) i inside
 
 abbrev read-text-μ-loop : read-text-lts.MeasureT-loop
-read-text-μ-loop text at depth i₀ inside₀ i inside = length text - i
+read-text-μ-loop text from i₀ inside₀ i inside = length text - i
 
 module _ (t : ℕ) where
   read-text-loop-holds : read-text-lts.Need-loop-holds (read-text-callees t) (read-text-at t) read-text.Post read-text-Inv-loop read-text-μ-loop
   read-text-loop-holds c =
       let a = c .before .args in
-      reads-start (a .text .now) (a .at) (a .depth) (a .mode) (omega (arith, c .before .pre)) (omega (arith, c .before .pre))
+      reads-start (a .text .now) (a .from .at) (a .from .depth) (a .from .mode) (omega (arith, c .before .pre)) (omega (arith, c .before .pre))
 
   read-text-read-item-requires : read-text-lts.Need-read-item-requires (read-text-callees t) (read-text-at t) read-text.Post read-text-Inv-loop
       read-text-μ-loop
@@ -255,19 +256,19 @@ pub +read-item+read-text-spec : {M : Type 1} → statement M
     (read-item-enum-known-item-2 t)
     (read-item-enum-known-item-3 t)
     (read-item-enum-known-item-4 t)
-    (read-item-add-t17 t)
+    (read-item-add-t16 t)
     (read-item-enum-known-item-5 t)
     (read-item-enum-known-item-6 t)
     (read-item-enum-known-item-7 t)
-    (read-item-add-read-text t)
+    (read-item-add-t19 t)
     (read-item-read-text-requires t)
     (read-item-behind-requires t)
     (read-item-enum-known-item-8 t)
-    (read-item-sub-read-text t)
+    (read-item-sub-t22 t)
     (read-item-read-text-requires-2 t)
     (read-item-behind-requires-2 t)
     (read-item-enum-known-item-9 t)
-    (read-item-sub-read-text-2 t)
+    (read-item-sub-t26 t)
     (read-item-read-text-requires-3 t)
     (read-item-behind-requires-3 t)
     (read-item-returns t)
