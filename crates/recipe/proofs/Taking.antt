@@ -1,15 +1,15 @@
 -- What the loop over a block learns from the cut of a line: what is kept fits, and the place goes forward within the block.
-use Prim.Native.Nat.{ℕ, zero, suc, _≤_, _<_}
+use Prim.Native.Nat.{ℕ, _≤_, _<_}
 use native.Mathlib.Omega.{arith}
 use mathlib.Core.Path.{_≡_, sym, ap, _∙_}
-use mathlib.Core.List.{[], _∷_, _++_}
+use mathlib.Core.List.{_++_}
 use lib.ListN.{length, take}
 use Rattle.stages.specs.Bytes.{Text}
 use Rattle.stages.proofs.Rooms.{over-length}
 use Rattle.recipe_cut.specs.Lines.{lineKept, keptOf, came, keptIn, nextIn, Takes}
 use Rattle.recipe_cut.specs.declared.Taken.{Taken}
 use Rattle.recipe_cut.specs.declared.Taken.the-variants.{Ended, Open}
-use Rattle.recipe_cut.proofs.Callers.{next-turn}
+use Rattle.recipe_cut.proofs.Callers.{next-turn, take-most}
 use Rattle.recipe.specs.Keeps.{Keeps}
 
 -- a block, a line's buffer and the variables', on the way through the block
@@ -22,11 +22,6 @@ pub record Goes (block line₀ vars₀ line vars : Text) (kept at : ℕ) : Type 
 
 pub keeps-inside : {line : Text} {kept : ℕ} → Keeps line kept → kept ≤ length line
 keeps-inside k = omega (arith, k .most, k .room)
-
-take-most : (n : ℕ) (t : Text) → length (take n t) ≤ n
-take-most zero t = omega arith
-take-most (suc n) [] = omega arith
-take-most (suc n) (b ∷ t) = omega (arith, take-most n t)
 
 module _ {line block left : Text} {kept from : ℕ} {r : Taken} (w : Takes line kept block from left r) where
   kept-most : keptIn r ≤ lineKept
