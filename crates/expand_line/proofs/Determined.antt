@@ -14,7 +14,7 @@ use Rattle.stages.specs.Line.{Fields}
 use Rattle.stages.specs.Call.{over}
 use Rattle.stages.proofs.Images.{Bytes, bytes-take}
 use Rattle.stages.proofs.Tables.{vars-of, table-length, table-canonical}
-use Rattle.expand_add.proofs.Determined.{have-is}
+use Rattle.expand_add.proofs.Determined.{vars-used-is}
 use Rattle.expand_add.specs.Answers.{Holds}
 use Rattle.expand_line.specs.Answers.{IsLine, LineSays}
 use Rattle.expand_line.specs.declared.LineExpanded.{LineExpanded}
@@ -36,7 +36,7 @@ module _ (room : ℕ) (o : Placed (Fields × Pairs)) (old vars vars' out out' : 
       let v : held (take varsUsed vars) ≡ held (take varsUsed' vars') = ap (λ (x : Fields × Pairs). x .1) p in
       let n : len ≡ len' = g .long ∙ ap (λ (x : Fields). length (image x)) l ∙ sym (h .long) in
       let k : varsUsed ≡ varsUsed' =
-      have-is room vars varsUsed (g .holds) ∙ ap (λ (x : Pairs). imageLength (flat x)) v ∙ sym (have-is room vars' varsUsed' (h .holds)) in (
+      vars-used-is room vars varsUsed (g .holds) ∙ ap (λ (x : Pairs). imageLength (flat x)) v ∙ sym (vars-used-is room vars' varsUsed' (h .holds)) in (
         ap (λ (i : ℕ). Done i varsUsed) n ∙ ap (Done len') k,
         table-canonical isName (take varsUsed vars) (vars-of (take varsUsed vars) (g .holds .formed)) (bytes-take varsUsed vars b)
             ∙ ap (λ (x : Pairs). image (flat x)) v

@@ -59,7 +59,7 @@ fn put_word(
         Expanded::Row {
             units,
             next,
-            have: vars_used,
+            vars_used,
         } => {
             let end = 2 * units;
             let put = split_row::put_word_fields(

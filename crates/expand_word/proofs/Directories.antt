@@ -84,16 +84,12 @@ directory-given d work first z l e ys f rest =
     record {
       directory = d;
       is = refl;
-      fits = record {
-        row = N ∷ marked Q d;
-        is = refl;
-        counts = omega (arith, marked-count Q d);
-        stands = record {
-          rest = drop (length (rowBytes (marked Q d))) z ++ rest;
-          is = ap (λ (t : Text). take 2 t ++ (ys ++ rest)) e ∙ ap (λ (t : Text). 0 ∷ 0 ∷ (t ++ rest)) f ∙ simp append-assoc;
-        };
-        fits = omega arith;
+      counts = omega (arith, marked-count Q d);
+      stands = record {
+        rest = drop (length (rowBytes (marked Q d))) z ++ rest;
+        is = ap (λ (t : Text). take 2 t ++ (ys ++ rest)) e ∙ ap (λ (t : Text). 0 ∷ 0 ∷ (t ++ rest)) f ∙ simp append-assoc;
       };
+      fits = omega arith;
     }
 
 -- what a look-up found lies inside the image, and is the key's value

@@ -7,10 +7,12 @@ use mathlib.Core.List.{[], _∷_}
 use mathlib.Core.Option.{Option, none, some}
 use lib.Dec.{eqb}
 use lib.ListN.{length, drop}
+use Rattle.stages.specs.Numbers.{rowLimit}
 use Rattle.stages.specs.Bytes.{Text, part, span, isBlank, isLoginByte}
 use Rattle.stages.specs.Outcome.{refused, done}
 use Rattle.stages.specs.Units.{Q, N, marked}
-use Rattle.expand_add.specs.Added.{Fitting, measured}
+use Rattle.row.specs.Stands.{Stands}
+use Rattle.expand_add.specs.Added.{measured}
 use Rattle.table.specs.declared.Found.{Found}
 use Rattle.table.specs.declared.Found.the-variants.{At, Missing}
 use Rattle.expand_word.specs.declared.homes.Login.{Login}
@@ -46,7 +48,9 @@ LoginSays line at (login.To to) = Opens line at to
 pub record Given (o : Option Text) (area : Text) (units : ℕ) : Type 0 where
   pub directory : Text
   pub is : o ≡ some directory
-  pub fits : Fitting 0 (done (N ∷ marked Q directory)) area units
+  pub counts : length (N ∷ marked Q directory) ≡ units
+  pub stands : Stands (N ∷ marked Q directory) area
+  pub fits : units ≤ rowLimit
 
 pub record Wide (o : Option Text) (e : ℕ) : Type 0 where
   pub directory : Text

@@ -4,7 +4,8 @@ ghost use Rattle.stages.specs.Numbers.{depthLimit};
 ghost use Rattle.stages.specs.Images.{held};
 ghost use Rattle.stages.specs.Syntax.{word};
 ghost use Rattle.stages.specs.Read.{parts};
-ghost use Rattle.stages.specs.Expand.{wordRow};
+ghost use Rattle.stages.specs.Expand.{expand, wordRow};
+ghost use Rattle.stages.specs.Units.{L};
 ghost use Rattle.table.specs.Places.{Table};
 ghost use Rattle.expand_add.specs.Answers.{Holds, Ready, Says};
 ghost use Rattle.expand_word.specs.Tildes.{Opens};
@@ -12,11 +13,39 @@ use expand_add::answers::Expanded;
 use expand_add::answers::Extent;
 use homes::Home;
 use homes::Login;
+use read_mode::Cursor;
 use read_mode::Mode;
 use row::Mark;
+use row::RowEnd;
 use text::numbers;
 
 mod homes;
+
+// The text of a word from `at` on, after so many units of its row.
+fn expand_rest(
+    line: &[u8],
+    at: usize,
+    units: usize,
+    vars: &mut [u8],
+    extent: Extent,
+    work: &mut [u8],
+) -> Expanded
+    requires { ⌜ Ready (now line) at Mode.Word depthLimit units (length (now work)) × Holds (extent .«vars_room») (now vars) (extent .«vars_used») ⌝ }
+    ensures { λ r. ⌜ Says (extent .«vars_room») (now (line .entry)) at units
+        (λ t. expand (extent .«vars_room») t L units (held (take (extent .«vars_used») (now (vars .entry)))))
+        (parts word depthLimit (drop at (now (line .entry)))) (now (work .exit)) (now (vars .exit)) r ⌝ }
+{
+    let from = Cursor {
+        at: at,
+        mode: Mode::Word,
+        depth: numbers::DEPTH_LIMIT,
+    };
+    let row = RowEnd {
+        mark: Mark::L,
+        units: units,
+    };
+    expand_text::expand_text(line, from, row, vars, extent, work)
+}
 
 // A word with a `~` at `at`, whose login ends at `to`.
 fn expand_home(
@@ -39,42 +68,20 @@ fn expand_home(
     let home = homes::give_home(&line[start..to], &vars[..vars_used], homes, work);
     match home {
         Home::Refused(e) => Expanded::Refused(e),
-        Home::Nothing => expand_text::expand_text(
-            line,
-            at,
-            Mode::Word,
-            numbers::DEPTH_LIMIT,
-            Mark::L,
-            0,
-            vars,
-            extent.vars_used,
-            extent.vars_room,
-            work,
-        ),
+        Home::Nothing => expand_rest(line, at, 0, vars, extent, work),
         Home::Units(units) => {
             let front = 2 * units;
-            let got = expand_text::expand_text(
-                line,
-                to,
-                Mode::Word,
-                numbers::DEPTH_LIMIT,
-                Mark::L,
-                units,
-                vars,
-                vars_used,
-                extent.vars_room,
-                &mut work[front..],
-            );
+            let got = expand_rest(line, to, units, vars, extent, &mut work[front..]);
             match got {
                 Expanded::Refused(e) => Expanded::Refused(e),
                 Expanded::Row {
                     units: more,
                     next,
-                    have: left,
+                    vars_used: left,
                 } => Expanded::Row {
                     units: units + more,
                     next: next,
-                    have: left,
+                    vars_used: left,
                 },
             }
         }
@@ -99,18 +106,7 @@ pub fn expand_word(
 {
     let login = homes::login_at(line, at);
     match login {
-        Login::Nothing => expand_text::expand_text(
-            line,
-            at,
-            Mode::Word,
-            numbers::DEPTH_LIMIT,
-            Mark::L,
-            0,
-            vars,
-            extent.vars_used,
-            extent.vars_room,
-            work,
-        ),
+        Login::Nothing => expand_rest(line, at, 0, vars, extent, work),
         Login::To(to) => expand_home(line, at, to, vars, extent, homes, work),
     }
 }

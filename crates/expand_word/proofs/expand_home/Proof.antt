@@ -9,7 +9,6 @@ use Rattle.expand_word.proofs.Wording.{
   home-none,
   home-refused,
   home-inside,
-  home-units,
   home-ready,
   plain-word,
   behind-refused,
@@ -70,26 +69,26 @@ module _ (c : tie.After-home2) where
   given = home-known (sought (entry (finding c))) (area (finding c)) (finding c .give-home .ensures) (c .home2 .given .1)
 
   few : units ≤ rowLimit
-  few = let s = entry (finding c) in home-units (homes s) (s .pre .1) (s .pre .2) (s .pre .0) given
+  few = given .fits
 
   inside : 2 * units ≤ length (area (finding c))
   inside = let s = entry (finding c) in home-inside (homes s) (s .pre .1) (s .pre .2) (s .pre .0) given
 
 -- the place where the directory was found, from where the text after the login has been expanded
-abbrev found : tie.After-expand-text2 → tie.After-home2
+abbrev found : tie.After-expand-rest2 → tie.After-home2
 found c = c .before .before .before .before
 
 -- the area is as long as at the entry
-same-after : (c : tie.After-expand-text2) →
+same-after : (c : tie.After-expand-rest2) →
     let h = found c in
     let front = 2 * units h in
-    length (putMid front (length (area (finding h)) - front) (area (finding h)) (c .expand-text2 .last .1 .1 .1 .1 .1 .1 .1 .1 .1 .0))
+    length (putMid front (length (area (finding h)) - front) (area (finding h)) (c .expand-rest2 .last .1 .1 .1 .1 .1 .0))
     ≡ length (entry (finding h) .args .work .now)
 same-after c =
     let h = found c in
-    let e = c .expand-text2 in
-    same-len-mid (2 * units h) (length (area (finding h)) - 2 * units h) (area (finding h)) (e .last .1 .1 .1 .1 .1 .1 .1 .1 .1 .0)
-    (e .kept .1 .1 .1 .1 .1 .1 .1 .1 .1 .0)
+    let e = c .expand-rest2 in
+    same-len-mid (2 * units h) (length (area (finding h)) - 2 * units h) (area (finding h)) (e .last .1 .1 .1 .1 .1 .0)
+    (e .kept .1 .1 .1 .1 .1 .0)
     ∙ same (finding h)
 
 add-start : tie.Need-add-start
@@ -119,8 +118,8 @@ enum-known-home c = search needs
 enum-told : tie.Need-enum-told
 enum-told c = search needs
 
-expand-text-requires : tie.Need-expand-text-requires
-expand-text-requires c κs = let m = missing (c .before .before) in (ready-size (entry m .pre .1) (same m), entry m .pre .2)
+expand-rest-requires : tie.Need-expand-rest-requires
+expand-rest-requires c κs = let m = missing (c .before .before) in (ready-size (entry m .pre .1) (same m), entry m .pre .2)
 
 enum-known-home-2 : tie.Need-enum-known-home-2
 enum-known-home-2 c = search needs
@@ -128,17 +127,17 @@ enum-known-home-2 c = search needs
 mul-front : tie.Need-mul-front
 mul-front c = omega (arith, few (c .before))
 
-sub-expand-text : tie.Need-sub-expand-text
-sub-expand-text c = omega (arith, inside (c .before .before))
+sub-expand-rest : tie.Need-sub-expand-rest
+sub-expand-rest c = omega (arith, inside (c .before .before))
 
-part-expand-text-start : tie.Need-part-expand-text-start
-part-expand-text-start c = omega (arith, inside (c .before .before))
+part-expand-rest-start : tie.Need-part-expand-rest-start
+part-expand-rest-start c = omega (arith, inside (c .before .before))
 
-part-expand-text-end : tie.Need-part-expand-text-end
-part-expand-text-end c = omega (arith, inside (c .before .before))
+part-expand-rest-end : tie.Need-part-expand-rest-end
+part-expand-rest-end c = omega (arith, inside (c .before .before))
 
-expand-text-requires-2 : tie.Need-expand-text-requires-2
-expand-text-requires-2 c κs =
+expand-rest-requires-2 : tie.Need-expand-rest-requires-2
+expand-rest-requires-2 c κs =
     let h = c .before .before .before in
     let s = entry (finding h) in
     let a = area (finding h) in (
@@ -153,13 +152,13 @@ enum-known-got c = search needs
 enum-known-got-2 : tie.Need-enum-known-got-2
 enum-known-got-2 c = search needs
 
-add-t43 : tie.Need-add-t43
-add-t43 c =
+add-t39 : tie.Need-add-t39
+add-t39 c =
     let e = c .before .before .before .before .before .before .before in
     let s = entry (finding (found e)) in
     omega (
       arith,
-      behind-fits (homes s) (s .pre .1) (s .pre .2) (s .pre .0) (given (found e)) _ _ _ (e .expand-text2 .ensures) (c .before .got2 .given .1),
+      behind-fits (homes s) (s .pre .1) (s .pre .2) (s .pre .0) (given (found e)) _ _ _ (e .expand-rest2 .ensures) (c .before .got2 .given .1),
     )
 
 same-length : tie.Need-same-length
@@ -175,12 +174,12 @@ returns c =
     home-refused (homes s) (s .pre .1) (s .pre .2) (s .pre .0) _ _ (home-known (sought s) (area r) (r .give-home .ensures) (c .before .home .given .1))
 
 same-length-3 : tie.Need-same-length-3
-same-length-3 c = omega (arith, c .before .before .before .before .expand-text .kept .1 .1 .1 .1 .1 .1 .0)
+same-length-3 c = omega (arith, c .before .before .before .before .expand-rest .kept .1 .1 .1 .0)
 
 same-length-4 : tie.Need-same-length-4
 same-length-4 c =
     let e = c .before .before .before .before in
-    omega (arith, e .expand-text .kept .1 .1 .1 .1 .1 .1 .1 .1 .1 .0, same (missing (e .before .before .before)))
+    omega (arith, e .expand-rest .kept .1 .1 .1 .1 .1 .0, same (missing (e .before .before .before)))
 
 returns-2 : tie.Need-returns-2
 returns-2 c =
@@ -190,10 +189,10 @@ returns-2 c =
     let s = entry m in
     plain-word (homes s) (s .pre .1) (s .pre .2)
     (home-none (homes s) (s .pre .1) (s .pre .2) (s .pre .0) (home-known (sought s) (area m) (m .give-home .ensures) (t .enum-told .given .1)))
-    _ _ (e .expand-text .result) (e .expand-text .ensures)
+    _ _ (e .expand-rest .result) (e .expand-rest .ensures)
 
 same-length-5 : tie.Need-same-length-5
-same-length-5 c = omega (arith, c .before .before .before .before .before .before .before .expand-text2 .kept .1 .1 .1 .1 .1 .1 .0)
+same-length-5 c = omega (arith, c .before .before .before .before .before .before .before .expand-rest2 .kept .1 .1 .1 .0)
 
 same-length-6 : tie.Need-same-length-6
 same-length-6 c = same-after (c .before .before .before .before .before .before .before)
@@ -202,10 +201,10 @@ returns-3 : tie.Need-returns-3
 returns-3 c =
     let e = c .before .before .before .before .before .before .before in
     let s = entry (finding (found e)) in
-    behind-refused (homes s) (s .pre .1) (s .pre .2) (s .pre .0) (given (found e)) _ _ _ (e .expand-text2 .ensures) _ (c .before .got .given .1)
+    behind-refused (homes s) (s .pre .1) (s .pre .2) (s .pre .0) (given (found e)) _ _ _ (e .expand-rest2 .ensures) _ (c .before .got .given .1)
 
 same-length-7 : tie.Need-same-length-7
-same-length-7 c = omega (arith, c .before .before .before .before .before .before .before .expand-text2 .kept .1 .1 .1 .1 .1 .1 .0)
+same-length-7 c = omega (arith, c .before .before .before .before .before .before .before .expand-rest2 .kept .1 .1 .1 .0)
 
 same-length-8 : tie.Need-same-length-8
 same-length-8 c = same-after (c .before .before .before .before .before .before .before)
@@ -214,11 +213,11 @@ returns-4 : tie.Need-returns-4
 returns-4 c =
     let e = c .before .before .before .before .before .before .before in
     let s = entry (finding (found e)) in
-    behind-given (homes s) (s .pre .1) (s .pre .2) (s .pre .0) (given (found e)) _ _ _ (e .expand-text2 .ensures) (c .before .got2 .given .1) _
+    behind-given (homes s) (s .pre .1) (s .pre .2) (s .pre .0) (given (found e)) _ _ _ (e .expand-rest2 .ensures) (c .before .got2 .given .1) _
 
 pub expand-home-spec : {M : Type 1} → statement M
 expand-home-spec = tie.close
     (tie.spec add-start sub-give-home part-give-home-start part-give-home-end slice-reshare-prefix-give-home slice-aggregate-give-home
-    give-home-requires enum-known-home enum-told expand-text-requires enum-known-home-2 mul-front sub-expand-text part-expand-text-start
-    part-expand-text-end expand-text-requires-2 enum-known-got enum-known-got-2 add-t43 same-length same-length-2 returns same-length-3 same-length-4
+    give-home-requires enum-known-home enum-told expand-rest-requires enum-known-home-2 mul-front sub-expand-rest part-expand-rest-start
+    part-expand-rest-end expand-rest-requires-2 enum-known-got enum-known-got-2 add-t39 same-length same-length-2 returns same-length-3 same-length-4
     returns-2 same-length-5 same-length-6 returns-3 same-length-7 same-length-8 returns-4)
