@@ -4,6 +4,7 @@ ghost use lib.ListN.{length};
 ghost use Rattle.stages.specs.Units.{digits, decimal};
 ghost use Rattle.stages.specs.Constants.{signed};
 ghost use Rattle.text.specs.Putting.{Puts};
+ghost use Rattle.text_decimal.specs.Digits.{mostDigits};
 use text::numbers;
 
 // Writes the decimal digits of n, of which it has at most k.
@@ -25,7 +26,7 @@ fn put_digits(out: &mut [u8], n: u64, k: usize) -> usize
 
 // Writes the shortest decimal text of n, and returns its length.
 pub fn put_decimal(out: &mut [u8], n: u64) -> usize
-    requires { ⌜ 20 ≤ length (now out) ⌝ }
+    requires { ⌜ mostDigits ≤ length (now out) ⌝ }
     ensures { λ r. ⌜ Puts (decimal n) (now (out .entry)) (now (out .exit)) r ⌝ }
 {
     put_digits(out, n, numbers::MOST_DIGITS)
@@ -33,7 +34,7 @@ pub fn put_decimal(out: &mut [u8], n: u64) -> usize
 
 // Writes the shortest decimal text of z, with `-` in front below zero, and returns its length.
 pub fn put_signed(out: &mut [u8], z: i64) -> usize
-    requires { ⌜ 20 ≤ length (now out) ⌝ }
+    requires { ⌜ mostDigits ≤ length (now out) ⌝ }
     ensures { λ r. ⌜ Puts (signed z) (now (out .entry)) (now (out .exit)) r ⌝ }
 {
     let m = arith_int::magnitude(z);

@@ -1,4 +1,4 @@
--- `decimals::put_digits` meets its contract: the code and `digits` go in step, and the last digit stands behind the others.
+-- `text_decimal::put_digits` meets its contract: the code and `digits` go in step, and the last digit stands behind the others.
 use mathlib.Core.Path.{refl, sym}
 use mathlib.Core.List.{[]}
 use Prim.Native.Nat.{ℕ, _<_, _+_, _-_, _/_, _%_}

@@ -1,4 +1,4 @@
--- `decimals::put_decimal` meets its contract: no number of 64 bits has more than 20 digits.
+-- `text_decimal::put_decimal` meets its contract: no number of 64 bits has more than 20 digits.
 use Prim.Native.Nat.{ℕ, _<_, _^_}
 use native.Mathlib.Omega.{arith}
 use Rattle.stages.specs.Units.{decimal}

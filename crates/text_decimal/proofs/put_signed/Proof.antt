@@ -1,4 +1,4 @@
--- `decimals::put_signed` meets its contract: the digits of the magnitude, behind a `-` where the number is below zero.
+-- `text_decimal::put_signed` meets its contract: the digits of the magnitude, behind a `-` where the number is below zero.
 use borrow.Author.Needs.{needs}
 use mathlib.Core.Path.{_≡_, sym, _∙_, ap}
 use mathlib.Core.List.{List, _∷_}
