@@ -67,19 +67,19 @@ module _ (x t : Text) (v : Pairs) where
       go false e = image-by room false (rw e) ∙ sym (rw (length-image (flat (stored x t v)), e))
 
   -- the lesser of a buffer and 8,192 gives what the buffer gives
-  pub store-capped : (cap room : ℕ) → cap ≤ room → (cap ≡ room) ⊎ (cap ≡ imageLimit) → store cap x t v ≡ store room x t v
-  store-capped cap room h (inl e) = ap (λ (n : ℕ). store n x t v) e
-  store-capped cap room h (inr e) = store-by cap (fits room) (same-tests (fits cap) (fits room) more less) ∙ sym (store-by room (fits room) refl)
+  pub store-capped : (limit room : ℕ) → limit ≤ room → (limit ≡ room) ⊎ (limit ≡ imageLimit) → store limit x t v ≡ store room x t v
+  store-capped limit room h (inl e) = ap (λ (n : ℕ). store n x t v) e
+  store-capped limit room h (inr e) = store-by limit (fits room) (same-tests (fits limit) (fits room) more less) ∙ sym (store-by room (fits room) refl)
     where
-      more : fits cap ≡ true → fits room ≡ true
+      more : fits limit ≡ true → fits room ≡ true
       more d =
-          and-both (le-leb bytes room (omega (arith, leb-true bytes cap (and-left (leb bytes cap) (leb bytes imageLimit) d))))
-          (and-right (leb bytes cap) (leb bytes imageLimit) d)
+          and-both (le-leb bytes room (omega (arith, leb-true bytes limit (and-left (leb bytes limit) (leb bytes imageLimit) d))))
+          (and-right (leb bytes limit) (leb bytes imageLimit) d)
 
-      less : fits room ≡ true → fits cap ≡ true
+      less : fits room ≡ true → fits limit ≡ true
       less d =
           let k : leb bytes imageLimit ≡ true = and-right (leb bytes room) (leb bytes imageLimit) d in
-          let m : leb bytes cap ≡ true = rw e k in
+          let m : leb bytes limit ≡ true = rw e k in
           and-both m k
 
 -- the place of a name, and what `splice` does there
@@ -87,11 +87,12 @@ module _ (b name : Text) (used at end : ℕ) (l : used ≤ length b) (h : Hole (
   pub hole-within : (at ≤ end) × (end ≤ used)
   hole-within = let u : length (take used b) ≡ used = length-take-le used b l in (h .low, omega (arith, h .high))
 
-  pub store-writes : (value left : Text) (cap : ℕ) {r : Outcome ℕ} → cap ≤ imageLimit
-      → Writes (within cap (spliced b used at end (framed name ++ framed value))) b left r → Writes (imageIn cap name value (held (take used b))) b left r
-  store-writes value left cap {r} k w =
+  pub store-writes : (value left : Text) (limit : ℕ) {r : Outcome ℕ} → limit ≤ imageLimit
+      → Writes (within limit (spliced b used at end (framed name ++ framed value))) b left r
+      → Writes (imageIn limit name value (held (take used b))) b left r
+  store-writes value left limit {r} k w =
       let e : spliced b used at end (framed name ++ framed value) ≡ image (flat (stored name value (held (take used b)))) =
       splice-image b name value used at end (before name (held (take used b))) (behind name (held (take used b))) (hole-within .0) (hole-within .1) l
       (h .front) (h .back)
       ∙ ap (λ (v : Pairs). image (flat v)) (sym (stored-between name value (held (take used b)))) in
-      rw (image-within name value (held (take used b)) cap k, ← e) w
+      rw (image-within name value (held (take used b)) limit k, ← e) w

@@ -1,4 +1,4 @@
--- `quoting::quote_fields` meets its contract: its three tests are the stage's, in its order, and `put_line` writes the line.
+-- `quote::quote_fields` meets its contract: its three tests are the stage's, in its order, and `put_line` writes the line.
 use native.Mathlib.Omega.{arith}
 use mathlib.Core.Path.{sym, _∙_}
 use borrow.Author.Needs.{needs}

@@ -1,4 +1,4 @@
--- `escapes::read_text` meets its contract: what stands before `i` is read and stands in the buffer.
+-- `tab_escape::read_text` meets its contract: what stands before `i` is read and stands in the buffer.
 use borrow.Author.Needs.{needs}
 use Prim.Native.Nat.{_-_}
 use native.Mathlib.Omega.{arith}

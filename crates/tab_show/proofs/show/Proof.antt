@@ -1,4 +1,4 @@
--- `tabling::show` meets its contract: its test is the stage's, and the lines of a good image are written.
+-- `tab_show::show` meets its contract: its test is the stage's, and the lines of a good image are written.
 use mathlib.Core.Path.{sym, _∙_}
 use borrow.Author.Tests.{not-true, not-false}
 use Rattle.tab_show.proofs.Answers.{texts-here, lines-room, malformed, shown}

@@ -1,4 +1,4 @@
--- `lookups::place_of` meets its contract: the records passed are below the key, and the first that is not decides.
+-- `table_find::place_of` meets its contract: the records passed are below the key, and the first that is not decides.
 use native.Mathlib.Omega.{arith}
 use Prim.Native.Nat.{_-_}
 use mathlib.Core.Path.{refl, sym, _∙_}

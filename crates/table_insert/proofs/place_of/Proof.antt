@@ -1,4 +1,4 @@
--- `adding::place_of` meets its contract: the paths passed are below the new one, and the first that is not decides.
+-- `table_insert::place_of` meets its contract: the paths passed are below the new one, and the first that is not decides.
 use borrow.Author.Needs.{needs}
 use Prim.Native.Nat.{_-_}
 use native.Mathlib.Omega.{arith}

@@ -1,4 +1,4 @@
--- `stores::splice` meets its contract: where there is room, `shift` makes the place and two calls of `put_record` fill it.
+-- `table_store::splice` meets its contract: where there is room, `shift` makes the place and two calls of `put_record` fill it.
 use native.Mathlib.Omega.{arith}
 use borrow.Author.Needs.{needs}
 use Rattle.table_store.proofs.Splices.{has-room, lacks-room, splice-full, splice-kept}
@@ -21,7 +21,7 @@ returns : tie.Need-returns
 returns c =
     let start = c .before .before .before .before .before in
     let a = start .args in
-    splice-full (a .vars .now) (a .name .now) (a .value .now) (a .used) (a .at) (a .end) (a .cap) (start .pre)
+    splice-full (a .vars .now) (a .name .now) (a .value .now) (a .vars-used) (a .at) (a .end) (a .limit) (start .pre)
     (lacks-room _ _ _ _ (c .before .fits2 .ensures) (c .if1 .taken))
 
 add-size : tie.Need-add-size
@@ -100,7 +100,7 @@ returns-2 c =
     let tested = moved .before .before in
     let start = tested .before .before .before .before .before in
     let a = start .args in
-    splice-kept (a .vars .now) (a .name .now) (a .value .now) (a .used) (a .at) (a .end) (a .cap) (start .pre)
+    splice-kept (a .vars .now) (a .name .now) (a .value .now) (a .vars-used) (a .at) (a .end) (a .limit) (start .pre)
     (moved .shift .last .0) (first .put-record .last .0) (has-room _ _ _ _ (tested .before .fits2 .ensures) (tested .if1 .left))
     (moved .shift .ensures) (moved .shift .kept .0) (first .put-record .ensures)
     (second .put-record2 .last .0) (second .put-record2 .ensures)

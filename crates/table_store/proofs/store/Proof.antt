@@ -1,4 +1,4 @@
--- `stores::store` meets its contract: `place_of` finds the bytes that the name's record replaces, or none, and the splice there is the stage's
+-- `table_store::store` meets its contract: `place_of` finds the bytes that the name's record replaces, or none, and the splice there is the stage's
 -- store.
 use native.Mathlib.Omega.{arith}
 use mathlib.Core.Path.{sym}
@@ -14,7 +14,7 @@ slice-reshare-prefix-place-of c = search needs
 
 slice-aggregate-place-of : tie.Need-slice-aggregate-place-of
 slice-aggregate-place-of c =
-    sym (length-take-le (c .before .before .before .before .args .used) (c .before .before .before .before .args .vars .now) (omega arith))
+    sym (length-take-le (c .before .before .before .before .args .vars-used) (c .before .before .before .before .args .vars .now) (omega arith))
 
 place-of-requires : tie.Need-place-of-requires
 place-of-requires c κs = search needs
@@ -28,7 +28,7 @@ splice-requires c κs =
     let g = c .before .before .spot .given in
     omega (
       arith,
-      hole-within (a .vars .now) (a .name .now) (a .used) _ _ (omega arith)
+      hole-within (a .vars .now) (a .name .now) (a .vars-used) _ _ (omega arith)
           (is-known (c .before .before .before .before .place-of .ensures) _ _ _ (g .1) .0),
     )
 
@@ -41,7 +41,7 @@ splice-requires-2 c κs =
     let g = c .before .before .spot2 .given in
     omega (
       arith,
-      hole-within (a .vars .now) (a .name .now) (a .used) _ _ (omega arith)
+      hole-within (a .vars .now) (a .name .now) (a .vars-used) _ _ (omega arith)
           (is-fresh (c .before .before .before .before .place-of .ensures) _ (g .1) .0),
     )
 
@@ -52,9 +52,9 @@ returns : tie.Need-returns
 returns c =
     let a = c .before .before .before .before .before .before .before .before .before .before .before .before .args in
     let g = c .before .before .before .before .before .spot .given in
-    store-writes (a .vars .now) (a .name .now) (a .used) _ _ (omega arith)
+    store-writes (a .vars .now) (a .name .now) (a .vars-used) _ _ (omega arith)
     (is-known (c .before .before .before .before .before .before .before .place-of .ensures) _ _ _ (g .1) .0)
-    (a .value .now) _ (a .cap) (omega arith) (c .before .before .splice .ensures)
+    (a .value .now) _ (a .limit) (omega arith) (c .before .before .splice .ensures)
 
 same-length-2 : tie.Need-same-length-2
 same-length-2 c = search needs
@@ -63,9 +63,9 @@ returns-2 : tie.Need-returns-2
 returns-2 c =
     let a = c .before .before .before .before .before .before .before .before .before .before .before .before .args in
     let g = c .before .before .before .before .before .spot2 .given in
-    store-writes (a .vars .now) (a .name .now) (a .used) _ _ (omega arith)
+    store-writes (a .vars .now) (a .name .now) (a .vars-used) _ _ (omega arith)
     (is-fresh (c .before .before .before .before .before .before .before .place-of .ensures) _ (g .1) .0)
-    (a .value .now) _ (a .cap) (omega arith) (c .before .before .splice2 .ensures)
+    (a .value .now) _ (a .limit) (omega arith) (c .before .before .splice2 .ensures)
 
 pub store-spec : {M : Type 1} → statement M
 store-spec =
