@@ -8,14 +8,14 @@ use lib.ListN.{length, set, length-append}
 use borrow.Rule.Slice.PartMut.{putMid, midOf}
 use Rattle.stages.specs.Numbers.{imageLimit}
 use Rattle.stages.specs.Bytes.{Text, part}
-use Rattle.stages.specs.Images.{fieldsOf, heldTexts, orEmpty}
+use Rattle.stages.specs.Images.{fieldsOf, heldTexts}
 use Rattle.stages.specs.Quote.{quotedField, blanked, quotedLine}
 use Rattle.stages.specs.Call.{over}
 use Rattle.stages.proofs.Tables.{fields-held}
 use Rattle.table.specs.Pieces.{pieceAt, textsFrom}
 use Rattle.table.specs.declared.Piece.{Piece}
 use Rattle.table.specs.declared.Piece.the-variants.{End, Bad, At}
-use Rattle.table.proofs.Pieces.{Ahead, Next, ahead-first, ahead-end, ahead-bad, ahead-text}
+use Rattle.table.proofs.Pieces.{Ahead, Next, ahead-from, ahead-first, ahead-end, ahead-bad, ahead-text}
 use Rattle.table.proofs.Writing.{Writing, Facing}
 use Rattle.text.specs.Putting.{Puts}
 use Rattle.quote.specs.Rests.{Rest}
@@ -25,10 +25,6 @@ use Rattle.quote.proofs.Lengths.{bytes-small, field-length, blanked-sma
 
 pub rest-ahead : {t : Text} {at : ℕ} → Rest t at → Ahead t at (textsFrom t at)
 rest-ahead r = record { within = r .within; is = r .is }
-
-ahead-from : {t : Text} {at : ℕ} {l : List Text} → Ahead t at l → textsFrom t at ≡ l
-unfolding textsFrom
-ahead-from h = ap orEmpty (h .is)
 
 ahead-rest : {t : Text} {at : ℕ} {l : List Text} → length t ≤ imageLimit → Ahead t at l → Rest t at
 ahead-rest n h = record { small = n; within = h .within; is = h .is ∙ ap some (sym (ahead-from h)) }

@@ -21,7 +21,7 @@ pub enum Fault {
 }
 
 // A byte of a text, and how many bytes behind its first it takes.
-enum Byte {
+pub enum Byte {
     Bad(Fault),
     Is { b: u8, more: usize },
 }
