@@ -120,7 +120,7 @@ module _ {whole t : Text} {at end : ℕ} {old out : Text} {used : ℕ} (f : Faci
     filling = fill-piece fills-blank quoted more ys n (used + 1 + n) refl p refl;
   }
 
--- THE LINE: its first field, up to `end`, and those behind it
+-- THE LINE: its first field, up to `end`, and those after it
 pub record First (t : Text) (end : ℕ) : Type 0 where
   pub text : Field t 3 end
   pub rest : Rest t end
@@ -160,7 +160,7 @@ module _ {t : Text} {end : ℕ} (f : First t end) where
       → Filling (quotedLine (heldTexts t)) (blanked (textsFrom t end)) old out used
   line-begun n p = record { front = quotedField (part t 3 end); splits = f .is; long = p .counts; is = p .leaves; fits = n }
 
--- and those behind it
+-- and those after it
 pub line-whole : {line rest old out : Text} {used : ℕ} → Filling line rest old out used → (ys : Text) (n : ℕ)
     → Puts rest (midOf used (length out - used) out) ys n → Puts line old (putMid used (length out - used) out ys) (used + n)
 line-whole {rest = rest} {used = used} f ys n q = fill-ends (fill-piece f rest [] ys n (used + n) (sym (append-nil rest)) q refl) refl

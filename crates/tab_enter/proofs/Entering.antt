@@ -82,7 +82,7 @@ pub record Keyed (kind : Kind) (line : Text) (e : ℕ) : Type 0 where
   pub inside : e < length line
   pub fits : keyFits kind [] (take e line) ≡ true
 
--- and behind it n bytes were read
+-- and after it n bytes were read
 pub record Got (kind : Kind) (line : Text) (e : ℕ) (left : Text) (n : ℕ) : Type 0 where
   pub is : pairOf kind line ≡ entry (take e line) (take n left)
   pub long : n ≤ length left

@@ -102,7 +102,7 @@ module _ (t : Text) (i : ℕ) where
     unfolding byteAt
     at-short s h = rw (ne-eqb (getD t i 0) 0 z, eq-eqb (getD t i 0) 92 s, lt-ltb (length t - i) 2 h)
 
--- a backslash with a byte behind it
+-- a backslash with a byte after it
 pub record Escape (t : Text) (i : ℕ) : Type 0 where
   pub backslash : getD t i 0 ≡ 92
   pub long : 2 ≤ length t - i

@@ -259,7 +259,7 @@ module _ {k : Kind} {t : Text} {at from to : ℕ} (g : Going k t at from to) whe
   pub bad-key : {end : ℕ} → Stands t at end → keyFits k (part t from to) (part t (at + 2) end) ≡ false → false ≡ wellFormed k t
   bad-key {end} s e = sym (g .same ∙ rw (s .reads) (fails (inTwos k) (keyFits k) _ _ (textsIn (drop end t)) e))
 
--- a record whose key may stand behind the last one
+-- a record whose key may stand after the last one
 pub record Keyed (k : Kind) (t : Text) (at from to end : ℕ) : Type 0 where
   pub going : Going k t at from to
   pub stands : Stands t at end

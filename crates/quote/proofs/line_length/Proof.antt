@@ -1,4 +1,4 @@
--- `quote::line_length` meets its contract: the first field and those behind it.
+-- `quote::line_length` meets its contract: the first field and those after it.
 use native.Mathlib.Omega.{arith}
 use mathlib.Core.Path.{sym, ap}
 use borrow.Author.Needs.{needs}
@@ -19,7 +19,7 @@ enum-told-2 c = search needs
 enum-known-first : tie.Need-enum-known-first
 enum-known-first c = search needs
 
--- the first field, and those behind it
+-- the first field, and those after it
 first : (c : tie.After-first) → First (c .before .before .before .before .args .fields .now) (c .first .given .0 .0)
 first c =
     let s = c .before .before .before .before in

@@ -1,4 +1,4 @@
--- `quote::put_line` meets its contract: the first field stands at the front, and those behind it in the part that is left.
+-- `quote::put_line` meets its contract: the first field stands at the front, and those after it in the part that is left.
 use native.Mathlib.Omega.{arith}
 use borrow.Author.Needs.{needs}
 use Rattle.stages.specs.Images.{heldTexts}
@@ -24,7 +24,7 @@ enum-known-first c = search needs
 abbrev start : tie.After-first → tie.Start
 start c = c .before .before .before .before .before
 
--- the first field, and those behind it
+-- the first field, and those after it
 first : (c : tie.After-first) → First (start c .args .fields .now) (c .first .given .0 .0)
 first c =
     let s = start c in

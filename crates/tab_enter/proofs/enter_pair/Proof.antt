@@ -1,4 +1,4 @@
--- `tab_enter::enter_pair` meets its contract: its tests are the definition's, and what is read behind the `=` is entered under the key.
+-- `tab_enter::enter_pair` meets its contract: its tests are the definition's, and what is read after the `=` is entered under the key.
 use native.Mathlib.Omega.{arith}
 use mathlib.Core.Path.{sym, subst, _∙_}
 use lib.ListN.{take}
@@ -33,7 +33,7 @@ keyed c = record {
   fits = sym (c .before .key-fits .ensures) ∙ not-false _ (c .if2 .left);
 }
 
--- and the text that was read behind it
+-- and the text that was read after it
 got : (c : tie.After-got2) →
     let f = found (tested (reading c)) in
     Got (start f .args .kind) (start f .args .line .now) (f .find .result) (reading c .read-text .last .1 .0) (c .got2 .given .0 .0)

@@ -4,7 +4,7 @@ use borrow.Author.Needs.{needs}
 use Rattle.tab_escape.proofs.byte_at.Statement.{statement}
 use Rattle.tab_escape.proofs.byte_at.Tie as tie
 
--- the backslash, where a byte stands behind it
+-- the backslash, where a byte stands after it
 escape : (c : tie.Else3) → let a = c .before .before .before .before .before .args in Escape (a .text .now) (a .at)
 escape c = record { backslash = c .before .if2 .left; long = c .if3 .left }
 

@@ -38,7 +38,7 @@ enum-known-piece c = search needs
 -- the walk where a text stands at its place
 facing : (c : tie.After-piece Inv-loop μ-loop) →
     let l = c .before .before .before in
-    let a = l .before .before .args in
+    let a = l .before .before .before .args in
     Facing (a .image .now) (a .path .now) (l .loop .at) (c .piece .given .0 .0)
 facing c = next-text (c .before .before .before .loop .inv) (c .before .before .text-at .ensures) (c .piece .given .1)
 
