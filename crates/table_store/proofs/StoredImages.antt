@@ -3,7 +3,6 @@ use Prim.Native.Nat.{ℕ, _+_, _-_, _≤_}
 use native.Mathlib.Omega.{arith}
 use mathlib.Core.Path.{_≡_, refl, sym, ap, _∙_}
 use mathlib.Core.Bool.{Bool, true, false, _&&_}
-use mathlib.Core.Logic.{_⊎_, inl, inr}
 use mathlib.Core.List.{_∷_, _++_, append-assoc}
 use lib.Dec.{leb}
 use lib.ListN.{length, take, drop}
@@ -14,7 +13,7 @@ use Rattle.stages.specs.Bytes.{Text, part}
 use Rattle.stages.specs.Outcome.{Outcome, refused, done, pick}
 use Rattle.stages.specs.Images.{Pairs, framed, written, image, imageLength, flat, stored, held}
 use Rattle.stages.specs.Expand.{store}
-use Rattle.stages.proofs.Bools.{and-left, and-right, and-both, same-tests}
+use Rattle.stages.proofs.Bools.{and-both}
 use Rattle.stages.proofs.Images.{written-append, flat-append, length-image}
 use Rattle.table.specs.Places.{Hole, before, behind}
 use Rattle.table.proofs.Splits.{stored-between}
@@ -65,22 +64,6 @@ module _ (x t : Text) (v : Pairs) where
       go true e = image-by room true (and-both e (le-leb bytes imageLimit (omega (arith, leb-true bytes room e)))) ∙ sym
           (rw (length-image (flat (stored x t v)), e))
       go false e = image-by room false (rw e) ∙ sym (rw (length-image (flat (stored x t v)), e))
-
-  -- the lesser of a buffer and 8,192 gives what the buffer gives
-  pub store-capped : (limit room : ℕ) → limit ≤ room → (limit ≡ room) ⊎ (limit ≡ imageLimit) → store limit x t v ≡ store room x t v
-  store-capped limit room h (inl e) = ap (λ (n : ℕ). store n x t v) e
-  store-capped limit room h (inr e) = store-by limit (fits room) (same-tests (fits limit) (fits room) more less) ∙ sym (store-by room (fits room) refl)
-    where
-      more : fits limit ≡ true → fits room ≡ true
-      more d =
-          and-both (le-leb bytes room (omega (arith, leb-true bytes limit (and-left (leb bytes limit) (leb bytes imageLimit) d))))
-          (and-right (leb bytes limit) (leb bytes imageLimit) d)
-
-      less : fits room ≡ true → fits limit ≡ true
-      less d =
-          let k : leb bytes imageLimit ≡ true = and-right (leb bytes room) (leb bytes imageLimit) d in
-          let m : leb bytes limit ≡ true = rw e k in
-          and-both m k
 
 -- the place of a name, and what `splice` does there
 module _ (b name : Text) (used at end : ℕ) (l : used ≤ length b) (h : Hole (take used b) name at end) where
