@@ -31,16 +31,8 @@ pub fn expand(
         (expander (given (now (line .entry)) (now (vars .entry)) «vars_used» (now (homes .entry)) (now (paths .entry)) (now (work .entry))
         (now (out .entry)))) r (now (vars .exit)) (now (work .exit)) (now (out .exit)) ⌝ }
 {
-    call_run::answer_call(
-        Job::Expander,
-        line,
-        vars,
-        vars_used,
-        homes,
-        paths,
-        work,
-        out,
-    )
+    let expander = Job::Expander;
+    call_run::answer_call(expander, line, vars, vars_used, homes, paths, work, out)
 }
 
 // The normaliser: the line's fields as a quoted line to `out`, all else as in the expander.
@@ -57,16 +49,8 @@ pub fn normalise(
         (normaliser (given (now (line .entry)) (now (vars .entry)) «vars_used» (now (homes .entry)) (now (paths .entry)) (now (work .entry))
         (now (out .entry)))) r (now (vars .exit)) (now (work .exit)) (now (out .exit)) ⌝ }
 {
-    call_run::answer_call(
-        Job::Normaliser,
-        line,
-        vars,
-        vars_used,
-        homes,
-        paths,
-        work,
-        out,
-    )
+    let normaliser = Job::Normaliser;
+    call_run::answer_call(normaliser, line, vars, vars_used, homes, paths, work, out)
 }
 
 // The quoter: an image of fields as a quoted line to `out`, whose bytes after the line stay; on refusal all of them do.

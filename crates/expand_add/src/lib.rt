@@ -61,7 +61,7 @@ fn give_signed(z: i64, row: RowEnd, on: Onward, digits: &mut [u8], area: &mut [u
     requires { ⌜ (20 ≤ length (now digits)) × (row .units ≤ rowLimit) × (2 * rowLimit ≤ length (now area) + 2 * row .units) ⌝ }
     ensures { λ r. ⌜ Adds (row .units) on (done (marked (expandedMark (markOf (row .mark))) (signed z))) (now (area .exit)) r ⌝ }
 {
-    let n = text_decimal::put_signed(digits, z);
+    let n = arith_decimal::put_signed(digits, z);
     give_text(&digits[..n], expanded_end(row), on, area)
 }
 

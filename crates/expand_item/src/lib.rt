@@ -38,7 +38,7 @@ fn give_count(n: u64, row: RowEnd, on: Onward, digits: &mut [u8], area: &mut [u8
     requires { ⌜ (20 ≤ length (now digits)) × (row .units ≤ rowLimit) × (2 * rowLimit ≤ length (now area) + 2 * row .units) ⌝ }
     ensures { λ r. ⌜ Adds (row .units) on (done (marked (expandedMark (markOf (row .mark))) (decimal n))) (now (area .exit)) r ⌝ }
 {
-    let n = text_decimal::put_decimal(digits, n);
+    let n = arith_decimal::put_decimal(digits, n);
     expand_add::give_text(&digits[..n], expanded_end(row), on, area)
 }
 

@@ -4,7 +4,7 @@ ghost use lib.ListN.{length};
 ghost use Rattle.stages.specs.Units.{digits, decimal};
 ghost use Rattle.stages.specs.Constants.{signed};
 ghost use Rattle.text.specs.Putting.{Puts};
-ghost use Rattle.text_decimal.specs.Digits.{mostDigits};
+ghost use Rattle.arith_decimal.specs.Digits.{mostDigits};
 use text::numbers;
 
 // Writes the decimal digits of n, of which it has at most k.

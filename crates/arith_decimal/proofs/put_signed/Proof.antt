@@ -1,4 +1,4 @@
--- `text_decimal::put_signed` meets its contract: the digits of the magnitude, behind a `-` where the number is below zero.
+-- `arith_decimal::put_signed` meets its contract: the digits of the magnitude, behind a `-` where the number is below zero.
 use borrow.Author.Needs.{needs}
 use mathlib.Core.Path.{_≡_, sym, _∙_, ap}
 use mathlib.Core.List.{List, _∷_}
@@ -11,9 +11,9 @@ use Rattle.stages.specs.Units.{digits, decimal}
 use Rattle.stages.specs.Constants.{signed}
 use Rattle.stages.specs.Call.{over}
 use Rattle.arith_int.proofs.Ranges.{held}
-use Rattle.text_decimal.proofs.Writing.{abs-room, put-signed, text-below, text-not-below}
-use Rattle.text_decimal.proofs.put_signed.Statement.{statement}
-use Rattle.text_decimal.proofs.put_signed.Tie as tie
+use Rattle.arith_decimal.proofs.Writing.{abs-room, put-signed, text-below, text-not-below}
+use Rattle.arith_decimal.proofs.put_signed.Statement.{statement}
+use Rattle.arith_decimal.proofs.put_signed.Tie as tie
 
 magnitude-requires : tie.Need-magnitude-requires
 magnitude-requires c κs = search needs

@@ -1,11 +1,11 @@
--- `text_decimal::put_decimal` meets its contract: no number of 64 bits has more than 20 digits.
+-- `arith_decimal::put_decimal` meets its contract: no number of 64 bits has more than 20 digits.
 use Prim.Native.Nat.{ℕ, _<_, _^_}
 use native.Mathlib.Omega.{arith}
 use Rattle.stages.specs.Units.{decimal}
 use Rattle.stages.proofs.Digits.{digits-length}
 use borrow.Author.Needs.{needs}
-use Rattle.text_decimal.proofs.put_decimal.Statement.{statement}
-use Rattle.text_decimal.proofs.put_decimal.Tie as tie
+use Rattle.arith_decimal.proofs.put_decimal.Statement.{statement}
+use Rattle.arith_decimal.proofs.put_decimal.Tie as tie
 
 small : {n : ℕ} → n < 2 ^ 64 → n < 10 ^ 20
 small h = omega arith

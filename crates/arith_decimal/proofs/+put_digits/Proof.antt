@@ -1,4 +1,4 @@
--- `text_decimal::put_digits` meets its contract: the code and `digits` go in step, and the last digit stands behind the others.
+-- `arith_decimal::put_digits` meets its contract: the code and `digits` go in step, and the last digit stands behind the others.
 use mathlib.Core.Path.{refl, sym}
 use mathlib.Core.List.{[]}
 use Prim.Native.Nat.{ℕ, _<_, _+_, _-_, _/_, _%_}
@@ -6,14 +6,14 @@ use native.Mathlib.Omega.{arith}
 use lib.ListN.{length-set, length-append}
 use Rattle.stages.specs.Units.{digits}
 use Rattle.stages.specs.Call.{over}
-use Rattle.text_decimal.proofs.Writing.{digits-none, digits-one, digits-more, put-last}
+use Rattle.arith_decimal.proofs.Writing.{digits-none, digits-one, digits-more, put-last}
 use borrow.Fn.Kinds.{In}
 use borrow.Fn.PlainCycle.{Measures, is, falls, and}
-use Rattle.text_decimal.proofs.put_digits.Reads as put-digits
-use Rattle.text_decimal.proofs.put_digits.Kinds as put-digits-kinds
-use Rattle.text_decimal.proofs.+put_digits.Lts-put_digits as put-digits-lts
-use Rattle.text_decimal.proofs.+put_digits.{statement}
-use Rattle.text_decimal.proofs.+put_digits.Tie.{close}
+use Rattle.arith_decimal.proofs.put_digits.Reads as put-digits
+use Rattle.arith_decimal.proofs.put_digits.Kinds as put-digits-kinds
+use Rattle.arith_decimal.proofs.+put_digits.Lts-put_digits as put-digits-lts
+use Rattle.arith_decimal.proofs.+put_digits.{statement}
+use Rattle.arith_decimal.proofs.+put_digits.Tie.{close}
 
 abbrev μ-put-digits : Measures 1 put-digits-kinds.ps ℕ
 μ-put-digits κs a = a .1 .1 .0
