@@ -32,7 +32,7 @@ use Rattle.table_store.proofs.StoredImages.{store-by}
 use Rattle.table_insert.specs.Added.{Column, hasText, withText, Adding, twice, full, holds, addingBy, adding, answerOf, leftOf, Adds}
 use Rattle.table_insert.specs.declared.Added.{Added}
 use Rattle.table_insert.specs.declared.Added.the-variants as added
-use Rattle.tab_escape.specs.Escapes.{Reading, bad, good, readText, Reads, reads, fails, upTo}
+use Rattle.tab_escape.specs.Escapes.{Reading, good, readText, Reads, reads, fails, upTo}
 use Rattle.tab_enter.specs.Records.{alone, recordsBy, limitBy, TableBy}
 use Rattle.tab_enter.specs.Entries.{Entry, entry, valued, pairOf, pathOf, entryOf, Step, stop, go, enteredBy, entered, Enters, takes, stops}
 use Rattle.tab_escape.specs.declared.Fault.{Fault}

@@ -1,20 +1,19 @@
 -- What a byte, a text and the lines of a table are when shown, piece by piece, and how long. The byte 10 is a newline, 92 a backslash.
-use Prim.Native.Nat.{ℕ, suc, _+_, _-_, _*_, _/_, _%_, _≤_, _<_}
+use Prim.Native.Nat.{ℕ, _+_, _-_, _*_, _/_, _%_, _≤_, _<_}
 use native.Mathlib.Omega.{arith}
 use native.Mathlib.Numerals.{add-one}
-use mathlib.Core.Path.{_≡_, refl, sym, ap, _∙_}
-use mathlib.Core.Bool.{Bool, true, false, _&&_, not}
-use mathlib.Core.List.{List, [], _∷_, _++_, append-assoc}
+use mathlib.Core.Path.{_≡_, refl, ap}
+use mathlib.Core.Bool.{Bool, true, false, not}
+use mathlib.Core.List.{List, [], _∷_, _++_}
 use mathlib.Core.Option.{Option, none, some}
-use lib.Dec.{eqb, ltb, leb}
-use lib.ListN.{length, take, drop, getD, set, length-append, length-drop, drop-of-length-le}
+use lib.Dec.{eqb}
+use lib.ListN.{length, drop, getD, set, length-append, drop-of-length-le}
 use lib.Seq.{drop-cons}
 use borrow.Author.Tests.{eq-eqb, ne-eqb, lt-ltb, le-ltb, lt-leb, le-leb}
 use borrow.Rule.Slice.PartMut.{putMid, midOf}
-use Rattle.stages.specs.Bytes.{Text, text, between, part}
+use Rattle.stages.specs.Bytes.{Text, text, part}
 use Rattle.stages.specs.Images.{heldTexts, texts, recordBytes}
 use Rattle.stages.proofs.Bools.{either}
-use Rattle.stages.proofs.Images.{texts-length}
 use Rattle.table.proofs.Pieces.{Next, ahead-first}
 use Rattle.table.proofs.Writing.{Writing as Walk, Facing}
 use Rattle.text.specs.Putting.{Puts}

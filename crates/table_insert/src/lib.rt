@@ -1,7 +1,4 @@
 // A path into an image of paths: one walk finds its place, what stands behind moves up, and its record is written.
-ghost use mathlib.Core.Path.{_≡_};
-ghost use mathlib.Core.Bool.{true};
-ghost use mathlib.Core.Option.{some};
 ghost use Prim.Native.Nat.{_≤_};
 ghost use lib.ListN.{length, take};
 ghost use Rattle.stages.specs.Numbers.{pathsLimit};

@@ -1,10 +1,9 @@
 -- The contracts determine every answer and every byte: two outcomes that a contract allows for one input are equal.
 use Prim.Native.Nat.{ℕ}
-use native.Mathlib.Omega.{arith}
 use mathlib.Core.Path.{_≡_, refl, sym, ap, _∙_}
 use lib.ListN.{length, take}
 use Rattle.stages.specs.Bytes.{Text}
-use Rattle.stages.specs.Outcome.{Outcome, refused, done}
+use Rattle.stages.specs.Outcome.{Outcome}
 use Rattle.stages.specs.Images.{held}
 use Rattle.stages.proofs.Outcomes.{done-same, never}
 use Rattle.table_store.specs.Answers.{putOutcome, storedOutcome, recordIn, imageIn, Writes}

@@ -1,7 +1,7 @@
 // Writing into images: a text's record at the front of a lent area, and a variable stored in place by one splice.
 ghost use mathlib.Core.Path.{_≡_};
 ghost use mathlib.Core.List.{_++_};
-ghost use Prim.Native.Nat.{ℕ, _+_, _≤_};
+ghost use Prim.Native.Nat.{_+_, _≤_};
 ghost use lib.ListN.{length, take};
 ghost use Rattle.stages.specs.Numbers.{imageLimit};
 ghost use Rattle.stages.specs.Images.{framed, held};
