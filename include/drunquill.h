@@ -73,11 +73,11 @@ enum {
 
 /* What the expander and the normaliser answer. */
 struct drunquill_answer {
-    uint8_t number;  /* one of the numbers above */
-    size_t place;    /* where in the line: the offset of the first byte of the word at fault, or of the operator itself if no word is open.
-                        0 on acceptance, for numbers 1 to 6, and for 21 from the normaliser's quoting */
-    size_t out_len;  /* bytes written to the front of `out`; 0 on a refusal */
-    size_t used_len; /* the variables' used length now: that of the new image, or on a refusal `used` as it was given */
+    uint8_t number;   /* one of the numbers above */
+    size_t place;     /* where in the line: the offset of the first byte of the word at fault, or of the operator itself if no word is open.
+                         0 on acceptance, for numbers 1 to 6, and for 21 from the normaliser's quoting */
+    size_t out_len;   /* bytes written to the front of `out`; 0 on a refusal */
+    size_t vars_used; /* the variables' used length now: that of the new image, or on a refusal `vars_used` as it was given */
 };
 
 /* What the quoter answers. Its place is always 0. */
@@ -89,7 +89,7 @@ struct drunquill_quote_answer {
 
 /* The expander: the fields of the line's words, an image, to `out`.
  *
- *  vars, used   the variables: an image in the first `used` of `vars_len` bytes. ${name=word} stores into it. The buffer may be longer than
+ *  vars         the variables: an image in the first `vars_used` of `vars_len` bytes. ${name=word} stores into it. The buffer may be longer than
  *               DRUNQUILL_IMAGE_MAX, the image may not.
  *  homes        whose directory ~login gives; ~ alone gives the variable HOME
  *  paths        what patterns are matched against: the function looks at no file
@@ -99,14 +99,14 @@ struct drunquill_quote_answer {
  * On acceptance the bytes of `vars` and `out` behind the new images are unchanged. On a refusal every byte of both is. Faults are met in this order:
  * numbers 1 to 6 as they are numbered; then the whole line is read; then its words are expanded from left to right; the first fault is answered.
  */
-struct drunquill_answer drunquill_expand(const uint8_t *line, size_t line_len, uint8_t *vars, size_t vars_len, size_t used, const uint8_t *homes,
+struct drunquill_answer drunquill_expand(const uint8_t *line, size_t line_len, uint8_t *vars, size_t vars_len, size_t vars_used, const uint8_t *homes,
                                          size_t homes_len, const uint8_t *paths, size_t paths_len, uint8_t *work, size_t work_len, uint8_t *out,
                                          size_t out_len);
 
 /* The normaliser: as the expander, but the fields go to `out` as a quoted line (see the quoter), of at most DRUNQUILL_LINE_MAX bytes. If the quoted line
  * has no room the number is 21 at place 0 and the variables are as before, too. A line without fields needs no byte of `out`.
  */
-struct drunquill_answer drunquill_normalise(const uint8_t *line, size_t line_len, uint8_t *vars, size_t vars_len, size_t used, const uint8_t *homes,
+struct drunquill_answer drunquill_normalise(const uint8_t *line, size_t line_len, uint8_t *vars, size_t vars_len, size_t vars_used, const uint8_t *homes,
                                             size_t homes_len, const uint8_t *paths, size_t paths_len, uint8_t *work, size_t work_len, uint8_t *out,
                                             size_t out_len);
 

@@ -57,7 +57,7 @@ static void call(const char *name, job *f, unsigned number, size_t place) {
     }
     if (a.place != place) fail(name, "place");
     if (a.out_len != want_out.len) fail(name, "output length");
-    if (a.used_len != (number == 0 && want_vars.len ? want_vars.len : used)) fail(name, "used length");
+    if (a.vars_used != (number == 0 && want_vars.len ? want_vars.len : used)) fail(name, "used length");
     compare_buffers(name);
     count++;
 }

@@ -99,6 +99,6 @@ pub fn quote<'o>(fields: &[u8], out: &'o mut [u8]) -> Result<&'o [u8], Refusal> 
 
 fn given<'o>(answer: archive::Answer, variables: &mut Variables, out: &'o [u8]) -> Result<&'o [u8], Refusal> {
     Refusal::unless_accepted(answer.number, answer.place)?;
-    variables.used = answer.used_len;
+    variables.used = answer.vars_used;
     Ok(&out[..answer.out_len])
 }

@@ -13,9 +13,10 @@ use Rattle.stages.specs.Images.{Pairs}
 use Rattle.stages.specs.Arith.{Lexed, level, Tree, binary, Grown, operand, further, expression, furtherAt, growStep, grow, apply, withVariables}
 use Rattle.stages.proofs.Bools.{no}
 use Rattle.stages.proofs.Arith.{grow-eq}
+use Rattle.text.specs.Places.{Behind}
 use Rattle.arith_int.specs.Answers.{opOf}
 use Rattle.arith_int.specs.declared.Op.{Op}
-use Rattle.arith_token.specs.Tokens.{levelOf, lexed, Behind, TokenAt}
+use Rattle.arith_token.specs.Tokens.{levelOf, lexed, TokenAt}
 use Rattle.arith_eval.specs.Climbs.{turning, Joins, Fails, Comes, Says, Worth, Continues, Turns}
 use Rattle.arith_token.specs.declared.Token.{Token}
 use Rattle.arith_token.specs.declared.Token.the-variants as code

@@ -16,7 +16,7 @@ use Rattle.arith_int.specs.Answers.{opOf}
 use Rattle.arith_int.specs.declared.Op.{Op}
 use Rattle.arith_int.specs.declared.Number.{Number}
 use Rattle.arith_int.specs.declared.Number.the-variants as number
-use Rattle.arith_token.specs.Tokens.{Behind}
+use Rattle.text.specs.Places.{Behind}
 use Rattle.arith_eval.specs.declared.climb.Climbed.{Climbed}
 use Rattle.arith_eval.specs.declared.climb.Climbed.the-variants as climbed
 use Rattle.arith_eval.specs.declared.climb.Turn.{Turn}

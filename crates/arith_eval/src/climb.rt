@@ -14,6 +14,9 @@ use arith_token::level;
 use arith_token::token_at;
 use text::numbers;
 
+// "More than 32 open parentheses and unary signs, together, is 12."
+const TOO_DEEP: u8 = numbers::REFUSED_DEPTH;
+
 // A value and the place behind its text.
 pub enum Climbed {
     Refused(u8),
@@ -130,13 +133,13 @@ fn signed(text: &[u8], at: usize, op: Op, room: usize, counts: bool, vars: &[u8]
     match op {
         Op::Add => {
             if room == 0 {
-                return Climbed::Refused(numbers::REFUSED_DEPTH);
+                return Climbed::Refused(TOO_DEEP);
             }
             operand(text, at, room - 1, counts, vars)
         }
         Op::Sub => {
             if room == 0 {
-                return Climbed::Refused(numbers::REFUSED_DEPTH);
+                return Climbed::Refused(TOO_DEEP);
             }
             let got = operand(text, at, room - 1, counts, vars);
             match got {
@@ -162,7 +165,7 @@ fn enclosed(text: &[u8], at: usize, room: usize, counts: bool, vars: &[u8]) -> C
     ensures { λ r. ⌜ Says (now (text .entry)) at (held (now (vars .entry))) counts (enclosedIn grow room (drop at (now (text .entry)))) r ⌝ }
 {
     if room == 0 {
-        return Climbed::Refused(numbers::REFUSED_DEPTH);
+        return Climbed::Refused(TOO_DEEP);
     }
     let got = expression(text, at, room - 1, 1, counts, vars);
     match got {

@@ -1,5 +1,5 @@
 -- The operations' laws: a result that fits is given, one that does not is refused, and each guard tells the two apart.
-use mathlib.Core.Path.{_≡_, refl, sym, _∙_, ap}
+use mathlib.Core.Path.{_≡_, refl, sym, _∙_, ap, subst}
 use mathlib.Core.Bool.{Bool, true, false, not}
 use Prim.Native.Nat.{ℕ, zero, suc, _+_, _-_, _*_, _/_, _≤_, _<_, _^_}
 use native.Mathlib.Omega.{arith}
@@ -19,7 +19,8 @@ use Rattle.stages.specs.Numbers as numbers
 use Rattle.stages.specs.Outcome.{refused, done}
 use Rattle.stages.specs.Constants.{fits, ranged}
 use Rattle.stages.specs.Arith.{divided, isZero, eqZ}
-use Rattle.arith_int.specs.Answers.{ofSign}
+use Rattle.arith_int.specs.Answers.{ofSign, Divides}
+use Rattle.arith_int.specs.declared.Division.{Division}
 
 antisym : {a b : ℕ} → a ≤ b → b ≤ a → a ≡ b
 antisym h k = omega arith
@@ -90,6 +91,11 @@ by-zero f a b e = rw e
 pub least-divided : (f : ℤ → ℤ → ℤ) (a b : ℤ) → b ≡ negsuc 0 → a ≡ least → refused numbers.overflow ≡ divided f a b
 unfolding divided fits
 least-divided f a b e h = rw (e, h)
+
+-- what was said of the numbers that the code holds, by a case of the answer
+pub divides-shown : {a b : ℤ} {r s : Division} → SFits w64 a → SFits w64 b → Divides (toZ w64 (ofZ w64 a)) (toZ w64 (ofZ w64 b)) r → r ≡ s
+    → Divides a b s
+divides-shown {a} {b} h k d e = subst (Divides a b) e (rw (held a h, held b k) at d)
 
 pub some-bits : (z : ℤ) → SFits w64 z → (ofZ w64 z ≡ 0 → ⊥) → 0 < ofZ w64 z
 some-bits z h n = omega arith
@@ -168,9 +174,6 @@ module _ (a b : ℤ) (ha : SFits w64 a) (hb : SFits w64 b) where
     }
 
 -- below zero, or not
-no-flag : true ≡ false → ⊥
-no-flag e = let z : _≡_ {A = ℕ} 0 1 = cc in omega arith
-
 below-zero : (n : ℕ) → ltb n 0 ≡ true → ⊥
 below-zero n e = let l = ltb-true n 0 e in omega arith
 
@@ -187,7 +190,7 @@ abs-below (negsuc n) e = omega arith
 
 pub not-below : (a : ℤ) → ltZ a (pos 0) ≡ false → T (nonNeg a)
 not-below (pos n) e = tt
-not-below (negsuc n) e = absurd (no-flag e)
+not-below (negsuc n) e = absurd (no (sym e))
 
 -- -1 - m, the number below zero of magnitude m + 1
 pub mirrored : (m : ℕ) → negsuc 0 -ℤ pos m ≡ negsuc m
@@ -205,15 +208,15 @@ differ false t = t
 
 pub signs : (a b : ℤ) (s t : Bool) → ltZ a (pos 0) ≡ s → ltZ b (pos 0) ≡ t → ofSign (differ s t) (natAbs a * natAbs b) ≡ a *ℤ b
 signs (pos a) b true t e f = absurd (below-zero a e)
-signs (negsuc a) b false t e f = absurd (no-flag e)
+signs (negsuc a) b false t e f = absurd (no (sym e))
 signs (pos a) (pos b) false true e f = absurd (below-zero b f)
 signs (pos a) (pos b) false false e f = refl
 signs (pos a) (negsuc b) false true e f = refl
-signs (pos a) (negsuc b) false false e f = absurd (no-flag f)
+signs (pos a) (negsuc b) false false e f = absurd (no (sym f))
 signs (negsuc a) (pos b) true true e f = absurd (below-zero b f)
 signs (negsuc a) (pos b) true false e f = refl
 signs (negsuc a) (negsuc b) true true e f = refl
-signs (negsuc a) (negsuc b) true false e f = absurd (no-flag f)
+signs (negsuc a) (negsuc b) true false e f = absurd (no (sym f))
 
 pub sign-mag : (s : Bool) (m : ℕ) → 2 ^ 63 < m → 2 ^ 63 ≤ mag (ofSign s m)
 sign-mag true zero h = omega arith
@@ -244,7 +247,7 @@ sub-least (negsuc n) h e = record { sfits = let f = h .sfits in rw (le-ltb 92233
 
 pub over-least : (a : ℤ) → ltZ a (pos 0) ≡ false → refused numbers.overflow ≡ ranged (a -ℤ least)
 over-least (pos n) e = overflow (pos n -ℤ least) (omega arith)
-over-least (negsuc n) e = absurd (no-flag e)
+over-least (negsuc n) e = absurd (no (sym e))
 
 pub of-zero : (s : Bool) (m : ℕ) → m ≡ 0 → done (pos 0) ≡ ranged (ofSign s m)
 of-zero s m e = rw e (zero-signed s)

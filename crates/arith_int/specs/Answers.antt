@@ -1,18 +1,29 @@
 -- What the answers of this crate say in document 01's terms: the number that a case refuses with, or the value that it gives.
 use Prim.Native.Nat.{ℕ}
+use mathlib.Core.Path.{_≡_}
 use mathlib.Core.Bool.{Bool, true, false}
 use lib.IntN.{ℤ, pos}
+use lib.Signed.{quotZ}
+use mir.Syntax.{w64}
+use mir.Val.{SFits}
 use Rattle.stages.specs.Outcome.{Outcome, refused, done}
 use Rattle.stages.specs.Constants.{minusOf}
 use Rattle.stages.specs.Arith as arith
 use Rattle.arith_int.specs.declared.Number.{Number}
 use Rattle.arith_int.specs.declared.Number.the-variants as number
+use Rattle.arith_int.specs.declared.Division.{Division}
+use Rattle.arith_int.specs.declared.Division.the-variants as division
 use Rattle.arith_int.specs.declared.Op.{Op}
 use Rattle.arith_int.specs.declared.Op.the-variants.{Mul, Div, Rem, Add, Sub, Lt, Le, Gt, Ge, Eq, Ne}
 
 abbrev pub numbered : Number → Outcome ℤ
 numbered (number.Value z) = done z
 numbered (number.Refused e) = refused e
+
+-- what is known of two numbers to divide, whichever of the two answers is asked for
+abbrev pub Divides : ℤ → ℤ → Division → Type 0
+Divides a b division.Fits = (b ≡ pos 0 → ⊥) × SFits w64 (quotZ a b)
+Divides a b (division.Refused e) = (f : ℤ → ℤ → ℤ) → refused e ≡ arith.divided f a b
 
 -- the number at this distance from zero, below it or not
 abbrev pub ofSign : Bool → ℕ → ℤ

@@ -6,7 +6,7 @@ ghost use lib.Signed.{quotZ, remZ};
 ghost use Rattle.stages.specs.Outcome.{done};
 ghost use Rattle.stages.specs.Constants.{ranged};
 ghost use Rattle.stages.specs.Arith.{divided, apply, truth as truthOf};
-ghost use Rattle.arith_int.specs.Answers.{numbered, opOf, ofSign};
+ghost use Rattle.arith_int.specs.Answers.{numbered, opOf, ofSign, Divides};
 use text::numbers;
 
 const SMALLEST: i64 = -9223372036854775808;
@@ -20,6 +20,12 @@ const ABOVE: u64 = 9223372036854775807;
 // A number, or the refusal of its working out.
 pub enum Number {
     Value(i64),
+    Refused(u8),
+}
+
+// Two numbers to divide: quotient and remainder fit, or neither is given.
+enum Division {
+    Fits,
     Refused(u8),
 }
 
@@ -76,34 +82,39 @@ fn difference(a: i64, b: i64) -> Number
     sum(a, -b)
 }
 
+// Whether two numbers can be divided: "by zero 18"; "17, as is the smallest number `/` or `%` -1".
+fn can_divide(a: i64, b: i64) -> Division
+    ensures { λ r. ⌜ Divides a b r ⌝ }
+{
+    if b == 0 {
+        return Division::Refused(numbers::REFUSED_ZERO_DIVISOR);
+    }
+    if b == -1 {
+        if a == SMALLEST {
+            return Division::Refused(numbers::REFUSED_OVERFLOW);
+        }
+    }
+    Division::Fits
+}
+
 // a / b, cut toward zero.
 fn quotient(a: i64, b: i64) -> Number
     ensures { λ r. ⌜ numbered r ≡ divided quotZ a b ⌝ }
 {
-    if b == 0 {
-        return Number::Refused(numbers::REFUSED_ZERO_DIVISOR);
+    match can_divide(a, b) {
+        Division::Refused(e) => Number::Refused(e),
+        Division::Fits => Number::Value(a / b),
     }
-    if b == -1 {
-        if a == SMALLEST {
-            return Number::Refused(numbers::REFUSED_OVERFLOW);
-        }
-    }
-    Number::Value(a / b)
 }
 
 // a % b, with the sign of a; refused where the quotient is.
 fn remainder(a: i64, b: i64) -> Number
     ensures { λ r. ⌜ numbered r ≡ divided remZ a b ⌝ }
 {
-    if b == 0 {
-        return Number::Refused(numbers::REFUSED_ZERO_DIVISOR);
+    match can_divide(a, b) {
+        Division::Refused(e) => Number::Refused(e),
+        Division::Fits => Number::Value(a % b),
     }
-    if b == -1 {
-        if a == SMALLEST {
-            return Number::Refused(numbers::REFUSED_OVERFLOW);
-        }
-    }
-    Number::Value(a % b)
 }
 
 // The distance of a from zero.

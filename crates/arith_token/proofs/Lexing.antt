@@ -26,7 +26,8 @@ use Rattle.arith_int.specs.Answers.{opOf}
 use Rattle.arith_int.specs.declared.Op.{Op}
 use Rattle.arith_int.specs.declared.Op.the-variants.{Mul, Div, Rem, Add, Sub, Lt, Le, Gt, Ge, Eq, Ne}
 use Rattle.arith_int.specs.declared.Number.{Number}
-use Rattle.arith_token.specs.Tokens.{levelOf, lexed, Behind, Ends, TokenAt, Pairs, Symbol}
+use Rattle.text.specs.Places.{Behind}
+use Rattle.arith_token.specs.Tokens.{levelOf, lexed, Ends, TokenAt, Pairs, Symbol}
 use Rattle.arith_token.specs.declared.Token.{Token}
 use Rattle.arith_token.specs.declared.Token.the-variants as code
 

@@ -7,6 +7,7 @@ use lib.ListN.{length, getD, drop}
 use Rattle.stages.specs.Bytes.{Text, part, isBlank, isDigit, isNameStart}
 use Rattle.stages.specs.Outcome.{refused, done}
 use Rattle.stages.specs.Arith.{Lexed, textEnd, num, name, op, opens, shuts, token, paired}
+use Rattle.text.specs.Places.{Behind}
 use Rattle.arith_int.specs.Answers.{opOf}
 use Rattle.arith_int.specs.declared.Op.{Op}
 use Rattle.arith_int.specs.declared.Op.the-variants.{Mul, Div, Rem, Add, Sub, Lt, Le, Gt, Ge, Eq, Ne}
@@ -36,11 +37,6 @@ lexed text (code.Name from to) = done (name (part text from to), drop to text)
 lexed text (code.Op o next) = done (op (opOf o), drop next text)
 lexed text (code.Opens next) = done (opens, drop next text)
 lexed text (code.Shuts next) = done (shuts, drop next text)
-
--- a place behind another, in the text
-pub record Behind (text : Text) (at next : ℕ) : Type 0 where
-  pub onward : at < next
-  pub within : next ≤ length text
 
 -- the places of a name
 pub record Named (text : Text) (at from to : ℕ) : Type 0 where

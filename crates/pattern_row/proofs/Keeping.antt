@@ -14,9 +14,9 @@ use Rattle.stages.specs.Bytes.{Text}
 use Rattle.stages.specs.Units.{L, E, Q, cell, N, Row}
 use Rattle.stages.specs.Pattern.{signs, hasClass, elements, Purpose, isForPaths, pattern}
 use Rattle.text.proofs.Rows.{rowOf-rowBytes}
-use Rattle.text.specs.Rows.{rowBytes, rowOf, unitOf, signsOf}
+use Rattle.text.specs.Rows.{isMark, rowBytes, rowOf, unitOf, signsOf}
 use Rattle.pattern_set.proofs.Units.{two-on}
-use Rattle.pattern_row.specs.Kept.{isMark, withoutEmpty, kept, Dropped}
+use Rattle.pattern_row.specs.Kept.{withoutEmpty, kept, Dropped}
 
 -- the first unit of a row stays if its mark is that of a byte
 kept-first : (b m : ℕ) (t : Text) → kept (b ∷ m ∷ t) ≡ pick (isMark m) (b ∷ m ∷ kept t) (kept t)

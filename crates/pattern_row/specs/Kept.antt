@@ -1,17 +1,11 @@
 -- A row without its N units: what the first pass over a pattern leaves.
 use Prim.Native.Nat.{ℕ}
 use mathlib.Core.Path.{_≡_}
-use mathlib.Core.Bool.{Bool, _||_}
 use mathlib.Core.List.{[], _∷_, _++_}
-use lib.Dec.{eqb}
 use lib.ListN.{length, drop}
 use Rattle.stages.specs.Bytes.{Text}
 use Rattle.stages.specs.Units.{cell, N, Row}
 use Rattle.text.specs.Rows.{rowBytes, rowOf}
-
--- the mark of a unit that is a byte
-abbrev pub isMark : ℕ → Bool
-isMark m = eqb m 1 || (eqb m 2 || eqb m 3)
 
 -- "N vanishes"
 unfoldable pub withoutEmpty : Row → Row

@@ -8,20 +8,7 @@ ghost use Rattle.stages.specs.Paths.{active};
 ghost use Rattle.text.specs.Rows.{signsOf};
 ghost use Rattle.pattern_element.specs.Pieces.{isClassPiece};
 ghost use Rattle.pattern_row.specs.Special.{isSpecial};
-ghost use Rattle.pattern_row.specs.Kept.{isMark, Dropped};
-
-// The mark is that of a byte.
-fn is_mark(m: u8) -> bool
-    ensures { λ r. ⌜ r ≡ isMark m ⌝ }
-{
-    if m == marks::LITERAL {
-        return true;
-    }
-    if m == marks::EXPANDED {
-        return true;
-    }
-    m == marks::QUOTED
-}
+ghost use Rattle.pattern_row.specs.Kept.{Dropped};
 
 // "N vanishes": the units that are bytes move to the front, in order. The answer is how many bytes they take; all behind these stay.
 pub fn drop_empty(row: &mut [u8]) -> usize
@@ -33,7 +20,7 @@ pub fn drop_empty(row: &mut [u8]) -> usize
         let b = row[at];
         let m = row[at + 1];
         at += 2;
-        if !is_mark(m) {
+        if !marks::is_mark(m) {
             continue;
         }
         row[to] = b;

@@ -1,11 +1,10 @@
 -- The contracts determine every answer and every byte: two outcomes that a contract allows for one input are equal.
 use Prim.Native.Nat.{ℕ}
 use mathlib.Core.Path.{_≡_, refl, _∙_, sym}
-use mathlib.Core.List.{_∷_, []}
 use Rattle.stages.specs.Bytes.{Text}
 use Rattle.stages.specs.Syntax.{Escape}
 use Rattle.stages.specs.Units as units
-use Rattle.text.specs.Rows.{markByte, rowBytes}
+use Rattle.text.specs.Rows.{rowBytes}
 use Rattle.text.proofs.Determined.{one-answer}
 use Rattle.row.specs.Marks.{markOf}
 use Rattle.row.specs.Stands.{fronted, Stripped}
@@ -26,9 +25,6 @@ back-of Q = refl
 
 one-mark : {m : units.Mark} (r s : Mark) → markOf r ≡ m → markOf s ≡ m → r ≡ s
 one-mark r s p q = sym (back-of r) ∙ rw (p, ← q) (back-of s)
-
-pub mark-byte-determined : (m : Mark) (r s : ℕ) → r ≡ markByte (markOf m) → s ≡ markByte (markOf m) → r ≡ s
-mark-byte-determined m r s = one-answer
 
 pub expanded-mark-determined : (m r s : Mark) → markOf r ≡ units.expandedMark (markOf m) → markOf s ≡ units.expandedMark (markOf m) → r ≡ s
 expanded-mark-determined m r s = one-mark r s

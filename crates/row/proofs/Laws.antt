@@ -3,16 +3,17 @@ use Prim.Native.Nat.{ℕ, zero, suc, _+_, _-_, _*_, _≤_, _<_}
 use native.Mathlib.Omega.{arith}
 use native.Mathlib.Nat.{not-suc-le-zero}
 use mathlib.Core.Path.{_≡_, refl, sym, ap, _∙_}
-use mathlib.Core.Bool.{Bool, true, false}
-use mathlib.Core.List.{List, [], _∷_, _++_, append-assoc, append-nil}
-use lib.Dec.{eqb, leb}
-use lib.ListN.{length, take, drop, getD, set, length-append, length-drop, length-set}
+use mathlib.Core.Bool.{Bool, true, false, _||_}
+use mathlib.Core.List.{[], _∷_, _++_, append-assoc, append-nil}
+use lib.Dec.{eqb}
+use lib.ListN.{length, take, drop, getD, set, length-append, length-drop}
 use lib.Seq.{drop-cons}
-use borrow.Author.Tests.{eqb-true, eq-eqb, ne-eqb, leb-true, leb-false, le-leb, lt-leb}
-use Rattle.stages.specs.Bytes.{Text, between}
-use Rattle.stages.specs.Units.{Mark, L, E, Q, Cell, cell, N, Row, marked, bytes}
-use Rattle.text.specs.Rows.{markByte, rowBytes, rowOf, unitOf}
-use Rattle.row.specs.Stands.{fronted, isMark, Stripped}
+use Rattle.stages.specs.Bytes.{Text}
+use Rattle.stages.specs.Outcome.{pick}
+use Rattle.stages.specs.Units.{Mark, L, E, Q, cell, N, Row, marked, bytes}
+use Rattle.stages.proofs.Bools.{no}
+use Rattle.text.specs.Rows.{markByte, isMark, rowBytes, rowOf, unitOf}
+use Rattle.row.specs.Stands.{fronted, Stripped}
 
 -- two stores at the front
 pub two : (s : Text) (x y : ℕ) → 2 ≤ length s → set (set s 0 x) 1 y ≡ x ∷ y ∷ drop 2 s
@@ -68,31 +69,26 @@ get-front (a ∷ t) (x ∷ s) (suc i) k l = get-front t s i (omega arith) (omega
 front-length : (t s : Text) → length t ≤ length s → length (fronted t s) ≡ length s
 front-length t s l = simp (length-append, length-drop) (omega arith)
 
--- no byte above the marks is one
-beyond : (m : ℕ) → isMark (suc (suc (suc (suc m)))) ≡ true → ⊥
-beyond m e =
-    let f : _≡_ {A = Bool} false true = rw (le-leb 1 (suc (suc (suc (suc m)))) (omega arith), lt-leb (suc (suc (suc (suc m)))) 3 (omega arith)) at e in
-    let z : _≡_ {A = ℕ} 0 1 = cc in
-    omega arith
-
 -- what a unit adds to the bytes of its row
 unit-bytes : (b m : ℕ) (r : Row) → isMark m ≡ true → bytes (unitOf b m ∷ r) ≡ b ∷ bytes r
 unfolding bytes unitOf
-unit-bytes b zero r e = absurd (let z : _≡_ {A = ℕ} 0 1 = cc in omega arith)
-unit-bytes b (suc zero) r e = refl
-unit-bytes b (suc (suc zero)) r e = refl
-unit-bytes b (suc (suc (suc zero))) r e = refl
-unit-bytes b (suc (suc (suc (suc m)))) r e = absurd (beyond m e)
+unit-bytes b m r e = go (eqb m 1) (eqb m 2) (eqb m 3) e
+  where
+    go : (x y z : Bool) → (x || (y || z)) ≡ true → bytes (pick x (cell L b) (pick y (cell E b) (pick z (cell Q b) N)) ∷ r) ≡ b ∷ bytes r
+    go true y z e = refl
+    go false true z e = refl
+    go false false true e = refl
+    go false false false e = absurd (no e)
 
 empty-bytes : (b m : ℕ) (r : Row) → isMark m ≡ false → bytes (unitOf b m ∷ r) ≡ bytes r
 unfolding bytes unitOf
-empty-bytes b zero r e = refl
-empty-bytes b (suc zero) r e = absurd (let z : _≡_ {A = ℕ} 0 1 = cc in omega arith)
-empty-bytes b (suc (suc zero)) r e = absurd (let z : _≡_ {A = ℕ} 0 1 = cc in omega arith)
-empty-bytes b (suc (suc (suc zero))) r e = absurd (let z : _≡_ {A = ℕ} 0 1 = cc in omega arith)
-empty-bytes b (suc (suc (suc (suc m)))) r e =
-    let n : ℕ = suc (suc (suc (suc m))) in
-    rw (ne-eqb n 1 (λ q. omega arith), ne-eqb n 2 (λ q. omega arith), ne-eqb n 3 (λ q. omega arith))
+empty-bytes b m r e = go (eqb m 1) (eqb m 2) (eqb m 3) e
+  where
+    go : (x y z : Bool) → (x || (y || z)) ≡ false → bytes (pick x (cell L b) (pick y (cell E b) (pick z (cell Q b) N)) ∷ r) ≡ bytes r
+    go true y z e = absurd (no (sym e))
+    go false true z e = absurd (no (sym e))
+    go false false true e = absurd (no (sym e))
+    go false false false e = refl
 
 -- the walk: `kept` bytes stand at the front of the row, and i bytes of it are passed
 pub record Stripping (row₀ row : Text) (kept i : ℕ) : Type 0 where

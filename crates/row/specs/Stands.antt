@@ -1,10 +1,9 @@
 -- Rows at the front of lent bytes.
 use Prim.Native.Nat.{ℕ}
 use mathlib.Core.Path.{_≡_}
-use mathlib.Core.Bool.{Bool}
-use mathlib.Core.List.{List, _++_}
+use mathlib.Core.List.{_++_}
 use lib.ListN.{length, drop}
-use Rattle.stages.specs.Bytes.{Text, between}
+use Rattle.stages.specs.Bytes.{Text}
 use Rattle.stages.specs.Units.{Row, bytes}
 use Rattle.text.specs.Rows.{rowBytes, rowOf}
 
@@ -16,10 +15,6 @@ pub record Stands (row : Row) (area : Text) : Type 0 where
 -- a text stands at the front of what was there before
 abbrev pub fronted : Text → Text → Text
 fronted t area = t ++ drop (length t) area
-
--- a byte that stands for a mark
-abbrev pub isMark : ℕ → Bool
-isMark b = between 1 b 3
 
 -- the bytes of a row without marks are left at its front, and counted
 pub record Stripped (row left : Text) (count : ℕ) : Type 0 where

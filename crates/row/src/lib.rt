@@ -7,7 +7,8 @@ ghost use Rattle.stages.specs.Units.{cell, N, marked, bytes, expandedMark, litM
 ghost use Rattle.text.specs.Cases.{escapeOf};
 ghost use Rattle.text.specs.Rows.{markByte, rowBytes};
 ghost use Rattle.row.specs.Marks.{markOf};
-ghost use Rattle.row.specs.Stands.{fronted, isMark, Stripped};
+ghost use Rattle.row.specs.Stands.{fronted, Stripped};
+use text::marks;
 
 // How a unit came to be: a literal byte, one from an expansion in bare text, a quoted one.
 pub enum Mark {
@@ -23,13 +24,13 @@ pub struct RowEnd {
 }
 
 // The byte that stands for a mark.
-pub fn mark_byte(mark: Mark) -> u8
+fn mark_byte(mark: Mark) -> u8
     ensures { λ r. ⌜ r ≡ markByte (markOf mark) ⌝ }
 {
     match mark {
-        Mark::L => 1,
-        Mark::E => 2,
-        Mark::Q => 3,
+        Mark::L => marks::LITERAL,
+        Mark::E => marks::EXPANDED,
+        Mark::Q => marks::QUOTED,
     }
 }
 
@@ -75,11 +76,11 @@ pub fn put_marked(text: &[u8], mark: Mark, area: &mut [u8])
     ensures { λ _. ⌜ now (area .exit) ≡ fronted (rowBytes (marked (markOf mark) (now (text .entry)))) (now (area .entry)) ⌝ }
 {
     let m = mark_byte(mark);
-    let mut i = 0;
-    while i < text.len() {
-        area[2 * i] = text[i];
-        area[2 * i + 1] = m;
-        i += 1;
+    let mut at = 0;
+    while at < text.len() {
+        area[2 * at] = text[at];
+        area[2 * at + 1] = m;
+        at += 1;
     }
 }
 
@@ -88,24 +89,14 @@ pub fn strip_marks(row: &mut [u8]) -> usize
     ensures { λ r. ⌜ Stripped (now (row .entry)) (now (row .exit)) r ⌝ }
 {
     let mut kept = 0;
-    let mut i = 0;
-    while row.len() - i > 1 {
-        let mark = row[i + 1];
-        if is_mark(mark) {
-            row[kept] = row[i];
+    let mut at = 0;
+    while row.len() - at > 1 {
+        let mark = row[at + 1];
+        if marks::is_mark(mark) {
+            row[kept] = row[at];
             kept += 1;
         }
-        i += 2;
+        at += 2;
     }
     kept
-}
-
-// Whether a byte stands for a mark.
-fn is_mark(b: u8) -> bool
-    ensures { λ r. ⌜ r ≡ isMark b ⌝ }
-{
-    if b == 0 {
-        return false;
-    }
-    b < 4
 }

@@ -14,7 +14,7 @@ use Rattle.stages.specs.Units.{cell, N, Row, bytes}
 use Rattle.stages.specs.Pattern.{Element, signs, elements, hasClass, pattern}
 use Rattle.stages.specs.Paths.{chosen, active, pathsFor}
 use Rattle.stages.proofs.Images.{recordBytes-append}
-use Rattle.stages.proofs.Outcomes.{done-same, never}
+use Rattle.stages.proofs.Outcomes.{done-same}
 use Rattle.text.specs.Rows.{rowOf, signsOf}
 use Rattle.pattern_row.specs.Kept.{withoutEmpty, kept, Dropped}
 use Rattle.text.proofs.Rows.{rowOf-rowBytes}
@@ -29,7 +29,7 @@ use Rattle.split_field.specs.Fields.{fieldTexts, Listed}
 use Rattle.split_field.specs.declared.Written.{Written}
 use Rattle.split_field.specs.declared.Written.the-variants.{Len, Class, NoRoom}
 use Rattle.split_field.proofs.Placing.{placed-none}
-use Rattle.split_field.proofs.Filling.{Filled, filled-start, filled-length, filled-then, Given, Lacks, says-len, says-class, says-full, says-filled}
+use Rattle.split_field.proofs.Filling.{Filled, filled-start, filled-length, filled-then, Given, Lacks, says-len, says-full, says-filled}
 
 -- `put_paths`
 
@@ -103,9 +103,6 @@ module _ {p t : Text} {used : ℕ} {old : Text} {at n : ℕ} {out : Text} (g : C
           recordBytes-append (g .texts) (part t from to ∷ []) in
           noRoom all refl (omega (arith, d .short, k, c, b, g .filled .long, filled-length (g .filled)))
 
-      pub choosing-class : r ≡ Class → ⊥
-      choosing-class e = never (says-class s e)
-
 -- `put_paths_or_own`: the field's units are its pattern
 
 module _ (paths : List Text) (r : Row) (p : List Element) where
@@ -168,9 +165,6 @@ module _ (paths : List Text) (r : Row) (p : List Element) {used : ℕ} {old afte
     paths-full u l =
         let d : Lacks (done (chosen p paths)) used old = says-full s l in
         noRoom (d .texts) (ap done (paths-some paths r p e (d .texts) (done-same (d .gives)) (some-bytes (d .texts) (omega (arith, d .short))))) (d .short)
-
-    pub paths-class : w ≡ Class → ⊥
-    paths-class l = never (says-class s l)
 
 -- `put_field`: N vanishes first, which neither patterns nor a field's bytes see
 

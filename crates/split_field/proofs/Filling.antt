@@ -2,7 +2,7 @@
 -- put together again.
 use Prim.Native.Nat.{ℕ, _+_, _≤_, _<_}
 use native.Mathlib.Omega.{arith}
-use mathlib.Core.Path.{_≡_, sym, ap, _∙_}
+use mathlib.Core.Path.{_≡_, sym, ap, _∙_, subst}
 use mathlib.Core.List.{List, [], _++_}
 use lib.ListN.{length}
 use Rattle.stages.specs.Numbers.{bracketClass}
@@ -11,7 +11,8 @@ use Rattle.stages.specs.Outcome.{Outcome, refused, done}
 use Rattle.stages.specs.Images.{written, recordBytes}
 use Rattle.stages.proofs.Images.{length-written, written-append, recordBytes-append}
 use Rattle.table_store.specs.Splice.{placed}
-use Rattle.split_field.specs.Answers.{Says, len, class, noRoom}
+use Rattle.table_store.specs.declared.Put.{Put}
+use Rattle.split_field.specs.Answers.{answered, Says, len, class, noRoom}
 use Rattle.split_field.specs.declared.Written.{Written}
 use Rattle.split_field.specs.declared.Written.the-variants.{Len, Class, NoRoom}
 use Rattle.table_store.proofs.Placed.{placed-length}
@@ -78,6 +79,11 @@ module _ {o : Outcome (List Text)} {used : ℕ} {old left : Text} {r : Written} 
 
   pub says-full : r ≡ NoRoom → Lacks o used old
   says-full e = lacks-of (rw e at s)
+
+-- an answer that looks at no pattern, once its case is known
+pub says-shown : {o : Outcome (List Text)} {used : ℕ} {old left : Text} {r s : Put} → Says o used old left (answered r) → r ≡ s → Says o used old
+    left (answered s)
+says-shown {o} {used} {old} {left} h e = subst (λ (p : Put). Says o used old left (answered p)) e h
 
 pub says-filled : {o : Outcome (List Text)} {used : ℕ} {old : Text} {l : List Text} {n : ℕ} {out : Text} → o ≡ done l → Filled used old l n
     out → Says o used old out (Len n)

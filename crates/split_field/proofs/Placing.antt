@@ -7,7 +7,7 @@ use mathlib.Core.Bool.{Bool, true, false}
 use mathlib.Core.List.{List, [], _∷_, _++_, append-assoc, append-nil}
 use lib.Dec.{eqb, leb}
 use lib.ListN.{length, take, drop, length-append, length-drop, take-append-drop}
-use lib.Seq.{length-take-le, take-all, take-at, drop-at, drop-drop, drop-length}
+use lib.Seq.{length-take-le, take-at, drop-at, drop-drop}
 use borrow.Rule.Slice.PartMut.{putMid, midOf}
 use borrow.Author.Tests.{le-leb, lt-leb, leb-true, leb-false}
 use Rattle.stages.specs.Numbers.{imageLimit}
@@ -17,6 +17,7 @@ use Rattle.stages.specs.Units.{L, E, Q, cell, N, Row, bytes}
 use Rattle.stages.specs.Images.{framed, written, recordBytes}
 use Rattle.stages.specs.Call.{over}
 use Rattle.text.specs.Rows.{unitOf, rowOf}
+use Rattle.text.proofs.Parts.{rest-is, rest-length, rest-back}
 use Rattle.row.specs.Stands.{Stripped}
 use Rattle.table_store.specs.Answers.{putOutcome, textLimit, recordIn, Writes}
 use Rattle.table_store.specs.declared.Put.{Put}
@@ -64,20 +65,12 @@ module _ (at : ℕ) (a b old : Text) (h : at + length a ≤ length old) where
 
 -- the free part of the output, lent
 
-module _ (used : ℕ) (old : Text) (h : used ≤ length old) where
-  pub free-is : midOf used (length old - used) old ≡ drop used old
-  free-is = let n : length (drop used old) ≡ length old - used = length-drop used old in take-all (length old - used) (drop used old) (omega arith)
-
-  pub free-length : length (midOf used (length old - used) old) ≡ length old - used
-  free-length = ap length free-is ∙ length-drop used old
-
-  pub lent : (t ys : Text) → ys ≡ over t (midOf used (length old - used) old) → putMid used (length old - used) old ys ≡ placed used t old
-  unfolding over placed
-  lent t ys e =
-      let z : drop (length old - used) (drop used old) ≡ [] = rw (← length-drop used old) (drop-length (drop used old)) in
-      let y : ys ≡ t ++ drop (used + length t) old =
-      e ∙ ap (λ (x : Text). t ++ drop (length t) x) free-is ∙ ap (λ (x : Text). t ++ x) (drop-drop (length t) used old) in
-      rw (z, append-nil ys, y)
+lent : (used : ℕ) (old t ys : Text) → ys ≡ over t (midOf used (length old - used) old) → putMid used (length old - used) old ys ≡ placed used t old
+unfolding over placed
+lent used old t ys e =
+    let y : ys ≡ t ++ drop (used + length t) old =
+    e ∙ ap (λ (x : Text). t ++ drop (length t) x) (rest-is used old) ∙ ap (λ (x : Text). t ++ x) (drop-drop (length t) used old) in
+    rw (rest-back used old ys, y)
 
 -- `put_text`
 
@@ -91,7 +84,7 @@ module _ (t : Text) (used : ℕ) (old ys : Text) (r : Put) (h : used ≤ length 
       let d : (n ≡ length t + 2) × (ys ≡ over (framed t) (midOf used (length old - used) old)) ×
       (length t + 2 ≤ length (midOf used (length old - used) old)) =
       put-len t (midOf used (length old - used) old) ys r w n e in
-      omega (arith, d .0, d .2, free-length used old h)
+      omega (arith, d .0, d .2, rest-length used old)
 
   pub text-put : {n : ℕ} → r ≡ PutLen n → Says (done (t ∷ [])) used old after (Len (used + n))
   unfolding written recordBytes
@@ -100,14 +93,14 @@ module _ (t : Text) (used : ℕ) (old ys : Text) (r : Put) (h : used ≤ length 
       (length t + 2 ≤ length (midOf used (length old - used) old)) =
       put-len t (midOf used (length old - used) old) ys r w n e in
       len {n = used + n} (t ∷ []) refl (omega (arith, d .0)) (text-fits e)
-      (lent used old h (framed t) ys (d .1) ∙ ap (λ (x : Text). placed used x old) (sym (append-nil (framed t))))
+      (lent used old (framed t) ys (d .1) ∙ ap (λ (x : Text). placed used x old) (sym (append-nil (framed t))))
 
   pub text-full : r ≡ PutNoRoom → Says (done (t ∷ [])) used old after NoRoom
   unfolding recordBytes
   text-full e = noRoom (t ∷ []) refl (go (leb (length t) textLimit) refl)
     where
       long : length t ≤ textLimit → length old < used + (2 + length t + 0)
-      long k = omega (arith, put-none t (midOf used (length old - used) old) ys r w e .1 k, free-length used old h)
+      long k = omega (arith, put-none t (midOf used (length old - used) old) ys r w e .1 k, rest-length used old)
 
       go : (x : Bool) → leb (length t) textLimit ≡ x → length old < used + (2 + length t + 0)
       go true q = long (leb-true (length t) textLimit q)

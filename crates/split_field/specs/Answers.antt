@@ -10,6 +10,8 @@ use Rattle.stages.specs.Bytes.{Text}
 use Rattle.stages.specs.Outcome.{Outcome, refused, done, _>>=_, pick}
 use Rattle.stages.specs.Images.{written, recordBytes}
 use Rattle.table_store.specs.Splice.{placed}
+use Rattle.table_store.specs.declared.Put.{Put}
+use Rattle.table_store.specs.declared.Put.the-variants as put
 use Rattle.split_field.specs.declared.Written.{Written}
 use Rattle.split_field.specs.declared.Written.the-variants.{Len, Class, NoRoom}
 
@@ -18,6 +20,11 @@ abbrev pub writtenOutcome : Written → Outcome ℕ
 writtenOutcome (Len n) = done n
 writtenOutcome Class = refused bracketClass
 writtenOutcome NoRoom = refused outputRoom
+
+-- an answer of a writer that looks at no pattern
+abbrev pub answered : Put → Written
+answered (put.Len n) = Len n
+answered put.NoRoom = NoRoom
 
 -- the new length of an output with so much room, where the texts that a stage gives come behind its first `used` bytes
 unfoldable pub lengthWith : ℕ → ℕ → Outcome (List Text) → Outcome ℕ

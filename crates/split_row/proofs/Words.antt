@@ -2,7 +2,6 @@
 use Prim.Native.Nat.{ℕ}
 use mathlib.Core.Path.{_≡_, refl, sym, ap}
 use mathlib.Core.List.{List}
-use mathlib.Core.Option.{Option, none, some}
 use Rattle.stages.specs.Bytes.{Text, text, part, blanks}
 use Rattle.stages.specs.Images.{Pairs, lookup, held}
 use Rattle.stages.specs.Units.{Row}

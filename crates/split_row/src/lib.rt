@@ -65,17 +65,17 @@ fn ifs_of<'a>(vars: &'a [u8], unset: &'a [u8]) -> &'a [u8]
 pub fn put_word_fields(
     row: &mut [u8],
     vars: &[u8],
-    have: usize,
+    vars_used: usize,
     paths: &[u8],
     out: &mut [u8],
     used: usize,
 ) -> Written
-    requires { ⌜ (have ≤ length (now vars)) × Table (take have (now vars)) ⌝ }
+    requires { ⌜ («vars_used» ≤ length (now vars)) × Table (take «vars_used» (now vars)) ⌝ }
     requires { ⌜ (used ≤ length (now out)) × (length (now out) ≤ imageLimit) ⌝ }
     requires { ⌜ Listed (now paths) ⌝ }
-    ensures { λ r. ⌜ Puts (textsOfFields (heldTexts (now (paths .entry))) (fieldsOfRow (held (take have (now (vars .entry)))) (rowOf (now (row .entry)))))
-        used (now (out .entry)) (now (out .exit)) r ⌝ }
+    ensures { λ r. ⌜ Puts (textsOfFields (heldTexts (now (paths .entry)))
+        (fieldsOfRow (held (take «vars_used» (now (vars .entry)))) (rowOf (now (row .entry))))) used (now (out .entry)) (now (out .exit)) r ⌝ }
 {
-    let ifs = ifs_of(&vars[..have], b" \t\n");
+    let ifs = ifs_of(&vars[..vars_used], b" \t\n");
     put_fields(row, ifs, paths, out, used)
 }

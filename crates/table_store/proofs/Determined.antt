@@ -35,8 +35,8 @@ pub put-record-determined : (text out left left′ : Text) (r s : Put) → Write
     → Writes (recordIn (length out) text) out left′ (putOutcome s) → (r ≡ s) × (left ≡ left′)
 put-record-determined text out left left′ r s w w′ = (put-one r s (writes-once w w′ .0), writes-once w w′ .1)
 
-pub store-determined : (vars name value left left′ : Text) (used cap : ℕ) (r s : Stored)
-    → Writes (imageIn cap name value (held (take used vars))) vars left (storedOutcome r)
-    → Writes (imageIn cap name value (held (take used vars))) vars left′ (storedOutcome s)
+pub store-determined : (vars name value left left′ : Text) (used limit : ℕ) (r s : Stored)
+    → Writes (imageIn limit name value (held (take used vars))) vars left (storedOutcome r)
+    → Writes (imageIn limit name value (held (take used vars))) vars left′ (storedOutcome s)
     → (r ≡ s) × (left ≡ left′)
-store-determined vars name value left left′ used cap r s w w′ = (stored-one r s (writes-once w w′ .0), writes-once w w′ .1)
+store-determined vars name value left left′ used limit r s w w′ = (stored-one r s (writes-once w w′ .0), writes-once w w′ .1)

@@ -7,6 +7,7 @@ use lib.ListN.{length, drop, length-drop}
 use Rattle.stages.specs.Bytes.{Text, isIn, eqText}
 use Rattle.text.specs.Classes.{inClass, Runs}
 use Rattle.text.specs.Orders.{orderOf}
+use Rattle.text.specs.Rows.{isMark}
 use Rattle.text.specs.declared.Class.{Class}
 use Rattle.text.specs.declared.Order.{Order}
 
@@ -25,6 +26,9 @@ same-determined a b r s = one-answer
 
 pub compare-determined : (a b : Text) (r s : Order) → r ≡ orderOf a b → s ≡ orderOf a b → r ≡ s
 compare-determined a b r s = one-answer
+
+pub is-mark-determined : (b : ℕ) (r s : Bool) → r ≡ isMark b → s ≡ isMark b → r ≡ s
+is-mark-determined b r s = one-answer
 
 -- the rests behind the two ends are the same, so their lengths are
 pub run-end-determined : (text : Text) (at : ℕ) (class : Class) (r s : ℕ) → Runs text at class r → Runs text at class s → r ≡ s

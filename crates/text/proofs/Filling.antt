@@ -4,13 +4,14 @@ use native.Mathlib.Omega.{arith}
 use mathlib.Core.Path.{_≡_, refl, sym, ap, _∙_}
 use mathlib.Core.List.{[], _∷_, _++_, append-assoc, append-nil}
 use lib.ListN.{length, take, drop, getD, set, length-append, length-drop}
-use lib.Seq.{take-at, drop-at, drop-drop, drop-cons, set-at, take-all, drop-length}
+use lib.Seq.{take-at, drop-at, drop-drop, drop-cons, set-at}
 use borrow.Rule.Slice.PartMut.{putMid, midOf}
 use Rattle.stages.specs.Bytes.{Text}
 use Rattle.stages.specs.Call.{over}
 use Rattle.stages.proofs.Rooms.{over-length}
 use Rattle.text.specs.Putting.{Puts}
 use Rattle.text.proofs.Determined.{one-answer}
+use Rattle.text.proofs.Parts.{rest-is, rest-back}
 
 -- the same text over the same bytes is one length and one buffer
 pub puts-once : {t old left left′ : Text} {r s : ℕ} → Puts t old left r → Puts t old left′ s → (r ≡ s) × (left ≡ left′)
@@ -44,8 +45,7 @@ module _ {whole rest old out : Text} {used : ℕ} (f : Filling whole rest old ou
   fill-free : midOf used (length out - used) out ≡ drop used old
   unfolding over
   fill-free =
-      let n : length (drop used out) ≡ length out - used = length-drop used out in
-      take-all (length out - used) (drop used out) (omega arith)
+      rest-is used out
       ∙ ap (drop used) (f .is)
       ∙ drop-at (f .front) (drop (length (f .front)) old) used (sym (f .long))
       ∙ ap (λ (k : ℕ). drop k old) (sym (f .long))
@@ -95,9 +95,8 @@ module _ {whole rest old out : Text} {used : ℕ} (f : Filling whole rest old ou
       let y : ys ≡ piece ++ drop (length (f .front ++ piece)) old =
       p .leaves ∙ ap (λ (x : Text). piece ++ drop (length piece) x) fill-free ∙ ap (λ (x : Text). piece ++ x) m in
       let a : take used out ≡ f .front = ap (take used) (f .is) ∙ take-at (f .front) (drop (length (f .front)) old) used (sym (f .long)) in
-      let z : drop (length out - used) (drop used out) ≡ [] = rw (← length-drop used out) (drop-length (drop used out)) in
       grown piece more (putMid used (length out - used) out ys) next e (omega (arith, q, p .counts))
-      (rw (z, append-nil ys, a, y) (sym (append-assoc (f .front) piece (drop (length (f .front ++ piece)) old))))
+      (rw (rest-back used out ys, a, y) (sym (append-assoc (f .front) piece (drop (length (f .front ++ piece)) old))))
 
   pub fill-ends : rest ≡ [] → Puts whole old out used
   fill-ends e =

@@ -45,9 +45,6 @@ part-more t a e h k =
     (getD-drop a t (e - a) 0 ∙ ap (λ (n : ℕ). getD t n 0) f))
 
 -- a run stops at a byte that fails the test, and has one more byte where it passes
-pub span-stop : (f : ℕ → Bool) (b : ℕ) (t : Text) → f b ≡ false → span f (b ∷ t) ≡ ([], b ∷ t)
-span-stop f b t e = stage.span-stop f (b ∷ t) e
-
 pub record Running (class : Class) (t : Text) (at i : ℕ) : Type 0 where
   pub onward : at ≤ i
   pub within : i ≤ length t
@@ -59,7 +56,7 @@ module _ (class : Class) (t : Text) (at : ℕ) where
 
   module _ (i : ℕ) (p : Running class t at i) where
     span-stops : i < length t → inClass class (getD t i 0) ≡ false → span (inClass class) (drop i t) ≡ ([], drop i t)
-    span-stops h e = rw (drop-cons t i 0) (span-stop (inClass class) (getD t i 0) (drop (suc i) t) e)
+    span-stops h e = rw (drop-cons t i 0) (stage.span-stop (inClass class) (getD t i 0 ∷ drop (suc i) t) e)
 
     span-goes : i < length t → inClass class (getD t i 0) ≡ true → span (inClass class) (drop i t) ≡ longer (getD t i 0)
         (span (inClass class) (drop (i + 1) t))

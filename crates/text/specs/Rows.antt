@@ -1,18 +1,22 @@
 -- How a row of units stands in lent bytes: a unit is two bytes, its byte and behind it its mark; the empty mark is two zeros.
-use Prim.Native.Nat.{ℕ, zero, suc}
-use mathlib.Core.Bool.{Bool, true, false}
-use mathlib.Core.List.{List, [], _∷_}
+use Prim.Native.Nat.{ℕ, zero}
+use mathlib.Core.Bool.{Bool, true, false, _||_}
+use mathlib.Core.List.{[], _∷_}
 use lib.Dec.{eqb}
 use Rattle.stages.specs.Bytes.{Text}
 use Rattle.stages.specs.Outcome.{pick}
 use Rattle.stages.specs.Units.{Mark, L, E, Q, Cell, cell, N, Row}
-use Rattle.stages.specs.Pattern.{Sign, Signs}
+use Rattle.stages.specs.Pattern.{Signs}
 
 -- a mark as a byte; no mark is the zero that N has
 abbrev pub markByte : Mark → ℕ
 markByte L = 1
 markByte E = 2
 markByte Q = 3
+
+-- a byte that stands for a mark
+abbrev pub isMark : ℕ → Bool
+isMark b = eqb b 1 || (eqb b 2 || eqb b 3)
 
 -- the bytes of a row
 unfoldable pub rowBytes : Row → Text

@@ -1,4 +1,4 @@
--- `constants::behind_zero` meets its contract: each way is a law of `behindZero`.
+-- `arith_constant::behind_zero` meets its contract: each way is a law of `behindZero`.
 use mathlib.Core.Path.{_∙_, ap}
 use borrow.Author.Tests.{eqb-true, eqb-false}
 use mathlib.Core.Logic.{⊎-elim, inl, inr}

@@ -1,4 +1,4 @@
--- `constants::constant_of` meets its contract: each way is a law of `constant`.
+-- `arith_constant::constant_of` meets its contract: each way is a law of `constant`.
 use mathlib.Core.Path.{_∙_, ap}
 use borrow.Author.Tests.{ltb-true, ltb-false}
 use mathlib.Core.Logic.{⊎-elim, inl, inr}

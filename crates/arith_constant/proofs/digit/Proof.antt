@@ -1,4 +1,4 @@
--- `constants::digit` meets its contract: one law for each range of bytes, and for each gap between them.
+-- `arith_constant::digit` meets its contract: one law for each range of bytes, and for each gap between them.
 use borrow.Author.Needs.{needs}
 use native.Mathlib.Omega.{arith}
 use Rattle.arith_constant.proofs.Digits.{dec, upper, lower, gap1, gap2, gap3, gap4}

@@ -1,4 +1,4 @@
--- `constants::in_base` meets its contract: the laws of `Read`, one for each way through the loop.
+-- `arith_constant::in_base` meets its contract: the laws of `Read`, one for each way through the loop.
 use mathlib.Core.Logic.{⊎-elim}
 use Prim.Native.Nat.{_-_, _≤_, _<_, _+_, _*_}
 use native.Mathlib.Omega.{arith}

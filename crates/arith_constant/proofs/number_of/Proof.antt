@@ -1,4 +1,4 @@
--- `constants::number_of` meets its contract: a constant that is refused at 2^63 is refused with either sign.
+-- `arith_constant::number_of` meets its contract: a constant that is refused at 2^63 is refused with either sign.
 use mathlib.Core.Path.{sym, _∙_, ap}
 use Rattle.stages.specs.Constants.{constant}
 use Rattle.arith_constant.specs.Answers.{counted}

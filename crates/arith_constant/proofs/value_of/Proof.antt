@@ -1,4 +1,4 @@
--- `constants::value_of` meets its contract: each way is a law of `valued`.
+-- `arith_constant::value_of` meets its contract: each way is a law of `valued`.
 use mathlib.Core.Path.{_∙_, ap}
 use lib.IntN.{pos}
 use Rattle.stages.specs.Bytes.{Text}

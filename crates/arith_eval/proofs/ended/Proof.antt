@@ -1,4 +1,4 @@
--- `sums::ended` meets its contract: nothing else may stand behind the value.
+-- `arith_eval::ended` meets its contract: nothing else may stand behind the value.
 use Rattle.stages.specs.Arith.{whole}
 use Rattle.arith_int.proofs.Ranges.{held}
 use Rattle.arith_eval.proofs.Operands.{token-shown, ends-by}

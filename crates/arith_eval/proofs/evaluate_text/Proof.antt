@@ -1,4 +1,4 @@
--- `sums::evaluate_text` meets its contract: what the first run refuses, else what the second gives.
+-- `arith_eval::evaluate_text` meets its contract: what the first run refuses, else what the second gives.
 use mathlib.Core.Bool.{false}
 use Rattle.stages.specs.Images.{held}
 use Rattle.arith_eval.proofs.Wholes.{answers-shown, first-refused, second-says}

@@ -1,4 +1,4 @@
--- `sums::name_number` meets its contract: the value that the look-up shows, or 0 where it shows none.
+-- `arith_eval::name_number` meets its contract: the value that the look-up shows, or 0 where it shows none.
 use mathlib.Core.Path.{sym, _∙_, ap}
 use Rattle.stages.specs.Constants.{nameNumber}
 use Rattle.table.proofs.Finds.{is-shown, is-absent}

@@ -1,4 +1,4 @@
--- `sums::once` meets its contract: an expression, and nothing behind it.
+-- `arith_eval::once` meets its contract: an expression, and nothing behind it.
 use Rattle.stages.specs.Images.{held}
 use Rattle.arith_int.proofs.Ranges.{kept}
 use Rattle.arith_eval.proofs.Operands.{says-shown}

@@ -1,4 +1,4 @@
--- `numbers::magnitude` meets its contract: below zero it goes by -1 - a, which fits where -a may not.
+-- `arith_int::magnitude` meets its contract: below zero it goes by -1 - a, which fits where -a may not.
 use borrow.Author.Needs.{needs}
 use mathlib.Core.Path.{_≡_}
 use mathlib.Core.Bool.{true}

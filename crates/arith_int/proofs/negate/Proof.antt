@@ -1,4 +1,4 @@
--- `numbers::negate` meets its contract: a negation fits but for the smallest number.
+-- `arith_int::negate` meets its contract: a negation fits but for the smallest number.
 use lib.IntN.{negℤ, +ℤ-idl}
 use mir.Syntax.{w64}
 use mir.Val.{SFits}

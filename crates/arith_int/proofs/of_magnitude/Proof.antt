@@ -1,4 +1,4 @@
--- `numbers::of_magnitude` meets its contract: a number below zero is -1 - k for its distance k + 1.
+-- `arith_int::of_magnitude` meets its contract: a number below zero is -1 - k for its distance k + 1.
 use borrow.Author.Needs.{needs}
 use Prim.Native.Nat.{_-_}
 use native.Mathlib.Omega.{arith}

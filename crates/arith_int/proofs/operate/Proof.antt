@@ -1,4 +1,4 @@
--- `numbers::operate` meets its contract: each operator's answer is that of its function, of the numbers that the code holds.
+-- `arith_int::operate` meets its contract: each operator's answer is that of its function, of the numbers that the code holds.
 use mathlib.Core.Path.{_∙_}
 use Rattle.stages.specs.Arith.{apply}
 use Rattle.arith_int.proofs.Ranges.{held, same-bits}

@@ -1,4 +1,4 @@
--- `numbers::product` meets its contract: a quotient tells whether the magnitudes' product stays within 2^63, and the signs give its side.
+-- `arith_int::product` meets its contract: a quotient tells whether the magnitudes' product stays within 2^63, and the signs give its side.
 use borrow.Author.Needs.{needs}
 use mathlib.Core.Path.{_≡_, refl, sym, _∙_, ap}
 use mathlib.Core.Bool.{true, false}

@@ -1,40 +1,47 @@
--- `numbers::remainder` meets its contract: a remainder fits, and is refused where the quotient is.
-use mathlib.Core.Logic.{⊎-elim}
-use lib.IntN.{pos, negsuc}
-use lib.Signed.{quotZ, remZ}
-use mir.Syntax.{w64}
-use mir.Val.{SFits}
+-- A remainder fits, and is refused where the quotient is.
+use lib.IntN.{pos}
+use lib.Signed.{remZ}
 use mir.Facts.{sfits-lit}
-use Rattle.arith_int.proofs.Ranges.{least, held, bits-eq, bits-ne, quot-fits, rem-fits, divided-is, by-zero, least-divided, some-bits}
+use borrow.Author.Needs.{needs}
+use Rattle.arith_int.specs.Answers.{Divides}
+use Rattle.arith_int.specs.declared.Division.the-variants.{Fits}
+use Rattle.arith_int.proofs.Ranges.{held, bits-eq, divides-shown, divided-is, some-bits, rem-fits}
 use Rattle.arith_int.proofs.remainder.Statement.{statement}
 use Rattle.arith_int.proofs.remainder.Tie as tie
 
+can-divide-requires : tie.Need-can-divide-requires
+can-divide-requires c κs = search needs
+
+enum-known-e : tie.Need-enum-known-e
+enum-known-e c = search needs
+
+enum-told : tie.Need-enum-told
+enum-told c = search needs
+
+-- what is known where the code divides
+fine : (c : tie.After-enum-told) → Divides (c .before .before .before .args .a) (c .before .before .before .args .b) Fits
+fine c = let s = c .before .before .before in divides-shown (s .fits .a) (s .fits .b) (c .before .before .can-divide .ensures) (c .enum-told .given .1)
+
+rem-t6 : tie.Need-rem-t6
+rem-t6 c =
+    let s = c .before .before .before in (
+      some-bits (s .args .b) (s .fits .b) (λ e. fine c .0 (bits-eq (s .args .b) (pos 0) (s .fits .b) (sfits-lit tt) e)),
+      rw (held (s .args .a) (s .fits .a), held (s .args .b) (s .fits .b)) (fine c .1),
+    )
+
 returns : tie.Need-returns
 returns c =
-    let s = c .before in by-zero remZ (s .args .a) (s .args .b) (bits-eq (s .args .b) (pos 0) (s .fits .b) (sfits-lit tt) (c .if1 .taken))
+    let s = c .before .before .before .before in
+    divides-shown (s .fits .a) (s .fits .b) (c .before .before .before .can-divide .ensures) (c .before .e .given .1) remZ
 
 returns-2 : tie.Need-returns-2
 returns-2 c =
     let s = c .before .before .before in
-    least-divided remZ (s .args .a) (s .args .b) (bits-eq (s .args .b) (negsuc 0) (s .fits .b) (sfits-lit tt) (c .before .if2 .taken))
-    (bits-eq (s .args .a) least (s .fits .a) (sfits-lit tt) (c .if3 .taken))
-
-fits : (c : tie.Joined2) → SFits w64 (quotZ (c .before .before .args .a) (c .before .before .args .b))
-fits c =
-    let s = c .before .before in
-    quot-fits (s .args .a) (s .args .b) (s .fits .a)
-    (⊎-elim (λ w e l. bits-ne (s .args .a) least (w .1 .left) l) (λ w e l. bits-ne (s .args .b) (negsuc 0) (w .left) e) (c .if2 .came))
-
-rem-t5 : tie.Need-rem-t5
-rem-t5 c =
-    let s = c .before .before in
-    (some-bits (s .args .b) (s .fits .b) (c .before .if1 .left), rw (held (s .args .a) (s .fits .a), held (s .args .b) (s .fits .b)) (fits c))
-
-returns-3 : tie.Need-returns-3
-returns-3 c =
-    let s = c .before .before in
-    rw (held (s .args .a) (s .fits .a), held (s .args .b) (s .fits .b), held (remZ (s .args .a) (s .args .b)) (rem-fits (s .args .a) (s .args .b) (s .fits .a)))
-    (divided-is remZ (s .args .a) (s .args .b) (bits-ne (s .args .b) (pos 0) (c .before .if1 .left)) (fits c))
+    rw (
+      held (s .args .a) (s .fits .a),
+      held (s .args .b) (s .fits .b),
+      held (remZ (s .args .a) (s .args .b)) (rem-fits (s .args .a) (s .args .b) (s .fits .a)),
+    ) (divided-is remZ (s .args .a) (s .args .b) (fine c .0) (fine c .1))
 
 pub remainder-spec : {M : Type 1} → statement M
-remainder-spec = tie.close (tie.spec returns returns-2 rem-t5 returns-3)
+remainder-spec = tie.close (tie.spec can-divide-requires enum-known-e enum-told rem-t6 returns returns-2)

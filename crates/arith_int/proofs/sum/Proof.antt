@@ -1,4 +1,4 @@
--- `numbers::sum` meets its contract: the guard is a difference that fits, and tells whether the sum does.
+-- `arith_int::sum` meets its contract: the guard is a difference that fits, and tells whether the sum does.
 use mathlib.Core.Path.{_≡_}
 use mathlib.Core.Bool.{true, false}
 use lib.IntN.{ℤ, pos, _+ℤ_, _-ℤ_}

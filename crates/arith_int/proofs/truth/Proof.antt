@@ -1,4 +1,4 @@
--- `numbers::truth` meets its contract: each way is what `truth` computes to.
+-- `arith_int::truth` meets its contract: each way is what `truth` computes to.
 use Rattle.arith_int.proofs.truth.Statement.{statement}
 use Rattle.arith_int.proofs.truth.Tie as tie
 

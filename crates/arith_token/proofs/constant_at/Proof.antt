@@ -1,4 +1,4 @@
--- `tokens::constant_at` meets its contract: the run is a constant, whose number or refusal is the token's.
+-- `arith_token::constant_at` meets its contract: the run is a constant, whose number or refusal is the token's.
 use mathlib.Core.Path.{sym, _∙_, ap}
 use Rattle.arith_int.specs.Answers.{numbered}
 use Rattle.arith_int.proofs.Ranges.{kept}

@@ -1,4 +1,4 @@
--- `tokens::paired` meets its contract: the byte behind is a `=`, another, or none.
+-- `arith_token::paired` meets its contract: the byte behind is a `=`, another, or none.
 use Rattle.arith_token.proofs.Lexing.{with-equals, without-equals, at-the-end}
 use borrow.Author.Needs.{needs}
 use Rattle.arith_token.proofs.paired.Statement.{statement}

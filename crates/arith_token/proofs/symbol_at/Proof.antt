@@ -1,4 +1,4 @@
--- `tokens::symbol_at` meets its contract: at each byte that begins a token the stage computes; any other is none.
+-- `arith_token::symbol_at` meets its contract: at each byte that begins a token the stage computes; any other is none.
 use mathlib.Core.Path.{refl, sym}
 use Rattle.stages.specs.Bytes.{isBlank, isDigit, isLetter, isNameStart}
 use Rattle.stages.specs.Outcome.{choose}

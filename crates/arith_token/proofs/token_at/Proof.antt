@@ -1,4 +1,4 @@
--- `tokens::token_at` meets its contract: behind the blanks, the first byte's class tells which token stands there.
+-- `arith_token::token_at` meets its contract: behind the blanks, the first byte's class tells which token stands there.
 use Prim.Native.Nat.{_<_}
 use native.Mathlib.Omega.{arith}
 use lib.ListN.{length}

@@ -1,16 +1,15 @@
 -- The invariant: the bytes passed stand as units at the front, and the rest of the area is as it was.
-use Prim.Native.Nat.{ℕ, suc, _+_, _-_, _*_, _≤_, _<_}
+use Prim.Native.Nat.{ℕ, _+_, _-_, _*_, _≤_, _<_}
 use native.Mathlib.Omega.{arith}
 use native.Mathlib.Numerals.{add-one}
 use mathlib.Core.Path.{_≡_, refl, sym, ap, _∙_}
-use mathlib.Core.List.{List, _++_}
+use mathlib.Core.List.{_++_}
 use borrow.Author.Needs.{needs}
 use lib.ListN.{length, take, drop, set, getD, length-set}
 use lib.Seq.{take-length}
 use Rattle.stages.specs.Bytes.{Text}
 use Rattle.stages.specs.Units.{Mark, marked}
 use Rattle.text.specs.Rows.{markByte, rowBytes}
-use Rattle.row.specs.Marks.{markOf}
 use Rattle.row.specs.Stands.{fronted}
 use Rattle.row.proofs.Laws.{units, units-more, units-marked, marked-length}
 use Rattle.row.proofs.put_marked.Statement.{statement}
@@ -30,10 +29,10 @@ whole i m k v w area e f q =
     ∙ ap (λ (j : ℕ). rowBytes (marked k v) ++ drop j w) (sym (marked-length k v))
 
 abbrev Inv-loop : tie.InvT-loop
-Inv-loop text area₀ m i₀ area i = (i ≤ length text) × (area ≡ units m (take i text) ++ drop (2 * i) area₀) × (length area ≡ length area₀)
+Inv-loop text area₀ m at₀ area at = (at ≤ length text) × (area ≡ units m (take at text) ++ drop (2 * at) area₀) × (length area ≡ length area₀)
 
 abbrev μ-loop : tie.MeasureT-loop
-μ-loop text area₀ m i₀ area i = length text - i
+μ-loop text area₀ m at₀ area at = length text - at
 
 mark-byte-requires : tie.Need-mark-byte-requires Inv-loop μ-loop
 mark-byte-requires c κs = search needs
@@ -59,8 +58,8 @@ add-area c = omega arith
 slice-write-area-2 : tie.Need-slice-write-area-2 Inv-loop μ-loop
 slice-write-area-2 c = simp length-set (omega arith)
 
-add-i : tie.Need-add-i Inv-loop μ-loop
-add-i c = omega arith
+add-at : tie.Need-add-at Inv-loop μ-loop
+add-at c = omega arith
 
 loop-less : tie.Need-loop-less Inv-loop μ-loop
 loop-less c = omega arith
@@ -69,7 +68,7 @@ loop-again : tie.Need-loop-again Inv-loop μ-loop
 loop-again c =
     let l = c .before .before .loop in
     let a = c .before .before .before .before .before .before .args in
-    (omega arith, again (l .i) _ (a .text .now) (a .area .now) (l .area) (omega arith) (omega arith) (l .inv .1), simp length-set (l .inv .2))
+    (omega arith, again (l .at) _ (a .text .now) (a .area .now) (l .area) (omega arith) (omega arith) (l .inv .1), simp length-set (l .inv .2))
 
 same-length : tie.Need-same-length Inv-loop μ-loop
 same-length c = c .before .loop .inv .2
@@ -78,7 +77,7 @@ returns : tie.Need-returns Inv-loop μ-loop
 returns c =
     let l = c .before .loop in
     let s = c .before .before .before .before .before in
-    whole (l .i) _ _ (s .args .text .now) (s .args .area .now) (l .area) (omega arith) (c .before .before .mark-byte .ensures) (l .inv .1)
+    whole (l .at) _ _ (s .args .text .now) (s .args .area .now) (l .area) (omega arith) (c .before .before .mark-byte .ensures) (l .inv .1)
 
 pub put-marked-spec : {M : Type 1} → statement M
 put-marked-spec =
@@ -94,7 +93,7 @@ put-marked-spec =
     mul-area-2
     add-area
     slice-write-area-2
-    add-i
+    add-at
     loop-less
     loop-again
     same-length

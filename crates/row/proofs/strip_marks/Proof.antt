@@ -1,10 +1,10 @@
 -- The invariant: the bytes of the units passed stand at the front of the row, and the units ahead are as they were.
-use Prim.Native.Nat.{ℕ, _+_, _-_, _≤_, _<_}
+use Prim.Native.Nat.{ℕ, _-_, _<_}
 use native.Mathlib.Omega.{arith}
-use mathlib.Core.Path.{_≡_, refl, sym, ap, _∙_}
+use mathlib.Core.Path.{_≡_, sym, _∙_}
 use mathlib.Core.Logic.{⊎-elim}
 use borrow.Author.Needs.{needs}
-use lib.ListN.{length, set, getD, length-set}
+use lib.ListN.{length}
 use Rattle.stages.specs.Bytes.{Text}
 use Rattle.row.proofs.Laws.{Stripping, strip-start, strip-length, strip-keep, strip-drop, strip-end}
 use Rattle.row.proofs.strip_marks.Statement.{statement}
@@ -14,10 +14,10 @@ subst2 : {row₀ row left : Text} {kept count i : ℕ} → Stripping row₀ row 
 subst2 s p q = rw (← p, ← q) s
 
 abbrev Inv-loop : tie.InvT-loop
-Inv-loop row₀ kept₀ i₀ row kept i = Stripping row₀ row kept i
+Inv-loop row₀ kept₀ at₀ row kept at = Stripping row₀ row kept at
 
 abbrev μ-loop : tie.MeasureT-loop
-μ-loop row₀ kept₀ i₀ row kept i = length row₀ - i
+μ-loop row₀ kept₀ at₀ row kept at = length row₀ - at
 
 loop-holds : tie.Need-loop-holds Inv-loop μ-loop
 loop-holds c = strip-start _
@@ -44,8 +44,8 @@ slice-write-row c = omega
 add-kept : tie.Need-add-kept Inv-loop μ-loop
 add-kept c = omega (arith, c .before .before .before .before .before .loop .inv .behind, c .before .before .before .before .before .loop .inv .within)
 
-add-i : tie.Need-add-i Inv-loop μ-loop
-add-i c = omega (arith, strip-length (c .before .before .before .before .loop .inv))
+add-at : tie.Need-add-at Inv-loop μ-loop
+add-at c = omega (arith, strip-length (c .before .before .before .before .loop .inv))
 
 loop-less : tie.Need-loop-less Inv-loop μ-loop
 loop-less c = omega (arith, strip-length (c .before .before .before .before .loop .inv))
@@ -53,7 +53,7 @@ loop-less c = omega (arith, strip-length (c .before .before .before .before .loo
 loop-again : tie.Need-loop-again Inv-loop μ-loop
 loop-again c =
     let l = c .before .before .before .before .loop in
-    let t : 1 < length (c .before .before .before .before .before .before .args .row .now) - l .i = omega (arith, strip-length (l .inv)) in
+    let t : 1 < length (c .before .before .before .before .before .before .args .row .now) - l .at = omega (arith, strip-length (l .inv)) in
     ⊎-elim
     (λ w. subst2 (strip-keep (l .inv) t (sym (c .before .is-mark .ensures) ∙ w .0 .taken)) (sym (w .2)) (sym (w .3)))
     (λ w. subst2 (strip-drop (l .inv) t (sym (c .before .is-mark .ensures) ∙ w .0 .left)) (sym (w .1)) (sym (w .2)))
@@ -79,7 +79,7 @@ strip-marks-spec =
     slice-read-row
     slice-write-row
     add-kept
-    add-i
+    add-at
     loop-less
     loop-again
     same-length

@@ -1,14 +1,28 @@
 -- Where no path matches, the length stays, and only then.
-use mathlib.Core.Path.{sym, ap, _∙_}
+use mathlib.Core.Path.{_≡_, sym, ap, _∙_}
+use mathlib.Core.Bool.{true}
+use borrow.Author.Needs.{needs}
 use borrow.Author.Tests.{not-true, not-false}
 use Rattle.stages.specs.Images.{heldTexts}
+use Rattle.stages.specs.Paths.{active}
 use Rattle.text.specs.Rows.{rowOf}
 use Rattle.pattern_paths.specs.Chosen.{pathElements}
-use Rattle.split_field.specs.declared.Written.the-variants.{Len}
-use Rattle.split_field.proofs.Choosing.{own-only, own-instead, paths-written, paths-full, paths-class}
-use borrow.Author.Needs.{needs}
+use Rattle.table_store.specs.declared.Put.the-variants.{Len}
+use Rattle.split_field.specs.Answers.{answered}
+use Rattle.split_field.proofs.Choosing.{own-only, own-instead, paths-written, paths-full}
 use Rattle.split_field.proofs.put_paths_or_own.Statement.{statement}
 use Rattle.split_field.proofs.put_paths_or_own.Tie as tie
+
+-- the call, where the field was looked at
+abbrev start : tie.After-is-active → tie.Start
+start r = r .before .before .before .before .before
+
+-- and where the paths were written: the field is a pattern
+abbrev tested : tie.After-put-paths → tie.After-is-active
+tested p = p .before .before .before .before
+
+is-pattern : (p : tie.After-put-paths) → active (pathElements (start (tested p) .args .field .now)) ≡ true
+is-pattern p = sym (tested p .is-active .ensures) ∙ not-false _ (p .before .before .before .if1 .left)
 
 is-active-requires : tie.Need-is-active-requires
 is-active-requires c κs = search needs
@@ -24,10 +38,11 @@ same-length-2 c = search needs
 
 returns : tie.Need-returns
 returns c =
-    let a = c .before .before .before .before .before .before .before .before .before .before .before .before .before .args in
-    let e = sym (c .before .before .before .before .before .before .before .before .is-active .ensures) ∙ not-true _
-    (c .before .before .before .before .before .before .before .if1 .taken) in
-    own-only (heldTexts (a .paths .now)) (rowOf (a .field .now)) (pathElements (a .field .now)) e (c .before .before .before .before .put-own .ensures)
+    let o = c .before .before .before .before in
+    let t = o .before .before .before in
+    let r = t .before in
+    let a = start r .args in
+    own-only (heldTexts (a .paths .now)) (rowOf (a .field .now)) (pathElements (a .field .now)) (sym (r .is-active .ensures) ∙ not-true _ (t .if1 .taken)) (o .put-own .ensures)
 
 put-paths-requires : tie.Need-put-paths-requires
 put-paths-requires c κs = search needs
@@ -46,18 +61,16 @@ same-length-4 c = search needs
 
 returns-2 : tie.Need-returns-2
 returns-2 c =
-    let a = c .before .before .before .before .before .before .before .before .before .before .before .before .before .before .before .before .before .before .before .before .before .before .args in
-    let e = sym (c .before .before .before .before .before .before .before .before .before .before .before .before .before .before .before .before .before .is-active .ensures) ∙ not-false _ (c .before .before .before .before .before .before .before .before .before .before .before .before .before .before .before .before .if1 .left) in
-    own-instead (heldTexts (a .paths .now)) (rowOf (a .field .now)) (pathElements (a .field .now)) e
-    (c .before .before .before .before .before .before .before .before .before .before .before .before .before .put-paths .ensures)
-    (c .before .before .before .before .before .before .before .before .before .len .given .1 ∙ ap Len
-    (c .before .before .before .before .before .before .before .if2 .taken)) (c .before .before .before .before .put-own2 .ensures)
+    let o = c .before .before .before .before in
+    let same = o .before .before .before in
+    let l = same .before .before in
+    let p = l .before .before .before .before in
+    let a = start (tested p) .args in
+    own-instead (heldTexts (a .paths .now)) (rowOf (a .field .now)) (pathElements (a .field .now)) (is-pattern p) (p .put-paths .ensures)
+    (ap answered (l .len .given .1 ∙ ap Len (same .if2 .taken))) (o .put-own2 .ensures)
 
 enum-told : tie.Need-enum-told
 enum-told c = search needs
-
-enum-told-2 : tie.Need-enum-told-2
-enum-told-2 c = search needs
 
 same-length-5 : tie.Need-same-length-5
 same-length-5 c = search needs
@@ -67,11 +80,10 @@ same-length-6 c = search needs
 
 returns-3 : tie.Need-returns-3
 returns-3 c =
-    let a = c .before .before .before .before .before .before .before .before .before .before .before .before .before .before .before .args in
-    let e = sym (c .before .before .before .before .before .before .before .before .before .before .is-active .ensures) ∙ not-false _
-    (c .before .before .before .before .before .before .before .before .before .if1 .left) in
-    paths-written (heldTexts (a .paths .now)) (rowOf (a .field .now)) (pathElements (a .field .now)) e
-    (c .before .before .before .before .before .before .put-paths .ensures) (c .before .before .len .given .1) (c .if2 .left)
+    let p = c .before .before .before .before .before .before in
+    let a = start (tested p) .args in
+    paths-written (heldTexts (a .paths .now)) (rowOf (a .field .now)) (pathElements (a .field .now)) (is-pattern p) (p .put-paths .ensures)
+    (ap answered (c .before .before .len .given .1)) (c .if2 .left)
 
 same-length-7 : tie.Need-same-length-7
 same-length-7 c = search needs
@@ -81,26 +93,11 @@ same-length-8 c = search needs
 
 returns-4 : tie.Need-returns-4
 returns-4 c =
-    let a = c .before .before .before .before .before .before .before .before .before .before .before .before .before .args in
-    let e = sym (c .before .before .before .before .before .before .before .before .is-active .ensures) ∙ not-false _
-    (c .before .before .before .before .before .before .before .if1 .left) in
-    absurd (paths-class (heldTexts (a .paths .now)) (rowOf (a .field .now)) (pathElements (a .field .now)) e
-    (c .before .before .before .before .put-paths .ensures) (c .enum-told .given .1))
-
-same-length-9 : tie.Need-same-length-9
-same-length-9 c = search needs
-
-same-length-10 : tie.Need-same-length-10
-same-length-10 c = search needs
-
-returns-5 : tie.Need-returns-5
-returns-5 c =
-    let a = c .before .before .before .before .before .before .before .before .before .before .before .before .before .args in
-    let e = sym (c .before .before .before .before .before .before .before .before .is-active .ensures) ∙ not-false _
-    (c .before .before .before .before .before .before .before .if1 .left) in
-    paths-full (heldTexts (a .paths .now)) (rowOf (a .field .now)) (pathElements (a .field .now)) e
-    (c .before .before .before .before .put-paths .ensures)
-    (c .before .before .before .before .before .before .before .before .before .before .before .before .before .pre .0 .0) (c .enum-told2 .given .1)
+    let p = c .before .before .before .before in
+    let s = start (tested p) in
+    let a = s .args in
+    paths-full (heldTexts (a .paths .now)) (rowOf (a .field .now)) (pathElements (a .field .now)) (is-pattern p) (p .put-paths .ensures) (s .pre .0 .0)
+    (ap answered (c .enum-told .given .1))
 
 pub put-paths-or-own-spec : {M : Type 1} → statement M
 put-paths-or-own-spec =
@@ -118,13 +115,9 @@ put-paths-or-own-spec =
     same-length-4
     returns-2
     enum-told
-    enum-told-2
     same-length-5
     same-length-6
     returns-3
     same-length-7
     same-length-8
-    returns-4
-    same-length-9
-    same-length-10
-    returns-5)
+    returns-4)

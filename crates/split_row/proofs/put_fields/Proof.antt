@@ -1,15 +1,16 @@
 -- Two invariants. The outer loop: the stage's answer is that of the fields ahead, with the texts of those passed in front. The inner loop: only other units
--- are passed. `turn` is what a turn of the outer loop knows behind the call for its field.
+-- are passed.
 use Prim.Native.Nat.{_-_}
 use native.Mathlib.Omega.{arith}
-use mathlib.Core.Path.{sym, _∙_}
+use mathlib.Core.Path.{_≡_, sym, _∙_}
+use mathlib.Core.Bool.{true}
 use borrow.Author.Tests.{not-true, not-false}
 use lib.ListN.{length}
 use Rattle.stages.specs.Images.{heldTexts}
 use Rattle.stages.specs.Split.{split}
 use Rattle.stages.specs.Paths.{textsOfFields}
 use Rattle.text.specs.Rows.{rowOf}
-use Rattle.split_delimiter.specs.Places.{ahead}
+use Rattle.split_delimiter.specs.Places.{ahead, goesOn}
 use Rattle.split_row.proofs.Runs.{Run, run-start, run-fits, run-on, run-further}
 use Rattle.split_row.proofs.Walking.{Walk, walk-start, walk-full, walk-fits, Taken, walk-class, left-sized, walk-falls, walk-on, walk-over}
 use borrow.Author.Needs.{needs}
@@ -29,26 +30,50 @@ Inv-loop row₀ ifs paths out₀ used at₀ len₀ full₀ row out at len full =
 abbrev μ-loop : tie.MeasureT-loop
 μ-loop row₀ ifs paths out₀ used at₀ len₀ full₀ row out at len full = length (ahead row at)
 
-turn : (c : tie.After-slice-known4 Inv-loop2 μ-loop2 Inv-loop μ-loop) →
-    let a = c .before .before .before .before .before .before .before .before .before .before .before .before .before .before .before .before .before .before .before .before .before .args in
-    let l = c .before .before .before .before .before .before .before .before .before .before .before .before .before .before .loop in
-    let p = c .before .before .before .before .put-field in
+-- the places of a turn: the call, the turn's start in the outer loop, the field's end in the inner one, and its texts written
+abbrev start : tie.At-loop Inv-loop2 μ-loop2 Inv-loop μ-loop → tie.Start Inv-loop2 μ-loop2 Inv-loop μ-loop
+start l = l .before .before .before .before .before .before .before
+
+abbrev outer : tie.At-loop2 Inv-loop2 μ-loop2 Inv-loop μ-loop → tie.At-loop Inv-loop2 μ-loop2 Inv-loop μ-loop
+outer e = e .before .before
+
+abbrev ended : tie.After-behind-field Inv-loop2 μ-loop2 Inv-loop μ-loop → tie.At-loop2 Inv-loop2 μ-loop2 Inv-loop μ-loop
+ended b = b .before .before .before .before .before
+
+abbrev passed : tie.After-put-field Inv-loop2 μ-loop2 Inv-loop μ-loop → tie.After-behind-field Inv-loop2 μ-loop2 Inv-loop μ-loop
+passed p = p .before .before .before
+
+-- what a turn knows behind the call for its field
+turn : (p : tie.After-put-field Inv-loop2 μ-loop2 Inv-loop μ-loop) →
+    let b = passed p in
+    let e = ended b in
+    let l = outer e .loop in
+    let a = start (outer e) .args in
     Taken (heldTexts (a .paths .now)) (a .ifs .now) (textsOfFields (heldTexts (a .paths .now)) (split (a .ifs .now) (rowOf (a .row .now)))) (a .used)
-    (a .out .now) (length (a .row .now))
-    (l .row) (l .at) (l .len) (l .full) (l .out)
-    (c .before .before .before .before .before .before .before .before .before .before .before .before .loop2 .end)
-    (c .before .before .before .before .before .before .before .behind-field .result) (p .last .0) (p .last .1 .1 .0) (p .result)
-turn c = record {
-  walk = c .before .before .before .before .before .before .before .before .before .before .before .before .before .before .loop .inv;
-  more = c .before .before .before .before .before .before .before .before .before .before .before .before .before .loop-test .taken;
-  run = c .before .before .before .before .before .before .before .before .before .before .before .before .loop2 .inv;
-  stops = sym (c .before .before .before .before .before .before .before .before .before .before .goes-on .ensures) ∙ not-true _
-      (c .before .before .before .before .before .before .before .before .before .if1 .taken);
-  behind = c .before .before .before .before .before .before .before .behind-field .ensures;
-  says = c .before .before .before .before .put-field .ensures;
-  units = c .before .before .before .before .put-field .kept .0;
-  kept = c .before .before .before .before .put-field .kept .1 .1 .0;
-}
+    (a .out .now) (length (a .row .now)) (l .row) (l .at) (l .len) (l .full) (l .out) (e .loop2 .end) (b .behind-field .result)
+    (p .put-field .last .0) (p .put-field .last .1 .1 .0) (p .put-field .result)
+turn p =
+    let b = passed p in
+    let e = ended b in
+    record {
+      walk = outer e .loop .inv;
+      more = e .before .loop-test .taken;
+      run = e .loop2 .inv;
+      stops = sym (b .before .before .before .goes-on .ensures) ∙ not-true _ (b .before .before .if1 .taken);
+      behind = b .behind-field .ensures;
+      says = p .put-field .ensures;
+      units = p .put-field .kept .0;
+      kept = p .put-field .kept .1 .1 .0;
+    }
+
+abbrev settled : tie.After-slice-known4 Inv-loop2 μ-loop2 Inv-loop μ-loop → tie.After-put-field Inv-loop2 μ-loop2 Inv-loop μ-loop
+settled c = c .before .before .before .before
+
+-- the field goes on with the unit that the inner loop is at
+goes : (c : tie.Else1 Inv-loop2 μ-loop2 Inv-loop μ-loop) →
+    let e = c .before .before .before in
+    goesOn (start (outer e) .args .ifs .now) (ahead (outer e .loop .row) (e .loop2 .end)) ≡ true
+goes c = sym (c .before .goes-on .ensures) ∙ not-false _ (c .if1 .left)
 
 skip-white-requires : tie.Need-skip-white-requires Inv-loop2 μ-loop2 Inv-loop μ-loop
 skip-white-requires c κs = omega arith
@@ -69,27 +94,28 @@ behind-field-requires : tie.Need-behind-field-requires Inv-loop2 μ-loop2 Inv-lo
 behind-field-requires c κs = c .before .before .before .before .loop2 .inv .within
 
 add-end : tie.Need-add-end Inv-loop2 μ-loop2 Inv-loop μ-loop
-add-end c = omega (arith, run-fits _ (c .before .before .before .loop2 .inv) (sym (c .before .goes-on .ensures) ∙ not-false _ (c .if1 .left)))
+add-end c = omega (arith, run-fits _ (c .before .before .before .loop2 .inv) (goes c))
 
 loop2-less : tie.Need-loop2-less Inv-loop2 μ-loop2 Inv-loop μ-loop
-loop2-less c = omega (arith, run-fits _ (c .before .before .before .loop2 .inv) (sym (c .before .goes-on .ensures) ∙ not-false _ (c .if1 .left)))
+loop2-less c = omega (arith, run-fits _ (c .before .before .before .loop2 .inv) (goes c))
 
 loop2-again : tie.Need-loop2-again Inv-loop2 μ-loop2 Inv-loop μ-loop
-loop2-again c = run-on _ (c .before .before .before .loop2 .inv) (sym (c .before .goes-on .ensures) ∙ not-false _ (c .if1 .left))
+loop2-again c = run-on _ (c .before .before .before .loop2 .inv) (goes c)
 
 sub-put-field : tie.Need-sub-put-field Inv-loop2 μ-loop2 Inv-loop μ-loop
-sub-put-field c = run-further _ (c .before .before .before .before .before .loop2 .inv)
+sub-put-field c = run-further _ (ended c .loop2 .inv)
 
 part-put-field-start : tie.Need-part-put-field-start Inv-loop2 μ-loop2 Inv-loop μ-loop
-part-put-field-start c = run-further _ (c .before .before .before .before .before .loop2 .inv)
+part-put-field-start c = run-further _ (ended c .loop2 .inv)
 
 part-put-field-end : tie.Need-part-put-field-end Inv-loop2 μ-loop2 Inv-loop μ-loop
-part-put-field-end c = c .before .before .before .before .before .loop2 .inv .within
+part-put-field-end c = ended c .loop2 .inv .within
 
 put-field-requires : tie.Need-put-field-requires Inv-loop2 μ-loop2 Inv-loop μ-loop
 put-field-requires c κs =
-    let w = c .before .before .before .before .before .before .before .before .before .loop .inv in
-    let p = c .before .before .before .before .before .before .before .before .before .before .before .before .before .before .before .before .pre in
+    let l = outer (ended (c .before .before)) in
+    let w = l .loop .inv in
+    let p = start l .pre in
     ((omega (arith, w .room, w .same), omega (arith, p .0 .1, w .same)), p .1)
 
 enum-known-n : tie.Need-enum-known-n Inv-loop2 μ-loop2 Inv-loop μ-loop
@@ -99,29 +125,30 @@ enum-told : tie.Need-enum-told Inv-loop2 μ-loop2 Inv-loop μ-loop
 enum-told c = search needs
 
 same-length : tie.Need-same-length Inv-loop2 μ-loop2 Inv-loop μ-loop
-same-length c = left-sized (turn (c .before .before))
+same-length c = left-sized (turn (settled (c .before .before)))
 
 same-length-2 : tie.Need-same-length-2 Inv-loop2 μ-loop2 Inv-loop μ-loop
-same-length-2 c = c .before .before .before .before .before .before .put-field .kept .1 .1 .0 ∙
-    c .before .before .before .before .before .before .before .before .before .before .before .before .before .before .before .before .loop .inv .same
+same-length-2 c =
+    let p = settled (c .before .before) in
+    p .put-field .kept .1 .1 .0 ∙ outer (ended (passed p)) .loop .inv .same
 
 returns : tie.Need-returns Inv-loop2 μ-loop2 Inv-loop μ-loop
-returns c = walk-class (turn (c .before .before)) (c .enum-told .given .1)
+returns c = walk-class (turn (settled (c .before .before))) (c .enum-told .given .1)
 
 enum-told-2 : tie.Need-enum-told-2 Inv-loop2 μ-loop2 Inv-loop μ-loop
 enum-told-2 c = search needs
 
 loop-less : tie.Need-loop-less Inv-loop2 μ-loop2 Inv-loop μ-loop
-loop-less c = walk-falls (turn (c .before .before .before))
+loop-less c = walk-falls (turn (settled (c .before .before .before)))
 
 loop-again : tie.Need-loop-again Inv-loop2 μ-loop2 Inv-loop μ-loop
-loop-again c = walk-on (turn (c .before .before .before)) (c .before .n .given .1)
+loop-again c = walk-on (turn (settled (c .before .before .before))) (c .before .n .given .1)
 
 loop-less-2 : tie.Need-loop-less-2 Inv-loop2 μ-loop2 Inv-loop μ-loop
-loop-less-2 c = walk-falls (turn (c .before .before))
+loop-less-2 c = walk-falls (turn (settled (c .before .before)))
 
 loop-again-2 : tie.Need-loop-again-2 Inv-loop2 μ-loop2 Inv-loop μ-loop
-loop-again-2 c = walk-over (turn (c .before .before)) (c .enum-told2 .given .1)
+loop-again-2 c = walk-over (turn (settled (c .before .before))) (c .enum-told2 .given .1)
 
 same-length-3 : tie.Need-same-length-3 Inv-loop2 μ-loop2 Inv-loop μ-loop
 same-length-3 c = c .before .before .loop .inv .sized

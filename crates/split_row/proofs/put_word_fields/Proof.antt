@@ -29,9 +29,10 @@ same-length-2 c = search needs
 
 returns : tie.Need-returns
 returns c =
-    let a = c .before .before .before .before .before .before .before .before .before .before .before .before .before .before .args in
-    word-puts (held (take (a .have) (a .vars .now))) (heldTexts (a .paths .now)) (rowOf (a .row .now))
-    (c .before .before .before .before .before .before .before .ifs-of .ensures) (c .before .before .before .before .put-fields .ensures)
+    let p = c .before .before .before .before in
+    let i = p .before .before .before in
+    let a = i .before .before .before .before .before .before .before .args in
+    word-puts (held (take (a .vars-used) (a .vars .now))) (heldTexts (a .paths .now)) (rowOf (a .row .now)) (i .ifs-of .ensures) (p .put-fields .ensures)
 
 pub put-word-fields-spec : {M : Type 1} → statement M
 put-word-fields-spec =

@@ -1,4 +1,4 @@
--- `escapes::find` meets its contract: no byte before `i` is the one that is sought.
+-- `tab_escape::find` meets its contract: no byte before `i` is the one that is sought.
 use borrow.Author.Needs.{needs}
 use Prim.Native.Nat.{_-_}
 use native.Mathlib.Omega.{arith}

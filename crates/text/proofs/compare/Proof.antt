@@ -1,4 +1,4 @@
--- `texts::compare` meets its contract: up to `i` the two texts are the same, and so are their answers and those of what is left.
+-- `text::compare` meets its contract: up to `i` the two texts are the same, and so are their answers and those of what is left.
 use Prim.Native.Nat.{_-_}
 use mathlib.Core.Path.{refl}
 use lib.ListN.{length}

@@ -1,4 +1,4 @@
--- `texts::in_class` meets its contract: each of its three ways is the test of a bit, and those were tested at every byte.
+-- `text::in_class` meets its contract: each of its three ways is the test of a bit, and those were tested at every byte.
 use mathlib.Core.Path.{_∙_, ap}
 use Prim.Native.Nat.{_-_}
 use Rattle.text.proofs.ClassTable.{bitAt, low-bit, high-bit, upper-bit}

@@ -1,4 +1,4 @@
--- `texts::is_in` meets its contract: the byte is in the set just if it is among those from `i` on.
+-- `text::is_in` meets its contract: the byte is in the set just if it is among those from `i` on.
 use Prim.Native.Nat.{_-_}
 use mathlib.Core.Path.{refl}
 use lib.ListN.{length}

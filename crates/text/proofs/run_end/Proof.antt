@@ -1,4 +1,4 @@
--- `texts::run_end` meets its contract: the run from `at` is the bytes passed, then the run from `i`.
+-- `text::run_end` meets its contract: the run from `at` is the bytes passed, then the run from `i`.
 use Prim.Native.Nat.{_-_}
 use mathlib.Core.Path.{sym, _∙_}
 use lib.ListN.{length}

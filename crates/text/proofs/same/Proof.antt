@@ -1,4 +1,4 @@
--- `texts::same` meets its contract: texts of unlike length are not the same, and up to `i` these two are.
+-- `text::same` meets its contract: texts of unlike length are not the same, and up to `i` these two are.
 use native.Mathlib.Omega.{arith}
 use Prim.Native.Nat.{_-_}
 use mathlib.Core.Path.{_≡_, refl, sym}

@@ -1,4 +1,4 @@
--- `sums::climb::closed` meets its contract: only a `)` closes, by the token behind the value.
+-- `arith_eval::climb::closed` meets its contract: only a `)` closes, by the token behind the value.
 use Rattle.stages.specs.Arith.{shut}
 use Rattle.arith_int.proofs.Ranges.{held}
 use Rattle.arith_eval.proofs.Operands.{token-shown, closes-by}

@@ -1,4 +1,4 @@
--- `sums::climb::joined` meets its contract: the operation's outcome, where it counts.
+-- `arith_eval::climb::joined` meets its contract: the operation's outcome, where it counts.
 use mathlib.Core.Path.{sym, _∙_, ap}
 use lib.IntN.{ℤ}
 use borrow.Author.Tests.{not-true, not-false}

@@ -1,4 +1,4 @@
--- `sums::climb::named` meets its contract: the name's outcome, where it counts.
+-- `arith_eval::climb::named` meets its contract: the name's outcome, where it counts.
 use mathlib.Core.Path.{sym, _∙_, ap}
 use lib.IntN.{ℤ}
 use borrow.Author.Tests.{not-true, not-false}

@@ -1,15 +1,24 @@
 -- An expression and its operators: each way through these members is a law of Climbing.
-use Prim.Native.Nat.{ℕ, _-_}
+use Prim.Native.Nat.{ℕ, _+_, _-_, _≤_}
 use native.Mathlib.Omega.{arith}
-use mathlib.Core.Path.{refl}
-use lib.ListN.{length}
+use mathlib.Core.Path.{_≡_, refl, subst}
+use lib.ListN.{length, drop}
 use borrow.Author.Needs.{needs}
-use Rattle.stages.specs.Images.{held}
+use mathlib.Core.Bool.{Bool}
+use Rattle.stages.specs.Bytes.{Text}
+use Rattle.stages.specs.Images.{Pairs, held}
+use Rattle.stages.specs.Arith as stage
 use mir.Syntax.{w64}
 use mir.Val.{toZ}
 use Rattle.arith_int.proofs.Ranges.{kept}
 use Rattle.arith_int.proofs.Ranges as ranges
+use Rattle.arith_token.specs.Tokens.{levelOf, TokenAt}
+use Rattle.arith_token.specs.declared.Token.{Token}
+use Rattle.arith_token.specs.declared.Token.the-variants.{Op}
 use Rattle.arith_token.proofs.Lexing.{level-small}
+use Rattle.arith_eval.specs.Climbs.{Says, Turns}
+use Rattle.arith_eval.specs.declared.climb.Climbed.{Climbed}
+use Rattle.arith_eval.specs.declared.climb.Turn.{Turn}
 use Rattle.arith_eval.proofs.Operands.{token-shown, says-shown}
 use Rattle.arith_eval.proofs.Climbing.{
   turns-shown,
@@ -48,9 +57,23 @@ abbrev pub expression-callees : ℕ → expression-lts.Claims
 expression-callees t = (operand-below t, operand.Post, further-below t, further.Post)
 
 module _ (t : ℕ) where
+  -- where the first operand was read, and what was found there
+  abbrev First : Type 0
+  First = expression-lts.After-operand (expression-callees t) (expression-at t) expression.Post
+
+  abbrev expression-start : First → expression-lts.Start (expression-callees t) (expression-at t) expression.Post
+  expression-start r = r .before .before .before
+
+  expression-operand : (r : First) {g : Climbed} → r .operand .result ≡ g
+      → Says (expression-start r .args .text .now) (expression-start r .args .at) (held (expression-start r .args .vars .now))
+      (expression-start r .args .counts)
+      (stage.grow (stage.operand, expression-start r .args .room, drop (expression-start r .args .at) (expression-start r .args .text .now))) g
+  expression-operand r e =
+      let a = expression-start r .args in
+      says-shown (a .text .now) (a .at) (held (a .vars .now)) (a .counts) _ (r .operand .ensures) e
+
   pub expression-operand-requires : expression-lts.Need-operand-requires (expression-callees t) (expression-at t) expression.Post
-  expression-operand-requires c κs =
-      (omega (arith, c .before .before .pre .0), c .before .before .pre .1)
+  expression-operand-requires c κs = let s = c .before .before in (omega (arith, s .pre .0), s .pre .1)
 
   pub expression-enum-known-got : expression-lts.Need-enum-known-got (expression-callees t) (expression-at t) expression.Post
   expression-enum-known-got c = search needs
@@ -60,30 +83,25 @@ module _ (t : ℕ) where
 
   pub expression-further-requires : expression-lts.Need-further-requires (expression-callees t) (expression-at t) expression.Post
   expression-further-requires c κs =
-      let a = c .before .before .before .before .before .before .args in
-      let g = says-shown (a .text .now) (a .at) (held (a .vars .now)) (a .counts) _ (c .before .before .before .operand .ensures) (c .before .got2 .given .1) in
+      let r = c .before .before .before in
+      let s = expression-start r in
+      let g = expression-operand r (c .before .got2 .given .1) in
       let l = g .onward in
-      let w = g .within in (
-        omega (arith, c .before .before .before .before .before .before .pre .0),
-        record {
-          start = w;
-          table =
-              c .before .before .before .before .before .before .pre .1 .table;
-        },
-      )
+      let w = g .within in
+      (omega (arith, s .pre .0), record { start = w; table = s .pre .1 .table })
 
   pub expression-returns : expression-lts.Need-returns (expression-callees t) (expression-at t) expression.Post
   expression-returns c =
-      let a = c .before .before .before .before .before .before .args in
-      expression-fails (a .text .now) (held (a .vars .now)) (a .counts) (a .at) (a .room) (a .least) _
-      (says-shown (a .text .now) (a .at) (held (a .vars .now)) (a .counts) _ (c .before .before .before .operand .ensures) (c .before .got .given .1))
+      let r = c .before .before .before in
+      let a = expression-start r .args in
+      expression-fails (a .text .now) (held (a .vars .now)) (a .counts) (a .at) (a .room) (a .least) _ (expression-operand r (c .before .got .given .1))
 
   pub expression-returns-2 : expression-lts.Need-returns-2 (expression-callees t) (expression-at t) expression.Post
   expression-returns-2 c =
-      let a = c .before .before .before .before .before .before .before .args in
+      let r = c .before .before .before .before in
+      let a = expression-start r .args in
       expression-says (a .text .now) (held (a .vars .now)) (a .counts) (a .at) (a .room) (a .least) _ _ (c .further .result)
-      (says-shown (a .text .now) (a .at) (held (a .vars .now)) (a .counts) _ (c .before .before .before .before .operand .ensures)
-      (c .before .before .got2 .given .1))
+      (expression-operand r (c .before .before .got2 .given .1))
       (rw (kept (c .before .before .got2 .given .0 .0) (c .before .known-told2 .given .0 .1)) at (c .further .ensures))
 
 abbrev pub further-callees : ℕ → further-lts.Claims
@@ -96,59 +114,82 @@ abbrev pub further-μ-loop : further-lts.MeasureT-loop
 further-μ-loop text at room least left counts vars value₀ i₀ value i = length text - i
 
 module _ (t : ℕ) where
+  -- where an operator was looked for, and what was found there
+  abbrev Looked : Type 0
+  Looked = further-lts.After-operator (further-callees t) (further-at t) further.Post further-Inv-loop further-μ-loop
+
+  abbrev further-start : Looked → further-lts.Start (further-callees t) (further-at t) further.Post further-Inv-loop further-μ-loop
+  further-start r = r .before .before .before .before
+
+  further-turn : (r : Looked) {g : Turn} → r .operator .result ≡ g
+      → Turns (further-start r .args .text .now) (r .before .loop .i) (held (further-start r .args .vars .now)) (further-start r .args .counts)
+      (further-start r .args .room) (further-start r .args .least) (toZ w64 (r .before .loop .value)) g
+  further-turn r e =
+      let a = further-start r .args in
+      turns-shown (a .text .now) _ (held (a .vars .now)) (a .counts) (a .room) (a .least) _ (r .operator .ensures) e
+
   pub further-loop-holds : further-lts.Need-loop-holds (further-callees t) (further-at t) further.Post further-Inv-loop further-μ-loop
   further-loop-holds c =
-      let a = c .before .before .args in
-      going-start (a .text .now) (held (a .vars .now)) (a .counts) (a .at) (a .room) (a .least) _ (c .before .before .pre .1 .start)
+      let s = c .before .before in
+      let a = s .args in
+      going-start (a .text .now) (held (a .vars .now)) (a .counts) (a .at) (a .room) (a .least) _ (s .pre .1 .start)
 
   pub further-operator-requires : further-lts.Need-operator-requires (further-callees t) (further-at t) further.Post further-Inv-loop further-μ-loop
   further-operator-requires c κs =
-      let g = c .loop .inv in
-      let l = g .onward in
-      let w = g .within in
-      (omega (arith, c .before .before .before .pre .0), record { start = w; table = c .before .before .before .pre .1 .table })
+      let s = c .before .before .before in
+      let l = c .loop .inv .onward in
+      let w = c .loop .inv .within in
+      (omega (arith, s .pre .0), record { start = w; table = s .pre .1 .table })
 
   pub further-enum-known-got : further-lts.Need-enum-known-got (further-callees t) (further-at t) further.Post further-Inv-loop further-μ-loop
   further-enum-known-got c = search needs
 
   pub further-returns : further-lts.Need-returns (further-callees t) (further-at t) further.Post further-Inv-loop further-μ-loop
   further-returns c =
-      let a = c .before .before .before .before .before .before .before .args in
-      rw (ranges.held (a .left) (c .before .before .before .before .before .before .before .fits .left)) at
-      (going-refused (a .text .now) (held (a .vars .now)) (a .counts) (a .at) (a .room) (a .least) _ _ _
-      (c .before .before .before .before .loop .inv) _
-      (turns-shown (a .text .now) _ (held (a .vars .now)) (a .counts) (a .room) (a .least) _ (c .before .before .before .operator .ensures)
-      (c .before .got .given .1)))
+      let r = c .before .before .before in
+      let s = further-start r in
+      let a = s .args in
+      rw (ranges.held (a .left) (s .fits .left)) at
+      (going-refused (a .text .now) (held (a .vars .now)) (a .counts) (a .at) (a .room) (a .least) _ _ _ (r .before .loop .inv) _
+      (further-turn r (c .before .got .given .1)))
 
   pub further-enum-told : further-lts.Need-enum-told (further-callees t) (further-at t) further.Post further-Inv-loop further-μ-loop
   further-enum-told c = search needs
 
   pub further-returns-2 : further-lts.Need-returns-2 (further-callees t) (further-at t) further.Post further-Inv-loop further-μ-loop
   further-returns-2 c =
-      let a = c .before .before .before .before .before .before .args in
-      rw (ranges.held (a .left) (c .before .before .before .before .before .before .fits .left)) at
-      (going-last (a .text .now) (held (a .vars .now)) (a .counts) (a .at) (a .room) (a .least) _ _ _ (c .before .before .before .loop .inv)
-      (turns-shown (a .text .now) _ (held (a .vars .now)) (a .counts) (a .room) (a .least) _ (c .before .before .operator .ensures) (c .enum-told .given .1)))
+      let r = c .before .before in
+      let s = further-start r in
+      let a = s .args in
+      rw (ranges.held (a .left) (s .fits .left)) at
+      (going-last (a .text .now) (held (a .vars .now)) (a .counts) (a .at) (a .room) (a .least) _ _ _ (r .before .loop .inv)
+      (further-turn r (c .enum-told .given .1)))
 
   pub further-enum-known-got-2 : further-lts.Need-enum-known-got-2 (further-callees t) (further-at t) further.Post further-Inv-loop further-μ-loop
   further-enum-known-got-2 c = search needs
 
   pub further-loop-less : further-lts.Need-loop-less (further-callees t) (further-at t) further.Post further-Inv-loop further-μ-loop
   further-loop-less c =
-      let a = c .before .before .before .before .before .before .before .args in
-      let b = (turns-shown (a .text .now) _ (held (a .vars .now)) (a .counts) (a .room) (a .least) _ (c .before .before .before .operator .ensures)
-      (c .before .got2 .given .1)) .0 in
+      let b = further-turn (c .before .before .before) (c .before .got2 .given .1) .0 in
       let l = b .onward in
       let w = b .within in
       omega arith
 
   pub further-loop-again : further-lts.Need-loop-again (further-callees t) (further-at t) further.Post further-Inv-loop further-μ-loop
   further-loop-again c =
-      let a = c .before .before .before .before .before .before .before .args in
+      let r = c .before .before .before in
+      let a = further-start r .args in
       rw (kept (c .before .got2 .given .0 .0) (c .known-told2 .given .0 .1))
-      (going-next (a .text .now) (held (a .vars .now)) (a .counts) (a .at) (a .room) (a .least) _ _ _ (c .before .before .before .before .loop .inv) _
-      _ (turns-shown (a .text .now) _ (held (a .vars .now)) (a .counts) (a .room) (a .least) _ (c .before .before .before .operator .ensures)
-      (c .before .got2 .given .1)))
+      (going-next (a .text .now) (held (a .vars .now)) (a .counts) (a .at) (a .room) (a .least) _ _ _ (r .before .loop .inv) _ _
+      (further-turn r (c .before .got2 .given .1)))
+
+-- the right side, at the level that the code computed, once its case is known
+right-shown : (text : Text) (next d : ℕ) (v : Pairs) (counts : Bool) {i j : ℕ} {r g : Climbed}
+    → Says text next v counts (stage.expression stage.grow d (i + 1) (drop next text)) r → i ≡ j → r ≡ g
+    → Says text next v counts (stage.expression stage.grow d (j + 1) (drop next text)) g
+right-shown text next d v counts {g = g} h e q =
+    subst (λ k. Says text next v counts (stage.expression stage.grow d (k + 1) (drop next text)) g) e
+    (says-shown text next v counts _ h q)
 
 abbrev pub operator-callees : ℕ → operator-lts.Claims
 operator-callees t = (
@@ -163,9 +204,35 @@ operator-callees t = (
 )
 
 module _ (t : ℕ) where
+  -- where the token was read, and the token once its case is known
+  abbrev Lexed : Type 0
+  Lexed = operator-lts.After-token-at (operator-callees t) (operator-at t) operator.Post
+
+  abbrev operator-start : Lexed → operator-lts.Start (operator-callees t) (operator-at t) operator.Post
+  operator-start r = r .before .before .before
+
+  operator-token : (r : Lexed) {k : Token} → r .token-at .result ≡ k → TokenAt (operator-start r .args .text .now) (operator-start r .args .at) k
+  operator-token r e = token-shown (r .token-at .ensures) e
+
+  -- where an operator binds tightly enough
+  abbrev Tight : Type 0
+  Tight = operator-lts.Else1 (operator-callees t) (operator-at t) operator.Post
+
+  abbrev tight-lexed : Tight → Lexed
+  tight-lexed c = c .before .before .before .before .before
+
+  abbrev tight-start : Tight → operator-lts.Start (operator-callees t) (operator-at t) operator.Post
+  tight-start c = operator-start (tight-lexed c)
+
+  tight-token : (c : Tight) → TokenAt (tight-start c .args .text .now) (tight-start c .args .at)
+      (Op (c .before .before .before .token2 .given .0 .0) (c .before .before .before .token2 .given .0 .1 .0))
+  tight-token c = operator-token (tight-lexed c) (c .before .before .before .token2 .given .1)
+
+  tight-level : (c : Tight) → tight-start c .args .least ≤ levelOf (c .before .before .before .token2 .given .0 .0)
+  tight-level c = rw (c .before .level .ensures) at (c .if1 .left)
+
   pub operator-token-at-requires : operator-lts.Need-token-at-requires (operator-callees t) (operator-at t) operator.Post
-  operator-token-at-requires c κs =
-      c .before .before .pre .1 .start
+  operator-token-at-requires c κs = c .before .before .pre .1 .start
 
   pub operator-enum-known-token : operator-lts.Need-enum-known-token (operator-callees t) (operator-at t) operator.Post
   operator-enum-known-token c = search needs
@@ -178,27 +245,20 @@ module _ (t : ℕ) where
 
   pub operator-returns : operator-lts.Need-returns (operator-callees t) (operator-at t) operator.Post
   operator-returns c =
-      let a = c .before .before .before .before .before .before .before .before .args in
+      let r = c .before .before .before .before .before in
+      let a = operator-start r .args in
       last-loose (a .text .now) (held (a .vars .now)) (a .counts) (a .at) (a .room) (a .least) (a .left) _ _
-      (token-shown (c .before .before .before .before .before .token-at .ensures) (c .before .before .before .token2 .given .1))
-      (rw (c .before .level .ensures) at (c .if1 .taken))
+      (operator-token r (c .before .before .before .token2 .given .1)) (rw (c .before .level .ensures) at (c .if1 .taken))
 
   pub operator-add-expression : operator-lts.Need-add-expression (operator-callees t) (operator-at t) operator.Post
-  operator-add-expression c =
-      omega (arith, c .before .level .ensures, level-small (c .before .before .before .token2 .given .0 .0))
+  operator-add-expression c = omega (arith, c .before .level .ensures, level-small (c .before .before .before .token2 .given .0 .0))
 
   pub operator-expression-requires : operator-lts.Need-expression-requires (operator-callees t) (operator-at t) operator.Post
   operator-expression-requires c κs =
-      let t = (token-shown (c .before .before .before .before .before .token-at .ensures) (c .before .before .before .token2 .given .1)) in
-      let l = t .ends .onward in
-      let w = t .ends .within in (
-        omega (arith, c .before .before .before .before .before .before .before .before .pre .0),
-        record {
-          start = w;
-          table =
-              c .before .before .before .before .before .before .before .before .pre .1 .table;
-        },
-      )
+      let s = tight-start c in
+      let l = tight-token c .ends .onward in
+      let w = tight-token c .ends .within in
+      (omega (arith, s .pre .0), record { start = w; table = s .pre .1 .table })
 
   pub operator-enum-known-got : operator-lts.Need-enum-known-got (operator-callees t) (operator-at t) operator.Post
   operator-enum-known-got c = search needs
@@ -226,62 +286,59 @@ module _ (t : ℕ) where
 
   pub operator-returns-2 : operator-lts.Need-returns-2 (operator-callees t) (operator-at t) operator.Post
   operator-returns-2 c =
-      let a = c .before .before .before .before .before .before .args in
-      turn-refused (a .text .now) (held (a .vars .now)) (a .counts) (a .at) (a .room) (a .least) (a .left) _
-      (token-shown (c .before .before .before .token-at .ensures) (c .before .token .given .1))
+      let r = c .before .before .before in
+      let a = operator-start r .args in
+      turn-refused (a .text .now) (held (a .vars .now)) (a .counts) (a .at) (a .room) (a .least) (a .left) _ (operator-token r (c .before .token .given .1))
 
   pub operator-returns-3 : operator-lts.Need-returns-3 (operator-callees t) (operator-at t) operator.Post
   operator-returns-3 c =
-      let a = c .before .before .before .before .before .before .before .before .before .before .before .before .args in
-      right-fails (a .text .now) (held (a .vars .now)) (a .counts) (a .at) (a .room) (a .least) (a .left) _ _
-      (token-shown (c .before .before .before .before .before .before .before .before .before .token-at .ensures)
-      (c .before .before .before .before .before .before .before .token2 .given .1))
-      (rw (c .before .before .before .before .before .level .ensures) at (c .before .before .before .before .if1 .left)) _
-      (rw (c .before .before .before .before .before .level .ensures) at
-      (says-shown (a .text .now) _ (held (a .vars .now)) (a .counts) _ (c .before .before .before .expression .ensures) (c .before .got .given .1)))
+      let e = c .before .before .before in
+      let h = e .before in
+      let a = tight-start h .args in
+      right-fails (a .text .now) (held (a .vars .now)) (a .counts) (a .at) (a .room) (a .least) (a .left) _ _ (tight-token h) (tight-level h) _
+      (right-shown (a .text .now) _ (a .room) (held (a .vars .now)) (a .counts) (e .expression .ensures) (h .before .level .ensures)
+      (c .before .got .given .1))
 
   pub operator-returns-4 : operator-lts.Need-returns-4 (operator-callees t) (operator-at t) operator.Post
   operator-returns-4 c =
-      let a = c .before .before .before .before .before .before .before .before .before .before .before .before .before .args in
-      turn-says (a .text .now) (held (a .vars .now)) (a .counts) (a .at) (a .room) (a .least) (a .left) _ _
-      (token-shown (c .before .before .before .before .before .before .before .before .before .before .token-at .ensures)
-      (c .before .before .before .before .before .before .before .before .token2 .given .1))
-      (rw (c .before .before .before .before .before .before .level .ensures) at (c .before .before .before .before .before .if1 .left)) _ _
-      (rw (c .before .before .before .before .before .before .level .ensures) at
-      (says-shown (a .text .now) _ (held (a .vars .now)) (a .counts) _ (c .before .before .before .before .expression .ensures)
-      (c .before .before .got2 .given .1))) (c .joined .result) (a .counts) refl
+      let e = c .before .before .before .before in
+      let h = e .before in
+      let a = tight-start h .args in
+      turn-says (a .text .now) (held (a .vars .now)) (a .counts) (a .at) (a .room) (a .least) (a .left) _ _ (tight-token h) (tight-level h) _ _
+      (right-shown (a .text .now) _ (a .room) (held (a .vars .now)) (a .counts) (e .expression .ensures) (h .before .level .ensures)
+      (c .before .before .got2 .given .1))
+      (c .joined .result) (a .counts) refl
       (rw (
-        ranges.held (a .left)
-            (c .before .before .before .before .before .before .before .before .before .before .before .before .before .fits .left),
+        ranges.held (a .left) (tight-start h .fits .left),
         kept (c .before .before .got2 .given .0 .0) (c .before .known-told4 .given .0 .1),
       ) at (c .joined .ensures))
 
   pub operator-returns-5 : operator-lts.Need-returns-5 (operator-callees t) (operator-at t) operator.Post
   operator-returns-5 c =
-      let a = c .before .before .before .before .before .args in
-      last-number (a .text .now) (held (a .vars .now)) (a .counts) (a .at) (a .room) (a .least) (a .left) _ _
-      (token-shown (c .before .before .token-at .ensures) (c .enum-told .given .1))
+      let r = c .before .before in
+      let a = operator-start r .args in
+      last-number (a .text .now) (held (a .vars .now)) (a .counts) (a .at) (a .room) (a .least) (a .left) _ _ (operator-token r (c .enum-told .given .1))
 
   pub operator-returns-6 : operator-lts.Need-returns-6 (operator-callees t) (operator-at t) operator.Post
   operator-returns-6 c =
-      let a = c .before .before .before .before .before .args in
-      last-name (a .text .now) (held (a .vars .now)) (a .counts) (a .at) (a .room) (a .least) (a .left) _ _
-      (token-shown (c .before .before .token-at .ensures) (c .enum-told2 .given .1))
+      let r = c .before .before in
+      let a = operator-start r .args in
+      last-name (a .text .now) (held (a .vars .now)) (a .counts) (a .at) (a .room) (a .least) (a .left) _ _ (operator-token r (c .enum-told2 .given .1))
 
   pub operator-returns-7 : operator-lts.Need-returns-7 (operator-callees t) (operator-at t) operator.Post
   operator-returns-7 c =
-      let a = c .before .before .before .before .before .args in
-      last-opens (a .text .now) (held (a .vars .now)) (a .counts) (a .at) (a .room) (a .least) (a .left) _
-      (token-shown (c .before .before .token-at .ensures) (c .enum-told3 .given .1))
+      let r = c .before .before in
+      let a = operator-start r .args in
+      last-opens (a .text .now) (held (a .vars .now)) (a .counts) (a .at) (a .room) (a .least) (a .left) _ (operator-token r (c .enum-told3 .given .1))
 
   pub operator-returns-8 : operator-lts.Need-returns-8 (operator-callees t) (operator-at t) operator.Post
   operator-returns-8 c =
-      let a = c .before .before .before .before .before .args in
-      last-shuts (a .text .now) (held (a .vars .now)) (a .counts) (a .at) (a .room) (a .least) (a .left) _
-      (token-shown (c .before .before .token-at .ensures) (c .enum-told4 .given .1))
+      let r = c .before .before in
+      let a = operator-start r .args in
+      last-shuts (a .text .now) (held (a .vars .now)) (a .counts) (a .at) (a .room) (a .least) (a .left) _ (operator-token r (c .enum-told4 .given .1))
 
   pub operator-returns-9 : operator-lts.Need-returns-9 (operator-callees t) (operator-at t) operator.Post
   operator-returns-9 c =
-      let a = c .before .before .before .before .before .args in
-      last-stop (a .text .now) (held (a .vars .now)) (a .counts) (a .at) (a .room) (a .least) (a .left)
-      (token-shown (c .before .before .token-at .ensures) (c .enum-told5 .given .1))
+      let r = c .before .before in
+      let a = operator-start r .args in
+      last-stop (a .text .now) (held (a .vars .now)) (a .counts) (a .at) (a .room) (a .least) (a .left) (operator-token r (c .enum-told5 .given .1))

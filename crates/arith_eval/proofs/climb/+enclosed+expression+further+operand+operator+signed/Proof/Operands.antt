@@ -1,12 +1,21 @@
 -- One operand: each way through these members is a law of Operands.
-use Prim.Native.Nat.{ℕ, _-_}
+use Prim.Native.Nat.{ℕ, _+_, _*_, _-_, _<_}
 use native.Mathlib.Omega.{arith}
-use mathlib.Core.Path.{refl}
-use lib.ListN.{drop}
+use mathlib.Core.Path.{_≡_, refl}
+use lib.ListN.{length, drop}
 use borrow.Author.Needs.{needs}
+use Rattle.stages.specs.Numbers.{arithmeticSyntax}
+use Rattle.stages.specs.Outcome.{refused}
 use Rattle.stages.specs.Images.{held}
 use Rattle.stages.specs.Arith as stage
+use Rattle.text.specs.Places.{Behind}
+use Rattle.arith_int.specs.Answers.{opOf}
+use Rattle.arith_int.specs.declared.Op.{Op}
 use Rattle.arith_int.proofs.Ranges.{kept}
+use Rattle.arith_token.specs.Tokens.{TokenAt}
+use Rattle.arith_token.specs.declared.Token.{Token}
+use Rattle.arith_eval.specs.Climbs.{Ready, Fails, Says}
+use Rattle.arith_eval.specs.declared.climb.Climbed.{Climbed}
 use Rattle.arith_eval.proofs.Operands.{
   token-shown,
   says-shown,
@@ -64,9 +73,27 @@ operand-callees t = (
 )
 
 module _ (t : ℕ) where
+  -- where the token was read
+  abbrev Lexed : Type 0
+  Lexed = operand-lts.After-token-at (operand-callees t) (operand-at t) operand.Post
+
+  abbrev operand-start : Lexed → operand-lts.Start (operand-callees t) (operand-at t) operand.Post
+  operand-start r = r .before .before .before
+
+  -- the token, once its case is known
+  operand-token : (r : Lexed) {k : Token} → r .token-at .result ≡ k → TokenAt (operand-start r .args .text .now) (operand-start r .args .at) k
+  operand-token r e = token-shown (r .token-at .ensures) e
+
+  -- a call that stands behind it
+  operand-onward : (r : Lexed) {next : ℕ} → Behind (operand-start r .args .text .now) (operand-start r .args .at) next
+      → (3 * (length (operand-start r .args .text .now) - next) + 2 < t) × Ready (operand-start r .args .text .now) next (operand-start r .args .vars .now)
+  operand-onward r b =
+      let l = b .onward in
+      let w = b .within in
+      (omega (arith, operand-start r .pre .0), record { start = w; table = operand-start r .pre .1 .table })
+
   pub operand-token-at-requires : operand-lts.Need-token-at-requires (operand-callees t) (operand-at t) operand.Post
-  operand-token-at-requires c κs =
-      c .before .before .pre .1 .start
+  operand-token-at-requires c κs = c .before .before .pre .1 .start
 
   pub operand-enum-known-token : operand-lts.Need-enum-known-token (operand-callees t) (operand-at t) operand.Post
   operand-enum-known-token c = search needs
@@ -79,40 +106,24 @@ module _ (t : ℕ) where
 
   pub operand-named-requires : operand-lts.Need-named-requires (operand-callees t) (operand-at t) operand.Post
   operand-named-requires c κs =
-      let t = (token-shown (c .before .before .before .token-at .ensures) (c .before .token3 .given .1)) in
-      (t .ends .rising, record { start = t .ends .behind .within; table = c .before .before .before .before .before .before .pre .1 .table })
+      let r = c .before .before .before in
+      let k = operand-token r (c .before .token3 .given .1) in
+      (k .ends .rising, operand-onward r (k .ends .behind) .1)
 
   pub operand-enum-known-token-4 : operand-lts.Need-enum-known-token-4 (operand-callees t) (operand-at t) operand.Post
   operand-enum-known-token-4 c = search needs
 
   pub operand-signed-requires : operand-lts.Need-signed-requires (operand-callees t) (operand-at t) operand.Post
   operand-signed-requires c κs =
-      let t = (token-shown (c .before .before .before .token-at .ensures) (c .before .token4 .given .1)) in
-      let l = t .ends .onward in
-      let w = t .ends .within in (
-        omega (arith, c .before .before .before .before .before .before .pre .0),
-        record {
-          start = w;
-          table =
-              c .before .before .before .before .before .before .pre .1 .table;
-        },
-      )
+      let r = c .before .before .before in
+      let g = operand-onward r (operand-token r (c .before .token4 .given .1) .ends) in
+      (omega (arith, g .0), g .1)
 
   pub operand-enum-known-token-5 : operand-lts.Need-enum-known-token-5 (operand-callees t) (operand-at t) operand.Post
   operand-enum-known-token-5 c = search needs
 
   pub operand-enclosed-requires : operand-lts.Need-enclosed-requires (operand-callees t) (operand-at t) operand.Post
-  operand-enclosed-requires c κs =
-      let t = (token-shown (c .before .before .before .token-at .ensures) (c .before .token5 .given .1)) in
-      let l = t .ends .onward in
-      let w = t .ends .within in (
-        omega (arith, c .before .before .before .before .before .before .pre .0),
-        record {
-          start = w;
-          table =
-              c .before .before .before .before .before .before .pre .1 .table;
-        },
-      )
+  operand-enclosed-requires c κs = let r = c .before .before .before in operand-onward r (operand-token r (c .before .token5 .given .1) .ends)
 
   pub operand-enum-told : operand-lts.Need-enum-told (operand-callees t) (operand-at t) operand.Post
   operand-enum-told c = search needs
@@ -122,51 +133,82 @@ module _ (t : ℕ) where
 
   pub operand-returns : operand-lts.Need-returns (operand-callees t) (operand-at t) operand.Post
   operand-returns c =
-      let a = c .before .before .before .before .before .before .args in
-      operand-refused (a .text .now) (held (a .vars .now)) (a .counts) (a .at) (a .room) _
-      (token-shown (c .before .before .before .token-at .ensures) (c .before .token .given .1))
+      let r = c .before .before .before in
+      let a = operand-start r .args in
+      operand-refused (a .text .now) (held (a .vars .now)) (a .counts) (a .at) (a .room) _ (operand-token r (c .before .token .given .1))
 
   pub operand-returns-2 : operand-lts.Need-returns-2 (operand-callees t) (operand-at t) operand.Post
   operand-returns-2 c =
-      let a = c .before .before .before .before .before .before .args in
+      let r = c .before .before .before in
+      let a = operand-start r .args in
       rw (kept (c .before .token2 .given .0 .0) (c .known-told2 .given .0 .1))
-      (operand-number (a .text .now) (held (a .vars .now)) (a .counts) (a .at) (a .room) _ _
-      (token-shown (c .before .before .before .token-at .ensures) (c .before .token2 .given .1)))
+      (operand-number (a .text .now) (held (a .vars .now)) (a .counts) (a .at) (a .room) _ _ (operand-token r (c .before .token2 .given .1)))
 
   pub operand-returns-3 : operand-lts.Need-returns-3 (operand-callees t) (operand-at t) operand.Post
   operand-returns-3 c =
-      let a = c .before .before .before .before .before .before .before .args in
-      operand-name (a .text .now) (held (a .vars .now)) (a .counts) (a .at) (a .room) _ _ (c .named .result)
-      (token-shown (c .before .before .before .before .token-at .ensures) (c .before .before .token3 .given .1)) (a .counts) refl (c .named .ensures)
+      let r = c .before .before .before .before in
+      let a = operand-start r .args in
+      operand-name (a .text .now) (held (a .vars .now)) (a .counts) (a .at) (a .room) _ _ (c .named .result) (operand-token r (c .before .before .token3 .given .1))
+      (a .counts) refl (c .named .ensures)
 
   pub operand-returns-4 : operand-lts.Need-returns-4 (operand-callees t) (operand-at t) operand.Post
   operand-returns-4 c =
-      let a = c .before .before .before .before .before .before .before .args in
-      operand-sign (a .text .now) (held (a .vars .now)) (a .counts) (a .at) (a .room) _ _ (c .signed .result)
-      (token-shown (c .before .before .before .before .token-at .ensures) (c .before .before .token4 .given .1)) (c .signed .ensures)
+      let r = c .before .before .before .before in
+      let a = operand-start r .args in
+      operand-sign (a .text .now) (held (a .vars .now)) (a .counts) (a .at) (a .room) _ _ (c .signed .result) (operand-token r (c .before .before .token4 .given .1))
+      (c .signed .ensures)
 
   pub operand-returns-5 : operand-lts.Need-returns-5 (operand-callees t) (operand-at t) operand.Post
   operand-returns-5 c =
-      let a = c .before .before .before .before .before .before .before .args in
-      operand-opens (a .text .now) (held (a .vars .now)) (a .counts) (a .at) (a .room) _ (c .enclosed .result)
-      (token-shown (c .before .before .before .before .token-at .ensures) (c .before .before .token5 .given .1)) (c .enclosed .ensures)
+      let r = c .before .before .before .before in
+      let a = operand-start r .args in
+      operand-opens (a .text .now) (held (a .vars .now)) (a .counts) (a .at) (a .room) _ (c .enclosed .result) (operand-token r (c .before .before .token5 .given .1))
+      (c .enclosed .ensures)
 
   pub operand-returns-6 : operand-lts.Need-returns-6 (operand-callees t) (operand-at t) operand.Post
   operand-returns-6 c =
-      let a = c .before .before .before .before .before .args in
-      operand-shut (a .text .now) (held (a .vars .now)) (a .counts) (a .at) (a .room) _
-      (token-shown (c .before .before .token-at .ensures) (c .enum-told .given .1))
+      let r = c .before .before in
+      let a = operand-start r .args in
+      operand-shut (a .text .now) (held (a .vars .now)) (a .counts) (a .at) (a .room) _ (operand-token r (c .enum-told .given .1))
 
   pub operand-returns-7 : operand-lts.Need-returns-7 (operand-callees t) (operand-at t) operand.Post
   operand-returns-7 c =
-      let a = c .before .before .before .before .before .args in
-      operand-none (a .text .now) (held (a .vars .now)) (a .counts) (a .at) (a .room)
-      (token-shown (c .before .before .token-at .ensures) (c .enum-told2 .given .1))
+      let r = c .before .before in
+      let a = operand-start r .args in
+      operand-none (a .text .now) (held (a .vars .now)) (a .counts) (a .at) (a .room) (operand-token r (c .enum-told2 .given .1))
 
 abbrev pub signed-callees : ℕ → signed-lts.Claims
 signed-callees t = (operand-below t, operand.Post, turned-reads.Asked, turned-reads.Learnt)
 
 module _ (t : ℕ) where
+  abbrev Signed : Type 0
+  Signed = signed-lts.Start (signed-callees t) (signed-at t) signed.Post
+
+  -- where an operand may stand behind the sign
+  signed-inner : (s : Signed) → 3 * (length (s .args .text .now) - s .args .at) < t
+  signed-inner s = omega (arith, s .pre .0)
+
+  -- an operator that is no sign
+  signed-none : (s : Signed) {o : Op} → s .args .op ≡ o
+      → stage.sign stage.grow (opOf o) (s .args .room) (drop (s .args .at) (s .args .text .now)) ≡ refused arithmeticSyntax
+      → Fails (held (s .args .vars .now)) (s .args .counts)
+      (stage.sign stage.grow (opOf (s .args .op)) (s .args .room) (drop (s .args .at) (s .args .text .now))) arithmeticSyntax
+  signed-none s e q = no-sign (held (s .args .vars .now)) (s .args .counts) (s .args .room) (drop (s .args .at) (s .args .text .now)) _ _ e q
+
+  -- behind a `-`: where its operand was read, and what was found there
+  abbrev Minus : Type 0
+  Minus = signed-lts.After-operand2 (signed-callees t) (signed-at t) signed.Post
+
+  abbrev minus-start : Minus → Signed
+  minus-start r = r .before .before .before .before .before .before
+
+  minus-operand : (r : Minus) {g : Climbed} → r .operand2 .result ≡ g
+      → Says (minus-start r .args .text .now) (minus-start r .args .at) (held (minus-start r .args .vars .now)) (minus-start r .args .counts)
+      (stage.grow (stage.operand, minus-start r .args .room - 1, drop (minus-start r .args .at) (minus-start r .args .text .now))) g
+  minus-operand r e =
+      let a = minus-start r .args in
+      says-shown (a .text .now) (a .at) (held (a .vars .now)) (a .counts) _ (r .operand2 .ensures) e
+
   pub signed-enum-told : signed-lts.Need-enum-told (signed-callees t) (signed-at t) signed.Post
   signed-enum-told c = search needs
 
@@ -176,12 +218,10 @@ module _ (t : ℕ) where
       plus-deep (a .text .now) (held (a .vars .now)) (a .counts) (a .at) (a .room) (a .op) (c .before .enum-told .given .1) (c .if1 .taken)
 
   pub signed-sub-operand : signed-lts.Need-sub-operand (signed-callees t) (signed-at t) signed.Post
-  signed-sub-operand c =
-      let n = c .if1 .left in omega arith
+  signed-sub-operand c = let n = c .if1 .left in omega arith
 
   pub signed-operand-requires : signed-lts.Need-operand-requires (signed-callees t) (signed-at t) signed.Post
-  signed-operand-requires c κs =
-      (omega (arith, c .before .before .before .before .before .pre .0), c .before .before .before .before .before .pre .1)
+  signed-operand-requires c κs = let s = c .before .before .before .before .before in (signed-inner s, s .pre .1)
 
   pub signed-enum-told-2 : signed-lts.Need-enum-told-2 (signed-callees t) (signed-at t) signed.Post
   signed-enum-told-2 c = search needs
@@ -192,12 +232,10 @@ module _ (t : ℕ) where
       minus-deep (a .text .now) (held (a .vars .now)) (a .counts) (a .at) (a .room) (a .op) (c .before .enum-told2 .given .1) (c .if2 .taken)
 
   pub signed-sub-operand-2 : signed-lts.Need-sub-operand-2 (signed-callees t) (signed-at t) signed.Post
-  signed-sub-operand-2 c =
-      let n = c .if2 .left in omega arith
+  signed-sub-operand-2 c = let n = c .if2 .left in omega arith
 
   pub signed-operand-requires-2 : signed-lts.Need-operand-requires-2 (signed-callees t) (signed-at t) signed.Post
-  signed-operand-requires-2 c κs =
-      (omega (arith, c .before .before .before .before .before .pre .0), c .before .before .before .before .before .pre .1)
+  signed-operand-requires-2 c κs = let s = c .before .before .before .before .before in (signed-inner s, s .pre .1)
 
   pub signed-enum-known-got : signed-lts.Need-enum-known-got (signed-callees t) (signed-at t) signed.Post
   signed-enum-known-got c = search needs
@@ -238,95 +276,90 @@ module _ (t : ℕ) where
   pub signed-returns-3 : signed-lts.Need-returns-3 (signed-callees t) (signed-at t) signed.Post
   signed-returns-3 c =
       let a = c .before .before .before .before .before .before .args in
-      plus-says (a .text .now) (held (a .vars .now)) (a .counts) (a .at) (a .room) (a .op) (c .operand .result)
-      (c .before .before .enum-told .given .1) (c .before .if1 .left) (c .operand .ensures)
+      plus-says (a .text .now) (held (a .vars .now)) (a .counts) (a .at) (a .room) (a .op) (c .operand .result) (c .before .before .enum-told .given .1) (c .before .if1 .left)
+      (c .operand .ensures)
 
   pub signed-returns-4 : signed-lts.Need-returns-4 (signed-callees t) (signed-at t) signed.Post
   signed-returns-4 c =
-      let a = c .before .before .before .before .before .before .before .before .before .args in
-      minus-fails (a .text .now) (held (a .vars .now)) (a .counts) (a .at) (a .room) (a .op) _
-      (c .before .before .before .before .before .enum-told2 .given .1) (c .before .before .before .before .if2 .left)
-      (says-shown (a .text .now) (a .at) (held (a .vars .now)) (a .counts) _ (c .before .before .before .operand2 .ensures) (c .before .got .given .1))
+      let r = c .before .before .before in
+      let a = minus-start r .args in
+      minus-fails (a .text .now) (held (a .vars .now)) (a .counts) (a .at) (a .room) (a .op) _ (r .before .before .enum-told2 .given .1) (r .before .if2 .left)
+      (minus-operand r (c .before .got .given .1))
 
   pub signed-returns-5 : signed-lts.Need-returns-5 (signed-callees t) (signed-at t) signed.Post
   signed-returns-5 c =
-      let a = c .before .before .before .before .before .before .before .before .before .before .args in
-      minus-says (a .text .now) (held (a .vars .now)) (a .counts) (a .at) (a .room) (a .op)
-      (c .before .before .before .before .before .before .enum-told2 .given .1) (c .before .before .before .before .before .if2 .left) _ _
-      (says-shown (a .text .now) (a .at) (held (a .vars .now)) (a .counts) _ (c .before .before .before .before .operand2 .ensures)
-      (c .before .before .got2 .given .1)) (c .turned .result) (a .counts) refl
+      let r = c .before .before .before .before in
+      let a = minus-start r .args in
+      minus-says (a .text .now) (held (a .vars .now)) (a .counts) (a .at) (a .room) (a .op) (r .before .before .enum-told2 .given .1) (r .before .if2 .left) _ _
+      (minus-operand r (c .before .before .got2 .given .1)) (c .turned .result) (a .counts) refl
       (rw (kept (c .before .before .got2 .given .0 .0) (c .before .known-told2 .given .0 .1)) at (c .turned .ensures))
 
   pub signed-returns-6 : signed-lts.Need-returns-6 (signed-callees t) (signed-at t) signed.Post
   unfolding stage.sign
-  signed-returns-6 c =
-      let a = c .before .before .before .before .args in
-      no-sign (held (a .vars .now)) (a .counts) (a .room) (drop (a .at) (a .text .now)) _ _ (c .enum-told3 .given .1) refl
+  signed-returns-6 c = signed-none (c .before .before .before .before) (c .enum-told3 .given .1) refl
 
   pub signed-returns-7 : signed-lts.Need-returns-7 (signed-callees t) (signed-at t) signed.Post
   unfolding stage.sign
-  signed-returns-7 c =
-      let a = c .before .before .before .before .args in
-      no-sign (held (a .vars .now)) (a .counts) (a .room) (drop (a .at) (a .text .now)) _ _ (c .enum-told4 .given .1) refl
+  signed-returns-7 c = signed-none (c .before .before .before .before) (c .enum-told4 .given .1) refl
 
   pub signed-returns-8 : signed-lts.Need-returns-8 (signed-callees t) (signed-at t) signed.Post
   unfolding stage.sign
-  signed-returns-8 c =
-      let a = c .before .before .before .before .args in
-      no-sign (held (a .vars .now)) (a .counts) (a .room) (drop (a .at) (a .text .now)) _ _ (c .enum-told5 .given .1) refl
+  signed-returns-8 c = signed-none (c .before .before .before .before) (c .enum-told5 .given .1) refl
 
   pub signed-returns-9 : signed-lts.Need-returns-9 (signed-callees t) (signed-at t) signed.Post
   unfolding stage.sign
-  signed-returns-9 c =
-      let a = c .before .before .before .before .args in
-      no-sign (held (a .vars .now)) (a .counts) (a .room) (drop (a .at) (a .text .now)) _ _ (c .enum-told6 .given .1) refl
+  signed-returns-9 c = signed-none (c .before .before .before .before) (c .enum-told6 .given .1) refl
 
   pub signed-returns-10 : signed-lts.Need-returns-10 (signed-callees t) (signed-at t) signed.Post
   unfolding stage.sign
-  signed-returns-10 c =
-      let a = c .before .before .before .before .args in
-      no-sign (held (a .vars .now)) (a .counts) (a .room) (drop (a .at) (a .text .now)) _ _ (c .enum-told7 .given .1) refl
+  signed-returns-10 c = signed-none (c .before .before .before .before) (c .enum-told7 .given .1) refl
 
   pub signed-returns-11 : signed-lts.Need-returns-11 (signed-callees t) (signed-at t) signed.Post
   unfolding stage.sign
-  signed-returns-11 c =
-      let a = c .before .before .before .before .args in
-      no-sign (held (a .vars .now)) (a .counts) (a .room) (drop (a .at) (a .text .now)) _ _ (c .enum-told8 .given .1) refl
+  signed-returns-11 c = signed-none (c .before .before .before .before) (c .enum-told8 .given .1) refl
 
   pub signed-returns-12 : signed-lts.Need-returns-12 (signed-callees t) (signed-at t) signed.Post
   unfolding stage.sign
-  signed-returns-12 c =
-      let a = c .before .before .before .before .args in
-      no-sign (held (a .vars .now)) (a .counts) (a .room) (drop (a .at) (a .text .now)) _ _ (c .enum-told9 .given .1) refl
+  signed-returns-12 c = signed-none (c .before .before .before .before) (c .enum-told9 .given .1) refl
 
   pub signed-returns-13 : signed-lts.Need-returns-13 (signed-callees t) (signed-at t) signed.Post
   unfolding stage.sign
-  signed-returns-13 c =
-      let a = c .before .before .before .before .args in
-      no-sign (held (a .vars .now)) (a .counts) (a .room) (drop (a .at) (a .text .now)) _ _ (c .enum-told10 .given .1) refl
+  signed-returns-13 c = signed-none (c .before .before .before .before) (c .enum-told10 .given .1) refl
 
   pub signed-returns-14 : signed-lts.Need-returns-14 (signed-callees t) (signed-at t) signed.Post
   unfolding stage.sign
-  signed-returns-14 c =
-      let a = c .before .before .before .before .args in
-      no-sign (held (a .vars .now)) (a .counts) (a .room) (drop (a .at) (a .text .now)) _ _ (c .enum-told11 .given .1) refl
+  signed-returns-14 c = signed-none (c .before .before .before .before) (c .enum-told11 .given .1) refl
 
 abbrev pub enclosed-callees : ℕ → enclosed-lts.Claims
 enclosed-callees t = (expression-below t, expression.Post, closed-reads.Asked, closed-reads.Learnt)
 
 module _ (t : ℕ) where
+  -- where the expression in the parentheses was read, and what was found there
+  abbrev Enclosed : Type 0
+  Enclosed = enclosed-lts.After-expression (enclosed-callees t) (enclosed-at t) enclosed.Post
+
+  abbrev enclosed-start : Enclosed → enclosed-lts.Start (enclosed-callees t) (enclosed-at t) enclosed.Post
+  enclosed-start r = r .before .before .before .before
+
+  enclosed-inside : (r : Enclosed) {g : Climbed} → r .expression .result ≡ g
+      → Says (enclosed-start r .args .text .now) (enclosed-start r .args .at) (held (enclosed-start r .args .vars .now)) (enclosed-start r .args .counts)
+      (stage.expression stage.grow (enclosed-start r .args .room - 1) 1 (drop (enclosed-start r .args .at) (enclosed-start r .args .text .now))) g
+  enclosed-inside r e =
+      let a = enclosed-start r .args in
+      says-shown (a .text .now) (a .at) (held (a .vars .now)) (a .counts)
+      (stage.expression stage.grow (a .room - 1) 1 (drop (a .at) (a .text .now))) (r .expression .ensures) e
+
   pub enclosed-returns : enclosed-lts.Need-returns (enclosed-callees t) (enclosed-at t) enclosed.Post
   enclosed-returns c =
       let a = c .before .before .before .args in
       enclosed-deep (a .text .now) (held (a .vars .now)) (a .counts) (a .at) (a .room) (c .if1 .taken)
 
   pub enclosed-sub-expression : enclosed-lts.Need-sub-expression (enclosed-callees t) (enclosed-at t) enclosed.Post
-  enclosed-sub-expression c =
-      let n = c .if1 .left in omega arith
+  enclosed-sub-expression c = let n = c .if1 .left in omega arith
 
   pub enclosed-expression-requires : enclosed-lts.Need-expression-requires (enclosed-callees t) (enclosed-at t) enclosed.Post
   enclosed-expression-requires c κs =
-      (omega (arith, c .before .before .before .pre .0), c .before .before .before .pre .1)
+      let s = c .before .before .before in (omega (arith, s .pre .0), s .pre .1)
 
   pub enclosed-enum-known-got : enclosed-lts.Need-enum-known-got (enclosed-callees t) (enclosed-at t) enclosed.Post
   enclosed-enum-known-got c = search needs
@@ -335,21 +368,18 @@ module _ (t : ℕ) where
   enclosed-enum-known-got-2 c = search needs
 
   pub enclosed-closed-requires : enclosed-lts.Need-closed-requires (enclosed-callees t) (enclosed-at t) enclosed.Post
-  enclosed-closed-requires c κs =
-      let a = c .before .before .before .before .before .before .before .args in
-      says-shown (a .text .now) (a .at) (held (a .vars .now)) (a .counts) _ (c .before .before .before .expression .ensures) (c .before .got2 .given .1) .within
+  enclosed-closed-requires c κs = enclosed-inside (c .before .before .before) (c .before .got2 .given .1) .within
 
   pub enclosed-returns-2 : enclosed-lts.Need-returns-2 (enclosed-callees t) (enclosed-at t) enclosed.Post
   enclosed-returns-2 c =
-      let a = c .before .before .before .before .before .before .before .args in
-      enclosed-fails (a .text .now) (held (a .vars .now)) (a .counts) (a .at) (a .room) _ (c .before .before .before .before .if1 .left)
-      (says-shown (a .text .now) (a .at) (held (a .vars .now)) (a .counts) _ (c .before .before .before .expression .ensures) (c .before .got .given .1))
+      let r = c .before .before .before in
+      let a = enclosed-start r .args in
+      enclosed-fails (a .text .now) (held (a .vars .now)) (a .counts) (a .at) (a .room) _ (r .before .if1 .left) (enclosed-inside r (c .before .got .given .1))
 
   pub enclosed-returns-3 : enclosed-lts.Need-returns-3 (enclosed-callees t) (enclosed-at t) enclosed.Post
   enclosed-returns-3 c =
-      let a = c .before .before .before .before .before .before .before .before .args in
-      enclosed-says (a .text .now) (held (a .vars .now)) (a .counts) (a .at) (a .room) _ _ (c .closed .result)
-      (c .before .before .before .before .before .if1 .left)
-      (says-shown (a .text .now) (a .at) (held (a .vars .now)) (a .counts) _ (c .before .before .before .before .expression .ensures)
-      (c .before .before .got2 .given .1))
+      let r = c .before .before .before .before in
+      let a = enclosed-start r .args in
+      enclosed-says (a .text .now) (held (a .vars .now)) (a .counts) (a .at) (a .room) _ _ (c .closed .result) (r .before .if1 .left)
+      (enclosed-inside r (c .before .before .got2 .given .1))
       (rw (kept (c .before .before .got2 .given .0 .0) (c .before .known-told2 .given .0 .1)) at (c .closed .ensures))
