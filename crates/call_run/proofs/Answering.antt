@@ -37,11 +37,13 @@ module _ (job : Job) (g : Given) {r : Answer} where
       })
 
   -- the words, or what is before them, are refused
-  pub answer-refused : {n place : ℕ} → worked job g ≡ refusedAt n place → r ≡ refusedAs n place (g .varsUsed) → Hands (answerOf job g) r (g .vars) (g .out)
+  pub answer-refused : {n place : ℕ} → worked job g ≡ refusedAt n place → r ≡ refusedAs n place (g .varsUsed) → Hands (answerOf job g) r
+      (g .vars) (g .out)
   answer-refused h e = draft-refused (ap (draft job (length (g .out))) h) e
 
   -- it is accepted
-  pub draft-accepted : {t vars out : Text} {v : Pairs} {n used : ℕ} → draft job (length (g .out)) (worked job g) ≡ doneAt (t, v) → r ≡ acceptedAs n used
+  pub draft-accepted : {t vars out : Text} {v : Pairs} {n used : ℕ} → draft job (length (g .out)) (worked job g) ≡ doneAt (t, v) → r ≡
+      acceptedAs n used
       → n ≡ length t → used ≡ length (image (flat v)) → vars ≡ over (image (flat v)) (g .vars) → out ≡ over t (g .out)
       → Hands (answerOf job g) r vars out
   unfolding answered
@@ -66,4 +68,8 @@ pub gives-cleared : (job : Job) (g : Given) {r : Answer} {vars out work : Text} 
     (length (g .work)) 0
     → Gives (answerOf job g) r vars work out
 gives-cleared job g h e =
-    record { hands = h; clears = e ∙ sym (ap (λ (a : stage.Answer). a .work) (answer-is job g) ∙ answered-clear g (draft job (length (g .out)) (worked job g))) }
+    record {
+      hands = h;
+      clears =
+          e ∙ sym (ap (λ (a : stage.Answer). a .work) (answer-is job g) ∙ answered-clear g (draft job (length (g .out)) (worked job g)));
+    }

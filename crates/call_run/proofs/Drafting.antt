@@ -54,7 +54,8 @@ output-written Expander out l = fine
 output-written Normaliser out l = quoted-written out l (leb (length (quotedLine l)) lineLimit && leb (length (quotedLine l)) out) refl
 
 -- the fields' image is written as the stage writes the fields
-writing-is : (job : Job) (l : Fields) (out : Text) → fieldsOf (image l) ≡ some l → writingOf job (image l) out ≡ quoting out (outputOf job (length out) l)
+writing-is : (job : Job) (l : Fields) (out : Text) → fieldsOf (image l) ≡ some l → writingOf job (image l) out ≡ quoting out
+    (outputOf job (length out) l)
 unfolding quoter orRefused
 writing-is Expander l out e = refl
 writing-is Normaliser l out e = rw e
@@ -123,7 +124,8 @@ module _ {job : Job} {room used : ℕ} {text copy houses paths work : Text} (out
     line-of : {x : LineExpanded} → got ≡ x → LineSays room inside copy₂ lent image₁ x
     line-of k = subst (λ (x : LineExpanded). LineSays room inside copy₂ lent image₁ x) k h
 
-    pub line-refused : {n place : ℕ} → got ≡ line.Refused n place → DraftOf room (draft job (length out) outside) copy₂ out out (delivered.Refused n place)
+    pub line-refused : {n place : ℕ} → got ≡ line.Refused n place → DraftOf room (draft job (length out) outside) copy₂ out out
+        (delivered.Refused n place)
     line-refused k = (ap (draft job (length out)) (both ∙ line-of k), refl)
 
     module _ {len left : ℕ} (k : got ≡ line.Done len left) where

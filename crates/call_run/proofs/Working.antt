@@ -110,7 +110,8 @@ module _ {job : Job} {g : Given} (p : Passed job g) {room : ℕ} (same : room �
       pub accept-ready : length (take left copy₂) ≤ length (g .vars)
       accept-ready = omega (arith, length-take-le left copy₂ left-within, made .holds .fits)
 
-      pub call-accepted : {r : Answer} {vars : Text} → Bytes copy₂ → Accepts n (take left copy₂) (g .vars) r vars → Hands (answerOf job g) r vars out₁
+      pub call-accepted : {r : Answer} {vars : Text} → Bytes copy₂ → Accepts n (take left copy₂) (g .vars) r vars → Hands (answerOf job g) r
+          vars out₁
       call-accepted b a =
           let c =
           table-canonical isName (take left copy₂) (vars-of (take left copy₂) (made .holds .formed)) (bytes-take left copy₂ b) in

@@ -26,7 +26,8 @@ Same (Refused n place) vars vars' out out' = Unit {0}
 Same (Done len varsUsed) vars vars' out out' = (take varsUsed vars ≡ take varsUsed vars') × (out ≡ out')
 
 module _ (room : ℕ) (o : Placed (Fields × Pairs)) (old vars vars' out out' : Text) where
-  done-same : (len varsUsed len' varsUsed' : ℕ) → Bytes vars → Bytes vars' → IsLine room o vars old out len varsUsed → IsLine room o vars' old out' len' varsUsed'
+  done-same : (len varsUsed len' varsUsed' : ℕ) → Bytes vars → Bytes vars' → IsLine room o vars old out len varsUsed → IsLine room o vars'
+      old out' len' varsUsed'
       → (Done len varsUsed ≡ Done len' varsUsed') × (take varsUsed vars ≡ take varsUsed vars') × (out ≡ out')
   done-same len varsUsed len' varsUsed' b b' g h =
       let e = g .is in

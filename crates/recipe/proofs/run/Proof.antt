@@ -94,13 +94,16 @@ slice-relend-prefix-answer-with : tie.Need-slice-relend-prefix-answer-with
 slice-relend-prefix-answer-with c = search needs
 
 slice-aggregate-answer-with : tie.Need-slice-aggregate-answer-with
-slice-aggregate-answer-with c = sym (length-take-le imageLimit (c .before .before .before .before .before .before .before .before .before .before .before .before .before .before .before .before .before .before .before .before .before .before .load .last .1 .0) (omega arith))
+slice-aggregate-answer-with c =
+    sym (length-take-le imageLimit
+    (c .before .before .before .before .before .before .before .before .before .before .before .before .before .before .before .before .before .before .before .before .before .before .load .last .1 .0) (omega arith))
 
 slice-reshare-prefix-answer-with : tie.Need-slice-reshare-prefix-answer-with
 slice-reshare-prefix-answer-with c = omega (arith, homes-inside (c .before .before .before .before .before .before .before .before .before .before))
 
 slice-aggregate-answer-with-2 : tie.Need-slice-aggregate-answer-with-2
-slice-aggregate-answer-with-2 c = sym (length-take-le _ _ (omega (arith, homes-inside (c .before .before .before .before .before .before .before .before .before .before .before))))
+slice-aggregate-answer-with-2 c =
+    sym (length-take-le _ _ (omega (arith, homes-inside (c .before .before .before .before .before .before .before .before .before .before .before))))
 
 slice-reshare-prefix-answer-with-2 : tie.Need-slice-reshare-prefix-answer-with-2
 slice-reshare-prefix-answer-with-2 c = omega (arith, paths-inside (c .before .before .before))

@@ -42,7 +42,8 @@ returns c =
     let t = o .before .before .before in
     let r = t .before in
     let a = start r .args in
-    own-only (heldTexts (a .paths .now)) (rowOf (a .field .now)) (pathElements (a .field .now)) (sym (r .is-active .ensures) ∙ not-true _ (t .if1 .taken)) (o .put-own .ensures)
+    own-only (heldTexts (a .paths .now)) (rowOf (a .field .now)) (pathElements (a .field .now))
+    (sym (r .is-active .ensures) ∙ not-true _ (t .if1 .taken)) (o .put-own .ensures)
 
 put-paths-requires : tie.Need-put-paths-requires
 put-paths-requires c κs = search needs

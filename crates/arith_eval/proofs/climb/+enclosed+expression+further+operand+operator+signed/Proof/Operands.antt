@@ -148,21 +148,24 @@ module _ (t : ℕ) where
   operand-returns-3 c =
       let r = c .before .before .before .before in
       let a = operand-start r .args in
-      operand-name (a .text .now) (held (a .vars .now)) (a .counts) (a .at) (a .room) _ _ (c .named .result) (operand-token r (c .before .before .token3 .given .1))
+      operand-name (a .text .now) (held (a .vars .now)) (a .counts) (a .at) (a .room) _ _ (c .named .result)
+      (operand-token r (c .before .before .token3 .given .1))
       (a .counts) refl (c .named .ensures)
 
   pub operand-returns-4 : operand-lts.Need-returns-4 (operand-callees t) (operand-at t) operand.Post
   operand-returns-4 c =
       let r = c .before .before .before .before in
       let a = operand-start r .args in
-      operand-sign (a .text .now) (held (a .vars .now)) (a .counts) (a .at) (a .room) _ _ (c .signed .result) (operand-token r (c .before .before .token4 .given .1))
+      operand-sign (a .text .now) (held (a .vars .now)) (a .counts) (a .at) (a .room) _ _ (c .signed .result)
+      (operand-token r (c .before .before .token4 .given .1))
       (c .signed .ensures)
 
   pub operand-returns-5 : operand-lts.Need-returns-5 (operand-callees t) (operand-at t) operand.Post
   operand-returns-5 c =
       let r = c .before .before .before .before in
       let a = operand-start r .args in
-      operand-opens (a .text .now) (held (a .vars .now)) (a .counts) (a .at) (a .room) _ (c .enclosed .result) (operand-token r (c .before .before .token5 .given .1))
+      operand-opens (a .text .now) (held (a .vars .now)) (a .counts) (a .at) (a .room) _ (c .enclosed .result)
+      (operand-token r (c .before .before .token5 .given .1))
       (c .enclosed .ensures)
 
   pub operand-returns-6 : operand-lts.Need-returns-6 (operand-callees t) (operand-at t) operand.Post
@@ -276,7 +279,8 @@ module _ (t : ℕ) where
   pub signed-returns-3 : signed-lts.Need-returns-3 (signed-callees t) (signed-at t) signed.Post
   signed-returns-3 c =
       let a = c .before .before .before .before .before .before .args in
-      plus-says (a .text .now) (held (a .vars .now)) (a .counts) (a .at) (a .room) (a .op) (c .operand .result) (c .before .before .enum-told .given .1) (c .before .if1 .left)
+      plus-says (a .text .now) (held (a .vars .now)) (a .counts) (a .at) (a .room) (a .op) (c .operand .result)
+      (c .before .before .enum-told .given .1) (c .before .if1 .left)
       (c .operand .ensures)
 
   pub signed-returns-4 : signed-lts.Need-returns-4 (signed-callees t) (signed-at t) signed.Post
