@@ -2,8 +2,8 @@
  *
  * The functions are proved to answer as docs/01-scope.md says, for any bytes in any buffers: they call nothing but memcpy and memset, keep nothing
  * between calls, use no heap, always return, and may run in several threads at once on buffers of their own. How soon they return is not proved: a removal
- * tries its pattern at each place of the value, so that a long pattern that does not match a long value can take minutes. Who takes patterns or lines from
- * strangers should bound the call's time from outside.
+ * tries its pattern at each place of the value, so that a long pattern that does not match a long value can take minutes, and one of many brackets that are
+ * not closed hours. Who takes patterns or lines from strangers should bound the call's time from outside.
  * Link target/staticlib/libdrunquill_c.a, which `rt staticlib drunquill_c` builds (x86-64 Linux).
  *
  * BUFFERS. Each is a pointer and a length in bytes.
@@ -40,8 +40,8 @@ extern "C" {
 #define DRUNQUILL_DEPTH_MAX 8      /* expansions open at once, "${" and "$((" together */
 #define DRUNQUILL_OPEN_MAX 32      /* parentheses and unary signs open at once in arithmetic, together */
 
-/* What a call may need of the stack, in bytes: well above what tests/c measures on the deepest lines known, 64,256. It is measured and not proved. Most lines
- * take below 32,768; each open parenthesis of arithmetic takes up to 1,250 more. */
+/* What a call may need of the stack, in bytes: well above what tests/built/c measures on the deepest lines known (docs/TRUST.md). It is measured and not
+ * proved. */
 #define DRUNQUILL_STACK 524288
 
 /* The numbers. 0 is the acceptance, each other one a refusal. */
@@ -73,11 +73,11 @@ enum {
 
 /* What the expander and the normaliser answer. */
 struct drunquill_answer {
-    uint8_t number;  /* one of the numbers above */
-    size_t place;    /* where in the line: the offset of the first byte of the word at fault, or of the operator itself if no word is open.
-                        0 on acceptance, for numbers 1 to 6, and for 21 from the normaliser's quoting */
-    size_t out_len;  /* bytes written to the front of `out`; 0 on a refusal */
-    size_t used_len; /* the variables' used length now: that of the new image, or on a refusal `used` as it was given */
+    uint8_t number;   /* one of the numbers above */
+    size_t place;     /* where in the line: the offset of the first byte of the word at fault, or of the operator itself if no word is open.
+                         0 on acceptance, for numbers 1 to 6, and for 21 from the normaliser's quoting */
+    size_t out_len;   /* bytes written to the front of `out`; 0 on a refusal */
+    size_t vars_used; /* the variables' used length now: that of the new image, or on a refusal `vars_used` as it was given */
 };
 
 /* What the quoter answers. Its place is always 0. */
@@ -89,29 +89,29 @@ struct drunquill_quote_answer {
 
 /* The expander: the fields of the line's words, an image, to `out`.
  *
- *  vars, used   the variables: an image in the first `used` of `vars_len` bytes. ${name=word} stores into it. The buffer may be longer than
+ *  vars         the variables: an image in the first `vars_used` of `vars_len` bytes. ${name=word} stores into it. The buffer may be longer than
  *               DRUNQUILL_IMAGE_MAX, the image may not.
  *  homes        whose directory ~login gives; ~ alone gives the variable HOME
  *  paths        what patterns are matched against: the function looks at no file
  *  work         at least DRUNQUILL_WORK_LEAST bytes, whatever they hold. After every call, whatever the number, all `work_len` bytes are zero.
  *  out          the fields' image. One of DRUNQUILL_IMAGE_MAX bytes is always long enough for what can be accepted. One byte is needed for no fields.
  *
- * On acceptance the bytes of `vars` and `out` behind the new images are unchanged. On a refusal every byte of both is. Faults are met in this order:
+ * On acceptance the bytes of `vars` and `out` after the new images are unchanged. On a refusal every byte of both is. Faults are met in this order:
  * numbers 1 to 6 as they are numbered; then the whole line is read; then its words are expanded from left to right; the first fault is answered.
  */
-struct drunquill_answer drunquill_expand(const uint8_t *line, size_t line_len, uint8_t *vars, size_t vars_len, size_t used, const uint8_t *homes,
+struct drunquill_answer drunquill_expand(const uint8_t *line, size_t line_len, uint8_t *vars, size_t vars_len, size_t vars_used, const uint8_t *homes,
                                          size_t homes_len, const uint8_t *paths, size_t paths_len, uint8_t *work, size_t work_len, uint8_t *out,
                                          size_t out_len);
 
 /* The normaliser: as the expander, but the fields go to `out` as a quoted line (see the quoter), of at most DRUNQUILL_LINE_MAX bytes. If the quoted line
  * has no room the number is 21 at place 0 and the variables are as before, too. A line without fields needs no byte of `out`.
  */
-struct drunquill_answer drunquill_normalise(const uint8_t *line, size_t line_len, uint8_t *vars, size_t vars_len, size_t used, const uint8_t *homes,
+struct drunquill_answer drunquill_normalise(const uint8_t *line, size_t line_len, uint8_t *vars, size_t vars_len, size_t vars_used, const uint8_t *homes,
                                             size_t homes_len, const uint8_t *paths, size_t paths_len, uint8_t *work, size_t work_len, uint8_t *out,
                                             size_t out_len);
 
 /* The quoter: an image of fields as a line to `out`. Each field stands in single quotes, each ' in it written '\''; one blank between fields; no fields, no
- * bytes. No zero byte is put behind the line. Above DRUNQUILL_LINE_MAX bytes or `out_len` the number is 21. Bytes of `out` behind the line are unchanged,
+ * bytes. No zero byte is put after the line. Above DRUNQUILL_LINE_MAX bytes or `out_len` the number is 21. Bytes of `out` after the line are unchanged,
  * on a refusal all of them.
  */
 struct drunquill_quote_answer drunquill_quote(const uint8_t *fields, size_t fields_len, uint8_t *out, size_t out_len);

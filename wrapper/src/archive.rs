@@ -8,7 +8,7 @@ pub struct Answer {
     pub number: u8,
     pub place: usize,
     pub out_len: usize,
-    pub used_len: usize,
+    pub vars_used: usize,
 }
 
 /// `struct drunquill_quote_answer`
@@ -28,7 +28,7 @@ macro_rules! jobs {
                 line_len: usize,
                 vars: *mut u8,
                 vars_len: usize,
-                used: usize,
+                vars_used: usize,
                 homes: *const u8,
                 homes_len: usize,
                 paths: *const u8,

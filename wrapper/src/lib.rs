@@ -46,7 +46,7 @@ pub const OPEN_MAX: usize = 32;
 pub const STACK: usize = 524_288;
 
 /// The variables: an image in the first `used` bytes of a buffer, into which `${name=word}` stores. An accepted call leaves the new image and its length here;
-/// bytes behind it, and on a refusal all of them, are as before.
+/// bytes after it, and on a refusal all of them, are as before.
 #[derive(Debug)]
 pub struct Variables<'a> {
     pub buffer: &'a mut [u8],
@@ -99,6 +99,6 @@ pub fn quote<'o>(fields: &[u8], out: &'o mut [u8]) -> Result<&'o [u8], Refusal> 
 
 fn given<'o>(answer: archive::Answer, variables: &mut Variables, out: &'o [u8]) -> Result<&'o [u8], Refusal> {
     Refusal::unless_accepted(answer.number, answer.place)?;
-    variables.used = answer.used_len;
+    variables.used = answer.vars_used;
     Ok(&out[..answer.out_len])
 }

@@ -50,15 +50,15 @@ fn check_line(
     job: Job,
     line: &[u8],
     vars: &[u8],
-    used: usize,
+    vars_used: usize,
     homes: &[u8],
     paths: &[u8],
     work: &[u8],
     out: &[u8],
 ) -> Checked
-    requires { ⌜ Tabled (given (now line) (now vars) used (now homes) (now paths) (now work) (now out)) ⌝ }
+    requires { ⌜ Tabled (given (now line) (now vars) «vars_used» (now homes) (now paths) (now work) (now out)) ⌝ }
     ensures { λ r. ⌜ Checks job
-        (given (now (line .entry)) (now (vars .entry)) used (now (homes .entry)) (now (paths .entry)) (now (work .entry)) (now (out .entry))) r ⌝ }
+        (given (now (line .entry)) (now (vars .entry)) «vars_used» (now (homes .entry)) (now (paths .entry)) (now (work .entry)) (now (out .entry))) r ⌝ }
 {
     if numbers::LINE_LIMIT < line.len() {
         return refuse(numbers::REFUSED_LENGTH);
@@ -86,22 +86,22 @@ pub fn check(
     job: Job,
     line: &[u8],
     vars: &[u8],
-    used: usize,
+    vars_used: usize,
     homes: &[u8],
     paths: &[u8],
     work: &[u8],
     out: &[u8],
 ) -> Checked
     ensures { λ r. ⌜ Checks job
-        (given (now (line .entry)) (now (vars .entry)) used (now (homes .entry)) (now (paths .entry)) (now (work .entry)) (now (out .entry))) r ⌝ }
+        (given (now (line .entry)) (now (vars .entry)) «vars_used» (now (homes .entry)) (now (paths .entry)) (now (work .entry)) (now (out .entry))) r ⌝ }
 {
     if work.len() < numbers::WORK_LEAST {
         return refuse(numbers::REFUSED_WORK);
     }
-    if vars.len() < used {
+    if vars.len() < vars_used {
         return refuse(numbers::REFUSED_VARIABLES);
     }
-    if !table::well_formed(Kind::Variables, &vars[..used]) {
+    if !table::well_formed(Kind::Variables, &vars[..vars_used]) {
         return refuse(numbers::REFUSED_VARIABLES);
     }
     if !table::well_formed(Kind::Homes, homes) {
@@ -110,5 +110,5 @@ pub fn check(
     if !table::well_formed(Kind::Paths, paths) {
         return refuse(numbers::REFUSED_PATHS);
     }
-    check_line(job, line, vars, used, homes, paths, work, out)
+    check_line(job, line, vars, vars_used, homes, paths, work, out)
 }

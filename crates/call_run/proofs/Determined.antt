@@ -15,7 +15,7 @@ gives-determined a r s vars vars' work work' out out' g h =
     let i = g .hands in
     let j = h .hands in (
       answer-same r s (i .number ∙ sym (j .number)) (i .place ∙ sym (j .place)) (i .outLength ∙ sym (j .outLength))
-          (i .usedLength ∙ sym (j .usedLength)),
+          (i .varsUsed ∙ sym (j .varsUsed)),
       i .variables ∙ sym (j .variables),
       g .clears ∙ sym (h .clears),
       i .output ∙ sym (j .output),

@@ -1,3 +1,4 @@
 pub mod Answering
+pub mod Drafting
 pub mod Working
 pub mod Determined

@@ -1,9 +1,11 @@
-// A job that takes a line, on copies: the variables' image is copied, the line is expanded with the copy and into a copy of the output, and what came of
-// it is handed over at the end. "On acceptance, bytes behind either new image are unchanged": no more than the new images' bytes is ever copied back.
+// A job that takes a line, on copies: the variables' image is copied, the line is expanded with the copy and into an image of the fields, and what came of
+// it is handed over at the end. Each copy is an array that one function holds and lends to the next.
 use call_check::Checked;
 use call_check::Job;
 use call_deliver::Answer;
+use expand_add::answers::Extent;
 use expand_line::LineExpanded;
+use quote::Quoted;
 use text::numbers;
 ghost use mathlib.Core.Path.{_≡_};
 ghost use lib.ListN.{length};
@@ -11,81 +13,138 @@ ghost use Rattle.stages.specs.Numbers.{imageLimit};
 ghost use Rattle.call_check.specs.Calls.{given, answerOf};
 ghost use Rattle.call_check.specs.Checks.{Passed};
 ghost use Rattle.call_deliver.specs.Hands.{Hands, Gives};
+ghost use Rattle.call_run.specs.Drafts.{worded, draft, Drafting, DraftOf};
 
-// The job on the two copies, once the call has passed the checks.
-fn work_out(
+// What holds for a whole call.
+struct Call {
     job: Job,
+    extent: Extent,
+}
+
+// What came of a line: so many bytes of the output are written, and so many of the variables' copy are their new image; or the number and the place that
+// refuse the call.
+enum Delivered {
+    Done { out_len: usize, vars_used: usize },
+    Refused { number: u8, place: usize },
+}
+
+// The line, once the variables are copied: its fields' image stands in `image`, and what the job gives of it in the output, if the call is accepted.
+fn on_image(
+    call: Call,
+    line: &[u8],
+    copy: &mut [u8],
+    homes: &[u8],
+    paths: &[u8],
+    work: &mut [u8],
+    out: &mut [u8],
+    image: &mut [u8],
+) -> Delivered
+    requires { ⌜ Drafting (call .job) (call .extent .«vars_room») (call .extent .«vars_used») (now line) (now copy) (now homes) (now paths) (now work)
+        (length (now out)) ⌝ }
+    requires { ⌜ length (now image) ≡ imageLimit ⌝ }
+    ensures { λ r. ⌜ DraftOf (call .extent .«vars_room»)
+        (draft (call .job) (length (now (out .entry)))
+        (worded (call .job) (call .extent .«vars_room») (call .extent .«vars_used») (now (line .entry)) (now (copy .entry)) (now (homes .entry))
+        (now (paths .entry)) (length (now (out .entry))))) (now (copy .exit)) (now (out .entry)) (now (out .exit)) r ⌝ }
+{
+    let job = call.job;
+    let extent = call.extent;
+    let size = call_check::room(job, out.len());
+    let got = expand_line::expand_line(line, copy, extent, homes, paths, work, &mut image[..size]);
+    match got {
+        LineExpanded::Refused { number, place } => Delivered::Refused {
+            number: number,
+            place: place,
+        },
+        LineExpanded::Done { used, vars_used } => {
+            let written = call_deliver::deliver(job, &image[..used], out);
+            match written {
+                Quoted::Len(n) => Delivered::Done {
+                    out_len: n,
+                    vars_used: vars_used,
+                },
+                Quoted::NoRoom => Delivered::Refused {
+                    number: numbers::REFUSED_OUTPUT,
+                    place: 0,
+                },
+                Quoted::Malformed => Delivered::Refused {
+                    number: numbers::REFUSED_FIELDS,
+                    place: 0,
+                },
+            }
+        }
+    }
+}
+
+// Holds the fields' image.
+fn with_image(
+    call: Call,
+    line: &[u8],
+    copy: &mut [u8],
+    homes: &[u8],
+    paths: &[u8],
+    work: &mut [u8],
+    out: &mut [u8],
+) -> Delivered
+    requires { ⌜ Drafting (call .job) (call .extent .«vars_room») (call .extent .«vars_used») (now line) (now copy) (now homes) (now paths) (now work)
+        (length (now out)) ⌝ }
+    ensures { λ r. ⌜ DraftOf (call .extent .«vars_room»)
+        (draft (call .job) (length (now (out .entry)))
+        (worded (call .job) (call .extent .«vars_room») (call .extent .«vars_used») (now (line .entry)) (now (copy .entry)) (now (homes .entry))
+        (now (paths .entry)) (length (now (out .entry))))) (now (copy .exit)) (now (out .entry)) (now (out .exit)) r ⌝ }
+{
+    let mut image = [0u8; numbers::IMAGE_LIMIT];
+    on_image(call, line, copy, homes, paths, work, out, &mut image)
+}
+
+// The call once it has passed the checks: the variables are copied, and their new image comes back if the output is written.
+fn on_copy(
+    call: Call,
     line: &[u8],
     vars: &mut [u8],
-    used: usize,
     homes: &[u8],
     paths: &[u8],
     work: &mut [u8],
     out: &mut [u8],
     copy: &mut [u8],
-    image: &mut [u8],
 ) -> Answer
-    requires { ⌜ Passed job (given (now line) (now vars) used (now homes) (now paths) (now work) (now out)) ⌝ }
-    requires { ⌜ (length (now copy) ≡ imageLimit) × (length (now image) ≡ imageLimit) ⌝ }
+    requires { ⌜ Passed (call .job) (given (now line) (now vars) (call .extent .«vars_used») (now homes) (now paths) (now work) (now out)) ⌝ }
+    requires { ⌜ (call .extent .«vars_room» ≡ length (now vars)) × (length (now copy) ≡ imageLimit) ⌝ }
     ensures { λ r. ⌜ Hands
-        (answerOf job (given (now (line .entry)) (now (vars .entry)) used (now (homes .entry)) (now (paths .entry)) (now (work .entry))
-        (now (out .entry)))) r (now (vars .exit)) (now (out .exit)) ⌝ }
+        (answerOf (call .job) (given (now (line .entry)) (now (vars .entry)) (call .extent .«vars_used») (now (homes .entry)) (now (paths .entry))
+        (now (work .entry)) (now (out .entry)))) r (now (vars .exit)) (now (out .exit)) ⌝ }
 {
-    text_copy::copy_in(&vars[..used], copy);
-    let size = call_check::room(job, out.len());
-    let got = expand_line::expand_line(
-        line,
-        copy,
-        used,
-        vars.len(),
-        homes,
-        paths,
-        work,
-        &mut image[..size],
-    );
+    let extent = call.extent;
+    let vars_used = extent.vars_used;
+    text_copy::copy_in(&vars[..vars_used], copy);
+    let got = with_image(call, line, copy, homes, paths, work, out);
     match got {
-        LineExpanded::Refused { number, place } => call_deliver::refuse(number, place, used),
-        LineExpanded::Done { len, have } => call_deliver::hand_over(
-            job,
-            &image[..len],
-            &copy[..have],
-            vars,
-            used,
-            out,
-        ),
+        Delivered::Refused { number, place } => call_deliver::refuse(number, place, vars_used),
+        Delivered::Done {
+            out_len,
+            vars_used: left,
+        } => call_deliver::accept(out_len, &copy[..left], vars),
     }
 }
 
-// The two copies.
-fn with_copies(
-    job: Job,
+// Holds the variables' copy.
+fn with_copy(
+    call: Call,
     line: &[u8],
     vars: &mut [u8],
-    used: usize,
     homes: &[u8],
     paths: &[u8],
     work: &mut [u8],
     out: &mut [u8],
 ) -> Answer
-    requires { ⌜ Passed job (given (now line) (now vars) used (now homes) (now paths) (now work) (now out)) ⌝ }
+    requires { ⌜ Passed (call .job) (given (now line) (now vars) (call .extent .«vars_used») (now homes) (now paths) (now work) (now out)) ⌝ }
+    requires { ⌜ call .extent .«vars_room» ≡ length (now vars) ⌝ }
     ensures { λ r. ⌜ Hands
-        (answerOf job (given (now (line .entry)) (now (vars .entry)) used (now (homes .entry)) (now (paths .entry)) (now (work .entry))
-        (now (out .entry)))) r (now (vars .exit)) (now (out .exit)) ⌝ }
+        (answerOf (call .job) (given (now (line .entry)) (now (vars .entry)) (call .extent .«vars_used») (now (homes .entry)) (now (paths .entry))
+        (now (work .entry)) (now (out .entry)))) r (now (vars .exit)) (now (out .exit)) ⌝ }
 {
     let mut copy = [0u8; numbers::IMAGE_LIMIT];
-    let mut image = [0u8; numbers::IMAGE_LIMIT];
-    work_out(
-        job,
-        line,
-        vars,
-        used,
-        homes,
-        paths,
-        work,
-        out,
-        &mut copy,
-        &mut image,
-    )
+    on_copy(call, line, vars, homes, paths, work, out, &mut copy)
 }
 
 // The job from its checks on; the work area is left to be cleared.
@@ -93,20 +152,30 @@ fn from_checks(
     job: Job,
     line: &[u8],
     vars: &mut [u8],
-    used: usize,
+    vars_used: usize,
     homes: &[u8],
     paths: &[u8],
     work: &mut [u8],
     out: &mut [u8],
 ) -> Answer
     ensures { λ r. ⌜ Hands
-        (answerOf job (given (now (line .entry)) (now (vars .entry)) used (now (homes .entry)) (now (paths .entry)) (now (work .entry))
+        (answerOf job (given (now (line .entry)) (now (vars .entry)) «vars_used» (now (homes .entry)) (now (paths .entry)) (now (work .entry))
         (now (out .entry)))) r (now (vars .exit)) (now (out .exit)) ⌝ }
 {
-    let checked = call_check::check(job, line, vars, used, homes, paths, work, out);
+    let checked = call_check::check(job, line, vars, vars_used, homes, paths, work, out);
     match checked {
-        Checked::Refused { number, place } => call_deliver::refuse(number, place, used),
-        Checked::Fine => with_copies(job, line, vars, used, homes, paths, work, out),
+        Checked::Refused { number, place } => call_deliver::refuse(number, place, vars_used),
+        Checked::Fine => {
+            let extent = Extent {
+                vars_used: vars_used,
+                vars_room: vars.len(),
+            };
+            let call = Call {
+                job: job,
+                extent: extent,
+            };
+            with_copy(call, line, vars, homes, paths, work, out)
+        }
     }
 }
 
@@ -115,17 +184,17 @@ pub fn answer_call(
     job: Job,
     line: &[u8],
     vars: &mut [u8],
-    used: usize,
+    vars_used: usize,
     homes: &[u8],
     paths: &[u8],
     work: &mut [u8],
     out: &mut [u8],
 ) -> Answer
     ensures { λ r. ⌜ Gives
-        (answerOf job (given (now (line .entry)) (now (vars .entry)) used (now (homes .entry)) (now (paths .entry)) (now (work .entry))
+        (answerOf job (given (now (line .entry)) (now (vars .entry)) «vars_used» (now (homes .entry)) (now (paths .entry)) (now (work .entry))
         (now (out .entry)))) r (now (vars .exit)) (now (work .exit)) (now (out .exit)) ⌝ }
 {
-    let answer = from_checks(job, line, vars, used, homes, paths, work, out);
+    let answer = from_checks(job, line, vars, vars_used, homes, paths, work, out);
     text_copy::fill_zero(work);
     answer
 }

@@ -16,42 +16,44 @@ pub struct QuoteAnswer {
     pub len: usize,
 }
 
-// The expander: the line's fields, an image, to `out`. The variables are an image in the first `used` bytes of their buffer, and may change. On refusal
+// The expander: the line's fields, an image, to `out`. The variables are an image in the first `vars_used` bytes of their buffer, and may change. On refusal
 // the variables and the output hold their old bytes; the work area is zero throughout after every call.
 pub fn expand(
     line: &[u8],
     vars: &mut [u8],
-    used: usize,
+    vars_used: usize,
     homes: &[u8],
     paths: &[u8],
     work: &mut [u8],
     out: &mut [u8],
 ) -> Answer
     ensures { λ r. ⌜ Gives
-        (expander (given (now (line .entry)) (now (vars .entry)) used (now (homes .entry)) (now (paths .entry)) (now (work .entry))
+        (expander (given (now (line .entry)) (now (vars .entry)) «vars_used» (now (homes .entry)) (now (paths .entry)) (now (work .entry))
         (now (out .entry)))) r (now (vars .exit)) (now (work .exit)) (now (out .exit)) ⌝ }
 {
-    call_run::answer_call(Job::Expander, line, vars, used, homes, paths, work, out)
+    let expander = Job::Expander;
+    call_run::answer_call(expander, line, vars, vars_used, homes, paths, work, out)
 }
 
 // The normaliser: the line's fields as a quoted line to `out`, all else as in the expander.
 pub fn normalise(
     line: &[u8],
     vars: &mut [u8],
-    used: usize,
+    vars_used: usize,
     homes: &[u8],
     paths: &[u8],
     work: &mut [u8],
     out: &mut [u8],
 ) -> Answer
     ensures { λ r. ⌜ Gives
-        (normaliser (given (now (line .entry)) (now (vars .entry)) used (now (homes .entry)) (now (paths .entry)) (now (work .entry))
+        (normaliser (given (now (line .entry)) (now (vars .entry)) «vars_used» (now (homes .entry)) (now (paths .entry)) (now (work .entry))
         (now (out .entry)))) r (now (vars .exit)) (now (work .exit)) (now (out .exit)) ⌝ }
 {
-    call_run::answer_call(Job::Normaliser, line, vars, used, homes, paths, work, out)
+    let normaliser = Job::Normaliser;
+    call_run::answer_call(normaliser, line, vars, vars_used, homes, paths, work, out)
 }
 
-// The quoter: an image of fields as a quoted line to `out`, whose bytes behind the line stay; on refusal all of them do.
+// The quoter: an image of fields as a quoted line to `out`, whose bytes after the line stay; on refusal all of them do.
 pub fn quote(fields: &[u8], out: &mut [u8]) -> QuoteAnswer
     ensures { λ r. ⌜ Quotes (quoter (now (fields .entry)) (now (out .entry))) r (now (out .exit)) ⌝ }
 {

@@ -8,18 +8,18 @@ use Rattle.drunquill_c.specs.Hands.{Gives, Quotes}
 use Rattle.drunquill_c.specs.declared.Answer.{Answer}
 use Rattle.drunquill_c.specs.declared.QuoteAnswer.{QuoteAnswer}
 
-answer-same : (r s : Answer) → r .number ≡ s .number → r .place ≡ s .place → r .«out_len» ≡ s .«out_len» → r .«used_len» ≡
-    s .«used_len» → r ≡ s
+answer-same : (r s : Answer) → r .number ≡ s .number → r .place ≡ s .place → r .«out_len» ≡ s .«out_len» → r .«vars_used» ≡
+    s .«vars_used» → r ≡ s
 answer-same r s a b c d =
-    ap (λ (n : ℕ). record { number = n; place = r .place; «out_len» = r .«out_len»; «used_len» = r .«used_len» }) a
-    ∙ ap (λ (n : ℕ). record { number = s .number; place = n; «out_len» = r .«out_len»; «used_len» = r .«used_len» }) b
-    ∙ ap (λ (n : ℕ). record { number = s .number; place = s .place; «out_len» = n; «used_len» = r .«used_len» }) c
-    ∙ ap (λ (n : ℕ). record { number = s .number; place = s .place; «out_len» = s .«out_len»; «used_len» = n }) d
+    ap (λ (n : ℕ). record { number = n; place = r .place; «out_len» = r .«out_len»; «vars_used» = r .«vars_used» }) a
+    ∙ ap (λ (n : ℕ). record { number = s .number; place = n; «out_len» = r .«out_len»; «vars_used» = r .«vars_used» }) b
+    ∙ ap (λ (n : ℕ). record { number = s .number; place = s .place; «out_len» = n; «vars_used» = r .«vars_used» }) c
+    ∙ ap (λ (n : ℕ). record { number = s .number; place = s .place; «out_len» = s .«out_len»; «vars_used» = n }) d
 
 gives-determined : (a : stage.Answer) (r s : Answer) (vars vars' work work' out out' : Text) → Gives a r vars work out → Gives a s vars' work' out'
     → (r ≡ s) × (vars ≡ vars') × (work ≡ work') × (out ≡ out')
 gives-determined a r s vars vars' work work' out out' g h = (
-  answer-same r s (g .number ∙ sym (h .number)) (g .place ∙ sym (h .place)) (g .outLength ∙ sym (h .outLength)) (g .usedLength ∙ sym (h .usedLength)),
+  answer-same r s (g .number ∙ sym (h .number)) (g .place ∙ sym (h .place)) (g .outLength ∙ sym (h .outLength)) (g .varsUsed ∙ sym (h .varsUsed)),
   g .variables ∙ sym (h .variables),
   g .clears ∙ sym (h .clears),
   g .output ∙ sym (h .output),

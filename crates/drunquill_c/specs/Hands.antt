@@ -10,7 +10,7 @@ pub record Gives (a : stage.Answer) (r : Answer) (vars work out : Text) : Type 0
   pub number : r .number ≡ a .number
   pub place : r .place ≡ a .place
   pub outLength : r .«out_len» ≡ a .outLength
-  pub usedLength : r .«used_len» ≡ a .varsUsed
+  pub varsUsed : r .«vars_used» ≡ a .varsUsed
   pub variables : vars ≡ a .vars
   pub clears : work ≡ a .work
   pub output : out ≡ a .out

@@ -10,7 +10,7 @@ pub struct Answer {
     pub number: u8,
     pub place: usize,
     pub out_len: usize,
-    pub used_len: usize,
+    pub vars_used: usize,
 }
 
 // The quoter's answer: "The quoter has neither variables nor work area."
@@ -21,28 +21,28 @@ pub struct QuoteAnswer {
     pub out_len: usize,
 }
 
-// The expander: the line's fields, an image, to `out`. The variables are an image in the first `used` bytes of their buffer, and may change. On refusal
+// The expander: the line's fields, an image, to `out`. The variables are an image in the first `vars_used` bytes of their buffer, and may change. On refusal
 // the variables and the output hold their old bytes; the work area is zero throughout after every call.
 #[no_mangle]
 pub extern "C" fn drunquill_expand(
     line: &[u8],
     vars: &mut [u8],
-    used: usize,
+    vars_used: usize,
     homes: &[u8],
     paths: &[u8],
     work: &mut [u8],
     out: &mut [u8],
 ) -> Answer
     ensures { λ r. ⌜ Gives
-        (expander (given (now (line .entry)) (now (vars .entry)) used (now (homes .entry)) (now (paths .entry)) (now (work .entry))
+        (expander (given (now (line .entry)) (now (vars .entry)) «vars_used» (now (homes .entry)) (now (paths .entry)) (now (work .entry))
         (now (out .entry)))) r (now (vars .exit)) (now (work .exit)) (now (out .exit)) ⌝ }
 {
-    let expanded = drunquill::expand(line, vars, used, homes, paths, work, out);
+    let expanded = drunquill::expand(line, vars, vars_used, homes, paths, work, out);
     Answer {
         number: expanded.number,
         place: expanded.place,
         out_len: expanded.out_len,
-        used_len: expanded.used_len,
+        vars_used: expanded.vars_used,
     }
 }
 
@@ -51,26 +51,26 @@ pub extern "C" fn drunquill_expand(
 pub extern "C" fn drunquill_normalise(
     line: &[u8],
     vars: &mut [u8],
-    used: usize,
+    vars_used: usize,
     homes: &[u8],
     paths: &[u8],
     work: &mut [u8],
     out: &mut [u8],
 ) -> Answer
     ensures { λ r. ⌜ Gives
-        (normaliser (given (now (line .entry)) (now (vars .entry)) used (now (homes .entry)) (now (paths .entry)) (now (work .entry))
+        (normaliser (given (now (line .entry)) (now (vars .entry)) «vars_used» (now (homes .entry)) (now (paths .entry)) (now (work .entry))
         (now (out .entry)))) r (now (vars .exit)) (now (work .exit)) (now (out .exit)) ⌝ }
 {
-    let normalised = drunquill::normalise(line, vars, used, homes, paths, work, out);
+    let normalised = drunquill::normalise(line, vars, vars_used, homes, paths, work, out);
     Answer {
         number: normalised.number,
         place: normalised.place,
         out_len: normalised.out_len,
-        used_len: normalised.used_len,
+        vars_used: normalised.vars_used,
     }
 }
 
-// The quoter: an image of fields as a quoted line to `out`, whose bytes behind the line stay; on refusal all of them do.
+// The quoter: an image of fields as a quoted line to `out`, whose bytes after the line stay; on refusal all of them do.
 #[no_mangle]
 pub extern "C" fn drunquill_quote(fields: &[u8], out: &mut [u8]) -> QuoteAnswer
     ensures { λ r. ⌜ Quotes (quoter (now (fields .entry)) (now (out .entry))) r (now (out .exit)) ⌝ }

@@ -9,15 +9,18 @@ use lib.ListN.{length, drop, length-append}
 use Rattle.stages.specs.Numbers.{rowLimit, tooManyUnits}
 use Rattle.stages.specs.Bytes.{Text}
 use Rattle.stages.specs.Outcome.{Outcome, refused, done}
-use Rattle.stages.specs.Units.{Mark, Row, marked, fit}
+use Rattle.stages.specs.Units.{Mark, Row, marked, expandedMark, fit}
 use Rattle.stages.specs.Call.{over}
 use Rattle.stages.proofs.Bools.{either}
 use Rattle.stages.proofs.Rooms.{fit-full}
 use Rattle.text.specs.Rows.{rowBytes}
+use Rattle.row.specs.Marks.{markOf}
 use Rattle.row.specs.Stands.{fronted}
-use Rattle.expand_add.specs.Added.{Adds, Fitting, measured, admitted}
-use Rattle.expand_add.specs.declared.Added.{Added}
-use Rattle.expand_add.specs.declared.Added.the-variants as added
+use Rattle.row.specs.declared.RowEnd.{RowEnd}
+use Rattle.expand_add.specs.Added.{EndsExpanded, Adds, Fitting, measured, admitted}
+use Rattle.expand_add.specs.declared.answers.Onward.{Onward}
+use Rattle.expand_add.specs.declared.answers.Expanded.{Expanded}
+use Rattle.expand_add.specs.declared.answers.Expanded.the-variants as answer
 use Rattle.text.specs.Putting.{Puts}
 
 -- what holds where there is room and where there is none
@@ -25,15 +28,16 @@ pub by-fit : (P : Outcome ℕ → Type 0) (n k : ℕ) → P (done (n + k)) → P
 unfolding fit
 by-fit P n k a b = either (leb (n + k) rowLimit) (λ e. rw (e, fit) a) (λ e. rw (e, fit) b)
 
-pub measured-full : (used : ℕ) (row : Row) → rowLimit < used + length row → measured used (done row) ≡ refused tooManyUnits
+pub measured-full : (units : ℕ) (row : Row) → rowLimit < units + length row → measured units (done row) ≡ refused tooManyUnits
 unfolding measured
-measured-full used row h = rw (fit-full used (length row) h)
+measured-full units row h = rw (fit-full units (length row) h)
 
-pub admitted-full : (used units : ℕ) → rowLimit < used + units → added.Refused tooManyUnits ≡ admitted used units
-admitted-full used units h = rw (lt-leb (used + units) rowLimit h)
+pub admitted-full : (units : ℕ) (on : Onward) (count : ℕ) → rowLimit < units + count → answer.Refused tooManyUnits ≡ admitted units on count
+admitted-full units on count h = rw (lt-leb (units + count) rowLimit h)
 
-pub admitted-ok : (used units : ℕ) → used + units ≤ rowLimit → added.Units units ≡ admitted used units
-admitted-ok used units h = rw (le-leb (used + units) rowLimit h)
+pub admitted-ok : (units : ℕ) (on : Onward) (count : ℕ) → units + count ≤ rowLimit
+    → answer.Row count (on .next) (on .«vars_used») ≡ admitted units on count
+admitted-ok units on count h = rw (le-leb (units + count) rowLimit h)
 
 pub marked-count : (m : Mark) (t : Text) → length (marked m t) ≡ length t
 unfolding marked
@@ -41,19 +45,36 @@ marked-count m [] = refl
 marked-count m (b ∷ t) = ap suc (marked-count m t)
 
 -- a row that was put at the front fits where it was measured to
-pub fronted-fits : (used count : ℕ) (row : Row) (area left : Text) → length row ≡ count → used + count ≤ rowLimit → left ≡ fronted
-    (rowBytes row) area
-    → Fitting used (done row) left count
-fronted-fits used count row area left c f e =
-    record { row = row; is = refl; counts = c; stands = record { rest = drop (length (rowBytes row)) area; is = e }; fits = f }
+pub fronted-fits : (units : ℕ) (on : Onward) (count : ℕ) (row : Row) (area left : Text) → length row ≡ count → units + count ≤ rowLimit
+    → left ≡ fronted (rowBytes row) area → Fitting units on (done row) left count (on .next) (on .«vars_used»)
+fronted-fits units on count row area left c f e =
+    record {
+      row = row;
+      is = refl;
+      counts = c;
+      stands = record { rest = drop (length (rowBytes row)) area; is = e };
+      fits = f;
+      onward = refl;
+      keeps = refl;
+    }
 
 -- an outcome that is the same
-pub adds-same : (used : ℕ) {o p : Outcome Row} (area : Text) (a : Added) → o ≡ p → Adds used o area a → Adds used p area a
-adds-same used area a e h = subst (λ (x : Outcome Row). Adds used x area a) e h
+pub adds-same : (units : ℕ) (on : Onward) {o p : Outcome Row} (area : Text) (r : Expanded) → o ≡ p → Adds units on o area r → Adds units on p area r
+adds-same units on area r e h = subst (λ (x : Outcome Row). Adds units on x area r) e h
 
-pub adds-marked : (used : ℕ) (area : Text) (a : Added) {k m : Mark} → k ≡ m → {t u : Text} → t ≡ u → Adds used (done (marked k t)) area a
-    → Adds used (done (marked m u)) area a
-adds-marked used area a {k} {m} e {t} {u} f h = adds-same used area a (ap (λ (j : Mark). done (marked j t)) e ∙ ap (λ (s : Text). done (marked m s)) f) h
+-- a text that is the same
+pub adds-text : (units : ℕ) (on : Onward) (m : Mark) {t u : Text} (area : Text) (r : Expanded) → t ≡ u → Adds units on (done (marked m t)) area r
+    → Adds units on (done (marked m u)) area r
+adds-text units on m area r e h = adds-same units on area r (ap (λ (s : Text). done (marked m s)) e) h
+
+-- a text that was given where what is expanded ends
+pub adds-expanded : (row : RowEnd) {there : RowEnd} (on : Onward) {t u : Text} (area : Text) (r : Expanded) → EndsExpanded row there → t ≡ u
+    → Adds (there .units) on (done (marked (markOf (there .mark)) t)) area r
+    → Adds (row .units) on (done (marked (expandedMark (markOf (row .mark))) u)) area r
+adds-expanded row {there} on {t} {u} area r x e h =
+    subst (λ (n : ℕ). Adds n on (done (marked (expandedMark (markOf (row .mark))) u)) area r) (x .units)
+    (adds-same (there .units) on area r
+    (ap (λ (k : Mark). done (marked k t)) (x .mark) ∙ ap (λ (s : Text). done (marked (expandedMark (markOf (row .mark))) s)) e) h)
 
 -- a text that was written at the front ends within the buffer
 pub puts-inside : {text entry exit : Text} {n : ℕ} → Puts text entry exit n → n ≤ length exit

@@ -12,39 +12,56 @@ use Rattle.stages.specs.Units.{Row}
 use Rattle.stages.specs.Expand.{Made}
 use Rattle.stages.proofs.Tables.{Vars, vars-of}
 use Rattle.table.specs.Places as places
-use Rattle.expand_add.specs.Added.{Fitting}
+use Rattle.expand_add.specs.Added.{Adds}
 use Rattle.expand_add.specs.Steps.{beside, placed}
-use Rattle.expand_add.specs.Answers.{Holds, IsRow, Answers, Says}
+use Rattle.expand_add.specs.Answers.{Holds, Ends, Answers, Says, Finishes}
+use Rattle.expand_add.specs.declared.answers.Onward.{Onward}
 use Rattle.expand_add.specs.declared.answers.Expanded.{Expanded}
-use Rattle.expand_add.proofs.Steps.{placed-fits, beside-done}
+use Rattle.expand_add.specs.declared.answers.Expanded.the-variants as answer
+use Rattle.expand_add.proofs.Steps.{placed-fits, beside-refused, beside-done}
 
-pub vars-held : (room : ℕ) (vars : Text) (have : ℕ) → Holds room vars have → Vars (take have vars)
-vars-held room vars have w = vars-of (take have vars) (w .formed)
+pub vars-held : (varsRoom : ℕ) (vars : Text) (varsUsed : ℕ) → Holds varsRoom vars varsUsed → Vars (take varsUsed vars)
+vars-held varsRoom vars varsUsed w = vars-of (take varsUsed vars) (w .formed)
 
-pub table-held : (room : ℕ) (vars : Text) (have : ℕ) → Holds room vars have → places.Table (take have vars)
-table-held room vars have w = let t = vars-held room vars have w in record { pairs = t .table; rises = t .rises }
+pub table-held : (varsRoom : ℕ) (vars : Text) (varsUsed : ℕ) → Holds varsRoom vars varsUsed → places.Table (take varsUsed vars)
+table-held varsRoom vars varsUsed w = let t = vars-held varsRoom vars varsUsed w in record { pairs = t .table; rises = t .rises }
 
 -- the answer of a text, once its parts are known
-pub says-known : (room : ℕ) (text : Text) (at used : ℕ) (own : Parts → Made) {o : Taken} {p : Parts × Text} (area vars : Text) (r : Expanded)
-    → Says room text at used own o area vars r → o ≡ done p → Answers room text at used (own (p .0)) (p .1) area vars r
-says-known room text at used own area vars r h e = subst (λ (x : Taken). Says room text at used own x area vars r) e h
+pub says-known : (varsRoom : ℕ) (text : Text) (at units : ℕ) (own : Parts → Made) {o : Taken} {p : Parts × Text} (area vars : Text) (r : Expanded)
+    → Says varsRoom text at units own o area vars r → o ≡ done p → Answers varsRoom text at units (own (p .0)) (p .1) area vars r
+says-known varsRoom text at units own area vars r h e = subst (λ (x : Taken). Says varsRoom text at units own x area vars r) e h
 
-pub answers-known : (room : ℕ) (text : Text) (at used : ℕ) (made : Made) (rest area vars : Text) {r s : Expanded}
-    → Answers room text at used made rest area vars r → r ≡ s → Answers room text at used made rest area vars s
-answers-known room text at used made rest area vars h e = subst (λ (x : Expanded). Answers room text at used made rest area vars x) e h
+pub answers-known : (varsRoom : ℕ) (text : Text) (at units : ℕ) (made : Made) (rest area vars : Text) {r s : Expanded}
+    → Answers varsRoom text at units made rest area vars r → r ≡ s → Answers varsRoom text at units made rest area vars s
+answers-known varsRoom text at units made rest area vars h e = subst (λ (x : Expanded). Answers varsRoom text at units made rest area vars x) e h
 
 -- a row that was added where nothing is stored
-pub fitting-row : (room used : ℕ) (o : Outcome Row) (area vars : Text) (count have : ℕ) → Fitting used o area count → Holds room vars have
-    → IsRow room used (placed used (beside (held (take have vars)) o)) area vars count have
-fitting-row room used o area vars count have f w =
+pub adds-finishes : (varsRoom units : ℕ) (on : Onward) (o : Outcome Row) (area vars : Text) (r : Expanded) → Adds units on o area r
+    → Holds varsRoom vars (on .«vars_used»)
+    → Finishes varsRoom units (placed units (beside (held (take (on .«vars_used») vars)) o)) (on .next) area vars r
+adds-finishes varsRoom units on o area vars (answer.Refused e) h w = beside-refused units (held (take (on .«vars_used») vars)) o e h
+adds-finishes varsRoom units on o area vars (answer.Row count next varsUsed) f w =
     let c = f .counts in
     let l = f .fits in
-    record {
-      row = f .row;
-      is = placed-fits used (beside (held (take have vars)) o) (f .row) (held (take have vars))
-          (beside-done (held (take have vars)) o (f .row) (f .is)) (omega arith);
-      counts = c;
-      stands = f .stands;
-      fits = l;
-      holds = w;
-    }
+    let v = held (take (on .«vars_used») vars) in (
+      f .onward,
+      rw (f .keeps) (record {
+        row = f .row;
+        is = placed-fits units (beside v o) (f .row) v (beside-done v o (f .row) (f .is)) (omega arith);
+        counts = c;
+        stands = f .stands;
+        fits = l;
+        holds = w;
+      }),
+    )
+
+-- the same of a row that is made the same
+pub finishes-same : (varsRoom units : ℕ) {made made′ : Made} (next : ℕ) (area vars : Text) (r : Expanded) → made ≡ made′
+    → Finishes varsRoom units made next area vars r → Finishes varsRoom units made′ next area vars r
+finishes-same varsRoom units next area vars r e h = subst (λ (m : Made). Finishes varsRoom units m next area vars r) e h
+
+-- what a leaf finishes is the answer of its text, which ends where the leaf was told
+pub finishes-answers : (varsRoom : ℕ) (text : Text) (at units : ℕ) (made : Made) (next : ℕ) (rest area vars : Text) (r : Expanded)
+    → Finishes varsRoom units made next area vars r → Ends text at next rest → Answers varsRoom text at units made rest area vars r
+finishes-answers varsRoom text at units made next rest area vars (answer.Refused e) h k = h
+finishes-answers varsRoom text at units made next rest area vars (answer.Row count after varsUsed) h k = (h .1, rw (h .0) k)

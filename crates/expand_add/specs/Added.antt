@@ -6,28 +6,38 @@ use lib.ListN.{length}
 use Rattle.stages.specs.Numbers.{rowLimit, tooManyUnits}
 use Rattle.stages.specs.Bytes.{Text}
 use Rattle.stages.specs.Outcome.{Outcome, refused, done, _>>=_, pick}
-use Rattle.stages.specs.Units.{Row, fit}
+use Rattle.stages.specs.Units.{Row, expandedMark as asExpanded, fit}
+use Rattle.row.specs.Marks.{markOf}
 use Rattle.row.specs.Stands.{Stands}
-use Rattle.expand_add.specs.declared.Added.{Added}
-use Rattle.expand_add.specs.declared.Added.the-variants as added
+use Rattle.row.specs.declared.RowEnd.{RowEnd}
+use Rattle.expand_add.specs.declared.answers.Onward.{Onward}
+use Rattle.expand_add.specs.declared.answers.Expanded.{Expanded}
+use Rattle.expand_add.specs.declared.answers.Expanded.the-variants as expanded
 
--- the row that was worked out has so many units, stands at the front, and fits behind `used` others
-pub record Fitting (used : ℕ) (o : Outcome Row) (area : Text) (count : ℕ) : Type 0 where
+-- the same end of a row, where what is expanded gets its mark
+pub record EndsExpanded (row r : RowEnd) : Type 0 where
+  pub mark : markOf (r .mark) ≡ asExpanded (markOf (row .mark))
+  pub units : r .units ≡ row .units
+
+-- the row that was worked out has so many units, stands at the front and fits after the units before it; the text goes on as it was to
+pub record Fitting (units : ℕ) (on : Onward) (o : Outcome Row) (area : Text) (count next varsUsed : ℕ) : Type 0 where
   pub row : Row
   pub is : o ≡ done row
   pub counts : length row ≡ count
   pub stands : Stands row area
-  pub fits : used + count ≤ rowLimit
+  pub fits : units + count ≤ rowLimit
+  pub onward : next ≡ on .next
+  pub keeps : varsUsed ≡ on .«vars_used»
 
 -- "each byte, mark or whole expansion is worked out before it is added, and what would pass the limit is 14"
 unfoldable pub measured : ℕ → Outcome Row → Outcome Row
 unfolding fit
-measured used o = o >>= λ r. fit used (length r) >>= λ i. done r
+measured units o = o >>= λ r. fit units (length r) >>= λ i. done r
 
-abbrev pub Adds : ℕ → Outcome Row → Text → Added → Type 0
-Adds used o area (added.Units count) = Fitting used o area count
-Adds used o area (added.Refused e) = measured used o ≡ refused e
+abbrev pub Adds : ℕ → Onward → Outcome Row → Text → Expanded → Type 0
+Adds units on o area (expanded.Row count next varsUsed) = Fitting units on o area count next varsUsed
+Adds units on o area (expanded.Refused e) = measured units o ≡ refused e
 
--- so many units behind `used` others
-abbrev pub admitted : ℕ → ℕ → Added
-admitted used units = pick (leb (used + units) rowLimit) (added.Units units) (added.Refused tooManyUnits)
+-- so many units after those before them
+abbrev pub admitted : ℕ → Onward → ℕ → Expanded
+admitted units on count = pick (leb (units + count) rowLimit) (expanded.Row count (on .next) (on .«vars_used»)) (expanded.Refused tooManyUnits)

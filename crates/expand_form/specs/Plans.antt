@@ -14,16 +14,20 @@ use Rattle.text.specs.Cases.{sideOf, isSuffix, reachOf, isLongest}
 use Rattle.table.specs.declared.Found.{Found}
 use Rattle.table.specs.declared.Found.the-variants.{At, Missing}
 use Rattle.expand_form.specs.declared.Plan.{Plan}
-use Rattle.expand_form.specs.declared.Plan.the-variants.{Gives, Nothing, Demands, Uses, Assigns, Cuts}
+use Rattle.expand_form.specs.declared.Plan.the-variants as plan
+use Rattle.expand_form.specs.declared.Unused.{Unused}
+use Rattle.expand_form.specs.declared.Unused.the-variants.{Value, Nothing, Demand}
+use Rattle.expand_form.specs.declared.Used.{Used}
+use Rattle.expand_form.specs.declared.Used.the-variants.{Given, Stored, Removed}
 
 -- what a form asks for, by whether the value is missing: with the colon, and without
 abbrev pub planOf : Form → (Colon → Bool) → Plan
-planOf plain missing = Gives
-planOf (minus c) missing = pick (missing c) Uses Gives
-planOf (equals c) missing = pick (missing c) Assigns Gives
-planOf (query c) missing = pick (missing c) Demands Gives
-planOf (plus c) missing = pick (missing c) Nothing Uses
-planOf (removal side reach) missing = Cuts (isSuffix side) (isLongest reach)
+planOf plain missing = plan.Unused Value
+planOf (minus c) missing = pick (missing c) (plan.Used Given) (plan.Unused Value)
+planOf (equals c) missing = pick (missing c) (plan.Used Stored) (plan.Unused Value)
+planOf (query c) missing = pick (missing c) (plan.Unused Demand) (plan.Unused Value)
+planOf (plus c) missing = pick (missing c) (plan.Unused Nothing) (plan.Used Given)
+planOf (removal side reach) missing = plan.Used (Removed (isSuffix side) (isLongest reach))
 
 -- "missing", by where the value was found
 abbrev pub missingIn : Found → Colon → Bool
@@ -31,40 +35,22 @@ missingIn Missing c = true
 missingIn (At from to) withColon = eqb from to
 missingIn (At from to) noColon = false
 
--- whether the operand is expanded
-abbrev pub wants : Plan → Bool
-wants Gives = false
-wants Nothing = false
-wants Demands = false
-wants Uses = true
-wants Assigns = true
-wants (Cuts s long) = true
+-- the mark of the literal bytes of an operand that is used
+abbrev pub operandMark : Used → Mark → Mark
+operandMark Given m = expandedMark m
+operandMark Stored m = m
+operandMark (Removed s long) m = L
 
--- the mark of its literal bytes
-abbrev pub operandMark : Plan → Mark → Mark
-operandMark Gives m = m
-operandMark Nothing m = m
-operandMark Demands m = m
-operandMark Uses m = expandedMark m
-operandMark Assigns m = m
-operandMark (Cuts s long) m = L
-
--- what is given where it is not
-unfoldable pub settled : Plan → Text → Mark → Pairs → Outcome Row
+-- what is given where the operand is not used
+unfoldable pub settled : Unused → Text → Mark → Pairs → Outcome Row
 unfolding value marked
-settled Gives x m v = done (marked (expandedMark m) (value v x))
+settled Value x m v = done (marked (expandedMark m) (value v x))
 settled Nothing x m v = done []
-settled Demands x m v = refused demanded
-settled Uses x m v = done []
-settled Assigns x m v = done []
-settled (Cuts s long) x m v = done []
+settled Demand x m v = refused demanded
 
--- what is given where it is, by the operand's row and the variables behind it
-unfoldable pub finished : Plan → ℕ → Text → Mark → Row × Pairs → Made
+-- what is given where it is, by its row and the variables after its stores
+unfoldable pub finished : Used → ℕ → Text → Mark → Row × Pairs → Made
 unfolding assigned cutBy
-finished Gives room x m p = done p
-finished Nothing room x m p = done p
-finished Demands room x m p = done p
-finished Uses room x m p = done p
-finished Assigns room x m p = assigned room x m p
-finished (Cuts s long) room x m p = cutBy (sideOf s) (reachOf long) x m p
+finished Given room x m p = done p
+finished Stored room x m p = assigned room x m p
+finished (Removed s long) room x m p = cutBy (sideOf s) (reachOf long) x m p

@@ -3,25 +3,33 @@ ghost use mathlib.Core.Path.{_≡_};
 ghost use Rattle.text.specs.Cases.{colonOf};
 ghost use Rattle.read_mode.specs.Modes.{formOf};
 ghost use Rattle.row.specs.Marks.{markOf};
-ghost use Rattle.expand_form.specs.Plans.{planOf, missingIn, wants, operandMark};
+ghost use Rattle.expand_form.specs.Plans.{planOf, missingIn, operandMark};
 use read_mode::Form;
 use row::Mark;
 use table::Found;
 
-// What is to be done for a parameter.
+// What is to be done for a parameter: "An unused operand is not expanded."
 pub enum Plan {
-    // the value is given
-    Gives,
-    // nothing is given
+    Unused(Unused),
+    Used(Used),
+}
+
+// What is given where the operand is not used.
+pub enum Unused {
+    Value,
     Nothing,
     // the value is missing, which is refused
-    Demands,
-    // the operand is given
-    Uses,
-    // the operand is stored, and then the value is given
-    Assigns,
-    // the operand is a pattern, and what it leaves of the value is given
-    Cuts { suffix: bool, long: bool },
+    Demand,
+}
+
+// What is done with the operand where it is used.
+pub enum Used {
+    // it is given
+    Given,
+    // it is stored, and then the value is given
+    Stored,
+    // it is the pattern of a removal, and what that leaves of the value is given
+    Removed { suffix: bool, long: bool },
 }
 
 // "Missing": unset, or with the colon also empty.
@@ -46,63 +54,46 @@ pub fn plan_of(form: Form, found: Found) -> Plan
     match form {
         Form::Minus(colon) => {
             if is_missing(colon, found) {
-                return Plan::Uses;
+                return Plan::Used(Used::Given);
             }
-            Plan::Gives
+            Plan::Unused(Unused::Value)
         }
         Form::Equals(colon) => {
             if is_missing(colon, found) {
-                return Plan::Assigns;
+                return Plan::Used(Used::Stored);
             }
-            Plan::Gives
+            Plan::Unused(Unused::Value)
         }
         Form::Query(colon) => {
             if is_missing(colon, found) {
-                return Plan::Demands;
+                return Plan::Unused(Unused::Demand);
             }
-            Plan::Gives
+            Plan::Unused(Unused::Value)
         }
         Form::Plus(colon) => {
             if is_missing(colon, found) {
-                return Plan::Nothing;
+                return Plan::Unused(Unused::Nothing);
             }
-            Plan::Uses
+            Plan::Used(Used::Given)
         }
-        Form::Suffix(long) => Plan::Cuts {
+        Form::Suffix(long) => Plan::Used(Used::Removed {
             suffix: true,
             long: long,
-        },
-        Form::Prefix(long) => Plan::Cuts {
+        }),
+        Form::Prefix(long) => Plan::Used(Used::Removed {
             suffix: false,
             long: long,
-        },
-    }
-}
-
-// "An unused operand is not expanded."
-pub fn wants_operand(plan: Plan) -> bool
-    ensures { λ r. ⌜ r ≡ wants plan ⌝ }
-{
-    match plan {
-        Plan::Gives => false,
-        Plan::Nothing => false,
-        Plan::Demands => false,
-        Plan::Uses => true,
-        Plan::Assigns => true,
-        Plan::Cuts { suffix: _, long: _ } => true,
+        }),
     }
 }
 
 // The mark of the literal bytes of an operand: "Bare literal bytes of an operand of `-` or `+` become E"; those of a pattern stay active.
-pub fn operand_mark(plan: Plan, mark: Mark) -> Mark
-    ensures { λ r. ⌜ markOf r ≡ operandMark plan (markOf mark) ⌝ }
+pub fn operand_mark(used: Used, mark: Mark) -> Mark
+    ensures { λ r. ⌜ markOf r ≡ operandMark used (markOf mark) ⌝ }
 {
-    match plan {
-        Plan::Gives => mark,
-        Plan::Nothing => mark,
-        Plan::Demands => mark,
-        Plan::Uses => row::expanded_mark(mark),
-        Plan::Assigns => mark,
-        Plan::Cuts { suffix: _, long: _ } => Mark::L,
+    match used {
+        Used::Given => row::expanded_mark(mark),
+        Used::Stored => mark,
+        Used::Removed { suffix: _, long: _ } => Mark::L,
     }
 }

@@ -14,44 +14,43 @@ use Rattle.stages.specs.Line.{Fields}
 use Rattle.stages.specs.Call.{over}
 use Rattle.stages.proofs.Images.{Bytes, bytes-take}
 use Rattle.stages.proofs.Tables.{vars-of, table-length, table-canonical}
-use Rattle.expand_add.proofs.Determined.{have-is}
+use Rattle.expand_add.proofs.Determined.{vars-used-is}
 use Rattle.expand_add.specs.Answers.{Holds}
 use Rattle.expand_line.specs.Answers.{IsLine, LineSays}
 use Rattle.expand_line.specs.declared.LineExpanded.{LineExpanded}
 use Rattle.expand_line.specs.declared.LineExpanded.the-variants.{Done, Refused}
 
--- a front of bytes is bytes
--- the length of the variables' image is that of what it holds
 -- what an acceptance leaves
 abbrev pub Same : LineExpanded → Text → Text → Text → Text → Type 0
 Same (Refused n place) vars vars' out out' = Unit {0}
-Same (Done len have) vars vars' out out' = (take have vars ≡ take have vars') × (out ≡ out')
+Same (Done len varsUsed) vars vars' out out' = (take varsUsed vars ≡ take varsUsed vars') × (out ≡ out')
 
 module _ (room : ℕ) (o : Placed (Fields × Pairs)) (old vars vars' out out' : Text) where
-  done-same : (len have len' have' : ℕ) → Bytes vars → Bytes vars' → IsLine room o vars old out len have → IsLine room o vars' old out' len' have'
-      → (Done len have ≡ Done len' have') × (take have vars ≡ take have vars') × (out ≡ out')
-  done-same len have len' have' b b' g h =
+  done-same : (len varsUsed len' varsUsed' : ℕ) → Bytes vars → Bytes vars' → IsLine room o vars old out len varsUsed → IsLine room o vars'
+      old out' len' varsUsed'
+      → (Done len varsUsed ≡ Done len' varsUsed') × (take varsUsed vars ≡ take varsUsed vars') × (out ≡ out')
+  done-same len varsUsed len' varsUsed' b b' g h =
       let e = g .is in
       let f = h .is in
-      let p : _≡_ {A = Fields × Pairs} (g .fields, held (take have vars)) (h .fields, held (take have' vars')) = cc in
+      let p : _≡_ {A = Fields × Pairs} (g .fields, held (take varsUsed vars)) (h .fields, held (take varsUsed' vars')) = cc in
       let l : g .fields ≡ h .fields = ap (λ (x : Fields × Pairs). x .0) p in
-      let v : held (take have vars) ≡ held (take have' vars') = ap (λ (x : Fields × Pairs). x .1) p in
+      let v : held (take varsUsed vars) ≡ held (take varsUsed' vars') = ap (λ (x : Fields × Pairs). x .1) p in
       let n : len ≡ len' = g .long ∙ ap (λ (x : Fields). length (image x)) l ∙ sym (h .long) in
-      let k : have ≡ have' =
-      have-is room vars have (g .holds) ∙ ap (λ (x : Pairs). imageLength (flat x)) v ∙ sym (have-is room vars' have' (h .holds)) in (
-        ap (λ (i : ℕ). Done i have) n ∙ ap (Done len') k,
-        table-canonical isName (take have vars) (vars-of (take have vars) (g .holds .formed)) (bytes-take have vars b)
+      let k : varsUsed ≡ varsUsed' =
+      vars-used-is room vars varsUsed (g .holds) ∙ ap (λ (x : Pairs). imageLength (flat x)) v ∙ sym (vars-used-is room vars' varsUsed' (h .holds)) in (
+        ap (λ (i : ℕ). Done i varsUsed) n ∙ ap (Done len') k,
+        table-canonical isName (take varsUsed vars) (vars-of (take varsUsed vars) (g .holds .formed)) (bytes-take varsUsed vars b)
             ∙ ap (λ (x : Pairs). image (flat x)) v
-            ∙ sym (table-canonical isName (take have' vars') (vars-of (take have' vars') (h .holds .formed)) (bytes-take have' vars' b'))
+            ∙ sym (table-canonical isName (take varsUsed' vars') (vars-of (take varsUsed' vars') (h .holds .formed)) (bytes-take varsUsed' vars' b'))
             ∙ ap (λ (i : ℕ). take i vars') (sym k),
         g .stands ∙ ap (λ (x : Fields). over (image x) old) l ∙ sym (h .stands),
       )
 
   pub expand-line-determined : (r s : LineExpanded) → Bytes vars → Bytes vars' → LineSays room o vars old out r → LineSays room o vars' old out' s
       → (r ≡ s) × Same r vars vars' out out'
-  expand-line-determined (Done len have) (Done len' have') b b' g h =
-      let d = done-same len have len' have' b b' g h in
+  expand-line-determined (Done len varsUsed) (Done len' varsUsed') b b' g h =
+      let d = done-same len varsUsed len' varsUsed' b b' g h in
       (d .0, (d .1, d .2))
   expand-line-determined (Refused n place) (Refused n' place') b b' g h = (cc, tt)
-  expand-line-determined (Done len have) (Refused n place) b b' g h = let e = g .is in absurd (let z : _≡_ {A = ℕ} 0 1 = cc in omega arith)
-  expand-line-determined (Refused n place) (Done len have) b b' g h = let e = h .is in absurd (let z : _≡_ {A = ℕ} 0 1 = cc in omega arith)
+  expand-line-determined (Done len varsUsed) (Refused n place) b b' g h = let e = g .is in absurd (let z : _≡_ {A = ℕ} 0 1 = cc in omega arith)
+  expand-line-determined (Refused n place) (Done len varsUsed) b b' g h = let e = h .is in absurd (let z : _≡_ {A = ℕ} 0 1 = cc in omega arith)

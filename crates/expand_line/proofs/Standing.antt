@@ -41,24 +41,24 @@ pub record State (text houses paths : Text) (room : ℕ) (o : Placed (Fields × 
   pub area : workLeast ≤ length work
   pub same : length out ≡ length old
 
-module _ {text vars : Text} {have room : ℕ} {houses paths work out : Text} (r : LineReady text vars have room houses paths work out) where
+module _ {text vars : Text} {varsUsed room : ℕ} {houses paths work out : Text} (r : LineReady text vars varsUsed room houses paths work out) where
   abbrev first-out : Text
   first-out = set out 0 1
 
   -- what the words give, as the loop has it and as the contract has it
   abbrev inside : Placed (Fields × Pairs)
-  inside = lineOutcome (among room houses paths (length first-out)) text (held (take have vars))
+  inside = lineOutcome (among room houses paths (length first-out)) text (held (take varsUsed vars))
 
   abbrev outside : Placed (Fields × Pairs)
-  outside = lineOutcome (among room houses paths (length out)) text (held (take have vars))
+  outside = lineOutcome (among room houses paths (length out)) text (held (take varsUsed vars))
 
   both : outside ≡ inside
-  both = ap (λ (n : ℕ). lineOutcome (among room houses paths n) text (held (take have vars))) (sym (length-set out 0 1))
+  both = ap (λ (n : ℕ). lineOutcome (among room houses paths n) text (held (take varsUsed vars))) (sym (length-set out 0 1))
 
-  pub state-start : State text houses paths room inside first-out 0 1 have vars work first-out
+  pub state-start : State text houses paths room inside first-out 0 1 varsUsed vars work first-out
   state-start =
       record {
-        goes = goes-start (among room houses paths (length first-out)) text out (held (take have vars)) (r .words) (r .read) (r .byte);
+        goes = goes-start (among room houses paths (length first-out)) text out (held (take varsUsed vars)) (r .words) (r .read) (r .byte);
         holds = r .holds;
         area = r .area;
         same = refl;

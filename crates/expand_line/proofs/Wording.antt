@@ -61,7 +61,7 @@ module _ {o : Outcome Fields} {used : ℕ} {old left : Text} where
 
 -- the row that was made, where it stands
 
-module _ {room used : ℕ} {made : Made} {area vars : Text} {count have : ℕ} (q : IsRow room used made area vars count have) where
+module _ {room used : ℕ} {made : Made} {area vars : Text} {count varsUsed : ℕ} (q : IsRow room used made area vars count varsUsed) where
   row-long : length (rowBytes (q .row)) ≡ 2 * count
   row-long = length-rowBytes (q .row) ∙ ap (λ (n : ℕ). 2 * n) (q .counts)
 
@@ -95,13 +95,13 @@ module _ (a : Around) (tree : Parts) (n : ℕ) (v : Pairs) where
 
 -- the word by the answers of the two that were called
 
-module _ {line : Text} {at : ℕ} {vars : Text} {have room : ℕ} {houses paths work old : Text} {used : ℕ}
-    (w : WordReady line at vars have room houses paths work old used) where
+module _ {line : Text} {at : ℕ} {vars : Text} {varsUsed room : ℕ} {houses paths work old : Text} {used : ℕ}
+    (w : WordReady line at vars varsUsed room houses paths work old used) where
   abbrev a : Around
   a = among room houses paths (length old)
 
   abbrev v : Pairs
-  v = held (take have vars)
+  v = held (take varsUsed vars)
 
   abbrev tree : Parts
   tree = w .ready .tree

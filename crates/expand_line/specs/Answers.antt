@@ -33,39 +33,39 @@ abbrev pub lineOutcome : Around → Text → Pairs → Placed (Fields × Pairs)
 lineOutcome a t v = readLine t then λ ws. expandWords a ws 1 v
 
 -- the word at a place is read, and there is room for its row; the tables are well formed, and `used` bytes of the output are
-pub record WordReady (text : Text) (at : ℕ) (vars : Text) (have room : ℕ) (houses paths work out : Text) (used : ℕ) : Type 0 where
+pub record WordReady (text : Text) (at : ℕ) (vars : Text) (varsUsed room : ℕ) (houses paths work out : Text) (used : ℕ) : Type 0 where
   pub ready : Ready text at mode.Word depthLimit 0 (length work)
-  pub holds : Holds room vars have
+  pub holds : Holds room vars varsUsed
   pub housed : isSome (homesOf houses) ≡ true
   pub listed : isSome (pathsOf paths) ≡ true
   pub low : used ≤ length out
   pub few : length out ≤ imageLimit
 
 -- a word's fields are written, and behind it stands `rest`
-pub record IsFields (a : Around) (made : Outcome (Fields × Pairs)) (rest text : Text) (at used : ℕ) (vars old out : Text) (len next have : ℕ) :
+pub record IsFields (a : Around) (made : Outcome (Fields × Pairs)) (rest text : Text) (at used : ℕ) (vars old out : Text) (len next varsUsed : ℕ) :
     Type 0 where
   pub fields : Fields
-  pub is : made ≡ done (fields, held (take have vars))
+  pub is : made ≡ done (fields, held (take varsUsed vars))
   pub long : len ≡ used + recordBytes fields
   pub fits : len ≤ length old
   pub stands : out ≡ placed used (written fields) old
-  pub holds : Holds (a .room) vars have
+  pub holds : Holds (a .room) vars varsUsed
   pub ends : Ends text at next rest
 
 abbrev pub WordOf : Around → Outcome (Fields × Pairs) → Text → Text → ℕ → ℕ → Text → Text → Text → WordExpanded → Type 0
 WordOf a made rest text at used vars old out (word.Refused e) = made ≡ refused e
-WordOf a made rest text at used vars old out (word.Fields len next have) = IsFields a made rest text at used vars old out len next have
+WordOf a made rest text at used vars old out (word.Fields len next varsUsed) = IsFields a made rest text at used vars old out len next varsUsed
 
 -- the answer of a word, whatever it is read as
 pub record WordSays (a : Around) (o : Taken) (text : Text) (at used : ℕ) (v : Pairs) (vars old out : Text) (r : WordExpanded) : Type 0 where
   pub says : (p : Parts × Text) → o ≡ done p → WordOf a (wordOutcome a (p .0) used v) (p .1) text at used vars old out r
 
 -- the line is read and no byte of it is zero; the tables are well formed; the empty fields image has room
-pub record LineReady (text vars : Text) (have room : ℕ) (houses paths work out : Text) : Type 0 where
+pub record LineReady (text vars : Text) (varsUsed room : ℕ) (houses paths work out : Text) : Type 0 where
   pub words : List Word
   pub read : readLine text ≡ doneAt words
   pub clean : all notZero text ≡ true
-  pub holds : Holds room vars have
+  pub holds : Holds room vars varsUsed
   pub housed : isSome (homesOf houses) ≡ true
   pub listed : isSome (pathsOf paths) ≡ true
   pub area : workLeast ≤ length work
@@ -73,14 +73,14 @@ pub record LineReady (text vars : Text) (have room : ℕ) (houses paths work out
   pub few : length out ≤ imageLimit
 
 -- the fields' image stands at the front of the output, and the variables' image in its bytes
-pub record IsLine (room : ℕ) (o : Placed (Fields × Pairs)) (vars old out : Text) (len have : ℕ) : Type 0 where
+pub record IsLine (room : ℕ) (o : Placed (Fields × Pairs)) (vars old out : Text) (len varsUsed : ℕ) : Type 0 where
   pub fields : Fields
-  pub is : o ≡ doneAt (fields, held (take have vars))
+  pub is : o ≡ doneAt (fields, held (take varsUsed vars))
   pub long : len ≡ length (image fields)
   pub fits : len ≤ length old
   pub stands : out ≡ over (image fields) old
-  pub holds : Holds room vars have
+  pub holds : Holds room vars varsUsed
 
 abbrev pub LineSays : ℕ → Placed (Fields × Pairs) → Text → Text → Text → LineExpanded → Type 0
 LineSays room o vars old out (line.Refused n place) = o ≡ refusedAt n place
-LineSays room o vars old out (line.Done len have) = IsLine room o vars old out len have
+LineSays room o vars old out (line.Done len varsUsed) = IsLine room o vars old out len varsUsed

@@ -1,6 +1,7 @@
-// A line's words, one after the other: each is expanded, split, and its fields are written behind those before it. Places belong to the loop over the
+// A line's words, one after the other: each is expanded, split, and its fields are written after those before it. Places belong to the loop over the
 // words alone.
 use expand_add::answers::Expanded;
+use expand_add::answers::Extent;
 use read_line::NextWord;
 use split_field::Written;
 use text::numbers;
@@ -11,59 +12,71 @@ ghost use Rattle.stages.specs.Syntax.{word};
 ghost use Rattle.stages.specs.Read.{parts};
 ghost use Rattle.expand_line.specs.Answers.{among, lineOutcome, WordReady, WordSays, LineReady, LineSays};
 
-// What a line's words give: the fields' image has `len` bytes, and the variables' image `have`; or the number that refuses a word, and that word's place.
+// What a line's words give: the fields' image is the first `used` bytes of the output, and the variables' the first `vars_used` of their buffer; or the
+// number that refuses a word, and that word's place.
 pub enum LineExpanded {
-    Done { len: usize, have: usize },
+    Done { used: usize, vars_used: usize },
     Refused { number: u8, place: usize },
 }
 
-// What one word gives: the fields' image has `len` bytes now, the line goes on at `next`, and the variables' image has `have` bytes; or the number that
-// refuses it.
+// Where the line is read next, and how many bytes of the output are written.
+struct Progress {
+    at: usize,
+    used: usize,
+}
+
+// What one word gives: the same lengths, and where the line goes on; or the number that refuses it.
 enum WordExpanded {
     Fields {
-        len: usize,
+        used: usize,
         next: usize,
-        have: usize,
+        vars_used: usize,
     },
     Refused(u8),
 }
 
-// The word at a place: its fields, behind the first `used` bytes of the output. "Fields are checked for 19 in order.", and "21 is met at the end of the
-// word".
+// The word at a place: its fields, after the bytes of the output that are written. "Fields are checked for 19 in order.", and "21 is met at the end of
+// the word".
 fn put_word(
     line: &[u8],
-    at: usize,
+    from: Progress,
     vars: &mut [u8],
-    have: usize,
-    room: usize,
+    extent: Extent,
     homes: &[u8],
     paths: &[u8],
     work: &mut [u8],
     out: &mut [u8],
-    used: usize,
 ) -> WordExpanded
-    requires { ⌜ WordReady (now line) at (now vars) have room (now homes) (now paths) (now work) (now out) used ⌝ }
-    ensures { λ r. ⌜ WordSays (among room (now (homes .entry)) (now (paths .entry)) (length (now (out .entry))))
-        (parts word depthLimit (drop at (now (line .entry)))) (now (line .entry)) at used (held (take have (now (vars .entry)))) (now (vars .exit))
-        (now (out .entry)) (now (out .exit)) r ⌝ }
+    requires { ⌜ WordReady (now line) (from .at) (now vars) (extent .«vars_used») (extent .«vars_room») (now homes) (now paths) (now work) (now out)
+        (from .used) ⌝ }
+    ensures { λ r. ⌜ WordSays (among (extent .«vars_room») (now (homes .entry)) (now (paths .entry)) (length (now (out .entry))))
+        (parts word depthLimit (drop (from .at) (now (line .entry)))) (now (line .entry)) (from .at) (from .used)
+        (held (take (extent .«vars_used») (now (vars .entry)))) (now (vars .exit)) (now (out .entry)) (now (out .exit)) r ⌝ }
 {
-    let got = expand_word::expand_word(line, at, vars, have, room, homes, work);
+    let got = expand_word::expand_word(line, from.at, vars, extent, homes, work);
     match got {
         Expanded::Refused(e) => WordExpanded::Refused(e),
         Expanded::Row {
             units,
             next,
-            have: left,
+            vars_used,
         } => {
             let end = 2 * units;
-            let put = split_row::put_word_fields(&mut work[..end], vars, left, paths, out, used);
+            let put = split_row::put_word_fields(
+                &mut work[..end],
+                vars,
+                vars_used,
+                paths,
+                out,
+                from.used,
+            );
             match put {
                 Written::Class => WordExpanded::Refused(numbers::REFUSED_CLASS),
                 Written::NoRoom => WordExpanded::Refused(numbers::REFUSED_OUTPUT),
                 Written::Len(longer) => WordExpanded::Fields {
-                    len: longer,
+                    used: longer,
                     next: next,
-                    have: left,
+                    vars_used: vars_used,
                 },
             }
         }
@@ -71,37 +84,44 @@ fn put_word(
 }
 
 // Expands a line that has been read, "left to right, first fault met": the image of its fields stands at the front of `out`, that of the variables at the
-// front of `vars`, of which `room` bytes may be used.
+// front of `vars`.
 pub fn expand_line(
     line: &[u8],
     vars: &mut [u8],
-    have: usize,
-    room: usize,
+    extent: Extent,
     homes: &[u8],
     paths: &[u8],
     work: &mut [u8],
     out: &mut [u8],
 ) -> LineExpanded
-    requires { ⌜ LineReady (now line) (now vars) have room (now homes) (now paths) (now work) (now out) ⌝ }
-    ensures { λ r. ⌜ LineSays room
-        (lineOutcome (among room (now (homes .entry)) (now (paths .entry)) (length (now (out .entry)))) (now (line .entry))
-        (held (take have (now (vars .entry))))) (now (vars .exit)) (now (out .entry)) (now (out .exit)) r ⌝ }
+    requires { ⌜ LineReady (now line) (now vars) (extent .«vars_used») (extent .«vars_room») (now homes) (now paths) (now work) (now out) ⌝ }
+    ensures { λ r. ⌜ LineSays (extent .«vars_room»)
+        (lineOutcome (among (extent .«vars_room») (now (homes .entry)) (now (paths .entry)) (length (now (out .entry)))) (now (line .entry))
+        (held (take (extent .«vars_used») (now (vars .entry))))) (now (vars .exit)) (now (out .entry)) (now (out .exit)) r ⌝ }
 {
     out[0] = numbers::VERSION;
     let mut at: usize = 0;
-    let mut len: usize = 1;
-    let mut left = have;
+    let mut used: usize = 1;
+    let mut vars_used = extent.vars_used;
     loop {
         let found = read_line::next_word(line, at);
         match found {
             NextWord::Nothing => {
                 return LineExpanded::Done {
-                    len: len,
-                    have: left,
+                    used: used,
+                    vars_used: vars_used,
                 };
             }
             NextWord::At(place) => {
-                let got = put_word(line, place, vars, left, room, homes, paths, work, out, len);
+                let from = Progress {
+                    at: place,
+                    used: used,
+                };
+                let reached = Extent {
+                    vars_used: vars_used,
+                    vars_room: extent.vars_room,
+                };
+                let got = put_word(line, from, vars, reached, homes, paths, work, out);
                 match got {
                     WordExpanded::Refused(e) => {
                         return LineExpanded::Refused {
@@ -110,13 +130,13 @@ pub fn expand_line(
                         };
                     }
                     WordExpanded::Fields {
-                        len: longer,
+                        used: more,
                         next,
-                        have: held,
+                        vars_used: left,
                     } => {
                         at = next;
-                        len = longer;
-                        left = held;
+                        used = more;
+                        vars_used = left;
                     }
                 }
             }

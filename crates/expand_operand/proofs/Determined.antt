@@ -1,5 +1,5 @@
 -- The contracts determine every answer, with the row in the area and the image of variables: two outcomes that a contract allows for one input are
--- equal. Open is what crates/giving/proofs/Determined.antt names.
+-- equal. Open is what crates/expand_add/proofs/Determined.antt names.
 use Prim.Native.Nat.{ℕ}
 use mathlib.Core.Path.{_≡_}
 use Rattle.stages.specs.Bytes.{Text}
@@ -8,24 +8,25 @@ use Rattle.stages.specs.Units.{Mark, Row}
 use Rattle.expand_add.specs.Added.{Adds}
 use Rattle.expand_add.specs.Steps.{placed}
 use Rattle.expand_add.specs.Answers.{Finishes}
-use Rattle.expand_add.specs.declared.Added.{Added}
+use Rattle.expand_add.specs.declared.answers.Onward.{Onward}
 use Rattle.expand_add.specs.declared.answers.Expanded.{Expanded}
 use Rattle.expand_add.proofs.Determined.{adds-determined, finishes-determined}
 use Rattle.expand_form.specs.Plans.{settled, finished}
-use Rattle.expand_form.specs.declared.Plan.{Plan}
+use Rattle.expand_form.specs.declared.Unused.{Unused}
+use Rattle.expand_form.specs.declared.Used.{Used}
 use Rattle.expand_operand.specs.Operands.{sumOf}
 
-module _ (used : ℕ) (area area′ : Text) (r s : Added) where
-  pub settle-determined : (p : Plan) (x : Text) (m : Mark) (v : Pairs) → Adds used (settled p x m v) area r → Adds used (settled p x m v) area′
-      s → r ≡ s
-  settle-determined p x m v = adds-determined used (settled p x m v) area area′ r s
+module _ (units : ℕ) (on : Onward) (area area′ : Text) (r s : Expanded) where
+  pub settle-determined : (u : Unused) (x : Text) (m : Mark) (v : Pairs) → Adds units on (settled u x m v) area r
+      → Adds units on (settled u x m v) area′ s → r ≡ s
+  settle-determined u x m v = adds-determined units on (settled u x m v) area area′ r s
 
-  pub sum-up-determined : (m : Mark) (row : Row) (v : Pairs) → Adds used (sumOf m row v) area r → Adds used (sumOf m row v) area′ s → r ≡ s
-  sum-up-determined m row v = adds-determined used (sumOf m row v) area area′ r s
+  pub sum-up-determined : (m : Mark) (row : Row) (v : Pairs) → Adds units on (sumOf m row v) area r → Adds units on (sumOf m row v) area′ s → r ≡ s
+  sum-up-determined m row v = adds-determined units on (sumOf m row v) area area′ r s
 
-pub finish-determined : (p : Plan) (room used : ℕ) (x : Text) (m : Mark) (given : Row × Pairs) (next : ℕ) (area vars area′ vars′ : Text)
+pub finish-determined : (u : Used) (varsRoom units : ℕ) (x : Text) (m : Mark) (given : Row × Pairs) (next : ℕ) (area vars area′ vars′ : Text)
     (r s : Expanded)
-    → Finishes room used (placed used (finished p room x m given)) next area vars r
-    → Finishes room used (placed used (finished p room x m given)) next area′ vars′ s → r ≡ s
-finish-determined p room used x m given next area vars area′ vars′ r s =
-    finishes-determined room used (placed used (finished p room x m given)) area vars area′ vars′ next r s
+    → Finishes varsRoom units (placed units (finished u varsRoom x m given)) next area vars r
+    → Finishes varsRoom units (placed units (finished u varsRoom x m given)) next area′ vars′ s → r ≡ s
+finish-determined u varsRoom units x m given next area vars area′ vars′ r s =
+    finishes-determined varsRoom units (placed units (finished u varsRoom x m given)) area vars area′ vars′ next r s

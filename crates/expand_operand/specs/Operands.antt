@@ -1,7 +1,7 @@
 -- An operand's row where it stands, for what is done with it.
 use Prim.Native.Nat.{ℕ, _*_, _≤_}
 use mathlib.Core.Path.{_≡_}
-use mathlib.Core.Bool.{Bool, true, false}
+use mathlib.Core.Bool.{true}
 use lib.ListN.{length, take}
 use Rattle.stages.specs.Bytes.{Text, all, notZero}
 use Rattle.stages.specs.Outcome.{Outcome, done, _>>=_, refused, pick}
@@ -21,14 +21,13 @@ use Rattle.text.specs.Rows.{rowBytes, rowOf}
 
 -- the row of so many units at the front of the area
 abbrev pub rowAt : Text → ℕ → Row
-unfolding rowOf
 rowAt area units = rowOf (take (2 * units) area)
 
 -- such a row stands there, none of its bytes is zero, and the name is one: it may be stored
 pub record Operand (name area : Text) (units : ℕ) : Type 0 where
   pub inside : 2 * units ≤ length area
-  pub is : rowBytes (rowOf (take (2 * units) area)) ≡ take (2 * units) area
-  pub clean : all notZero (bytes (rowOf (take (2 * units) area))) ≡ true
+  pub is : rowBytes (rowAt area units) ≡ take (2 * units) area
+  pub clean : all notZero (bytes (rowAt area units)) ≡ true
   pub named : isName name ≡ true
 
 -- what a removal leaves of the value, as units
@@ -43,9 +42,9 @@ sumOf m row v = arithmeticOf v (bytes row) >>= λ s. done (marked (expandedMark 
 
 -- "longer than its buffer or 8,192": the lesser of the two
 abbrev pub capOf : ℕ → ℕ
-capOf room = pick (leb room imageLimit) room imageLimit
+capOf varsRoom = pick (leb varsRoom imageLimit) varsRoom imageLimit
 
 -- the value is stored as the stage stores it, or refused
 abbrev pub StoresIn : ℕ → Text → Text → Pairs → Text → Stored → Type 0
-StoresIn room x t v vars Full = store room x t v ≡ refused variableRoom
-StoresIn room x t v vars (Used left) = (store room x t v ≡ done (held (take left vars))) × Holds room vars left
+StoresIn varsRoom x t v vars Full = store varsRoom x t v ≡ refused variableRoom
+StoresIn varsRoom x t v vars (Used varsUsed) = (store varsRoom x t v ≡ done (held (take varsUsed vars))) × Holds varsRoom vars varsUsed

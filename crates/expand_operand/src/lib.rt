@@ -7,42 +7,46 @@ ghost use Rattle.stages.specs.Numbers.{rowLimit};
 ghost use Rattle.stages.specs.Images.{held};
 ghost use Rattle.stages.specs.Units.{bytes};
 ghost use Rattle.text.specs.Cases.{sideOf, reachOf};
-ghost use Rattle.text.specs.Rows.{rowOf};
 ghost use Rattle.row.specs.Marks.{markOf};
 ghost use Rattle.table.specs.Places.{Table};
 ghost use Rattle.expand_add.specs.Added.{Adds, admitted};
 ghost use Rattle.expand_form.specs.Plans.{settled, finished};
 ghost use Rattle.expand_add.specs.Steps.{placed};
-ghost use Rattle.expand_operand.specs.Operands.{Operand, leftBy, sumOf, capOf, StoresIn};
+ghost use Rattle.expand_operand.specs.Operands.{Operand, rowAt, leftBy, sumOf, capOf, StoresIn};
 ghost use Rattle.expand_add.specs.Answers.{Holds, Finishes};
 use arith_int::Number;
-use expand_add::Added;
 use expand_add::answers::Expanded;
-use expand_add::answers::going_on;
-use expand_form::Plan;
-use row::Mark;
+use expand_add::answers::Extent;
+use expand_add::answers::Onward;
+use expand_form::Unused;
+use expand_form::Used;
+use row::RowEnd;
 use table_store::Stored;
 use text::numbers;
 
-// A row of so many units is added behind `used` others, if they are not too many.
-fn admit(units: usize, used: usize) -> Added
-    requires { ⌜ used ≤ rowLimit ⌝ }
-    ensures { λ r. ⌜ r ≡ admitted used units ⌝ }
+// A row of so many units is added after those before it, if they are not too many.
+fn admit(units: usize, row: RowEnd, on: Onward) -> Expanded
+    requires { ⌜ row .units ≤ rowLimit ⌝ }
+    ensures { λ r. ⌜ r ≡ admitted (row .units) on units ⌝ }
 {
-    if units > numbers::ROW_LIMIT - used {
-        return Added::Refused(numbers::REFUSED_UNITS);
+    if units > numbers::ROW_LIMIT - row.units {
+        return Expanded::Refused(numbers::REFUSED_UNITS);
     }
-    Added::Units(units)
+    Expanded::Row {
+        units: units,
+        next: on.next,
+        vars_used: on.vars_used,
+    }
 }
 
 // What an image of variables may grow to, where the caller has so much room.
-fn cap_of(room: usize) -> usize
-    ensures { λ r. ⌜ r ≡ capOf room ⌝ }
+fn cap_of(vars_room: usize) -> usize
+    ensures { λ r. ⌜ r ≡ capOf «vars_room» ⌝ }
 {
-    if room > numbers::IMAGE_LIMIT {
+    if vars_room > numbers::IMAGE_LIMIT {
         return numbers::IMAGE_LIMIT;
     }
-    room
+    vars_room
 }
 
 // Stores the operand's bytes without marks under the name.
@@ -50,17 +54,22 @@ fn store_operand(
     name: &[u8],
     units: usize,
     vars: &mut [u8],
-    have: usize,
-    room: usize,
+    extent: Extent,
     work: &mut [u8],
 ) -> Stored
-    requires { ⌜ Operand (now name) (now work) units × Holds room (now vars) have ⌝ }
-    ensures { λ r. ⌜ StoresIn room (now (name .entry)) (bytes (rowOf (take (2 * units) (now (work .entry)))))
-        (held (take have (now (vars .entry)))) (now (vars .exit)) r ⌝ }
+    requires { ⌜ Operand (now name) (now work) units × Holds (extent .«vars_room») (now vars) (extent .«vars_used») ⌝ }
+    ensures { λ r. ⌜ StoresIn (extent .«vars_room») (now (name .entry)) (bytes (rowAt (now (work .entry)) units))
+        (held (take (extent .«vars_used») (now (vars .entry)))) (now (vars .exit)) r ⌝ }
 {
     let end = 2 * units;
     let n = row::strip_marks(&mut work[..end]);
-    table_store::store(vars, have, name, &work[..n], cap_of(room))
+    table_store::store(
+        vars,
+        extent.vars_used,
+        name,
+        &work[..n],
+        cap_of(extent.vars_room),
+    )
 }
 
 // "if missing, the operand's bytes without marks are stored; then the value is given, whatever quotes the operand had"
@@ -68,119 +77,131 @@ fn assign(
     name: &[u8],
     units: usize,
     next: usize,
-    mark: Mark,
-    used: usize,
+    row: RowEnd,
     vars: &mut [u8],
-    have: usize,
-    room: usize,
+    extent: Extent,
     work: &mut [u8],
 ) -> Expanded
-    requires { ⌜ Operand (now name) (now work) units × Holds room (now vars) have × (used ≤ rowLimit) × (2 * rowLimit ≤ length (now work)) ⌝ }
-    ensures { λ r. ⌜ Finishes room used
-        (placed used (finished Plan.Assigns room (now (name .entry)) (markOf mark)
-        (rowOf (take (2 * units) (now (work .entry))), held (take have (now (vars .entry)))))) next (now (work .exit)) (now (vars .exit)) r ⌝ }
+    requires { ⌜ Operand (now name) (now work) units × Holds (extent .«vars_room») (now vars) (extent .«vars_used») × (row .units ≤ rowLimit) ×
+        (2 * rowLimit ≤ length (now work)) ⌝ }
+    ensures { λ r. ⌜ Finishes (extent .«vars_room») (row .units)
+        (placed (row .units) (finished Used.Stored (extent .«vars_room») (now (name .entry)) (markOf (row .mark))
+        (rowAt (now (work .entry)) units, held (take (extent .«vars_used») (now (vars .entry)))))) next (now (work .exit)) (now (vars .exit)) r ⌝ }
 {
-    let stored = store_operand(name, units, vars, have, room, work);
+    let stored = store_operand(name, units, vars, extent, work);
     match stored {
         Stored::Full => Expanded::Refused(numbers::REFUSED_STORE),
-        Stored::Used(left) => going_on(
-            expand_add::give_value(name, mark, used, &vars[..left], work),
-            next,
-            left,
+        Stored::Used(vars_used) => expand_add::give_value(
+            name,
+            row,
+            Onward {
+                next: next,
+                vars_used: vars_used,
+            },
+            &vars[..vars_used],
+            work,
         ),
     }
 }
 
-// What is left of the name's value by a removal whose pattern the operand is. The value is read behind the operand's own stores.
+// What is left of the name's value by a removal whose pattern the operand is. The value is read after the operand's own stores.
 fn cut(
     name: &[u8],
     suffix: bool,
     long: bool,
     units: usize,
-    mark: Mark,
-    used: usize,
+    row: RowEnd,
+    on: Onward,
     vars: &[u8],
     work: &mut [u8],
-) -> Added
-    requires { ⌜ Table (now vars) × (2 * units ≤ length (now work)) × (used ≤ rowLimit) × (2 * rowLimit ≤ length (now work)) ⌝ }
-    ensures { λ r. ⌜ Adds used
-        (leftBy (sideOf suffix) (reachOf long) (now (name .entry)) (markOf mark) (rowOf (take (2 * units) (now (work .entry)))) (held (now (vars .entry))))
+) -> Expanded
+    requires { ⌜ Table (now vars) × (2 * units ≤ length (now work)) × (row .units ≤ rowLimit) × (2 * rowLimit ≤ length (now work)) ⌝ }
+    ensures { λ r. ⌜ Adds (row .units) on
+        (leftBy (sideOf suffix) (reachOf long) (now (name .entry)) (markOf (row .mark)) (rowAt (now (work .entry)) units) (held (now (vars .entry))))
         (now (work .exit)) r ⌝ }
 {
     let end = 2 * units;
     let n = pattern_row::drop_empty(&mut work[..end]);
     if pattern_row::has_class(&work[..n], false) {
-        return Added::Refused(numbers::REFUSED_CLASS);
+        return Expanded::Refused(numbers::REFUSED_CLASS);
     }
     let value = table_find::value_of(vars, name);
     let left = pattern_remove::removed(value, &work[..n], suffix, long);
-    expand_add::give_text(left, row::expanded_mark(mark), used, work)
+    expand_add::give_text(left, expand_add::expanded_end(row), on, work)
 }
 
 // The number of the arithmetic text that the row is.
-pub fn sum_up(units: usize, mark: Mark, used: usize, vars: &[u8], work: &mut [u8]) -> Added
-    requires { ⌜ Table (now vars) × (2 * units ≤ length (now work)) × (used ≤ rowLimit) × (2 * rowLimit ≤ length (now work)) ⌝ }
-    ensures { λ r. ⌜ Adds used (sumOf (markOf mark) (rowOf (take (2 * units) (now (work .entry)))) (held (now (vars .entry)))) (now (work .exit)) r ⌝ }
+pub fn sum_up(units: usize, row: RowEnd, on: Onward, vars: &[u8], work: &mut [u8]) -> Expanded
+    requires { ⌜ Table (now vars) × (2 * units ≤ length (now work)) × (row .units ≤ rowLimit) × (2 * rowLimit ≤ length (now work)) ⌝ }
+    ensures { λ r. ⌜ Adds (row .units) on (sumOf (markOf (row .mark)) (rowAt (now (work .entry)) units) (held (now (vars .entry))))
+        (now (work .exit)) r ⌝ }
 {
     let end = 2 * units;
     let n = row::strip_marks(&mut work[..end]);
     let got = arith_eval::evaluate_text(&work[..n], vars);
     match got {
-        Number::Refused(e) => Added::Refused(e),
-        Number::Value(z) => expand_add::give_number(z, mark, used, work),
+        Number::Refused(e) => Expanded::Refused(e),
+        Number::Value(z) => expand_add::give_number(z, row, on, work),
     }
 }
 
-// What a plan gives that does not want the operand.
+// What is given where the operand is not used.
 pub fn settle(
-    plan: Plan,
+    unused: Unused,
     name: &[u8],
-    mark: Mark,
-    used: usize,
+    row: RowEnd,
+    on: Onward,
     vars: &[u8],
     work: &mut [u8],
-) -> Added
-    requires { ⌜ Table (now vars) × (used ≤ rowLimit) × (2 * rowLimit ≤ length (now work)) ⌝ }
-    ensures { λ r. ⌜ Adds used (settled plan (now (name .entry)) (markOf mark) (held (now (vars .entry)))) (now (work .exit)) r ⌝ }
+) -> Expanded
+    requires { ⌜ Table (now vars) × (row .units ≤ rowLimit) × (2 * rowLimit ≤ length (now work)) ⌝ }
+    ensures { λ r. ⌜ Adds (row .units) on (settled unused (now (name .entry)) (markOf (row .mark)) (held (now (vars .entry)))) (now (work .exit)) r ⌝ }
 {
-    match plan {
-        Plan::Gives => expand_add::give_value(name, mark, used, vars, work),
-        Plan::Nothing => Added::Units(0),
-        Plan::Demands => Added::Refused(numbers::REFUSED_DEMAND),
-        Plan::Uses => Added::Units(0),
-        Plan::Assigns => Added::Units(0),
-        Plan::Cuts { suffix: _, long: _ } => Added::Units(0),
+    match unused {
+        Unused::Value => expand_add::give_value(name, row, on, vars, work),
+        Unused::Nothing => Expanded::Row {
+            units: 0,
+            next: on.next,
+            vars_used: on.vars_used,
+        },
+        Unused::Demand => Expanded::Refused(numbers::REFUSED_DEMAND),
     }
 }
 
-// What a plan gives that wants the operand, whose row has so many units.
+// What is given where the operand is used, whose row has so many units.
 pub fn finish(
-    plan: Plan,
+    used: Used,
     name: &[u8],
     units: usize,
     next: usize,
-    mark: Mark,
-    used: usize,
+    row: RowEnd,
     vars: &mut [u8],
-    have: usize,
-    room: usize,
+    extent: Extent,
     work: &mut [u8],
 ) -> Expanded
-    requires { ⌜ Operand (now name) (now work) units × Holds room (now vars) have × (used ≤ rowLimit) × (2 * rowLimit ≤ length (now work)) ⌝ }
-    ensures { λ r. ⌜ Finishes room used
-        (placed used (finished plan room (now (name .entry)) (markOf mark)
-        (rowOf (take (2 * units) (now (work .entry))), held (take have (now (vars .entry)))))) next (now (work .exit)) (now (vars .exit)) r ⌝ }
+    requires { ⌜ Operand (now name) (now work) units × Holds (extent .«vars_room») (now vars) (extent .«vars_used») × (row .units ≤ rowLimit) ×
+        (2 * rowLimit ≤ length (now work)) ⌝ }
+    ensures { λ r. ⌜ Finishes (extent .«vars_room») (row .units)
+        (placed (row .units) (finished used (extent .«vars_room») (now (name .entry)) (markOf (row .mark))
+        (rowAt (now (work .entry)) units, held (take (extent .«vars_used») (now (vars .entry)))))) next (now (work .exit)) (now (vars .exit)) r ⌝ }
 {
-    match plan {
-        Plan::Assigns => assign(name, units, next, mark, used, vars, have, room, work),
-        Plan::Cuts { suffix, long } => going_on(
-            cut(name, suffix, long, units, mark, used, &vars[..have], work),
-            next,
-            have,
+    let vars_used = extent.vars_used;
+    let on = Onward {
+        next: next,
+        vars_used: vars_used,
+    };
+    match used {
+        Used::Given => admit(units, row, on),
+        Used::Stored => assign(name, units, next, row, vars, extent, work),
+        Used::Removed { suffix, long } => cut(
+            name,
+            suffix,
+            long,
+            units,
+            row,
+            on,
+            &vars[..vars_used],
+            work,
         ),
-        Plan::Uses => going_on(admit(units, used), next, have),
-        Plan::Gives => going_on(admit(units, used), next, have),
-        Plan::Nothing => going_on(admit(units, used), next, have),
-        Plan::Demands => going_on(admit(units, used), next, have),
     }
 }

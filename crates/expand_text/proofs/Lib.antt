@@ -1,3 +1,3 @@
-pub mod Turning
+pub mod Items
 pub mod Looping
 pub mod Inside

@@ -3,7 +3,7 @@ use Prim.Native.Nat.{ℕ, _+_, _-_, _*_, _≤_}
 use native.Mathlib.Omega.{arith}
 use native.Mathlib.Nat.{add-zero}
 use mathlib.Core.Path.{_≡_, refl, sym, ap, _∙_, subst}
-use mathlib.Core.Bool.{true}
+use mathlib.Core.Bool.{Bool, true, false}
 use mathlib.Core.List.{[], _++_, append-nil}
 use lib.ListN.{length, take, drop, length-append}
 use Rattle.stages.specs.Numbers.{rowLimit}
@@ -19,25 +19,31 @@ use Rattle.row.specs.Stands.{Stands}
 use Rattle.read_mode.specs.Modes.{modeOf, openIn}
 use Rattle.read_mode.specs.declared.Mode.{Mode}
 use Rattle.expand_add.specs.Answers.{Holds, Ready, Says}
-use Rattle.expand_text.specs.Turns.{Moves, Closes, TurnOf, Turns}
+use Rattle.expand_text.specs.Items.{Moves, Closes, Passes, ItemAnswers, ItemRead}
+use Rattle.expand_add.specs.declared.answers.Expanded.{Expanded}
 use Rattle.expand_add.specs.declared.answers.Expanded.the-variants as answer
-use Rattle.expand_item.specs.declared.Turn.{Turn}
-use Rattle.expand_item.specs.declared.Turn.the-variants as turn
 use Rattle.expand_add.proofs.Steps.{onto-none, onto-onto}
 use Rattle.expand_add.proofs.Standing.{stands-inside, stands-nest, stands-kept}
 
-pub turns-known : (room : ℕ) (text : Text) (at depth : ℕ) (m : Mark) (used have : ℕ) (own : Parts → Made) {o : Taken} {p : Parts × Text}
-    (area vars : Text) {r s : Turn}
-    → Turns room text at depth m used have own o area vars r → o ≡ done p → r ≡ s → TurnOf room text at depth m used have (own (p .0))
-    (p .1) area vars s
-turns-known room text at depth m used have own {o} {p} area vars {r} {s} h e q =
-    subst (λ (x : Turn). TurnOf room text at depth m used have (own (p .0)) (p .1) area vars x) q
-    (subst (λ (x : Taken). Turns room text at depth m used have own x area vars r) e h)
+pub read-known : (stops : Bool) (after : Mode) (varsRoom : ℕ) (text : Text) (at depth : ℕ) (m : Mark) (units : ℕ) (own : Parts → Made)
+    {o : Taken} {p : Parts × Text} (area vars : Text) {r s : Expanded}
+    → ItemRead stops after varsRoom text at depth m units own o area vars r → o ≡ done p → r ≡ s
+    → ItemAnswers stops after varsRoom text at depth m units (own (p .0)) (p .1) area vars s
+read-known stops after varsRoom text at depth m units own {o} {p} area vars {r} {s} h e q =
+    subst (λ (x : Expanded). ItemAnswers stops after varsRoom text at depth m units (own (p .0)) (p .1) area vars x) q
+    (subst (λ (x : Taken). ItemRead stops after varsRoom text at depth m units own x area vars r) e h)
+
+-- a row that was passed fits, whether the text stops there or not
+passed-fits : (stops : Bool) (after : Mode) (varsRoom : ℕ) (text : Text) (at depth : ℕ) (m : Mark) (units : ℕ) (made : Made)
+    (rest area vars : Text) (count next left : ℕ) → units ≤ rowLimit
+    → Passes stops after varsRoom text at depth m units made rest area vars count next left → units + count ≤ rowLimit
+passed-fits true after varsRoom text at depth m units made rest area vars count next left l h = let n = h .none in omega arith
+passed-fits false after varsRoom text at depth m units made rest area vars count next left l h = h .fits
 
 -- The loop.
 
-pub record Going (room : ℕ) (text : Text) (at : ℕ) (mode₀ : Mode) (depth : ℕ) (k : Mark) (used : ℕ) (v : Pairs)
-    (area₀ vars₀ area vars : Text) (n i : ℕ) (mode : Mode) (have : ℕ) : Type 0 where
+pub record Going (varsRoom : ℕ) (text : Text) (at : ℕ) (mode₀ : Mode) (depth : ℕ) (k : Mark) (units : ℕ) (v : Pairs)
+    (area₀ vars₀ area vars : Text) (n i : ℕ) (mode : Mode) (varsUsed : ℕ) : Type 0 where
   pub tree : Parts
   pub rest : Text
   pub whole : parts (modeOf mode₀) depth (drop at text) ≡ done (tree, rest)
@@ -46,20 +52,20 @@ pub record Going (room : ℕ) (text : Text) (at : ℕ) (mode₀ : Mode) (depth :
   pub opens : openIn mode ≤ i
   pub onward : at ≤ i
   pub within : i ≤ length text
-  pub fits : used + n ≤ rowLimit
+  pub fits : units + n ≤ rowLimit
   pub long : length area ≡ length area₀
   pub same : length vars ≡ length vars₀
   pub row : Row
   pub counts : length row ≡ n
   pub stands : Stands row area
-  pub holds : Holds room vars have
-  pub is : expand room tree k used v ≡ onto row (expand room left k (used + n) (held (take have vars)))
+  pub holds : Holds varsRoom vars varsUsed
+  pub is : expand varsRoom tree k units v ≡ onto row (expand varsRoom left k (units + n) (held (take varsUsed vars)))
 
-module _ (room : ℕ) (text : Text) (at : ℕ) (mode₀ : Mode) (d : ℕ) (k : Mark) (used : ℕ) where
-  pub going-start : (area vars : Text) (have : ℕ) → Ready text at mode₀ d used (length area) → Holds room vars have
-      → Going room text at mode₀ d k used (held (take have vars)) area vars area vars 0 at mode₀ have
+module _ {varsRoom : ℕ} {text : Text} {at : ℕ} {mode₀ : Mode} {d : ℕ} (k : Mark) {units : ℕ} (area : Text) {vars : Text} {varsUsed : ℕ} where
+  pub going-start : Ready text at mode₀ d units (length area) → Holds varsRoom vars varsUsed
+      → Going varsRoom text at mode₀ d k units (held (take varsUsed vars)) area vars area vars 0 at mode₀ varsUsed
   unfolding rowBytes
-  going-start area vars have y w =
+  going-start y w =
       let f = y .few in
       record {
         tree = y .tree;
@@ -77,63 +83,88 @@ module _ (room : ℕ) (text : Text) (at : ℕ) (mode₀ : Mode) (d : ℕ) (k : M
         counts = refl;
         stands = record { rest = area; is = refl };
         holds = w;
-        is = onto-none _ ∙ ap (λ (j : ℕ). onto [] (expand room (y .tree) k j (held (take have vars)))) (sym (add-zero used));
+        is = onto-none _ ∙ ap (λ (j : ℕ). onto [] (expand varsRoom (y .tree) k j (held (take varsUsed vars)))) (sym (add-zero units));
       }
 
-  module _ (v : Pairs) (area₀ vars₀ area vars : Text) (n i : ℕ) (mode : Mode) (have : ℕ)
-      (g : Going room text at mode₀ d k used v area₀ vars₀ area vars n i mode have) where
+-- What stands so far, and an item that was expanded in what is lent after the row.
+pub record Expanding (varsRoom : ℕ) (text : Text) (at : ℕ) (mode₀ : Mode) (depth : ℕ) (k : Mark) (units : ℕ) (v : Pairs)
+    (area₀ vars₀ area vars : Text) (n i : ℕ) (mode : Mode) (varsUsed : ℕ) (stops : Bool) (after : Mode) (ys us : Text) (r : Expanded) : Type 0 where
+  pub going : Going varsRoom text at mode₀ depth k units v area₀ vars₀ area vars n i mode varsUsed
+  pub says : ItemRead stops after varsRoom text i depth k (units + n) (λ p. expand varsRoom p k (units + n) (held (take varsUsed vars)))
+      (parts (modeOf mode) depth (drop i text)) ys us r
+
+module _ {varsRoom : ℕ} {text : Text} {at : ℕ} {mode₀ : Mode} {d : ℕ} {k : Mark} {units : ℕ} {v : Pairs}
+    {area₀ vars₀ area vars : Text} {n i : ℕ} {mode : Mode} {varsUsed : ℕ} where
+  module _ (g : Going varsRoom text at mode₀ d k units v area₀ vars₀ area vars n i mode varsUsed) where
     pub going-room : 2 * n ≤ length area
     going-room = stands-inside (g .row) area n (g .stands) (g .counts)
 
-    pub going-ready : all notZero text ≡ true → (size : ℕ) → 2 * rowLimit * (d + 1) ≤ length area₀ + 2 * used → size + 2 * n ≡ length
-        area → Ready text i mode d (used + n) size
+    pub going-ready : all notZero text ≡ true → (size : ℕ) → 2 * rowLimit * (d + 1) ≤ length area₀ + 2 * units → size + 2 * n ≡ length
+        area → Ready text i mode d (units + n) size
     going-ready c size e l =
         let a = g .long in
         record { start = g .within; opens = g .opens; few = g .fits; area = omega arith; clean = c; tree = g .left; rest = g .rest; is = g .read }
 
-    module _ (ys us : Text) {r : Turn}
-        (t : Turns room text i d k (used + n) have (λ p. expand room p k (used + n) (held (take have vars))) (parts (modeOf mode) d (drop i text)) ys
-        us r) where
-      pub going-refused : (z : Text) {e : ℕ} → r ≡ turn.Refused e
-          → Says room text at used (λ p. expand room p k used v) (parts (modeOf mode₀) d (drop at text)) z us (answer.Refused e)
-      going-refused z {e} q =
-          let h : expand room (g .left) k (used + n) (held (take have vars)) ≡ refused e =
-          turns-known room text i d k (used + n) have _ ys us t (g .read) q in
-          rw (g .whole) (g .is ∙ ap (onto (g .row)) h)
+  module _ {stops : Bool} {after : Mode} {ys us : Text} {r : Expanded}
+      (x : Expanding varsRoom text at mode₀ d k units v area₀ vars₀ area vars n i mode varsUsed stops after ys us r) where
+    abbrev g : Going varsRoom text at mode₀ d k units v area₀ vars₀ area vars n i mode varsUsed
+    g = x .going
 
-      pub going-end : (z : Text) {next : ℕ} → r ≡ turn.End next
-          → Says room text at used (λ p. expand room p k used v) (parts (modeOf mode₀) d (drop at text)) (take (2 * n) area ++ z) us
-          (answer.Row n next have)
-      going-end z {next} q =
-          let h : Closes room text i have (expand room (g .left) k (used + n) (held (take have vars))) (g .rest) us next =
-          turns-known room text i d k (used + n) have _ ys us t (g .read) q in
+    pub going-refused : (z : Text) {e : ℕ} → r ≡ answer.Refused e
+        → Says varsRoom text at units (λ p. expand varsRoom p k units v) (parts (modeOf mode₀) d (drop at text)) z us (answer.Refused e)
+    going-refused z {e} q =
+        let h : expand varsRoom (g .left) k (units + n) (held (take varsUsed vars)) ≡ refused e =
+        read-known stops after varsRoom text i d k (units + n) _ ys us (x .says) (g .read) q in
+        rw (g .whole) (g .is ∙ ap (onto (g .row)) h)
+
+    module _ {count next left : ℕ} (q : r ≡ answer.Row count next left) where
+      passed : Passes stops after varsRoom text i d k (units + n) (expand varsRoom (g .left) k (units + n) (held (take varsUsed vars))) (g .rest) ys us
+          count next left
+      passed = read-known stops after varsRoom text i d k (units + n) _ ys us (x .says) (g .read) q
+
+      pub going-fits : units + n + count ≤ rowLimit
+      going-fits = passed-fits stops after varsRoom text i d k (units + n) _ (g .rest) ys us count next left (g .fits) passed
+
+      pub going-end : stops ≡ true → (z : Text)
+          → Says varsRoom text at units (λ p. expand varsRoom p k units v) (parts (modeOf mode₀) d (drop at text)) (take (2 * n) area ++ z) us
+          (answer.Row (n + count) next left)
+      going-end e z =
+          let h : Closes varsRoom text i (expand varsRoom (g .left) k (units + n) (held (take varsUsed vars))) (g .rest) us count next left =
+          subst (λ (b : Bool). Passes b after varsRoom text i d k (units + n) (expand varsRoom (g .left) k (units + n) (held (take varsUsed vars)))
+          (g .rest) ys us count next left) e passed in
           let a = g .onward in
           let b = h .ends .onward in
+          let f = g .fits in
+          let c = g .counts in
+          let o = h .none in
           rw (g .whole) (
             record {
               row = g .row;
-              is = g .is ∙ ap (onto (g .row)) (h .is) ∙ ap (λ (p : Row). done (p, held (take have us))) (append-nil (g .row));
-              counts = g .counts;
+              is = g .is ∙ ap (onto (g .row)) (h .is) ∙ ap (λ (p : Row). done (p, held (take left us))) (append-nil (g .row));
+              counts = omega arith;
               stands = stands-kept (g .row) area z n (g .stands) (g .counts);
-              fits = g .fits;
+              fits = omega arith;
               holds = h .holds;
             },
             record { ends = h .ends .ends; onward = omega arith; within = h .ends .within },
           )
 
-      module _ {count next : ℕ} {mode′ : Mode} {left : ℕ} (q : r ≡ turn.Row count next mode′ left) where
-        pub moved : Moves room text i d k (used + n) (expand room (g .left) k (used + n) (held (take have vars))) (g .rest) ys us count next mode′ left
-        moved = turns-known room text i d k (used + n) have _ ys us t (g .read) q
+      module _ (e : stops ≡ false) where
+        pub moved : Moves varsRoom text i d after k (units + n) (expand varsRoom (g .left) k (units + n) (held (take varsUsed vars))) (g .rest) ys us
+            count next left
+        moved = subst (λ (b : Bool). Passes b after varsRoom text i d k (units + n)
+            (expand varsRoom (g .left) k (units + n) (held (take varsUsed vars))) (g .rest) ys us count next left) e passed
 
-        pub going-row : (z : Text) → length (take (2 * n) area ++ (ys ++ z)) ≡ length area → length us ≡ length vars
-            → Going room text at mode₀ d k used v area₀ vars₀ (take (2 * n) area ++ (ys ++ z)) us (n + count) next mode′ left
-        going-row z len wide =
+        pub going-row : {next-mode : Mode} → next-mode ≡ after → (z : Text) → length (take (2 * n) area ++ (ys ++ z)) ≡ length area
+            → length us ≡ length vars
+            → Going varsRoom text at mode₀ d k units v area₀ vars₀ (take (2 * n) area ++ (ys ++ z)) us (n + count) next next-mode left
+        going-row o z len wide =
             let h = moved in
             let a = g .onward in
             let b = h .onward in
             let f = h .fits in
-            let e : used + n + count ≡ used + (n + count) = omega arith in
-            record {
+            let s : units + n + count ≡ units + (n + count) = omega arith in
+            rw o (record {
               tree = g .tree;
               rest = g .rest;
               whole = g .whole;
@@ -150,6 +181,7 @@ module _ (room : ℕ) (text : Text) (at : ℕ) (mode₀ : Mode) (d : ℕ) (k : M
               stands = stands-nest (g .row) (h .row) area ys z n (g .stands) (g .counts) (h .stands);
               holds = h .holds;
               is =
-                  g .is ∙ ap (onto (g .row)) (h .is) ∙ onto-onto (g .row) (h .row) (expand room (h .more) k (used + n + count) (held (take left us)))
-                  ∙ ap (λ (j : ℕ). onto (g .row ++ h .row) (expand room (h .more) k j (held (take left us)))) e;
-            }
+                  g .is ∙ ap (onto (g .row)) (h .is)
+                  ∙ onto-onto (g .row) (h .row) (expand varsRoom (h .more) k (units + n + count) (held (take left us)))
+                  ∙ ap (λ (j : ℕ). onto (g .row ++ h .row) (expand varsRoom (h .more) k j (held (take left us)))) s;
+            })

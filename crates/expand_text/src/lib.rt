@@ -13,127 +13,125 @@ ghost use Rattle.row.specs.Marks.{markOf};
 ghost use Rattle.read_mode.specs.Modes.{modeOf, formOf};
 ghost use Rattle.expand_add.specs.Steps.{placed, quoted, summing};
 ghost use Rattle.expand_add.specs.Answers.{Holds, Ready, Says};
-ghost use Rattle.expand_text.specs.Turns.{turnFrom, Turns};
+ghost use Rattle.expand_text.specs.Items.{ItemAt, ItemSays};
 use expand_add::answers::Expanded;
-use expand_add::answers::going_on;
+use expand_add::answers::Extent;
+use expand_add::answers::Onward;
+use expand_add::give_value;
+use expand_form::Plan;
 use expand_form::operand_mark;
 use expand_form::plan_of;
-use expand_form::wants_operand;
-use expand_item::Turn;
+use expand_item::give_length;
+use expand_item::give_unit;
 use expand_operand::finish;
 use expand_operand::settle;
 use expand_operand::sum_up;
 use read_brace::Item;
+use read_item::is_stop;
+use read_item::item_at;
+use read_item::mode_after;
 use read_line::Reading;
+use read_mode::Cursor;
 use read_mode::Form;
 use read_mode::Mode;
 use row::Mark;
+use row::RowEnd;
 use text::numbers;
 
-// An inner text's answer, as an item's.
-fn turn_from(got: Expanded, mode: Mode) -> Turn
-    ensures { λ r. ⌜ r ≡ turnFrom got mode ⌝ }
-{
-    match got {
-        Expanded::Row { units, next, have } => Turn::Row {
-            units: units,
-            next: next,
-            mode: mode,
-            have: have,
-        },
-        Expanded::Refused(e) => Turn::Refused(e),
-    }
-}
-
-// The text of a quote that opens before `at`: an N, and behind it its bytes as Q.
+// The text of a quote that is open: an N, and after it its bytes as Q.
 fn expand_quote(
     text: &[u8],
-    at: usize,
-    mode: Mode,
-    depth: usize,
-    used: usize,
+    from: Cursor,
+    units: usize,
     vars: &mut [u8],
-    have: usize,
-    room: usize,
+    extent: Extent,
     work: &mut [u8],
 ) -> Expanded
-    requires { ⌜ Ready (now text) at mode depth used (length (now work)) × Holds room (now vars) have ⌝ }
-    ensures { λ r. ⌜ Says room (now (text .entry)) at used (λ q. quoted room q used (held (take have (now (vars .entry)))))
-        (parts (modeOf mode) depth (drop at (now (text .entry)))) (now (work .exit)) (now (vars .exit)) r ⌝ }
+    requires { ⌜ Ready (now text) (from .at) (from .mode) (from .depth) units (length (now work)) ×
+        Holds (extent .«vars_room») (now vars) (extent .«vars_used») ⌝ }
+    ensures { λ r. ⌜ Says (extent .«vars_room») (now (text .entry)) (from .at) units
+        (λ q. quoted (extent .«vars_room») q units (held (take (extent .«vars_used») (now (vars .entry)))))
+        (parts (modeOf (from .mode)) (from .depth) (drop (from .at) (now (text .entry)))) (now (work .exit)) (now (vars .exit)) r ⌝ }
 {
-    if used >= numbers::ROW_LIMIT {
+    if units >= numbers::ROW_LIMIT {
         return Expanded::Refused(numbers::REFUSED_UNITS);
     }
     row::put_empty(work);
-    let got = expand_text(
-        text,
-        at,
-        mode,
-        depth,
-        Mark::Q,
-        used + 1,
-        vars,
-        have,
-        room,
-        &mut work[2..],
-    );
+    let inside = RowEnd {
+        mark: Mark::Q,
+        units: units + 1,
+    };
+    let got = expand_text(text, from, inside, vars, extent, &mut work[2..]);
     match got {
         Expanded::Refused(e) => Expanded::Refused(e),
         Expanded::Row {
-            units,
+            units: count,
             next,
-            have: left,
+            vars_used,
         } => Expanded::Row {
-            units: units + 1,
+            units: count + 1,
             next: next,
-            have: left,
+            vars_used: vars_used,
         },
     }
 }
 
-// A parameter with a form, whose operand begins at `at`.
+// A parameter with a form, whose operand is the text.
 fn expand_inner(
     name: &[u8],
     form: Form,
     text: &[u8],
-    at: usize,
-    mode: Mode,
-    depth: usize,
-    mark: Mark,
-    used: usize,
+    from: Cursor,
+    row: RowEnd,
     vars: &mut [u8],
-    have: usize,
-    room: usize,
+    extent: Extent,
     work: &mut [u8],
 ) -> Expanded
-    requires { ⌜ Ready (now text) at mode depth 0 (length (now work)) × Holds room (now vars) have × (used ≤ rowLimit) ×
-        (isName (now name) ≡ true) ⌝ }
-    ensures { λ r. ⌜ Says room (now (text .entry)) at used
-        (λ q. placed used (parameter room (λ k u. expand room q k 0 u) (now (name .entry)) (formOf form) (markOf mark)
-        (held (take have (now (vars .entry)))))) (parts (modeOf mode) depth (drop at (now (text .entry)))) (now (work .exit)) (now (vars .exit)) r ⌝ }
+    requires { ⌜ Ready (now text) (from .at) (from .mode) (from .depth) 0 (length (now work)) ×
+        Holds (extent .«vars_room») (now vars) (extent .«vars_used») × (row .units ≤ rowLimit) × (isName (now name) ≡ true) ⌝ }
+    ensures { λ r. ⌜ Says (extent .«vars_room») (now (text .entry)) (from .at) (row .units)
+        (λ q. placed (row .units) (parameter (extent .«vars_room») (λ k u. expand (extent .«vars_room») q k 0 u) (now (name .entry)) (formOf form)
+        (markOf (row .mark)) (held (take (extent .«vars_used») (now (vars .entry))))))
+        (parts (modeOf (from .mode)) (from .depth) (drop (from .at) (now (text .entry)))) (now (work .exit)) (now (vars .exit)) r ⌝ }
 {
-    let found = table_find::look_up(&vars[..have], name);
+    let vars_used = extent.vars_used;
+    let found = table_find::look_up(&vars[..vars_used], name);
     let plan = plan_of(form, found);
-    if wants_operand(plan) {
-        let literal = operand_mark(plan, mark);
-        let got = expand_text(text, at, mode, depth, literal, 0, vars, have, room, work);
-        match got {
-            Expanded::Refused(e) => Expanded::Refused(e),
-            Expanded::Row {
-                units,
-                next,
-                have: left,
-            } => finish(plan, name, units, next, mark, used, vars, left, room, work),
+    match plan {
+        Plan::Unused(what) => {
+            let got = read_line::read_text(text, from);
+            match got {
+                Reading::Fault(e) => Expanded::Refused(e),
+                Reading::End(next) => {
+                    let on = Onward {
+                        next: next,
+                        vars_used: vars_used,
+                    };
+                    settle(what, name, row, on, &vars[..vars_used], work)
+                }
+            }
         }
-    } else {
-        let got = read_line::read_text(text, at, mode, depth);
-        match got {
-            Reading::Fault(e) => Expanded::Refused(e),
-            Reading::End(next) => going_on(
-                settle(plan, name, mark, used, &vars[..have], work),
-                next,
-                have,
-            ),
+        Plan::Used(what) => {
+            let mark = row.mark;
+            let operand = RowEnd {
+                mark: operand_mark(what, mark),
+                units: 0,
+            };
+            let got = expand_text(text, from, operand, vars, extent, work);
+            match got {
+                Expanded::Refused(e) => Expanded::Refused(e),
+                Expanded::Row {
+                    units,
+                    next,
+                    vars_used: left,
+                } => {
+                    let stored = Extent {
+                        vars_used: left,
+                        vars_room: extent.vars_room,
+                    };
+                    finish(what, name, units, next, row, vars, stored, work)
+                }
+            }
         }
     }
 }
@@ -143,151 +141,199 @@ fn expand_sum(
     text: &[u8],
     at: usize,
     depth: usize,
-    mark: Mark,
-    used: usize,
+    row: RowEnd,
     vars: &mut [u8],
-    have: usize,
-    room: usize,
+    extent: Extent,
     work: &mut [u8],
 ) -> Expanded
-    requires { ⌜ Ready (now text) at (Mode.Arith 0) depth 0 (length (now work)) × Holds room (now vars) have × (used ≤ rowLimit) ⌝ }
-    ensures { λ r. ⌜ Says room (now (text .entry)) at used
-        (λ q. placed used (summing room q (markOf mark) (held (take have (now (vars .entry))))))
+    requires { ⌜ Ready (now text) at (Mode.Arith 0) depth 0 (length (now work)) ×
+        Holds (extent .«vars_room») (now vars) (extent .«vars_used») × (row .units ≤ rowLimit) ⌝ }
+    ensures { λ r. ⌜ Says (extent .«vars_room») (now (text .entry)) at (row .units)
+        (λ q. placed (row .units) (summing (extent .«vars_room») q (markOf (row .mark)) (held (take (extent .«vars_used») (now (vars .entry))))))
         (parts (arith 0) depth (drop at (now (text .entry)))) (now (work .exit)) (now (vars .exit)) r ⌝ }
 {
-    let got = expand_text(
-        text,
-        at,
-        Mode::Arith(0),
-        depth,
-        Mark::Q,
-        0,
-        vars,
-        have,
-        room,
-        work,
-    );
+    let from = Cursor {
+        at: at,
+        mode: Mode::Arith(0),
+        depth: depth,
+    };
+    let inside = RowEnd {
+        mark: Mark::Q,
+        units: 0,
+    };
+    let got = expand_text(text, from, inside, vars, extent, work);
     match got {
         Expanded::Refused(e) => Expanded::Refused(e),
         Expanded::Row {
             units,
             next,
-            have: left,
-        } => going_on(sum_up(units, mark, used, &vars[..left], work), next, left),
+            vars_used,
+        } => {
+            let on = Onward {
+                next: next,
+                vars_used: vars_used,
+            };
+            sum_up(units, row, on, &vars[..vars_used], work)
+        }
     }
 }
 
-// What stands at a place.
+// The item that stands where the text is read: its own row.
 fn expand_item(
+    item: Item,
     text: &[u8],
-    at: usize,
-    mode: Mode,
-    depth: usize,
-    mark: Mark,
-    used: usize,
+    from: Cursor,
+    row: RowEnd,
     vars: &mut [u8],
-    have: usize,
-    room: usize,
-    work: &mut [u8],
-) -> Turn
-    requires { ⌜ Ready (now text) at mode depth used (length (now work)) × Holds room (now vars) have ⌝ }
-    ensures { λ r. ⌜ Turns room (now (text .entry)) at depth (markOf mark) used have
-        (λ t. expand room t (markOf mark) used (held (take have (now (vars .entry))))) (parts (modeOf mode) depth (drop at (now (text .entry))))
-        (now (work .exit)) (now (vars .exit)) r ⌝ }
-{
-    let item = read_item::item_at(text, at, mode, depth);
-    match item {
-        Item::Quote(inner) => turn_from(
-            expand_quote(text, at + 1, inner, depth, used, vars, have, room, work),
-            mode,
-        ),
-        Item::Inner {
-            from,
-            to,
-            form,
-            mode: inner,
-            next,
-        } => turn_from(
-            expand_inner(
-                &text[from..to],
-                form,
-                text,
-                next,
-                inner,
-                depth - 1,
-                mark,
-                used,
-                vars,
-                have,
-                room,
-                work,
-            ),
-            mode,
-        ),
-        Item::Sum { next } => turn_from(
-            expand_sum(text, next, depth - 1, mark, used, vars, have, room, work),
-            mode,
-        ),
-        _ => expand_item::give_item(item, text, at, mode, mark, used, &vars[..have], have, work),
-    }
-}
-
-// A text that has been read, from `at` on, as a row at the front of work; `used` units of its row stand before that.
-pub fn expand_text(
-    text: &[u8],
-    at: usize,
-    mode: Mode,
-    depth: usize,
-    mark: Mark,
-    used: usize,
-    vars: &mut [u8],
-    have: usize,
-    room: usize,
+    extent: Extent,
     work: &mut [u8],
 ) -> Expanded
-    requires { ⌜ Ready (now text) at mode depth used (length (now work)) × Holds room (now vars) have ⌝ }
-    ensures { λ r. ⌜ Says room (now (text .entry)) at used (λ t. expand room t (markOf mark) used (held (take have (now (vars .entry)))))
-        (parts (modeOf mode) depth (drop at (now (text .entry)))) (now (work .exit)) (now (vars .exit)) r ⌝ }
+    requires { ⌜ ItemAt (now text) from item × Ready (now text) (from .at) (from .mode) (from .depth) (row .units) (length (now work)) ×
+        Holds (extent .«vars_room») (now vars) (extent .«vars_used») ⌝ }
+    ensures { λ r. ⌜ ItemSays (extent .«vars_room») (now (text .entry)) from row item (held (take (extent .«vars_used») (now (vars .entry))))
+        (now (work .exit)) (now (vars .exit)) r ⌝ }
 {
+    let vars_used = extent.vars_used;
+    match item {
+        Item::Fault(e) => Expanded::Refused(e),
+        Item::Stop(next) => Expanded::Row {
+            units: 0,
+            next: next,
+            vars_used: vars_used,
+        },
+        Item::Byte { quoted, byte, next } => {
+            let mark = row.mark;
+            let literal = RowEnd {
+                mark: row::literal_mark(quoted, mark),
+                units: row.units,
+            };
+            let on = Onward {
+                next: next,
+                vars_used: vars_used,
+            };
+            give_unit(byte, literal, on, work)
+        }
+        Item::Paren { byte, parens: _ } => {
+            let on = Onward {
+                next: from.at + 1,
+                vars_used: vars_used,
+            };
+            give_unit(byte, row, on, work)
+        }
+        Item::Quote(mode) => {
+            let inside = Cursor {
+                at: from.at + 1,
+                mode: mode,
+                depth: from.depth,
+            };
+            expand_quote(text, inside, row.units, vars, extent, work)
+        }
+        Item::Value {
+            from: start,
+            to,
+            next,
+        } => {
+            let on = Onward {
+                next: next,
+                vars_used: vars_used,
+            };
+            give_value(&text[start..to], row, on, &vars[..vars_used], work)
+        }
+        Item::Count {
+            from: start,
+            to,
+            next,
+        } => {
+            let on = Onward {
+                next: next,
+                vars_used: vars_used,
+            };
+            give_length(&text[start..to], row, on, &vars[..vars_used], work)
+        }
+        Item::Inner {
+            from: start,
+            to,
+            form,
+            mode,
+            next,
+        } => {
+            let operand = Cursor {
+                at: next,
+                mode: mode,
+                depth: from.depth - 1,
+            };
+            expand_inner(
+                &text[start..to],
+                form,
+                text,
+                operand,
+                row,
+                vars,
+                extent,
+                work,
+            )
+        }
+        Item::Sum { next } => expand_sum(text, next, from.depth - 1, row, vars, extent, work),
+    }
+}
+
+// A text that has been read, from its place on, as a row at the front of work, where the row's units before it end.
+pub fn expand_text(
+    text: &[u8],
+    from: Cursor,
+    row: RowEnd,
+    vars: &mut [u8],
+    extent: Extent,
+    work: &mut [u8],
+) -> Expanded
+    requires { ⌜ Ready (now text) (from .at) (from .mode) (from .depth) (row .units) (length (now work)) ×
+        Holds (extent .«vars_room») (now vars) (extent .«vars_used») ⌝ }
+    ensures { λ r. ⌜ Says (extent .«vars_room») (now (text .entry)) (from .at) (row .units)
+        (λ t. expand (extent .«vars_room») t (markOf (row .mark)) (row .units) (held (take (extent .«vars_used») (now (vars .entry)))))
+        (parts (modeOf (from .mode)) (from .depth) (drop (from .at) (now (text .entry)))) (now (work .exit)) (now (vars .exit)) r ⌝ }
+{
+    let mark = row.mark;
     let mut n: usize = 0;
-    let mut i = at;
-    let mut inside = mode;
-    let mut left = have;
+    let mut i = from.at;
+    let mut inside = from.mode;
+    let mut left = extent.vars_used;
     loop {
+        let here = Cursor {
+            at: i,
+            mode: inside,
+            depth: from.depth,
+        };
+        let item = item_at(text, here);
+        let end = RowEnd {
+            mark: mark,
+            units: row.units + n,
+        };
+        let held = Extent {
+            vars_used: left,
+            vars_room: extent.vars_room,
+        };
         let start = 2 * n;
-        let got = expand_item(
-            text,
-            i,
-            inside,
-            depth,
-            mark,
-            used + n,
-            vars,
-            left,
-            room,
-            &mut work[start..],
-        );
+        let got = expand_item(item, text, here, end, vars, held, &mut work[start..]);
         match got {
-            Turn::Refused(e) => {
+            Expanded::Refused(e) => {
                 return Expanded::Refused(e);
             }
-            Turn::End(next) => {
-                return Expanded::Row {
-                    units: n,
-                    next: next,
-                    have: left,
-                };
-            }
-            Turn::Row {
+            Expanded::Row {
                 units,
                 next,
-                mode: after,
-                have: held,
+                vars_used,
             } => {
                 n = n + units;
                 i = next;
-                inside = after;
-                left = held;
+                left = vars_used;
+                if is_stop(item) {
+                    return Expanded::Row {
+                        units: n,
+                        next: i,
+                        vars_used: left,
+                    };
+                }
+                inside = mode_after(item, inside);
             }
         }
     }

@@ -5,30 +5,26 @@ use native.Mathlib.Omega.{arith}
 use mathlib.Core.Path.{_≡_, refl, sym, ap, _∙_, subst}
 use mathlib.Core.Bool.{Bool, true, false}
 use mathlib.Core.List.{[], _∷_, _++_, append-assoc}
-use mathlib.Core.Option.{Option, none, some}
+use mathlib.Core.Option.{Option, some}
 use borrow.Author.Tests.{eq-eqb, ne-eqb}
 use lib.ListN.{length, take, drop, getD, drop-of-length-le}
 use native.Mathlib.Numerals.{add-one}
 use lib.Seq.{drop-cons}
 use Rattle.stages.specs.Numbers.{rowLimit, tooManyUnits}
 use Rattle.stages.specs.Bytes.{Text, text, isBlank}
-use Rattle.stages.specs.Outcome.{done}
 use Rattle.stages.specs.Images.{Pairs, held, lookup}
 use Rattle.stages.specs.Units.{Q, N, marked}
-use Rattle.stages.specs.Expand.{directory, tilde}
+use Rattle.stages.specs.Expand.{directory}
 use Rattle.text.specs.Rows.{rowBytes}
 use Rattle.text.specs.Classes.{Runs}
 use Rattle.text.specs.declared.Class.the-variants.{LoginByte}
 use Rattle.row.specs.Stands.{fronted}
-use Rattle.table.specs.Places as places
+use Rattle.table.specs.Places.{Shown, shown, absent}
 use Rattle.table.specs.declared.Found.{Found}
-use Rattle.table.specs.declared.Found.the-variants.{At, Missing}
-use Rattle.expand_add.specs.Added.{Adds}
-use Rattle.expand_word.specs.Tildes.{endsLogin, noLogin, Opens, HomeSays, homeOf}
-use Rattle.expand_add.specs.Answers.{Holds}
-use Rattle.expand_add.specs.declared.Added.{Added}
-use Rattle.expand_add.specs.declared.Added.the-variants as added
+use Rattle.table.specs.declared.Found.the-variants.{At}
+use Rattle.expand_word.specs.Tildes.{endsLogin, noLogin, Opens, HomeSays, Inside, textAt}
 use Rattle.expand_word.specs.declared.homes.Home.{Home}
+use Rattle.expand_word.specs.declared.homes.Home.the-variants as home
 use Rattle.expand_add.proofs.Fitting.{measured-full, marked-count}
 
 -- Where a login ends.
@@ -76,16 +72,17 @@ module _ (line : Text) (to : ℕ) (l : to < length line) where
 
 -- What the directory gives.
 
-pub directory-wide : (d area : Text) → rowLimit ≤ length d → Adds 0 (done (N ∷ marked Q d)) area (added.Refused tooManyUnits)
-directory-wide d area l = measured-full 0 (N ∷ marked Q d) (omega (arith, marked-count Q d))
+pub directory-wide : (d area : Text) → rowLimit ≤ length d → HomeSays (some d) area (home.Refused tooManyUnits)
+directory-wide d area l =
+    record { directory = d; is = refl; full = measured-full 0 (N ∷ marked Q d) (omega (arith, marked-count Q d)) }
 
 pub directory-given : (d work first : Text) (z : Text) → length d < rowLimit → first ≡ 0 ∷ 0 ∷ drop 2 work → (ys : Text) → ys ≡
     fronted (rowBytes (marked Q d)) z → (rest : Text)
-    → Adds 0 (done (N ∷ marked Q d)) (take 2 first ++ (ys ++ rest)) (added.Units (length d + 1))
+    → HomeSays (some d) (take 2 first ++ (ys ++ rest)) (home.Units (length d + 1))
 unfolding rowBytes
 directory-given d work first z l e ys f rest =
     record {
-      row = N ∷ marked Q d;
+      directory = d;
       is = refl;
       counts = omega (arith, marked-count Q d);
       stands = record {
@@ -95,25 +92,17 @@ directory-given d work first z l e ys f rest =
       fits = omega arith;
     }
 
-pub home-added : (o : Option Text) (d area : Text) → o ≡ some d → (a : Added) → Adds 0 (done (N ∷ marked Q d)) area a → {h : Home} → h
-    ≡ homeOf a → HomeSays o area h
-home-added o d area e a g {h} q = rw q (go a g)
-  where
-    go : (a : Added) → Adds 0 (done (N ∷ marked Q d)) area a → HomeSays o area (homeOf a)
-    go (added.Units n) g = record { directory = d; is = e; fits = g }
-    go (added.Refused k) g = record { directory = d; is = e; full = g }
+-- what a look-up found lies inside the image, and is the key's value
+pub found-inside : {t key : Text} {found : Found} → Shown t key found → Inside t found
+found-inside (shown h) = (h .low, h .high)
+found-inside (absent h) = tt
 
-pub found-at : (t x : Text) {found : Found} {from to : ℕ} → places.Shown t x found → found ≡ At from to → places.Holds t x from to
-found-at t x s e = go (subst (λ (f : Found). places.Shown t x f) e s)
-  where
-    go : {from to : ℕ} → places.Shown t x (At from to) → places.Holds t x from to
-    go (places.shown h) = h
+pub found-text : {t key : Text} {found : Found} → Shown t key found → lookup key (held t) ≡ textAt t found
+found-text (shown h) = h .gets
+found-text (absent h) = h
 
-pub found-none : (t x : Text) {found : Found} → places.Shown t x found → found ≡ Missing → lookup x (held t) ≡ none
-found-none t x s e = go (subst (λ (f : Found). places.Shown t x f) e s)
-  where
-    go : places.Shown t x Missing → lookup x (held t) ≡ none
-    go (places.absent h) = h
+pub inside-known : (t : Text) {found : Found} {from to : ℕ} → Inside t found → found ≡ At from to → (from ≤ to) × (to ≤ length t)
+inside-known t i e = subst (λ (f : Found). Inside t f) e i
 
 pub empty-login : (v homes : Pairs) (t : Text) → length t ≡ 0 → directory v homes t ≡ lookup (text "HOME") v
 unfolding directory

@@ -1,4 +1,4 @@
--- A word of the line: its tilde, found or not, and the text behind it.
+-- A word of the line: its tilde, found or not, and the text after it.
 use Prim.Native.Nat.{ℕ, _+_, _*_, _≤_}
 use Prim.Native.Char.{code}
 use native.Mathlib.Omega.{arith}
@@ -19,10 +19,9 @@ use Rattle.stages.specs.Units.{L, Q, N, Row, marked, fit}
 use Rattle.stages.specs.Expand.{expand, onto, directory, housed, homed, tilde, tildeRow, wordRow}
 use Rattle.stages.proofs.Bools.{no}
 use Rattle.stages.proofs.Rooms.{fit-ok}
-use Rattle.row.specs.Stands.{Stands}
 use Rattle.read_mode.specs.declared.Mode.{Mode}
 use Rattle.read_mode.specs.declared.Mode.the-variants.{Word}
-use Rattle.expand_add.specs.Added.{Fitting, measured}
+use Rattle.expand_add.specs.Added.{measured}
 use Rattle.expand_word.specs.Tildes.{endsLogin, noLogin, Opens, LoginSays, Given, Wide, HomeSays}
 use Rattle.expand_add.specs.Answers.{Holds, Ready, IsRow, Ends, Answers, Says}
 use Rattle.expand_word.specs.declared.homes.Login.{Login as CodeLogin}
@@ -57,10 +56,10 @@ no-login-tilde d v homes p rest (b ∷ t) h n = go (eqb b (code "~")) refl
 
 -- The row of a word.
 
-module _ (room : ℕ) (line : Text) (at size : ℕ) (vars₀ : Text) (have : ℕ) (homes : Pairs) (y : Ready line at Word depthLimit 0 size)
-    (w : Holds room vars₀ have) where
+module _ {room : ℕ} {line : Text} {at size : ℕ} {vars₀ : Text} {varsUsed : ℕ} (homes : Pairs) (y : Ready line at Word depthLimit 0 size)
+    (w : Holds room vars₀ varsUsed) where
   abbrev v : Pairs
-  v = held (take have vars₀)
+  v = held (take varsUsed vars₀)
 
   abbrev Worded : Text → Text → Expanded → Type 0
   Worded area vars r = Says room line at 0 (λ t. wordRow room homes t v) (parts word depthLimit (drop at line)) area vars r
@@ -84,7 +83,7 @@ module _ (room : ℕ) (line : Text) (at size : ℕ) (vars₀ : Text) (have : ℕ
   pub no-login-none : noLogin (drop at line) ≡ true → tilde v homes (y .tree) ≡ none
   no-login-none n = no-login-tilde depthLimit v homes (y .tree) (y .rest) (drop at line) (y .is) n
 
-  module _ (to : ℕ) (o : Opens line at to) where
+  module _ {to : ℕ} (o : Opens line at to) where
     read : parts word depthLimit (code "~" ∷ drop (at + 1) line) ≡ done (y .tree, y .rest)
     read = ap (parts word depthLimit) (sym (o .tilde)) ∙ y .is
 
@@ -104,7 +103,7 @@ module _ (room : ℕ) (line : Text) (at size : ℕ) (vars₀ : Text) (have : ℕ
     unfolding housed
     home-none e = tilde-is ∙ ap (housed (found .more)) e
 
-    -- the directory's row, and behind it the text
+    -- the directory's row, and after it the text
     home-made : (d : Text) → directory v homes (part line (at + 1) to) ≡ some d
         → wordRow room homes (y .tree) v ≡ (fit 0 (length (N ∷ marked Q d)) >>= λ i. onto (N ∷ marked Q d) (expand room (found .more) L i v))
     unfolding wordRow tildeRow housed
@@ -123,24 +122,9 @@ module _ (room : ℕ) (line : Text) (at size : ℕ) (vars₀ : Text) (have : ℕ
         (λ h. let z : tooManyUnits ≡ e = cc in ap refused z)
         (g .full))
 
-    module _ (area : Text) {units : ℕ} (g : Given (directory v homes (part line (at + 1) to)) area units) where
-      home-front : Stands (N ∷ marked Q (g .directory)) area
-      home-front = stands-of (g .fits)
-        where
-          stands-of : {row : Row} → Fitting 0 (done row) area units → Stands row area
-          stands-of {row} f = let q : f .row ≡ row = cc in subst (λ (r : Row). Stands r area) q (f .stands)
-
-      home-count : length (N ∷ marked Q (g .directory)) ≡ units
-      home-count = count-of (g .fits)
-        where
-          count-of : {row : Row} → Fitting 0 (done row) area units → length row ≡ units
-          count-of {row} f = let q : f .row ≡ row = cc in ap length (sym q) ∙ f .counts
-
+    module _ {area : Text} {units : ℕ} (g : Given (directory v homes (part line (at + 1) to)) area units) where
       pub home-inside : 2 * units ≤ length area
-      home-inside = stands-inside (N ∷ marked Q (g .directory)) area units home-front home-count
-
-      pub home-units : units ≤ rowLimit
-      home-units = let f = g .fits .fits in omega arith
+      home-inside = stands-inside (N ∷ marked Q (g .directory)) area units (g .stands) (g .counts)
 
       pub home-ready : (rest : ℕ) → rest + 2 * units ≡ size → Ready line to Word depthLimit units rest
       home-ready rest e =
@@ -148,7 +132,7 @@ module _ (room : ℕ) (line : Text) (at size : ℕ) (vars₀ : Text) (have : ℕ
           record {
             start = o .within;
             opens = omega arith;
-            few = home-units;
+            few = g .fits;
             area = omega arith;
             clean = y .clean;
             tree = found .more;
@@ -162,11 +146,11 @@ module _ (room : ℕ) (line : Text) (at size : ℕ) (vars₀ : Text) (have : ℕ
 
         home-word : wordRow room homes (y .tree) v ≡ onto (N ∷ marked Q (g .directory)) (expand room (found .more) L units v)
         home-word =
-            let l = home-units in
-            let k : 0 + length (N ∷ marked Q (g .directory)) ≡ units = omega (arith, home-count) in
+            let l = g .fits in
+            let k : 0 + length (N ∷ marked Q (g .directory)) ≡ units = omega (arith, g .counts) in
             home-made (g .directory) (g .is)
             ∙ ap (λ (x : Outcome ℕ). x >>= λ i. onto (N ∷ marked Q (g .directory)) (expand room (found .more) L i v))
-            (fit-ok 0 (length (N ∷ marked Q (g .directory))) (omega (arith, home-count)))
+            (fit-ok 0 (length (N ∷ marked Q (g .directory))) (omega (arith, g .counts)))
             ∙ ap (λ (i : ℕ). onto (N ∷ marked Q (g .directory)) (expand room (found .more) L i v)) k
 
         pub behind-refused : (z : Text) {e : ℕ} → r ≡ answer.Refused e → Worded z us (answer.Refused e)
@@ -191,8 +175,8 @@ module _ (room : ℕ) (line : Text) (at size : ℕ) (vars₀ : Text) (have : ℕ
                 record {
                   row = (N ∷ marked Q (g .directory)) ++ i .row;
                   is = home-word ∙ ap (onto (N ∷ marked Q (g .directory))) (i .is);
-                  counts = length-append (N ∷ marked Q (g .directory)) (i .row) ∙ rw (home-count, i .counts);
-                  stands = stands-nest (N ∷ marked Q (g .directory)) (i .row) area ys z units home-front home-count (i .stands);
+                  counts = length-append (N ∷ marked Q (g .directory)) (i .row) ∙ rw (g .counts, i .counts);
+                  stands = stands-nest (N ∷ marked Q (g .directory)) (i .row) area ys z units (g .stands) (g .counts) (i .stands);
                   fits = omega (arith, i .fits);
                   holds = i .holds;
                 },

@@ -1,4 +1,4 @@
--- The tilde of a word by the bytes of the line: where the login behind it ends, and what is found for it.
+-- The tilde of a word by the bytes of the line: where the login after it ends, and what is found for it.
 use Prim.Native.Nat.{ℕ, _+_, _≤_}
 use Prim.Native.Char.{code}
 use mathlib.Core.Path.{_≡_}
@@ -7,12 +7,14 @@ use mathlib.Core.List.{[], _∷_}
 use mathlib.Core.Option.{Option, none, some}
 use lib.Dec.{eqb}
 use lib.ListN.{length, drop}
+use Rattle.stages.specs.Numbers.{rowLimit}
 use Rattle.stages.specs.Bytes.{Text, part, span, isBlank, isLoginByte}
 use Rattle.stages.specs.Outcome.{refused, done}
 use Rattle.stages.specs.Units.{Q, N, marked}
-use Rattle.expand_add.specs.Added.{Fitting, measured}
-use Rattle.expand_add.specs.declared.Added.{Added}
-use Rattle.expand_add.specs.declared.Added.the-variants as added
+use Rattle.row.specs.Stands.{Stands}
+use Rattle.expand_add.specs.Added.{measured}
+use Rattle.table.specs.declared.Found.{Found}
+use Rattle.table.specs.declared.Found.the-variants.{At, Missing}
 use Rattle.expand_word.specs.declared.homes.Login.{Login}
 use Rattle.expand_word.specs.declared.homes.Login.the-variants as login
 use Rattle.expand_word.specs.declared.homes.Home.{Home}
@@ -46,7 +48,9 @@ LoginSays line at (login.To to) = Opens line at to
 pub record Given (o : Option Text) (area : Text) (units : ℕ) : Type 0 where
   pub directory : Text
   pub is : o ≡ some directory
-  pub fits : Fitting 0 (done (N ∷ marked Q directory)) area units
+  pub counts : length (N ∷ marked Q directory) ≡ units
+  pub stands : Stands (N ∷ marked Q directory) area
+  pub fits : units ≤ rowLimit
 
 pub record Wide (o : Option Text) (e : ℕ) : Type 0 where
   pub directory : Text
@@ -59,6 +63,12 @@ HomeSays o area home.Nothing = o ≡ none
 HomeSays o area (home.Units units) = Given o area units
 HomeSays o area (home.Refused e) = Wide o e
 
-abbrev pub homeOf : Added → Home
-homeOf (added.Units units) = home.Units units
-homeOf (added.Refused e) = home.Refused e
+-- what a look-up found lies inside the image
+abbrev pub Inside : Text → Found → Type 0
+Inside t Missing = Unit {0}
+Inside t (At from to) = (from ≤ to) × (to ≤ length t)
+
+-- and is this text
+abbrev pub textAt : Text → Found → Option Text
+textAt t Missing = none
+textAt t (At from to) = some (part t from to)

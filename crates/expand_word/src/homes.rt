@@ -1,23 +1,18 @@
 // The tilde at a word's start. It goes by the bytes of the line as written: a quote, a backslash or a `$` before the first `/` leaves it literal.
-ghost use mathlib.Core.Path.{_≡_};
-ghost use mathlib.Core.List.{_∷_};
+ghost use mathlib.Core.Option.{some};
 ghost use Prim.Native.Nat.{_*_, _≤_};
 ghost use lib.ListN.{length};
 ghost use Rattle.stages.specs.Numbers.{rowLimit};
-ghost use Rattle.stages.specs.Outcome.{done};
-ghost use Rattle.stages.specs.Images.{held, lookup};
-ghost use Rattle.stages.specs.Units.{Q, N, marked};
+ghost use Rattle.stages.specs.Images.{held};
 ghost use Rattle.stages.specs.Expand.{directory};
 ghost use Rattle.table.specs.Places.{Table};
-ghost use Rattle.expand_add.specs.Added.{Adds};
-ghost use Rattle.expand_word.specs.Tildes.{LoginSays, HomeSays, homeOf};
-use expand_add::Added;
+ghost use Rattle.expand_word.specs.Tildes.{LoginSays, HomeSays, Inside, textAt};
 use row::Mark;
 use table::Found;
 use text::Class;
 use text::numbers;
 
-// Where the login behind a `~` ends, if both stand there.
+// Where the login after a `~` ends, if both stand there.
 pub enum Login {
     Nothing,
     To(usize),
@@ -30,7 +25,7 @@ pub enum Home {
     Refused(u8),
 }
 
-// The login behind a `~` at this place, if the bytes up to the first `/` or the word's end are all login bytes.
+// The login after a `~` at this place, if the bytes up to the first `/` or the word's end are all login bytes.
 pub fn login_at(line: &[u8], at: usize) -> Login
     requires { ⌜ at ≤ length (now line) ⌝ }
     ensures { λ r. ⌜ LoginSays (now (line .entry)) at r ⌝ }
@@ -55,37 +50,26 @@ pub fn login_at(line: &[u8], at: usize) -> Login
 }
 
 // A directory as a row: an N, then its bytes as Q.
-fn give_directory(directory: &[u8], work: &mut [u8]) -> Added
+fn give_directory(directory: &[u8], work: &mut [u8]) -> Home
     requires { ⌜ 2 * rowLimit ≤ length (now work) ⌝ }
-    ensures { λ r. ⌜ Adds 0 (done (N ∷ marked Q (now (directory .entry)))) (now (work .exit)) r ⌝ }
+    ensures { λ r. ⌜ HomeSays (some (now (directory .entry))) (now (work .exit)) r ⌝ }
 {
     if directory.len() >= numbers::ROW_LIMIT {
-        return Added::Refused(numbers::REFUSED_UNITS);
+        return Home::Refused(numbers::REFUSED_UNITS);
     }
     row::put_empty(work);
     row::put_marked(directory, Mark::Q, &mut work[2..]);
-    Added::Units(directory.len() + 1)
+    Home::Units(directory.len() + 1)
 }
 
-// What was added, as what was found.
-fn home_of(added: Added) -> Home
-    ensures { λ r. ⌜ r ≡ homeOf added ⌝ }
+// What a look-up found in an image, as a directory.
+fn give_found(image: &[u8], found: Found, work: &mut [u8]) -> Home
+    requires { ⌜ Inside (now image) found × (2 * rowLimit ≤ length (now work)) ⌝ }
+    ensures { λ r. ⌜ HomeSays (textAt (now (image .entry)) found) (now (work .exit)) r ⌝ }
 {
-    match added {
-        Added::Units(units) => Home::Units(units),
-        Added::Refused(e) => Home::Refused(e),
-    }
-}
-
-// The directory under a key of an image of pairs.
-fn home_in(image: &[u8], key: &[u8], work: &mut [u8]) -> Home
-    requires { ⌜ Table (now image) × (2 * rowLimit ≤ length (now work)) ⌝ }
-    ensures { λ r. ⌜ HomeSays (lookup (now (key .entry)) (held (now (image .entry)))) (now (work .exit)) r ⌝ }
-{
-    let found = table_find::look_up(image, key);
     match found {
         Found::Missing => Home::Nothing,
-        Found::At { from, to } => home_of(give_directory(&image[from..to], work)),
+        Found::At { from, to } => give_directory(&image[from..to], work),
     }
 }
 
@@ -95,7 +79,7 @@ pub fn give_home(login: &[u8], vars: &[u8], homes: &[u8], work: &mut [u8]) -> Ho
     ensures { λ r. ⌜ HomeSays (directory (held (now (vars .entry))) (held (now (homes .entry))) (now (login .entry))) (now (work .exit)) r ⌝ }
 {
     if login.len() == 0 {
-        return home_in(vars, b"HOME", work);
+        return give_found(vars, table_find::look_up_home(vars), work);
     }
-    home_in(homes, login, work)
+    give_found(homes, table_find::look_up(homes, login), work)
 }

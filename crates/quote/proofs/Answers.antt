@@ -1,9 +1,9 @@
 -- The quoter's answers are the stage's: 22 for what is no image of fields, then 21 for a line without room, then the line.
 use Prim.Native.Nat.{ℕ, _≤_, _<_}
-use mathlib.Core.Path.{_≡_, refl, sym, ap, _∙_}
+use mathlib.Core.Path.{_≡_, sym, ap, _∙_}
 use mathlib.Core.Bool.{true, false}
 use mathlib.Core.List.{List}
-use mathlib.Core.Option.{Option, none, some}
+use mathlib.Core.Option.{some}
 use lib.ListN.{length}
 use borrow.Author.Tests.{le-leb, lt-leb}
 use Rattle.stages.specs.Numbers.{lineLimit, outputRoom}
@@ -12,7 +12,7 @@ use Rattle.stages.specs.Outcome.{refusedAt, doneAt}
 use Rattle.stages.specs.Images.{fieldsOf, heldTexts, isSome}
 use Rattle.stages.specs.Quote.{quotedLine}
 use Rattle.stages.specs.Call.{orRefused, quotedIn, quoting, quoter}
-use Rattle.stages.proofs.Bools.{no, and-both}
+use Rattle.stages.proofs.Bools.{and-both}
 use Rattle.stages.proofs.Tables.{none-of, fields-of, fields-are}
 use Rattle.text.specs.Putting.{Puts}
 use Rattle.quote.specs.Answers.{quotingOf}

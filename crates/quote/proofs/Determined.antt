@@ -25,8 +25,12 @@ left-by (Len n) x = refl
 left-by Malformed x = refl
 left-by NoRoom x = refl
 
+pub quoted-determined : (q : Quoting) (left left′ : Text) (r s : Quoted) → quotingOf r left ≡ q → quotingOf s left′ ≡ q → (r ≡ s) ×
+    (left ≡ left′)
+quoted-determined q left left′ r s p t =
+    (one-case r s left left′ (one-answer p t), sym (left-by r left) ∙ ap (λ (x : Quoting). x .out) (one-answer p t) ∙ left-by s left′)
+
 pub quote-fields-determined : (fields out left left′ : Text) (r s : Quoted) → quotingOf r left ≡ quoter fields out → quotingOf s left′ ≡
     quoter fields out
     → (r ≡ s) × (left ≡ left′)
-quote-fields-determined fields out left left′ r s p q =
-    (one-case r s left left′ (one-answer p q), sym (left-by r left) ∙ ap (λ (x : Quoting). x .out) (one-answer p q) ∙ left-by s left′)
+quote-fields-determined fields out = quoted-determined (quoter fields out)

@@ -8,26 +8,23 @@ use lib.ListN.{length, set, length-append}
 use borrow.Rule.Slice.PartMut.{putMid, midOf}
 use Rattle.stages.specs.Numbers.{imageLimit}
 use Rattle.stages.specs.Bytes.{Text, part}
-use Rattle.stages.specs.Images.{fieldsOf, heldTexts, orEmpty}
+use Rattle.stages.specs.Images.{fieldsOf, heldTexts}
 use Rattle.stages.specs.Quote.{quotedField, blanked, quotedLine}
 use Rattle.stages.specs.Call.{over}
 use Rattle.stages.proofs.Tables.{fields-held}
-use Rattle.table.specs.Pieces.{pieceAt}
+use Rattle.table.specs.Pieces.{pieceAt, textsFrom}
 use Rattle.table.specs.declared.Piece.{Piece}
 use Rattle.table.specs.declared.Piece.the-variants.{End, Bad, At}
-use Rattle.table.proofs.Pieces.{Ahead, Next, ahead-first, ahead-end, ahead-bad, ahead-text}
+use Rattle.table.proofs.Pieces.{Ahead, Next, ahead-from, ahead-first, ahead-end, ahead-bad, ahead-text}
+use Rattle.table.proofs.Writing.{Writing, Facing}
 use Rattle.text.specs.Putting.{Puts}
-use Rattle.quote.specs.Rests.{textsFrom, Rest}
+use Rattle.quote.specs.Rests.{Rest}
 use Rattle.text.proofs.Parts.{part-length}
 use Rattle.text.proofs.Filling.{Filling, fill-starts, fill-byte, fill-piece, fill-next, fill-fits, fill-ends}
 use Rattle.quote.proofs.Lengths.{bytes-small, field-length, blanked-small, blanked-first}
 
 pub rest-ahead : {t : Text} {at : ℕ} → Rest t at → Ahead t at (textsFrom t at)
 rest-ahead r = record { within = r .within; is = r .is }
-
-ahead-from : {t : Text} {at : ℕ} {l : List Text} → Ahead t at l → textsFrom t at ≡ l
-unfolding textsFrom
-ahead-from h = ap orEmpty (h .is)
 
 ahead-rest : {t : Text} {at : ℕ} {l : List Text} → length t ≤ imageLimit → Ahead t at l → Rest t at
 ahead-rest n h = record { small = n; within = h .within; is = h .is ∙ ap some (sym (ahead-from h)) }
@@ -84,52 +81,52 @@ module _ {t : Text} {from at n : ℕ} (c : Counts t from at n) {r : Piece} (s : 
       }
 
 -- WRITING: the fields from `at` on are left
-pub record Fills (t : Text) (from at : ℕ) (old out : Text) (used : ℕ) : Type 0 where
-  pub left : List Text
-  pub ahead : Ahead t at left
-  pub filling : Filling (blanked (textsFrom t from)) (blanked left) old out used
+abbrev pub Fills : Text → ℕ → ℕ → Text → Text → ℕ → Type 0
+Fills t from at old out used = Writing (blanked (textsFrom t from)) blanked t at old out used
 
 pub fills-starts : {t : Text} {from : ℕ} (old : Text) → Rest t from → length (blanked (textsFrom t from)) ≤ length old → Fills t from from old old 0
 fills-starts {t} {from} old r h = record { left = textsFrom t from; ahead = rest-ahead r; filling = fill-starts (blanked (textsFrom t from)) old h }
 
-module _ {t : Text} {from at : ℕ} {old out : Text} {used : ℕ} (f : Fills t from at old out used) {r : Piece} (s : r ≡ pieceAt t at) where
-  pub fills-end : r ≡ End → Puts (blanked (textsFrom t from)) old out used
+pub blanked-none : blanked [] ≡ []
+unfolding blanked
+blanked-none = refl
+
+-- the field at the walk's place: its blank is written, then it
+module _ {whole t : Text} {at end : ℕ} {old out : Text} {used : ℕ} (f : Facing whole blanked t at end old out used) where
+  abbrev blank : Text
+  blank = set out used 32
+
+  abbrev quoted : Text
+  quoted = quotedField (part t (at + 2) end)
+
+  abbrev more : Text
+  more = blanked (f .text .more)
+
+  pub fills-blank : Filling whole (quoted ++ more) old blank (used + 1)
   unfolding blanked
-  fills-end e = fill-ends (f .filling) (ap blanked (ahead-end (f .ahead) s e))
+  fills-blank = fill-byte (f .walk .filling) 32 (quoted ++ more) (used + 1) (ap blanked (f .text .is)) refl
 
-  pub fills-bad : r ≡ Bad → Puts (blanked (textsFrom t from)) old out used
-  fills-bad e = absurd (ahead-bad (f .ahead) s e)
+  pub fills-fits : length quoted ≤ length (midOf (used + 1) (length blank - (used + 1)) blank)
+  fills-fits = fill-fits fills-blank quoted more refl
 
-  pub fills-text : {end : ℕ} → r ≡ At end → Next t at end (f .left)
-  fills-text {end} e = ahead-text (f .ahead) s e
+  pub fills-next : used + 1 + length quoted ≤ length old
+  fills-next = fill-next fills-blank quoted more refl
 
-  pub fills-blank : {end : ℕ} (e : r ≡ At end)
-      → Filling (blanked (textsFrom t from)) (quotedField (part t (at + 2) end) ++ blanked (fills-text e .more)) old (set out used 32) (used + 1)
-  unfolding blanked
-  fills-blank {end} e =
-      fill-byte (f .filling) 32 (quotedField (part t (at + 2) end) ++ blanked (fills-text e .more)) (used + 1) (ap blanked (fills-text e .is)) refl
-
-  module _ {end : ℕ} (e : r ≡ At end) where
-    pub fills-fits : length (quotedField (part t (at + 2) end)) ≤ length (midOf (used + 1) (length (set out used 32) - (used + 1)) (set out used 32))
-    fills-fits = fill-fits (fills-blank e) (quotedField (part t (at + 2) end)) (blanked (fills-text e .more)) refl
-
-    pub fills-next : used + 1 + length (quotedField (part t (at + 2) end)) ≤ length old
-    fills-next = fill-next (fills-blank e) (quotedField (part t (at + 2) end)) (blanked (fills-text e .more)) refl
-
-  pub fills-more : {end : ℕ} (ys : Text) (n : ℕ) → r ≡ At end
-      → Puts (quotedField (part t (at + 2) end)) (midOf (used + 1) (length (set out used 32) - (used + 1)) (set out used 32)) ys n
-      → Fills t from end old (putMid (used + 1) (length (set out used 32) - (used + 1)) (set out used 32) ys) (used + 1 + n)
-  fills-more {end} ys n e p = record {
-    left = fills-text e .more;
-    ahead = fills-text e .ahead;
-    filling = fill-piece (fills-blank e) (quotedField (part t (at + 2) end)) (blanked (fills-text e .more)) ys n (used + 1 + n) refl p refl;
+  pub fills-more : (ys : Text) (n : ℕ) → Puts quoted (midOf (used + 1) (length blank - (used + 1)) blank) ys n
+      → Writing whole blanked t end old (putMid (used + 1) (length blank - (used + 1)) blank ys) (used + 1 + n)
+  fills-more ys n p = record {
+    left = f .text .more;
+    ahead = f .text .ahead;
+    filling = fill-piece fills-blank quoted more ys n (used + 1 + n) refl p refl;
   }
 
--- THE LINE: its first field, and those behind it
-module _ (t : Text) (h : fieldsOf t ≡ some (heldTexts t)) {r : Piece} (s : r ≡ pieceAt t 1) where
-  small : length t ≤ imageLimit
-  small = fields-held t (heldTexts t) h .1 .small
+-- THE LINE: its first field, up to `end`, and those after it
+pub record First (t : Text) (end : ℕ) : Type 0 where
+  pub text : Field t 3 end
+  pub rest : Rest t end
+  pub is : quotedLine (heldTexts t) ≡ quotedField (part t 3 end) ++ blanked (textsFrom t end)
 
+module _ (t : Text) (h : fieldsOf t ≡ some (heldTexts t)) {r : Piece} (s : r ≡ pieceAt t 1) where
   ahead : Ahead t 1 (heldTexts t)
   ahead = ahead-first t (heldTexts t) (fields-held t (heldTexts t) h .1 .table)
 
@@ -140,38 +137,33 @@ module _ (t : Text) (h : fieldsOf t ≡ some (heldTexts t)) {r : Piece} (s : r �
   pub line-bad : r ≡ Bad → quotedLine (heldTexts t) ≡ []
   line-bad e = absurd (ahead-bad ahead s e)
 
-  module _ {end : ℕ} (e : r ≡ At end) where
-    next : Next t 1 end (heldTexts t)
-    next = ahead-text ahead s e
+  pub line-first : {end : ℕ} → r ≡ At end → First t end
+  unfolding quotedLine
+  line-first {end} e =
+      let small : length t ≤ imageLimit = fields-held t (heldTexts t) h .1 .small in
+      let next : Next t 1 end (heldTexts t) = ahead-text ahead s e in
+      record {
+        text = field-of t 3 end small (next .low) (next .ahead .within);
+        rest = ahead-rest small (next .ahead);
+        is = ap quotedLine (next .is) ∙ ap (λ (l : List Text). quotedField (part t 3 end) ++ blanked l) (sym (ahead-from (next .ahead)));
+      }
 
-    pub line-text : Field t 3 end
-    line-text = field-of t 3 end small (next .low) (next .ahead .within)
+module _ {t : Text} {end : ℕ} (f : First t end) where
+  pub line-length : length (quotedLine (heldTexts t)) ≡ length (quotedField (part t 3 end)) + length (blanked (textsFrom t end))
+  line-length = ap length (f .is) ∙ length-append (quotedField (part t 3 end)) (blanked (textsFrom t end))
 
-    pub line-rest : Rest t end
-    line-rest = ahead-rest small (next .ahead)
+  pub line-bound : length (quotedField (part t 3 end)) + length (blanked (textsFrom t end)) ≤ 8 * imageLimit + 2
+  line-bound = omega (arith, f .text .small, blanked-small (rest-ahead (f .rest)), f .rest .small)
 
-    pub line-is : quotedLine (heldTexts t) ≡ quotedField (part t 3 end) ++ blanked (textsFrom t end)
-    unfolding quotedLine
-    line-is = ap quotedLine (next .is) ∙ ap (λ (l : List Text). quotedField (part t 3 end) ++ blanked l) (sym (ahead-from (next .ahead)))
+  -- the first field is written
+  pub line-begun : {old out : Text} {used : ℕ} → length (quotedLine (heldTexts t)) ≤ length old → Puts (quotedField (part t 3 end)) old out used
+      → Filling (quotedLine (heldTexts t)) (blanked (textsFrom t end)) old out used
+  line-begun n p = record { front = quotedField (part t 3 end); splits = f .is; long = p .counts; is = p .leaves; fits = n }
 
-    pub line-length : length (quotedLine (heldTexts t)) ≡ length (quotedField (part t 3 end)) + length (blanked (textsFrom t end))
-    line-length = ap length line-is ∙ length-append (quotedField (part t 3 end)) (blanked (textsFrom t end))
-
-    pub line-bound : length (quotedField (part t 3 end)) + length (blanked (textsFrom t end)) ≤ 8 * imageLimit + 2
-    line-bound = omega (arith, line-text .small, blanked-small (rest-ahead line-rest), small)
-
-    -- the first field is written
-    pub line-first : (old out : Text) (used : ℕ) → length (quotedLine (heldTexts t)) ≤ length old → Puts (quotedField (part t 3 end)) old out used
-        → Filling (quotedLine (heldTexts t)) (blanked (textsFrom t end)) old out used
-    line-first old out used n p = record { front = quotedField (part t 3 end); splits = line-is; long = p .counts; is = p .leaves; fits = n }
-
-    -- and those behind it
-    pub line-whole : (old out ys : Text) (used n : ℕ) → length (quotedLine (heldTexts t)) ≤ length old → Puts (quotedField (part t 3 end)) old out used
-        → Puts (blanked (textsFrom t end)) (midOf used (length out - used) out) ys n
-        → Puts (quotedLine (heldTexts t)) old (putMid used (length out - used) out ys) (used + n)
-    line-whole old out ys used n h p q =
-        fill-ends (fill-piece (line-first old out used h p) (blanked (textsFrom t end)) [] ys n (used + n)
-        (sym (append-nil (blanked (textsFrom t end)))) q refl) refl
+-- and those after it
+pub line-whole : {line rest old out : Text} {used : ℕ} → Filling line rest old out used → (ys : Text) (n : ℕ)
+    → Puts rest (midOf used (length out - used) out) ys n → Puts line old (putMid used (length out - used) out ys) (used + n)
+line-whole {rest = rest} {used = used} f ys n q = fill-ends (fill-piece f rest [] ys n (used + n) (sym (append-nil rest)) q refl) refl
 
 -- the line of no fields
 pub puts-none : (t old : Text) → t ≡ [] → Puts t old old 0

@@ -10,203 +10,276 @@ use lib.ListN.{length, drop, getD, drop-of-length-le}
 use lib.Seq.{drop-cons}
 use Rattle.stages.specs.Numbers.{unended, bareOperator, substitution, unserved, badSyntax, tooDeep}
 use Rattle.stages.specs.Bytes.{Text, part, isNameStart}
-use Rattle.stages.specs.Syntax.{escaped, unescaped, Mode, single, double, arith as sums}
-use Rattle.stages.specs.Items.{Item, fault, stop, byte, paren, quote, valueOf, sum, item, itemOf, ended, behindBackslash, quotable}
+use Rattle.stages.specs.Syntax.{escaped, unescaped, Mode, arith as sums}
+use Rattle.stages.specs.Items.{Item, fault, stop, paren, valueOf, sum, item, itemOf, ended, behindBackslash, quotable}
 use Rattle.stages.specs.Items.{wrong, expansion, notServed, parenthesis, braced, opened, closed, outer}
 use Rattle.text.specs.Classes.{Runs}
 use Rattle.text.specs.declared.Class.the-variants.{NameByte}
+use Rattle.text.proofs.Parts.{part-length}
 use Rattle.read_mode.specs.Modes.{modeOf, openIn, sortOf, Sorted}
+use Rattle.read_mode.specs.declared.Cursor.{Cursor}
 use Rattle.read_mode.specs.declared.Mode as code-mode
 use Rattle.read_mode.specs.declared.Mode.the-variants as mode
-use Rattle.read_mode.specs.declared.Sort as code-sort
+use Rattle.read_mode.specs.declared.Sort.{Sort}
 use Rattle.read_mode.specs.declared.Sort.the-variants as sort-of
-use Rattle.read_brace.specs.Shows.{isAt}
-use Rattle.text.proofs.Parts.{part-length}
+use Rattle.read_brace.specs.Shows.{Shows, isAt}
+use Rattle.read_brace.specs.declared.Item as code-item
+use Rattle.read_brace.specs.declared.Item.the-variants.{Fault, Stop, Byte, Paren, Quote, Value, Sum}
+use Rattle.read_brace.proofs.Showing.{same-item, shows-byte, shows-value, shows-stop, plain-name, at-within}
+use Rattle.read_item.specs.After.{ItemAt}
 
--- Behind a backslash.
+-- a byte stands after the first
+pub record Second (s : Text) (from : Cursor) : Type 0 where
+  pub there : from .at + 1 < length s
 
-module _ (m : Mode) (s : Text) (at : ℕ) where
-  pub escape-end : length s ≤ at + 1 → behindBackslash m (drop (at + 1) s) ≡ fault unended
+-- After a backslash.
+
+abbrev Escapes : Text → Cursor → code-item.Item → Type 0
+Escapes s from r = Shows s (from .at) (from .depth) r (behindBackslash (modeOf (from .mode)) (drop (from .at + 1) s))
+
+pub escape-end : (s : Text) (from : Cursor) → length s ≤ from .at + 1 → Escapes s from (Fault unended)
+unfolding behindBackslash
+escape-end s from l = ap (behindBackslash (modeOf (from .mode))) (drop-of-length-le s l)
+
+module _ {s : Text} {from : Cursor} (h : Second s from) where
+  pub escape-line : getD s (from .at + 1) 0 ≡ 10 → Escapes s from (Fault badSyntax)
   unfolding behindBackslash
-  escape-end l = ap (behindBackslash m) (drop-of-length-le s l)
+  escape-line e = rw (drop-cons s (from .at + 1) 0 (h .there)) (rw (eq-eqb _ _ e))
 
-  module _ (l : at + 1 < length s) where
-    pub escape-line : getD s (at + 1) 0 ≡ 10 → behindBackslash m (drop (at + 1) s) ≡ fault badSyntax
+  module _ (e : getD s (from .at + 1) 0 ≡ 10 → ⊥) where
+    pub escape-byte : quotable (modeOf (from .mode)) (getD s (from .at + 1) 0) ≡ true
+        → Escapes s from (Byte true (getD s (from .at + 1) 0) (from .at + 2))
     unfolding behindBackslash
-    escape-line e = rw (drop-cons s (at + 1) 0 l) (rw (eq-eqb _ _ e))
+    escape-byte q =
+        shows-byte s (from .at) (from .depth) (from .at + 2) 1 (omega arith) (omega (arith, h .there)) escaped (getD s (from .at + 1) 0)
+        (rw (drop-cons s (from .at + 1) 0 (h .there)) (rw (ne-eqb _ _ e, q)))
 
-    module _ (e : getD s (at + 1) 0 ≡ 10 → ⊥) where
-      pub escape-byte : quotable m (getD s (at + 1) 0) ≡ true → behindBackslash m (drop (at + 1) s) ≡ byte escaped (getD s (at + 1) 0) 1
-      unfolding behindBackslash
-      escape-byte q = rw (drop-cons s (at + 1) 0 l) (rw (ne-eqb _ _ e, q))
+    pub escape-plain : quotable (modeOf (from .mode)) (getD s (from .at + 1) 0) ≡ false → Escapes s from (Byte false 92 (from .at + 1))
+    unfolding behindBackslash
+    escape-plain q =
+        shows-byte s (from .at) (from .depth) (from .at + 1) 0 (omega arith) (omega (arith, h .there)) unescaped 92
+        (rw (drop-cons s (from .at + 1) 0 (h .there)) (rw (ne-eqb _ _ e, q)))
 
-      pub escape-plain : quotable m (getD s (at + 1) 0) ≡ false → behindBackslash m (drop (at + 1) s) ≡ byte unescaped 92 0
-      unfolding behindBackslash
-      escape-plain q = rw (drop-cons s (at + 1) 0 l) (rw (ne-eqb _ _ e, q))
+-- After `$(`.
 
--- Behind `$(`.
+abbrev Parens : Text → Cursor → code-item.Item → Type 0
+Parens s from r = Shows s (from .at) (from .depth) r (parenthesis (from .depth) (drop (from .at + 2) s))
 
-pub paren-other : (d : ℕ) (t : Text) → isAt 40 t ≡ false → parenthesis d t ≡ fault substitution
+other : (d : ℕ) (t : Text) → isAt 40 t ≡ false → parenthesis d t ≡ fault substitution
 unfolding parenthesis
-paren-other zero [] e = refl
-paren-other (suc d) [] e = refl
-paren-other zero (b ∷ t) e = rw e
-paren-other (suc d) (b ∷ t) e = rw e
+other zero [] e = refl
+other (suc d) [] e = refl
+other zero (b ∷ t) e = rw e
+other (suc d) (b ∷ t) e = rw e
 
-pub paren-deep : (d : ℕ) (t : Text) → isAt 40 t ≡ true → d ≡ 0 → parenthesis d t ≡ fault tooDeep
+deep : (d : ℕ) (t : Text) → isAt 40 t ≡ true → d ≡ 0 → parenthesis d t ≡ fault tooDeep
 unfolding parenthesis
-paren-deep d [] e z = absurd (let y : _≡_ {A = ℕ} 0 1 = cc in omega arith)
-paren-deep d (b ∷ t) e z = rw (z, e)
+deep d [] e z = absurd (let y : _≡_ {A = ℕ} 0 1 = cc in omega arith)
+deep d (b ∷ t) e z = rw (z, e)
 
-pub paren-opens : (d : ℕ) (t : Text) → isAt 40 t ≡ true → (d ≡ 0 → ⊥) → parenthesis d t ≡ sum
+opens : (d : ℕ) (t : Text) → isAt 40 t ≡ true → (d ≡ 0 → ⊥) → parenthesis d t ≡ sum
 unfolding parenthesis
-paren-opens d [] e z = absurd (let y : _≡_ {A = ℕ} 0 1 = cc in omega arith)
-paren-opens zero (b ∷ t) e z = absurd (z refl)
-paren-opens (suc d) (b ∷ t) e z = rw e
+opens d [] e z = absurd (let y : _≡_ {A = ℕ} 0 1 = cc in omega arith)
+opens zero (b ∷ t) e z = absurd (z refl)
+opens (suc d) (b ∷ t) e z = rw e
 
--- Behind `$`.
+module _ (s : Text) (from : Cursor) where
+  pub paren-other : isAt 40 (drop (from .at + 2) s) ≡ false → Parens s from (Fault substitution)
+  paren-other e = other (from .depth) (drop (from .at + 2) s) e
 
-module _ (m : Mode) (d : ℕ) (s : Text) (at : ℕ) where
-  pub dollar-end : length s ≤ at + 1 → expansion m d (drop (at + 1) s) ≡ byte unescaped 36 0
+  module _ (e : isAt 40 (drop (from .at + 2) s) ≡ true) where
+    pub paren-deep : from .depth ≡ 0 → Parens s from (Fault tooDeep)
+    paren-deep z = deep (from .depth) (drop (from .at + 2) s) e z
+
+    pub paren-opens : (from .depth ≡ 0 → ⊥) → Parens s from (Sum (from .at + 3))
+    paren-opens z =
+        let w = at-within 40 (from .at + 2) s e in
+        (opens (from .depth) (drop (from .at + 2) s) e z, refl, omega arith, omega (arith, z))
+
+-- After `$`.
+
+abbrev Expands : Text → Cursor → code-item.Item → Type 0
+Expands s from r = Shows s (from .at) (from .depth) r (expansion (modeOf (from .mode)) (from .depth) (drop (from .at + 1) s))
+
+-- no name stands after the `$`
+pub record NoName (s : Text) (from : Cursor) : Type 0 where
+  pub second : Second s from
+  pub none : isNameStart (getD s (from .at + 1) 0) ≡ false
+
+module _ (s : Text) (from : Cursor) where
+  top : from .at + 1 < length s
+      → expansion (modeOf (from .mode)) (from .depth) (drop (from .at + 1) s)
+      ≡ expansion (modeOf (from .mode)) (from .depth) (getD s (from .at + 1) 0 ∷ drop (suc (from .at + 1)) s)
+  top l = ap (expansion (modeOf (from .mode)) (from .depth)) (drop-cons s (from .at + 1) 0 l)
+
+  two : suc (from .at + 1) ≡ from .at + 2
+  two = omega arith
+
+  pub dollar-end : from .at < length s → length s ≤ from .at + 1 → Expands s from (Byte false 36 (from .at + 1))
   unfolding expansion
-  dollar-end l = ap (expansion m d) (drop-of-length-le s l)
+  dollar-end w l =
+      shows-byte s (from .at) (from .depth) (from .at + 1) 0 (omega arith) (omega arith) unescaped 36
+      (ap (expansion (modeOf (from .mode)) (from .depth)) (drop-of-length-le s l))
 
-  module _ (l : at + 1 < length s) where
-    top : expansion m d (drop (at + 1) s) ≡ expansion m d (getD s (at + 1) 0 ∷ drop (suc (at + 1)) s)
-    top = ap (expansion m d) (drop-cons s (at + 1) 0 l)
+pub dollar-name : {s : Text} {from : Cursor} → Second s from → isNameStart (getD s (from .at + 1) 0) ≡ true → (to : ℕ)
+    → Runs s (from .at + 1) NameByte to → Expands s from (Value (from .at + 1) to to)
+unfolding expansion
+dollar-name {s = s} {from = from} h e to r =
+    let l = h .there in
+    shows-value s (from .at) (from .depth) to (to - (from .at + 1)) (omega (arith, r .onward)) (r .within) (from .at + 1) to (r .onward) (r .within)
+    (plain-name (from .at) to (r .onward))
+    (top s from l
+    ∙ rw e
+    (rw (← drop-cons s (from .at + 1) 0 l)
+    (ap (λ (p : Text × Text). valueOf (p .0) (length (p .0))) (r .is) ∙ ap (valueOf (part s (from .at + 1) to))
+    (part-length s (from .at + 1) to (r .onward) (r .within)))))
 
-    two : suc (at + 1) ≡ at + 2
-    two = omega arith
+module _ {s : Text} {from : Cursor} (h : NoName s from) where
+  pub dollar-paren : getD s (from .at + 1) 0 ≡ 40 → (r : code-item.Item) → Parens s from r → Expands s from r
+  unfolding expansion
+  dollar-paren f r q = same-item s (from .at) (from .depth) r (top s from (h .second .there) ∙ rw (h .none, eq-eqb _ _ f) (rw (two s from))) q
 
-    pub dollar-name : isNameStart (getD s (at + 1) 0) ≡ true → (to : ℕ) → Runs s (at + 1) NameByte to
-        → expansion m d (drop (at + 1) s) ≡ valueOf (part s (at + 1) to) (to - (at + 1))
+  module _ (f : getD s (from .at + 1) 0 ≡ 40 → ⊥) where
+    pub dollar-brace : getD s (from .at + 1) 0 ≡ 123 → (r : code-item.Item)
+        → Shows s (from .at) (from .depth) r (braced (modeOf (from .mode)) (from .depth) (drop (from .at + 2) s)) → Expands s from r
     unfolding expansion
-    dollar-name e to r =
-        top
-        ∙ rw e
-        (rw (← drop-cons s (at + 1) 0 l)
-        (ap (λ (p : Text × Text). valueOf (p .0) (length (p .0))) (r .is) ∙ ap (valueOf (part s (at + 1) to))
-        (part-length s (at + 1) to (r .onward) (r .within))))
+    dollar-brace g r q =
+        same-item s (from .at) (from .depth) r (top s from (h .second .there) ∙ rw (h .none, ne-eqb _ _ f, eq-eqb _ _ g) (rw (two s from))) q
 
-    module _ (e : isNameStart (getD s (at + 1) 0) ≡ false) where
-      pub dollar-paren : getD s (at + 1) 0 ≡ 40 → expansion m d (drop (at + 1) s) ≡ parenthesis d (drop (at + 2) s)
+    module _ (g : getD s (from .at + 1) 0 ≡ 123 → ⊥) where
+      pub dollar-other : notServed (modeOf (from .mode)) (getD s (from .at + 1) 0) ≡ true → Expands s from (Fault unserved)
       unfolding expansion
-      dollar-paren f = top ∙ rw (e, eq-eqb _ _ f) (rw two)
+      dollar-other k = top s from (h .second .there) ∙ rw (h .none, ne-eqb _ _ f, ne-eqb _ _ g, k)
 
-      module _ (f : getD s (at + 1) 0 ≡ 40 → ⊥) where
-        pub dollar-brace : getD s (at + 1) 0 ≡ 123 → expansion m d (drop (at + 1) s) ≡ braced m d (drop (at + 2) s)
-        unfolding expansion
-        dollar-brace g = top ∙ rw (e, ne-eqb _ _ f, eq-eqb _ _ g) (rw two)
+      pub dollar-plain : notServed (modeOf (from .mode)) (getD s (from .at + 1) 0) ≡ false → Expands s from (Byte false 36 (from .at + 1))
+      unfolding expansion
+      dollar-plain k =
+          shows-byte s (from .at) (from .depth) (from .at + 1) 0 (omega arith) (omega (arith, h .second .there)) unescaped 36
+          (top s from (h .second .there) ∙ rw (h .none, ne-eqb _ _ f, ne-eqb _ _ g, k))
 
-        module _ (g : getD s (at + 1) 0 ≡ 123 → ⊥) where
-          pub dollar-other : notServed m (getD s (at + 1) 0) ≡ true → expansion m d (drop (at + 1) s) ≡ fault unserved
-          unfolding expansion
-          dollar-other h = top ∙ rw (e, ne-eqb _ _ f, ne-eqb _ _ g, h)
+-- After a `)` of arithmetic.
 
-          pub dollar-plain : notServed m (getD s (at + 1) 0) ≡ false → expansion m d (drop (at + 1) s) ≡ byte unescaped 36 0
-          unfolding expansion
-          dollar-plain h = top ∙ rw (e, ne-eqb _ _ f, ne-eqb _ _ g, h)
+abbrev Closes : Text → Cursor → ℕ → code-item.Item → Type 0
+Closes s from n r = Shows s (from .at) (from .depth) r (closed (sums n) (getD s (from .at) 0) (drop (from .at + 1) s))
 
--- Behind a `)` of arithmetic.
-
-module _ (n b : ℕ) (s : Text) (at : ℕ) where
-  pub closed-paren : 0 < n → closed (sums n) b (drop (at + 1) s) ≡ paren b (n - 1)
+module _ (s : Text) (from : Cursor) (n : ℕ) where
+  pub closed-paren : from .at < length s → n ≤ from .at → 0 < n → Closes s from n (Paren (getD s (from .at) 0) (n - 1))
   unfolding closed
-  closed-paren z = let e : n ≡ suc (n - 1) = omega arith in ap (λ (i : ℕ). closed (sums i) b (drop (at + 1) s)) e
+  closed-paren l k z =
+      let e : n ≡ suc (n - 1) = omega arith in
+      (ap (λ (i : ℕ). closed (sums i) (getD s (from .at) 0) (drop (from .at + 1) s)) e, l, omega arith)
 
   module _ (z : n ≡ 0) where
-    closed-outer : closed (sums n) b (drop (at + 1) s) ≡ outer (drop (at + 1) s)
+    closed-outer : closed (sums n) (getD s (from .at) 0) (drop (from .at + 1) s) ≡ outer (drop (from .at + 1) s)
     unfolding closed
-    closed-outer = ap (λ (i : ℕ). closed (sums i) b (drop (at + 1) s)) z
+    closed-outer = ap (λ (i : ℕ). closed (sums i) (getD s (from .at) 0) (drop (from .at + 1) s)) z
 
-    pub closed-end : length s ≤ at + 1 → closed (sums n) b (drop (at + 1) s) ≡ fault badSyntax
+    pub closed-end : length s ≤ from .at + 1 → Closes s from n (Fault badSyntax)
     unfolding outer
     closed-end l = closed-outer ∙ ap outer (drop-of-length-le s l)
 
-    module _ (l : at + 1 < length s) where
-      pub closed-stop : getD s (at + 1) 0 ≡ 41 → closed (sums n) b (drop (at + 1) s) ≡ stop 2
+    module _ (h : Second s from) where
+      pub closed-stop : getD s (from .at + 1) 0 ≡ 41 → Closes s from n (Stop (from .at + 2))
       unfolding outer
-      closed-stop e = closed-outer ∙ ap outer (drop-cons s (at + 1) 0 l) ∙ rw (eq-eqb _ _ e)
+      closed-stop e =
+          shows-stop s (from .at) (from .depth) (from .at + 2) 2 refl (omega (arith, h .there))
+          (closed-outer ∙ ap outer (drop-cons s (from .at + 1) 0 (h .there)) ∙ rw (eq-eqb _ _ e))
 
-      pub closed-wrong : (getD s (at + 1) 0 ≡ 41 → ⊥) → {k : ℕ} → wrong badSyntax (getD s (at + 1) 0 ∷ []) ≡ fault k → closed
-          (sums n) b (drop (at + 1) s) ≡ fault k
+      pub closed-wrong : (getD s (from .at + 1) 0 ≡ 41 → ⊥) → {k : ℕ} → wrong badSyntax (getD s (from .at + 1) 0 ∷ []) ≡ fault k
+          → Closes s from n (Fault k)
       unfolding outer wrong
-      closed-wrong e w = closed-outer ∙ ap outer (drop-cons s (at + 1) 0 l) ∙ rw (ne-eqb _ _ e) w
+      closed-wrong e w = closed-outer ∙ ap outer (drop-cons s (from .at + 1) 0 (h .there)) ∙ rw (ne-eqb _ _ e) w
 
 -- The item, by the sort of its first byte.
 
-pub item-end : (m : Mode) (d : ℕ) (s : Text) (at : ℕ) → length s ≤ at → item m d (drop at s) ≡ ended m
+-- at the end of the line
+pub item-end : (s : Text) (from : Cursor) → length s ≤ from .at → {i : Item} → ended (modeOf (from .mode)) ≡ i
+    → item (modeOf (from .mode)) (from .depth) (drop (from .at) s) ≡ i
 unfolding item
-item-end m d s at l = ap (item m d) (drop-of-length-le s l)
+item-end s from l e = ap (item (modeOf (from .mode)) (from .depth)) (drop-of-length-le s l) ∙ e
 
-module _ (m : Mode) (d : ℕ) (s : Text) (at : ℕ) (l : at < length s) {r : code-sort.Sort} (h : Sorted m (getD s at 0) r) where
-  abbrev here : ℕ
-  here = getD s at 0
-
-  abbrev Is : Item → Type 0
-  Is i = item m d (drop at s) ≡ i
-
-  known : {k : code-sort.Sort} → r ≡ k → Sorted m here k
-  known e = subst (λ (x : code-sort.Sort). Sorted m here x) e h
-
-  by-sort : {k : code-sort.Sort} → r ≡ k → Is (itemOf (sortOf k) m d here (drop (at + 1) s))
-  unfolding item
-  by-sort e = ap (item m d) (drop-cons s at 0 l) ∙ rw (← known e .is, add-one at)
-
-  pub item-backquote : r ≡ sort-of.Backquote → Is (fault substitution)
-  unfolding itemOf
-  item-backquote e = by-sort e
-
-  pub item-closes : {k : ℕ} → r ≡ sort-of.Closes k → Is (stop k) × (k ≤ 1)
-  unfolding itemOf
-  item-closes e = (by-sort e ∙ ap stop (known e .carries .0), known e .carries .1)
-
-  pub item-operator : r ≡ sort-of.Operator → Is (fault bareOperator)
-  unfolding itemOf
-  item-operator e = by-sort e
-
-  pub item-quotes : r ≡ sort-of.Quotes → Is (quote single)
-  unfolding itemOf
-  item-quotes e = by-sort e
-
-  pub item-quotes2 : r ≡ sort-of.Quotes2 → Is (quote double)
-  unfolding itemOf
-  item-quotes2 e = by-sort e
-
-  pub item-backslash : r ≡ sort-of.Backslash → Is (behindBackslash m (drop (at + 1) s))
-  unfolding itemOf
-  item-backslash e = by-sort e
-
-  pub item-dollar : r ≡ sort-of.Dollar → Is (expansion m d (drop (at + 1) s))
-  unfolding itemOf
-  item-dollar e = by-sort e
-
-  pub item-bad : r ≡ sort-of.Bad → Is (fault badSyntax)
-  unfolding itemOf
-  item-bad e = by-sort e
-
-  pub opening-mode : {n : ℕ} → r ≡ sort-of.Opening n → m ≡ sums n
-  opening-mode e = known e .carries
-
-  pub item-opening : {n : ℕ} → r ≡ sort-of.Opening n → Is (paren here (n + 1))
-  unfolding itemOf opened
-  item-opening {n = n} e = by-sort e ∙ ap (λ (x : Mode). opened x here) (opening-mode e) ∙ ap (paren here) (sym (add-one n))
-
-  pub closing-mode : {n : ℕ} → r ≡ sort-of.Closing n → m ≡ sums n
-  closing-mode e = known e .carries
-
-  pub item-closing : {n : ℕ} → r ≡ sort-of.Closing n → Is (closed (sums n) here (drop (at + 1) s))
-  unfolding itemOf
-  item-closing e = by-sort e ∙ ap (λ (x : Mode). closed x here (drop (at + 1) s)) (closing-mode e)
-
-  pub item-literal : r ≡ sort-of.Literal → Is (byte unescaped here 0)
-  unfolding itemOf
-  item-literal e = by-sort e
-
-pub open-is : (m : code-mode.Mode) (n : ℕ) → modeOf m ≡ sums n → openIn m ≡ n
+open-is : (m : code-mode.Mode) (n : ℕ) → modeOf m ≡ sums n → openIn m ≡ n
 open-is mode.Word n e = absurd (let z : _≡_ {A = ℕ} 0 1 = cc in omega arith)
 open-is mode.Bare n e = absurd (let z : _≡_ {A = ℕ} 0 1 = cc in omega arith)
 open-is mode.Single n e = absurd (let z : _≡_ {A = ℕ} 0 1 = cc in omega arith)
 open-is mode.Double n e = absurd (let z : _≡_ {A = ℕ} 0 1 = cc in omega arith)
 open-is mode.Operand n e = absurd (let z : _≡_ {A = ℕ} 0 1 = cc in omega arith)
 open-is (mode.Arith k) n e = cc
+
+-- a byte stands where the text is read, and this is its sort
+pub record Sees (s : Text) (from : Cursor) (r : Sort) : Type 0 where
+  pub there : from .at < length s
+  pub sort : Sorted (modeOf (from .mode)) (getD s (from .at) 0) r
+
+module _ {s : Text} {from : Cursor} {r : Sort} (h : Sees s from r) where
+  abbrev here : ℕ
+  here = getD s (from .at) 0
+
+  known : {k : Sort} → r ≡ k → Sorted (modeOf (from .mode)) here k
+  known e = subst (λ (x : Sort). Sorted (modeOf (from .mode)) here x) e (h .sort)
+
+  by-sort : {k : Sort} → r ≡ k
+      → item (modeOf (from .mode)) (from .depth) (drop (from .at) s) ≡ itemOf (sortOf k) (modeOf (from .mode)) (from .depth) here (drop (from .at + 1) s)
+  unfolding item
+  by-sort e = ap (item (modeOf (from .mode)) (from .depth)) (drop-cons s (from .at) 0 (h .there)) ∙ rw (← known e .is, add-one (from .at))
+
+  pub item-backquote : r ≡ sort-of.Backquote → ItemAt s from (Fault substitution)
+  unfolding itemOf
+  item-backquote e = by-sort e
+
+  pub closes-few : {k : ℕ} → r ≡ sort-of.Closes k → k ≤ 1
+  closes-few e = known e .carries .1
+
+  pub item-closes : {k : ℕ} → r ≡ sort-of.Closes k → ItemAt s from (Stop (from .at + k))
+  unfolding itemOf
+  item-closes {k = k} e =
+      shows-stop s (from .at) (from .depth) (from .at + k) k refl (omega (arith, closes-few e, h .there)) (by-sort e ∙ ap stop (known e .carries .0))
+
+  pub item-operator : r ≡ sort-of.Operator → ItemAt s from (Fault bareOperator)
+  unfolding itemOf
+  item-operator e = by-sort e
+
+  pub item-quotes : r ≡ sort-of.Quotes → ItemAt s from (Quote mode.Single)
+  unfolding itemOf
+  item-quotes e = (by-sort e, h .there, refl)
+
+  pub item-quotes2 : r ≡ sort-of.Quotes2 → ItemAt s from (Quote mode.Double)
+  unfolding itemOf
+  item-quotes2 e = (by-sort e, h .there, refl)
+
+  pub item-backslash : r ≡ sort-of.Backslash → (i : code-item.Item) → Escapes s from i → ItemAt s from i
+  unfolding itemOf
+  item-backslash e i q = same-item s (from .at) (from .depth) i (by-sort e) q
+
+  pub item-dollar : r ≡ sort-of.Dollar → (i : code-item.Item) → Expands s from i → ItemAt s from i
+  unfolding itemOf
+  item-dollar e i q = same-item s (from .at) (from .depth) i (by-sort e) q
+
+  pub item-bad : r ≡ sort-of.Bad → ItemAt s from (Fault badSyntax)
+  unfolding itemOf
+  item-bad e = by-sort e
+
+  pub item-literal : r ≡ sort-of.Literal → ItemAt s from (Byte false here (from .at + 1))
+  unfolding itemOf
+  item-literal e = shows-byte s (from .at) (from .depth) (from .at + 1) 0 (omega arith) (omega (arith, h .there)) unescaped here (by-sort e)
+
+  -- no more parentheses are open than bytes stand before
+  module _ (few : openIn (from .mode) ≤ from .at) where
+    pub opening-few : {n : ℕ} → r ≡ sort-of.Opening n → n ≤ from .at
+    opening-few {n = n} e = let k = open-is (from .mode) n (known e .carries) in omega arith
+
+    pub item-opening : {n : ℕ} → r ≡ sort-of.Opening n → ItemAt s from (Paren here (n + 1))
+    unfolding itemOf opened
+    item-opening {n = n} e = (
+      by-sort e ∙ ap (λ (x : Mode). opened x here) (known e .carries) ∙ ap (paren here) (sym (add-one n)),
+      h .there,
+      omega (arith, opening-few e),
+    )
+
+    pub closing-few : {n : ℕ} → r ≡ sort-of.Closing n → n ≤ from .at
+    closing-few {n = n} e = let k = open-is (from .mode) n (known e .carries) in omega arith
+
+  pub item-closing : {n : ℕ} → r ≡ sort-of.Closing n → (i : code-item.Item) → Closes s from n i → ItemAt s from i
+  unfolding itemOf
+  item-closing e i q =
+      same-item s (from .at) (from .depth) i (by-sort e ∙ ap (λ (x : Mode). closed x here (drop (from .at + 1) s)) (known e .carries)) q

@@ -4,7 +4,7 @@ use native.Mathlib.Omega.{arith}
 use mathlib.Core.Path.{_≡_, refl, sym, ap, _∙_}
 use lib.ListN.{length, drop, length-drop}
 use Rattle.stages.specs.Bytes.{Text}
-use Rattle.stages.specs.Outcome.{refused, done, Placed, refusedAt, doneAt}
+use Rattle.stages.specs.Outcome.{Placed}
 use Rattle.stages.specs.Syntax.{Parts}
 use Rattle.stages.specs.Read.{Taken, readLine}
 use Rattle.read_line.specs.Says.{ReadTo, ReadSays, NextSays, verdict, verdictOf}

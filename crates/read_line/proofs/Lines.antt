@@ -9,7 +9,7 @@ use lib.ListN.{length, drop, getD, length-drop}
 use lib.Seq.{drop-cons}
 use Rattle.stages.specs.Numbers.{depthLimit, bareOperator}
 use Rattle.stages.specs.Bytes.{Text, part, span, isBlank, isOperator}
-use Rattle.stages.specs.Outcome.{refused, done, Placed, refusedAt, doneAt, placedAt, _then_}
+use Rattle.stages.specs.Outcome.{done, refusedAt, doneAt, placedAt, _then_}
 use Rattle.stages.specs.Syntax.{Parts, Word, word}
 use Rattle.stages.specs.Read.{Taken, Words, parts, words, wordAt, readLine}
 use Rattle.stages.proofs.Read.{Good, stays, leaves, word-good}
@@ -18,7 +18,7 @@ use Rattle.stages.proofs.Words.{words-none, words-blank, words-operator, words-
 use Rattle.text.specs.Classes.{Runs}
 use Rattle.text.specs.declared.Class.the-variants.{Blank}
 use Rattle.text.proofs.Parts.{part-length}
-use Rattle.read_line.specs.Says.{ReadTo, ReadSays, blanksEnd, NextAt, NextNone, NextSays, WordTo, WordSays, verdict}
+use Rattle.read_line.specs.Says.{ReadSays, blanksEnd, NextAt, NextNone, NextSays, WordTo, WordSays, verdict}
 use Rattle.read_line.specs.declared.Reading.{Reading}
 use Rattle.read_line.specs.declared.Reading.the-variants as reading
 use Rattle.read_line.specs.declared.NextWord.{NextWord}
@@ -157,7 +157,7 @@ pub walks-start : (line : Text) → Walks line 0
 unfolding readLine
 walks-start line = record { before = λ ws. ws; is = then-same (words (0, line)); within = omega arith }
 
-module _ (line : Text) (from : ℕ) (g : Walks line from) where
+module _ {line : Text} {from : ℕ} (g : Walks line from) where
   abbrev on : Words → Words
   on w = w then λ ws. doneAt (g .before ws)
 

@@ -1,4 +1,4 @@
-// Lines to answers. What is read comes in blocks, which crate `cutting` cuts into lines; each line's answer is written before the next one is worked out.
+// Lines to answers. What is read comes in blocks, which `recipe_cut` cuts into lines; each line's answer is written before the next one is worked out.
 use libc::STDIN_FILENO;
 use libc::STDOUT_FILENO;
 use recipe_cut::Taken;
@@ -13,7 +13,7 @@ ghost use Rattle.recipe.specs.Keeps.{Keeps};
 // What is carried from line to line: the bytes kept of a line that has not ended, the variables' used length, and whether there is more to answer.
 pub struct Carried {
     pub kept: usize,
-    pub used: usize,
+    pub vars_used: usize,
     pub goes_on: bool,
 }
 
@@ -32,7 +32,13 @@ fn out_room() -> [u8; numbers::IMAGE_LIMIT]
 }
 
 // Answers a line. Output that cannot be written ends the run.
-fn answer_line(line: &[u8], vars: &mut [u8], used: usize, homes: &[u8], paths: &[u8]) -> Carried
+fn answer_line(
+    line: &[u8],
+    vars: &mut [u8],
+    vars_used: usize,
+    homes: &[u8],
+    paths: &[u8],
+) -> Carried
     ensures { λ r. ⌜ r .kept ≡ 0 ⌝ }
 {
     let mut work = io::large_buffer();
@@ -41,7 +47,7 @@ fn answer_line(line: &[u8], vars: &mut [u8], used: usize, homes: &[u8], paths: &
     let told = recipe_answer::say(
         line,
         vars,
-        used,
+        vars_used,
         homes,
         paths,
         &mut work,
@@ -55,7 +61,7 @@ fn answer_line(line: &[u8], vars: &mut [u8], used: usize, homes: &[u8], paths: &
     }
     Carried {
         kept: 0,
-        used: told.used,
+        vars_used: told.vars_used,
         goes_on: written,
     }
 }
@@ -80,12 +86,12 @@ fn answer_block(
             Taken::Open(kept) => {
                 return Carried {
                     kept: kept,
-                    used: so_far.used,
+                    vars_used: so_far.vars_used,
                     goes_on: true,
                 };
             }
             Taken::Ended { kept, next } => {
-                so_far = answer_line(&line[..kept], vars, so_far.used, homes, paths);
+                so_far = answer_line(&line[..kept], vars, so_far.vars_used, homes, paths);
                 at = next;
             }
         }
@@ -110,7 +116,7 @@ fn answer_last(
         return;
     }
     if recipe_cut::is_last_line(&line[..kept]) {
-        answer_line(&line[..kept], vars, carried.used, homes, paths);
+        answer_line(&line[..kept], vars, carried.vars_used, homes, paths);
     }
 }
 
@@ -132,7 +138,7 @@ fn answer_some(
         answer_last(got, carried, line, vars, homes, paths);
         return Carried {
             kept: 0,
-            used: carried.used,
+            vars_used: carried.vars_used,
             goes_on: false,
         };
     }

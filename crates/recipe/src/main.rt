@@ -32,12 +32,12 @@ fn line_room() -> [u8; numbers::LINE_KEPT]
 }
 
 // Answers all lines with the tables that were read.
-fn answer_with(vars: &mut [u8], used: usize, homes: &[u8], paths: &[u8]) {
+fn answer_with(vars: &mut [u8], vars_used: usize, homes: &[u8], paths: &[u8]) {
     let mut line = line_room();
     let mut block = io::buffer();
     let first = Carried {
         kept: 0,
-        used: used,
+        vars_used: vars_used,
         goes_on: true,
     };
     answering::answer_all(first, &mut block, &mut line, vars, homes, paths);
@@ -47,7 +47,7 @@ fn answer_with(vars: &mut [u8], used: usize, homes: &[u8], paths: &[u8]) {
 fn run(vars: &mut [u8], homes: &mut [u8], paths: &mut [u8])
     requires { ⌜ (imageLimit + 1 ≡ length (now vars)) × (imageLimit + 1 ≡ length (now homes)) × (pathsLimit + 1 ≡ length (now paths)) ⌝ }
 {
-    let Loaded::Length(used) = recipe_load::load(b"vars.tab", vars) else {
+    let Loaded::Length(vars_used) = recipe_load::load(b"vars.tab", vars) else {
         return;
     };
     let Loaded::Length(h) = recipe_load::load(b"homes.tab", homes) else {
@@ -58,7 +58,7 @@ fn run(vars: &mut [u8], homes: &mut [u8], paths: &mut [u8])
     };
     answer_with(
         &mut vars[..numbers::IMAGE_LIMIT],
-        used,
+        vars_used,
         &homes[..h],
         &paths[..p],
     );

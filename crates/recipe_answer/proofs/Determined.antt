@@ -10,8 +10,8 @@ use Rattle.recipe_answer.specs.declared.Said.{Said}
 pub say-determined : (a : Answer) (old left left' vars vars' : Text) (r s : Said) → Says a old left vars r → Says a old left' vars' s
     → (r ≡ s) × (left ≡ left') × (vars ≡ vars')
 say-determined a old left left' vars vars' r s g h = (
-  ap (λ (n : ℕ). record { len = n; used = r .used }) (g .words .counts ∙ sym (h .words .counts))
-      ∙ ap (λ (n : ℕ). record { len = s .len; used = n }) (g .usedLength ∙ sym (h .usedLength)),
+  ap (λ (n : ℕ). record { len = n; «vars_used» = r .«vars_used» }) (g .words .counts ∙ sym (h .words .counts))
+      ∙ ap (λ (n : ℕ). record { len = s .len; «vars_used» = n }) (g .varsUsed ∙ sym (h .varsUsed)),
   g .words .leaves ∙ sym (h .words .leaves),
   g .variables ∙ sym (h .variables),
 )

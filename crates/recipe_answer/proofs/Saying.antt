@@ -31,15 +31,15 @@ use Rattle.recipe_answer.specs.Says.{answerTo, Says}
 pub record Alike (a b : stage.Answer) : Type 0 where
   pub words : said a ≡ said b
   pub variables : a .vars ≡ b .vars
-  pub usedLength : a .varsUsed ≡ b .varsUsed
+  pub varsUsed : a .varsUsed ≡ b .varsUsed
 
 answered-alike : (g h : Given) (o : Placed (Text × Pairs)) → g .vars ≡ h .vars → g .varsUsed ≡ h .varsUsed → Alike (answered g o) (answered h o)
 unfolding answered said
-answered-alike g h (refusedAt n place) v u = record { words = refl; variables = v; usedLength = u }
+answered-alike g h (refusedAt n place) v u = record { words = refl; variables = v; varsUsed = u }
 answered-alike g h (doneAt r) v u = record {
   words = ap (λ (x : Text). text "ok " ++ (x ++ text "\n")) (over-front (r .0) (g .out) ∙ sym (over-front (r .0) (h .out)));
   variables = ap (λ (x : Text). over (image (flat (r .1))) x) v;
-  usedLength = refl;
+  varsUsed = refl;
 }
 
 -- what the normaliser works out, before it is handed over
@@ -105,13 +105,13 @@ module _ (line vars : Text) (used : ℕ) (homes paths work out : Text) {r : Answ
   pub said-so : {old left : Text} {len : ℕ} → workLeast ≡ length work → imageLimit ≡ length out
       → Gives (normaliser (given line vars used homes paths work out)) r vars' work' out'
       → Puts (saidBy (r .number) (r .place) (take (r .«out_len») out')) old left len
-      → Says (answerTo homes paths line vars used) old left vars' (record { len = len; used = r .«used_len» })
+      → Says (answerTo homes paths line vars used) old left vars' (record { len = len; «vars_used» = r .«vars_used» })
   said-so {old} {left} {len} w o h p =
       let a : Alike (normaliser (given line vars used homes paths work out)) (answerTo homes paths line vars used) =
       to-stage line vars used homes paths work out w o in
       record {
         words = subst (λ (t : Text). Puts t old left len) (words-are (given line vars used homes paths work out) h ∙ a .words) p;
         variables = h .hands .variables ∙ a .variables;
-        usedLength = h .hands .usedLength ∙ a .usedLength;
+        varsUsed = h .hands .varsUsed ∙ a .varsUsed;
         within = puts-counts (saidBy (r .number) (r .place) (take (r .«out_len») out')) old left len p;
       }

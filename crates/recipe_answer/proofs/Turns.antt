@@ -21,7 +21,7 @@ pub data Wrote (homes paths : Text) : Text → ℕ → List Text → Text → Ty
   nothing : {vars : Text} {used : ℕ} → Wrote homes paths vars used [] []
   wrote : {vars next old left : Text} {used : ℕ} {l : Text} {ls : List Text} {t : Text} (r : Said) → Says
       (answerTo homes paths (cutLine l) vars used) old left next r
-      → Wrote homes paths next (r .used) ls t → Wrote homes paths vars used (l ∷ ls) (take (r .len) left ++ t)
+      → Wrote homes paths next (r .«vars_used») ls t → Wrote homes paths vars used (l ∷ ls) (take (r .len) left ++ t)
 
 module _ (homes paths : Text) where
   -- the bytes that are kept of a line are answered as the line is
@@ -38,8 +38,8 @@ module _ (homes paths : Text) where
       let a = normaliser (givenLine homes paths l (carried vars used)) in
       ap (λ (x : Text). x ++ t) (puts-front (s .words) ∙ ap said n)
       ∙ ap (λ (x : Text). said a ++ x)
-      (turns-said w ∙ ap (λ (b : Text). saidOf homes paths (carried b (r .used)) ls) (s .variables ∙ ap (λ (x : Answer). x .vars) n)
-      ∙ ap (λ (u : ℕ). saidOf homes paths (carried (a .vars) u) ls) (s .usedLength ∙ ap (λ (x : Answer). x .varsUsed) n))
+      (turns-said w ∙ ap (λ (b : Text). saidOf homes paths (carried b (r .«vars_used»)) ls) (s .variables ∙ ap (λ (x : Answer). x .vars) n)
+      ∙ ap (λ (u : ℕ). saidOf homes paths (carried (a .vars) u) ls) (s .varsUsed ∙ ap (λ (x : Answer). x .varsUsed) n))
 
   -- the lines that ended in blocks, and the last one if it is not empty, are the lines of all that was read
   pub run-said : {vars : Text} {used : ℕ} {blocks ls : List Text} {left t : Text} → InBlocks [] blocks ls left → Wrote homes paths vars used

@@ -17,5 +17,5 @@ answerTo homes paths line vars used = normaliser (givenLine homes paths line (re
 pub record Says (a : Answer) (old left vars : Text) (r : Said) : Type 0 where
   pub words : Puts (said a) old left (r .len)
   pub variables : vars ≡ a .vars
-  pub usedLength : r .used ≡ a .varsUsed
+  pub varsUsed : r .«vars_used» ≡ a .varsUsed
   pub within : Counts (r .len) left

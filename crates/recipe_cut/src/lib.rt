@@ -96,11 +96,11 @@ fn put_no(number: u8, place: usize, out: &mut [u8]) -> usize
     ensures { λ r. ⌜ Puts (noText number place) (now (out .entry)) (now (out .exit)) r ⌝ }
 {
     text_copy::copy_in(b"no ", out);
-    let a = text_decimal::put_decimal(&mut out[3..], number as u64);
+    let a = arith_decimal::put_decimal(&mut out[3..], number as u64);
     let blank = a + 3;
     out[blank] = BLANK;
     let start = blank + 1;
-    let b = text_decimal::put_decimal(&mut out[start..], place as u64);
+    let b = arith_decimal::put_decimal(&mut out[start..], place as u64);
     let end = start + b;
     out[end] = NEWLINE;
     end + 1

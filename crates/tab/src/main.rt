@@ -1,5 +1,5 @@
 // The table tool: `tab show KIND` reads an image from standard input and writes its lines, `tab pack KIND` reads lines and writes their image. What it
-// cannot do it tells on standard error, and writes nothing else then. The work is that of `tabling` and `packing`.
+// cannot do it tells on standard error, and writes nothing else then. The work is that of `tab_show` and `tab_pack`.
 ghost use mathlib.Core.Path.{_≡_};
 ghost use Prim.Native.Nat.{_+_, _*_, _≤_};
 ghost use lib.ListN.{length};

@@ -32,7 +32,7 @@ use Rattle.table_store.proofs.StoredImages.{store-by}
 use Rattle.table_insert.specs.Added.{Column, hasText, withText, Adding, twice, full, holds, addingBy, adding, answerOf, leftOf, Adds}
 use Rattle.table_insert.specs.declared.Added.{Added}
 use Rattle.table_insert.specs.declared.Added.the-variants as added
-use Rattle.tab_escape.specs.Escapes.{Reading, bad, good, readText, Reads, reads, fails, upTo}
+use Rattle.tab_escape.specs.Escapes.{Reading, good, readText, Reads, reads, fails, upTo}
 use Rattle.tab_enter.specs.Records.{alone, recordsBy, limitBy, TableBy}
 use Rattle.tab_enter.specs.Entries.{Entry, entry, valued, pairOf, pathOf, entryOf, Step, stop, go, enteredBy, entered, Enters, takes, stops}
 use Rattle.tab_escape.specs.declared.Fault.{Fault}
@@ -76,50 +76,58 @@ module _ (key w : Text) (v : Pairs) (old left : Text) (r : Stored) (m : lookup k
 
 -- `enter_pair`
 
+-- the `=` of a line stands at e, and a key of the kind before it
+pub record Keyed (kind : Kind) (line : Text) (e : ℕ) : Type 0 where
+  pub found : e ≡ upTo 61 line
+  pub inside : e < length line
+  pub fits : keyFits kind [] (take e line) ≡ true
+
+-- and after it n bytes were read
+pub record Got (kind : Kind) (line : Text) (e : ℕ) (left : Text) (n : ℕ) : Type 0 where
+  pub is : pairOf kind line ≡ entry (take e line) (take n left)
+  pub long : n ≤ length left
+
 module _ (kind : Kind) (line : Text) (e : ℕ) (f : e ≡ upTo 61 line) where
   pub no-equals : (v : Pairs) (old : Text) → length line ≤ e → Enters true (entered true (pairOf kind line) v) old old (answer.Bad NoEquals)
   unfolding entered pairOf
   no-equals v old h = stops {f = NoEquals} (rw (← f, le-leb (length line) e h)) refl
 
-  module _ (h : e < length line) where
-    pub no-key : (v : Pairs) (old : Text) → keyFits kind [] (take e line) ≡ false → Enters true (entered true (pairOf kind line) v) old old
-        (answer.Bad NoKey)
-    unfolding entered pairOf
-    no-key v old k = stops {f = NoKey} (rw (← f, lt-leb (length line) e h, k)) refl
+  pub no-key : e < length line → (v : Pairs) (old : Text) → keyFits kind [] (take e line) ≡ false
+      → Enters true (entered true (pairOf kind line) v) old old (answer.Bad NoKey)
+  unfolding entered pairOf
+  no-key h v old k = stops {f = NoKey} (rw (← f, lt-leb (length line) e h, k)) refl
 
-    pub behind-equals : take (length line - (e + 1)) (drop (e + 1) line) ≡ drop (suc e) line
-    behind-equals =
-        take-all (length line - (e + 1)) (drop (e + 1) line) (omega (arith, length-drop (e + 1) line)) ∙ ap (λ (i : ℕ). drop i line) (add-one e)
+module _ {kind : Kind} {line : Text} {e : ℕ} (k : Keyed kind line e) where
+  abbrev rest : Text
+  rest = take (length line - (e + 1)) (drop (e + 1) line)
 
-    module _ (k : keyFits kind [] (take e line) ≡ true) (rest : Text) (b : rest ≡ drop (suc e) line) where
-      entry-is : pairOf kind line ≡ valued (take e line) (readText rest)
-      unfolding pairOf
-      entry-is = rw (b, ← f, lt-leb (length line) e h, k)
+  rest-is : rest ≡ drop (suc e) line
+  rest-is =
+      take-all (length line - (e + 1)) (drop (e + 1) line) (omega (arith, length-drop (e + 1) line)) ∙ ap (λ (i : ℕ). drop i line) (add-one e)
 
-      module _ {area left : Text} {r : Read} (s : Reads (readText rest) area left r) where
-        pub read-bad : (v : Pairs) (old : Text) (g : Fault) → r ≡ read.Bad g → Enters true (entered true (pairOf kind line) v) old old (answer.Bad g)
-        unfolding entered
-        read-bad v old g q = bad-of (rw q at s)
-          where
-            bad-of : Reads (readText rest) area left (read.Bad g) → Enters true (entered true (pairOf kind line) v) old old (answer.Bad g)
-            bad-of (fails x k) = stops (ap (λ (x : Entry). entered true x v) (entry-is ∙ ap (valued (take e line)) x)) refl
+  entry-is : pairOf kind line ≡ valued (take e line) (readText rest)
+  unfolding pairOf
+  entry-is = rw (rest-is, ← k .found, lt-leb (length line) e (k .inside), k .fits)
 
-        -- the text that was read
-        pub record Got (n : ℕ) : Type 0 where
-          pub is : pairOf kind line ≡ entry (take e line) (take n left)
-          pub long : n ≤ length left
+  module _ {area left : Text} {r : Read} (s : Reads (readText rest) area left r) where
+    pub read-bad : (v : Pairs) (old : Text) (g : Fault) → r ≡ read.Bad g → Enters true (entered true (pairOf kind line) v) old old (answer.Bad g)
+    unfolding entered
+    read-bad v old g q = bad-of (rw q at s)
+      where
+        bad-of : Reads (readText rest) area left (read.Bad g) → Enters true (entered true (pairOf kind line) v) old old (answer.Bad g)
+        bad-of (fails x k) = stops (ap (λ (x : Entry). entered true x v) (entry-is ∙ ap (valued (take e line)) x)) refl
 
-        pub read-good : (n : ℕ) → r ≡ read.Len n → Got n
-        unfolding over
-        read-good n q = good-of (rw q at s)
-          where
-            good-of : Reads (readText rest) area left (read.Len n) → Got n
-            good-of (reads {t} x z p) =
-                let w : take n left ≡ t = ap (take n) (p .leaves) ∙ take-at t (drop (length t) area) n (sym (p .counts)) in
-                record {
-                  is = entry-is ∙ ap (valued (take e line)) x ∙ ap (entry (take e line)) (sym w);
-                  long = omega (arith, p .counts, ap length (p .leaves), length-append t (drop (length t) area));
-                }
+    pub read-good : (n : ℕ) → r ≡ read.Len n → Got kind line e left n
+    unfolding over
+    read-good n q = good-of (rw q at s)
+      where
+        good-of : Reads (readText rest) area left (read.Len n) → Got kind line e left n
+        good-of (reads {t} x z p) =
+            let w : take n left ≡ t = ap (take n) (p .leaves) ∙ take-at t (drop (length t) area) n (sym (p .counts)) in
+            record {
+              is = entry-is ∙ ap (valued (take e line)) x ∙ ap (entry (take e line)) (sym w);
+              long = omega (arith, p .counts, ap length (p .leaves), length-append t (drop (length t) area));
+            }
 
 -- `enter_path`
 
@@ -181,6 +189,11 @@ module _ (x : Text) (l : List Text) where
       by-adding (adding pathsLimit x l) (entered-alone x l) old left (s .leaves) in
       rw (← q, s .answers) h
 
+-- the path that was read is n bytes
+pub record Path (line left : Text) (n : ℕ) : Type 0 where
+  pub is : readText line ≡ good (take n left)
+  pub long : n ≤ length left
+
 module _ (line : Text) {area left : Text} {r : Read} (s : Reads (readText line) area left r) where
   pub path-bad : (v : Pairs) (old : Text) (g : Fault) → r ≡ read.Bad g → Enters false (entered false (pathOf (readText line)) v) old old (answer.Bad g)
   unfolding entered
@@ -189,38 +202,32 @@ module _ (line : Text) {area left : Text} {r : Read} (s : Reads (readText line) 
       bad-of : Reads (readText line) area left (read.Bad g) → Enters false (entered false (pathOf (readText line)) v) old old (answer.Bad g)
       bad-of (fails x k) = stops (ap (λ (y : Reading). entered false (pathOf y) v) x) refl
 
-  -- the path that was read
-  pub record Path (n : ℕ) : Type 0 where
-    pub is : readText line ≡ good (take n left)
-    pub long : n ≤ length left
-
-  pub path-good : (n : ℕ) → r ≡ read.Len n → Path n
+  pub path-good : (n : ℕ) → r ≡ read.Len n → Path line left n
   unfolding over
   path-good n q = good-of (rw q at s)
     where
-      good-of : Reads (readText line) area left (read.Len n) → Path n
+      good-of : Reads (readText line) area left (read.Len n) → Path line left n
       good-of (reads {t} x z p) =
           let w : take n left ≡ t = ap (take n) (p .leaves) ∙ take-at t (drop (length t) area) n (sym (p .counts)) in
           record { is = x ∙ ap good (sym w); long = omega (arith, p .counts, ap length (p .leaves), length-append t (drop (length t) area)) }
 
-  pub path-none : (v : Pairs) (old : Text) (n : ℕ) → r ≡ read.Len n → n ≡ 0 → Enters false (entered false (pathOf (readText line)) v) old
-      old (answer.Bad NoKey)
+module _ {line left : Text} {n : ℕ} (p : Path line left n) where
+  pub path-none : (v : Pairs) (old : Text) → n ≡ 0 → Enters false (entered false (pathOf (readText line)) v) old old (answer.Bad NoKey)
   unfolding entered
-  path-none v old n q z =
-      stops {f = NoKey} (ap (λ (y : Reading). entered false (pathOf y) v) (path-good n q .is ∙ ap (λ (k : ℕ). good (take k left)) z)) refl
+  path-none v old z =
+      stops {f = NoKey} (ap (λ (y : Reading). entered false (pathOf y) v) (p .is ∙ ap (λ (k : ℕ). good (take k left)) z)) refl
 
-  pub path-entry : (n : ℕ) → r ≡ read.Len n → (n ≡ 0 → ⊥) → pathOf (readText line) ≡ entry (take n left) []
-  path-entry n q z = ap pathOf (path-good n q .is) ∙ not-empty (take n left) (λ e. z (sym (length-take-le n left (path-good n q .long)) ∙ ap length e))
+  path-entry : (n ≡ 0 → ⊥) → pathOf (readText line) ≡ entry (take n left) []
+  path-entry z = ap pathOf (p .is) ∙ not-empty (take n left) (λ e. z (sym (length-take-le n left (p .long)) ∙ ap length e))
     where
       not-empty : (t : Text) → (t ≡ [] → ⊥) → pathOf (good t) ≡ entry t []
       not-empty [] h = absurd (h refl)
       not-empty (b ∷ t) h = refl
 
-  pub path-enters : (l : List Text) (n : ℕ) → r ≡ read.Len n → (n ≡ 0 → ⊥) → (old new : Text) (d : Added) → Adds
-      (adding pathsLimit (take n left) l) old new d
+  pub path-enters : (n ≡ 0 → ⊥) → (l : List Text) (old new : Text) (d : Added) → Adds (adding pathsLimit (take n left) l) old new d
       → (a : Entered) → enteredAs d ≡ a → Enters false (entered false (pathOf (readText line)) (alone l)) old new a
-  path-enters l n q z old new d w a k =
-      subst (λ (x : Entry). Enters false (entered false x (alone l)) old new a) (sym (path-entry n q z)) (path-adds (take n left) l old new d w a k)
+  path-enters z l old new d w a k =
+      subst (λ (x : Entry). Enters false (entered false x (alone l)) old new a) (sym (path-entry z)) (path-adds (take n left) l old new d w a k)
 
 -- `enter_line`
 

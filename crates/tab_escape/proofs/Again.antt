@@ -12,7 +12,7 @@ use Rattle.stages.proofs.Images.{Bytes}
 use Rattle.tab_show.specs.Lines.{hexDigit, isPlain, shownByte, shownText}
 use Rattle.tab_escape.specs.Escapes.{hexValue, hexByte, byteAt, good, before, readOn, readFrom, readText}
 use Rattle.tab_escape.specs.declared.Byte.the-variants.{Is}
-use Rattle.tab_escape.proofs.Escaping.{value-2, value-4, byte-is, at-plain, at-newline, at-backslash, at-hex}
+use Rattle.tab_escape.proofs.Escaping.{value-2, value-4, byte-is, Other, at-plain, at-newline, at-backslash, at-hex}
 
 -- a digit stands for its number
 digit-value : (n : ℕ) → n < 16 → hexValue (hexDigit n) ≡ n
@@ -35,21 +35,25 @@ module _ (b : ℕ) (u : Text) where
 
   newline-again : b ≡ 10 → readFrom 0 (92 ∷ 110 ∷ u) ≡ before b (readFrom 0 u)
   unfolding readFrom
-  newline-again e = rw e (from-first 92 (110 ∷ u) 10 1 (at-newline (92 ∷ 110 ∷ u) 0 (λ e. omega arith) refl (omega arith) refl))
+  newline-again e = rw e (from-first 92 (110 ∷ u) 10 1 (at-newline {t = 92 ∷ 110 ∷ u} {i = 0} (record { backslash = refl; long = omega arith }) refl))
 
   backslash-again : b ≡ 92 → readFrom 0 (92 ∷ 92 ∷ u) ≡ before b (readFrom 0 u)
   unfolding readFrom
-  backslash-again e = rw e (from-first 92 (92 ∷ u) 92 1 (at-backslash (92 ∷ 92 ∷ u) 0 (λ e. omega arith) refl (omega arith) (λ e. omega arith) refl))
+  backslash-again e =
+      rw e (from-first 92 (92 ∷ u) 92 1
+      (at-backslash {t = 92 ∷ 92 ∷ u} {i = 0} (record { backslash = refl; long = omega arith }) (λ e. omega arith) refl))
 
   module _ (h : 1 ≤ b) (k : b < 256) where
     hex-again : readFrom 0 (92 ∷ 120 ∷ hexDigit (b / 16) ∷ hexDigit (b % 16) ∷ u) ≡ before b (readFrom 0 u)
     unfolding readFrom
     hex-again =
         from-first 92 (120 ∷ hexDigit (b / 16) ∷ hexDigit (b % 16) ∷ u) b 3
-        (at-hex (92 ∷ 120 ∷ hexDigit (b / 16) ∷ hexDigit (b % 16) ∷ u) 0 (λ e. omega arith) refl (omega arith) (λ e. omega arith)
-        (λ e. omega arith) refl (omega arith)
+        (at-hex other refl (omega arith)
         (b / 16) (b % 16) (Is b 3) (sym (digit-value (b / 16) (omega arith))) (sym (digit-value (b % 16) (omega arith))) is)
       where
+        other : Other (92 ∷ 120 ∷ hexDigit (b / 16) ∷ hexDigit (b % 16) ∷ u) 0
+        other = record { escape = record { backslash = refl; long = omega arith }; not-n = λ e. omega arith; not-backslash = λ e. omega arith }
+
         sum : b / 16 * 16 + b % 16 ≡ b
         sum = omega arith
 

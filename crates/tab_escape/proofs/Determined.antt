@@ -3,7 +3,6 @@ use mathlib.Core.Path.{_≡_, sym, ap, _∙_}
 use lib.ListN.{length}
 use Rattle.stages.specs.Bytes.{Text}
 use Rattle.stages.specs.Call.{over}
-use Rattle.text.specs.Putting.{Puts}
 use Rattle.tab_escape.specs.Escapes.{Reading, bad, good, Reads, reads, fails}
 use Rattle.tab_escape.specs.declared.Read.{Read}
 use Rattle.tab_escape.specs.declared.Read.the-variants as read

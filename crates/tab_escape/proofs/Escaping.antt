@@ -98,42 +98,50 @@ module _ (t : Text) (i : ℕ) where
     unfolding byteAt
     at-plain e = rw (ne-eqb (getD t i 0) 0 z, ne-eqb (getD t i 0) 92 e)
 
-    module _ (s : getD t i 0 ≡ 92) where
-      pub at-short : length t - i < 2 → Bad BadEscape ≡ byteAt t i
-      unfolding byteAt
-      at-short h = rw (ne-eqb (getD t i 0) 0 z, eq-eqb (getD t i 0) 92 s, lt-ltb (length t - i) 2 h)
+    pub at-short : getD t i 0 ≡ 92 → length t - i < 2 → Bad BadEscape ≡ byteAt t i
+    unfolding byteAt
+    at-short s h = rw (ne-eqb (getD t i 0) 0 z, eq-eqb (getD t i 0) 92 s, lt-ltb (length t - i) 2 h)
 
-      module _ (h : 2 ≤ length t - i) where
-        by-letter : byteAt t i ≡ escapeOf (length t - i) (getD t (i + 1) 0) (getD t (i + 2) 0) (getD t (i + 3) 0)
-        unfolding byteAt
-        by-letter = rw (ne-eqb (getD t i 0) 0 z, eq-eqb (getD t i 0) 92 s)
+-- a backslash with a byte after it
+pub record Escape (t : Text) (i : ℕ) : Type 0 where
+  pub backslash : getD t i 0 ≡ 92
+  pub long : 2 ≤ length t - i
 
-        pub at-newline : getD t (i + 1) 0 ≡ 110 → Is 10 1 ≡ byteAt t i
-        at-newline e = sym (by-letter ∙ rw (le-ltb (length t - i) 2 h, eq-eqb (getD t (i + 1) 0) 110 e))
+-- that is neither `n` nor a backslash
+pub record Other (t : Text) (i : ℕ) : Type 0 where
+  pub escape : Escape t i
+  pub not-n : getD t (i + 1) 0 ≡ 110 → ⊥
+  pub not-backslash : getD t (i + 1) 0 ≡ 92 → ⊥
 
-        module _ (m : getD t (i + 1) 0 ≡ 110 → ⊥) where
-          pub at-backslash : getD t (i + 1) 0 ≡ 92 → Is 92 1 ≡ byteAt t i
-          at-backslash e = sym (by-letter ∙ rw (le-ltb (length t - i) 2 h, ne-eqb (getD t (i + 1) 0) 110 m, eq-eqb (getD t (i + 1) 0) 92 e))
+module _ {t : Text} {i : ℕ} (s : Escape t i) where
+  by-letter : byteAt t i ≡ escapeOf (length t - i) (getD t (i + 1) 0) (getD t (i + 2) 0) (getD t (i + 3) 0)
+  unfolding byteAt
+  by-letter = rw (ne-eqb (getD t i 0) 0 (λ e. omega (arith, e, s .backslash)), eq-eqb (getD t i 0) 92 (s .backslash))
 
-          module _ (n : getD t (i + 1) 0 ≡ 92 → ⊥) where
-            pub at-other : (getD t (i + 1) 0 ≡ 120 → ⊥) → Bad BadEscape ≡ byteAt t i
-            at-other e =
-                sym (by-letter ∙ rw
-                (le-ltb (length t - i) 2 h, ne-eqb (getD t (i + 1) 0) 110 m, ne-eqb (getD t (i + 1) 0) 92 n, ne-eqb (getD t (i + 1) 0) 120 e))
+  pub at-newline : getD t (i + 1) 0 ≡ 110 → Is 10 1 ≡ byteAt t i
+  at-newline e = sym (by-letter ∙ rw (le-ltb (length t - i) 2 (s .long), eq-eqb (getD t (i + 1) 0) 110 e))
 
-            module _ (x : getD t (i + 1) 0 ≡ 120) where
-              by-digits : byteAt t i ≡ pick (ltb (length t - i) 4) (Bad BadEscape) (hexByte (hexValue (getD t (i + 2) 0)) (hexValue (getD t (i + 3) 0)))
-              by-digits =
-                  by-letter
-                  ∙ rw (le-ltb (length t - i) 2 h, ne-eqb (getD t (i + 1) 0) 110 m, ne-eqb (getD t (i + 1) 0) 92 n, eq-eqb (getD t (i + 1) 0) 120 x)
+  pub at-backslash : (getD t (i + 1) 0 ≡ 110 → ⊥) → getD t (i + 1) 0 ≡ 92 → Is 92 1 ≡ byteAt t i
+  at-backslash m e = sym (by-letter ∙ rw (le-ltb (length t - i) 2 (s .long), ne-eqb (getD t (i + 1) 0) 110 m, eq-eqb (getD t (i + 1) 0) 92 e))
 
-              pub at-digit : length t - i < 4 → Bad BadEscape ≡ byteAt t i
-              at-digit k = sym (by-digits ∙ rw (lt-ltb (length t - i) 4 k))
+module _ {t : Text} {i : ℕ} (s : Other t i) where
+  by-x : byteAt t i
+      ≡ pick (eqb (getD t (i + 1) 0) 120)
+      (pick (ltb (length t - i) 4) (Bad BadEscape) (hexByte (hexValue (getD t (i + 2) 0)) (hexValue (getD t (i + 3) 0)))) (Bad BadEscape)
+  by-x =
+      by-letter (s .escape)
+      ∙ rw (le-ltb (length t - i) 2 (s .escape .long), ne-eqb (getD t (i + 1) 0) 110 (s .not-n), ne-eqb (getD t (i + 1) 0) 92 (s .not-backslash))
 
-              pub at-hex : 4 ≤ length t - i → (a b : ℕ) (r : Byte) → a ≡ hexValue (getD t (i + 2) 0) → b ≡ hexValue (getD t (i + 3) 0)
-                  → r ≡ hexByte a b
-                  → r ≡ byteAt t i
-              at-hex k a b r e f g = g ∙ rw (e, f) (sym (by-digits ∙ rw (le-ltb (length t - i) 4 k)))
+  pub at-other : (getD t (i + 1) 0 ≡ 120 → ⊥) → Bad BadEscape ≡ byteAt t i
+  at-other e = sym (by-x ∙ rw (ne-eqb (getD t (i + 1) 0) 120 e))
+
+  module _ (x : getD t (i + 1) 0 ≡ 120) where
+    pub at-digit : length t - i < 4 → Bad BadEscape ≡ byteAt t i
+    at-digit k = sym (by-x ∙ rw (eq-eqb (getD t (i + 1) 0) 120 x, lt-ltb (length t - i) 4 k))
+
+    pub at-hex : 4 ≤ length t - i → (a b : ℕ) (r : Byte) → a ≡ hexValue (getD t (i + 2) 0) → b ≡ hexValue (getD t (i + 3) 0) → r ≡ hexByte a b
+        → r ≡ byteAt t i
+    at-hex k a b r e f g = g ∙ rw (e, f) (sym (by-x ∙ rw (eq-eqb (getD t (i + 1) 0) 120 x, le-ltb (length t - i) 4 k)))
 
 -- a byte lies within those that are left, and is not zero
 

@@ -19,7 +19,7 @@ use Rattle.stages.proofs.Rooms.{over-length}
 use Rattle.tab_enter.proofs.Sounds.{none-texts, limit-some}
 use Rattle.table.specs.Kinds.{inTwos}
 use Rattle.table.specs.declared.Kind.{Kind}
-use Rattle.table_store.proofs.Callers.{fills-none}
+use Rattle.table_store.proofs.Callers.{version-first}
 use Rattle.tab_escape.specs.Escapes.{upTo}
 use Rattle.tab_enter.specs.Records.{alone, textsBy, recordsBy, limitBy, TableBy}
 use Rattle.tab_enter.specs.Entries.{entryOf, Step, stop, go, entered, Enters, takes, stops}
@@ -115,7 +115,7 @@ going-starts kind text old h = record {
     sound = sound-none kind;
     long = rw (none-texts (inTwos kind)) refl;
     room = rw (length-set old 0 1) h;
-    is = rw (none-texts (inTwos kind)) (fills-none old (omega (arith, h, limit-some (inTwos kind))) .is ∙ sym (over-set [] old));
+    is = rw (none-texts (inTwos kind)) (version-first old (omega (arith, h, limit-some (inTwos kind))) ∙ sym (over-set [] old));
   };
   is = refl;
   within = omega arith;
@@ -133,70 +133,82 @@ module _ {kind : Kind} {text old out : Text} {used at line : ℕ} (g : Going kin
       packs {v = g .records} (g .is ∙ ap (λ (t : Text). packed kind line (g .records) (linesOf t)) (drop-of-length-le text h))
       (g .stands .long ∙ sym (length-image (textsBy (inTwos kind) (g .records)))) (g .stands .is)
 
-  module _ (h : at < length text) (r : ℕ) (f : r ≡ upTo 10 (take (length text - at) (drop at text))) where
-    rest : take (length text - at) (drop at text) ≡ drop at text
-    rest = take-all (length text - at) (drop at text) (omega (arith, length-drop at text))
+-- the line at the walk's place is r bytes long: it ends at the first newline, or at the text's end
+pub record Line (kind : Kind) (text old out : Text) (used at line r : ℕ) : Type 0 where
+  pub going : Going kind text old out used at line
+  pub there : at < length text
+  pub ends : r ≡ upTo 10 (take (length text - at) (drop at text))
 
-    place : r ≡ upTo 10 (drop at text)
-    place = f ∙ ap (upTo 10) rest
+module _ {kind : Kind} {text old out : Text} {used at line r : ℕ} (l : Line kind text old out used at line r) where
+  abbrev g : Going kind text old out used at line
+  g = l .going
 
-    pub going-end : at + r ≤ length text
-    going-end = omega (arith, place, up-within 10 (drop at text), length-drop at text)
+  abbrev h : at < length text
+  h = l .there
 
-    -- a text that is not empty has a first line
-    cut : (t : Text) → 0 < length t → linesOf t ≡ take (upTo 10 t) t ∷ linesOf (drop (suc (upTo 10 t)) t)
-    cut [] k = absurd (omega (arith, k))
-    cut (b ∷ t) k = line-first b t
+  rest : take (length text - at) (drop at text) ≡ drop at text
+  rest = take-all (length text - at) (drop at text) (omega (arith, h, length-drop at text))
 
-    lines : linesOf (drop at text) ≡ part text at (at + r) ∷ linesOf (drop (at + r + 1) text)
-    lines =
-        let z : at + r - at ≡ r = omega arith in
-        let y : at + suc r ≡ at + r + 1 = omega arith in
-        cut (drop at text) (omega (arith, length-drop at text))
-        ∙ ap (λ (k : ℕ). take k (drop at text) ∷ linesOf (drop (suc k) (drop at text))) (sym place)
-        ∙ ap (λ (t : Text). take r (drop at text) ∷ linesOf t) (drop-drop (suc r) at text ∙ ap (λ (k : ℕ). drop k text) y)
-        ∙ ap (λ (k : ℕ). take k (drop at text) ∷ linesOf (drop (at + r + 1) text)) (sym z)
+  place : r ≡ upTo 10 (drop at text)
+  place = l .ends ∙ ap (upTo 10) rest
 
-    step : (o : Step) → entered (inTwos kind) (entryOf kind (part text at (at + r))) (g .records) ≡ o
-        → packed kind 1 [] (linesOf text) ≡ packOn o line (g .records) (λ w. packed kind (suc line) w (linesOf (drop (at + r + 1) text)))
-    unfolding packed
-    step o e =
-        g .is ∙ ap (packed kind line (g .records)) lines
-        ∙ ap (λ (x : Step). packOn x line (g .records) (λ w. packed kind (suc line) w (linesOf (drop (at + r + 1) text)))) e
+  pub going-end : at + r ≤ length text
+  going-end = omega (arith, h, place, up-within 10 (drop at text), length-drop at text)
 
-    module _ {left : Text} {a : Entered}
-        (s : Enters (inTwos kind) (entered (inTwos kind) (entryOf kind (part text at (at + r))) (recordsBy (inTwos kind) (take used out))) out left a) where
-      here : Enters (inTwos kind) (entered (inTwos kind) (entryOf kind (part text at (at + r))) (g .records)) out left a
-      here = subst (λ (v : Pairs). Enters (inTwos kind) (entered (inTwos kind) (entryOf kind (part text at (at + r))) v) out left a)
-          (stands-held (g .stands)) s
+  -- a text that is not empty has a first line
+  cut : (t : Text) → 0 < length t → linesOf t ≡ take (upTo 10 t) t ∷ linesOf (drop (suc (upTo 10 t)) t)
+  cut [] k = absurd (omega (arith, k))
+  cut (b ∷ t) k = line-first b t
 
-      pub going-bad : (x : Fault) → a ≡ answer.Bad x → Packs (inTwos kind) (packed kind 1 [] (linesOf text)) old left (told.Bad line x)
-      going-bad x q = bad-of (rw q at here)
-        where
-          bad-of : Enters (inTwos kind) (entered (inTwos kind) (entryOf kind (part text at (at + r))) (g .records)) out left (answer.Bad x)
-              → Packs (inTwos kind) (packed kind 1 [] (linesOf text)) old left (told.Bad line x)
-          bad-of (stops e k) = fails {v = g .records} (step (stop x) e) (k ∙ g .stands .is)
+  lines : linesOf (drop at text) ≡ part text at (at + r) ∷ linesOf (drop (at + r + 1) text)
+  lines =
+      let z : at + r - at ≡ r = omega arith in
+      let y : at + suc r ≡ at + r + 1 = omega arith in
+      cut (drop at text) (omega (arith, h, length-drop at text))
+      ∙ ap (λ (k : ℕ). take k (drop at text) ∷ linesOf (drop (suc k) (drop at text))) (sym place)
+      ∙ ap (λ (t : Text). take r (drop at text) ∷ linesOf t) (drop-drop (suc r) at text ∙ ap (λ (k : ℕ). drop k text) y)
+      ∙ ap (λ (k : ℕ). take k (drop at text) ∷ linesOf (drop (at + r + 1) text)) (sym z)
 
-      pub going-more : (n : ℕ) → a ≡ answer.Used n → Going kind text old left n (at + r + 1) (line + 1)
-      going-more n q = used-of (rw q at here)
-        where
-          used-of : Enters (inTwos kind) (entered (inTwos kind) (entryOf kind (part text at (at + r))) (g .records)) out left (answer.Used n)
-              → Going kind text old left n (at + r + 1) (line + 1)
-          used-of (takes {w} e k j) = record {
-            records = w;
-            stands = record {
-              sound = keeps .sound (g .stands .sound);
-              long = k;
-              room = g .stands .room;
-              is =
-                  j ∙ ap (over (image (textsBy (inTwos kind) w))) (g .stands .is)
-                  ∙ over-over (image (textsBy (inTwos kind) (g .records))) (image (textsBy (inTwos kind) w)) old
-                  (omega (arith, length-image (textsBy (inTwos kind) (g .records)), length-image (textsBy (inTwos kind) w), keeps .longer));
-            };
-            is = rw (add-one line) (step (go w) e);
-            within = omega (arith, going-end);
-            count = omega (arith, g .count);
-          }
-            where
-              keeps : Kept kind (g .records) w
-              keeps = kept kind (part text at (at + r)) (g .records) w e
+  step : (o : Step) → entered (inTwos kind) (entryOf kind (part text at (at + r))) (g .records) ≡ o
+      → packed kind 1 [] (linesOf text) ≡ packOn o line (g .records) (λ w. packed kind (suc line) w (linesOf (drop (at + r + 1) text)))
+  unfolding packed
+  step o e =
+      g .is ∙ ap (packed kind line (g .records)) lines
+      ∙ ap (λ (x : Step). packOn x line (g .records) (λ w. packed kind (suc line) w (linesOf (drop (at + r + 1) text)))) e
+
+  module _ {left : Text} {a : Entered}
+      (s : Enters (inTwos kind) (entered (inTwos kind) (entryOf kind (part text at (at + r))) (recordsBy (inTwos kind) (take used out))) out left a) where
+    here : Enters (inTwos kind) (entered (inTwos kind) (entryOf kind (part text at (at + r))) (g .records)) out left a
+    here = subst (λ (v : Pairs). Enters (inTwos kind) (entered (inTwos kind) (entryOf kind (part text at (at + r))) v) out left a)
+        (stands-held (g .stands)) s
+
+    pub going-bad : (x : Fault) → a ≡ answer.Bad x → Packs (inTwos kind) (packed kind 1 [] (linesOf text)) old left (told.Bad line x)
+    going-bad x q = bad-of (rw q at here)
+      where
+        bad-of : Enters (inTwos kind) (entered (inTwos kind) (entryOf kind (part text at (at + r))) (g .records)) out left (answer.Bad x)
+            → Packs (inTwos kind) (packed kind 1 [] (linesOf text)) old left (told.Bad line x)
+        bad-of (stops e k) = fails {v = g .records} (step (stop x) e) (k ∙ g .stands .is)
+
+    pub going-more : (n : ℕ) → a ≡ answer.Used n → Going kind text old left n (at + r + 1) (line + 1)
+    going-more n q = used-of (rw q at here)
+      where
+        used-of : Enters (inTwos kind) (entered (inTwos kind) (entryOf kind (part text at (at + r))) (g .records)) out left (answer.Used n)
+            → Going kind text old left n (at + r + 1) (line + 1)
+        used-of (takes {w} e k j) = record {
+          records = w;
+          stands = record {
+            sound = keeps .sound (g .stands .sound);
+            long = k;
+            room = g .stands .room;
+            is =
+                j ∙ ap (over (image (textsBy (inTwos kind) w))) (g .stands .is)
+                ∙ over-over (image (textsBy (inTwos kind) (g .records))) (image (textsBy (inTwos kind) w)) old
+                (omega (arith, length-image (textsBy (inTwos kind) (g .records)), length-image (textsBy (inTwos kind) w), keeps .longer));
+          };
+          is = rw (add-one line) (step (go w) e);
+          within = omega (arith, going-end);
+          count = omega (arith, g .count);
+        }
+          where
+            keeps : Kept kind (g .records) w
+            keeps = kept kind (part text at (at + r)) (g .records) w e

@@ -43,7 +43,7 @@ use Rattle.tab_show.specs.Lines.{shownOf, showing}
 use Rattle.tab_escape.specs.Escapes.{good, readText}
 use Rattle.tab_enter.specs.Records.{alone, textsBy, recordsBy, limitBy}
 use Rattle.tab_enter.specs.Entries.{Entry, faulty, entry, entryOf, Step, stop, go, entered}
-use Rattle.tab_pack.specs.Packings.{Packing, whole, fault, packOn, packed, Packs, packs}
+use Rattle.tab_pack.specs.Packings.{whole, fault, packOn, packed, Packs, packs}
 use Rattle.tab_escape.specs.declared.Fault.{Fault}
 use Rattle.tab_pack.specs.declared.Packed.{Packed}
 use Rattle.tab_pack.specs.declared.Packed.the-variants as told

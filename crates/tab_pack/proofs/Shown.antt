@@ -10,7 +10,7 @@ use lib.ListN.{length, drop, length-append}
 use lib.Seq.{take-at}
 use borrow.Author.Tests.{eqb-true, ne-eqb, lt-leb, not-true}
 use Rattle.stages.specs.Bytes.{Text, text, all, notZero, isIn, between, isLetter, isDigit, isNameStart, isNameByte, isLoginByte, ltText}
-use Rattle.stages.specs.Images.{Pairs, isName, isLogin, notEmpty, keys, flat}
+use Rattle.stages.specs.Images.{Pairs, isName, isLogin, notEmpty, flat}
 use Rattle.stages.specs.Program.{linesOf}
 use Rattle.stages.proofs.Bools.{no, either, and-left, and-right, and-both, or-cases, or-left, between-bounds, between-true}
 use Rattle.stages.proofs.Texts.{all-weaker, start-name-byte}

@@ -9,7 +9,7 @@ use lib.Dec.{eqb, ltb}
 use lib.ListN.{length, drop, getD}
 use borrow.Author.Tests.{ltb-true, ltb-false, lt-ltb}
 use Rattle.stages.specs.Bytes.{Text, all}
-use Rattle.stages.specs.Images.{textsIn, texts, image, held}
+use Rattle.stages.specs.Images.{textsIn, texts}
 use Rattle.stages.specs.Program.{longerLine, linesOf}
 use Rattle.stages.proofs.Bools.{either, and-left, and-right, and-both}
 use Rattle.stages.proofs.Texts.{all-take, all-drop}

@@ -1,5 +1,4 @@
 // Text to tables: each line becomes a record, in the order of the kind, or the first line that is none is told with its cause.
-ghost use mathlib.Core.Path.{_≡_};
 ghost use mathlib.Core.List.{[]};
 ghost use Prim.Native.Nat.{_≤_};
 ghost use lib.ListN.{length};

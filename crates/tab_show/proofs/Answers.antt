@@ -4,7 +4,7 @@ use native.Mathlib.Omega.{arith}
 use mathlib.Core.Path.{_≡_, sym, ap, _∙_}
 use mathlib.Core.Bool.{Bool, true, false}
 use mathlib.Core.List.{List}
-use mathlib.Core.Option.{Option, none, some}
+use mathlib.Core.Option.{some}
 use lib.ListN.{length}
 use Rattle.stages.specs.Bytes.{Text}
 use Rattle.stages.specs.Images.{texts, heldTexts, held, flat, imageLength}
@@ -15,7 +15,6 @@ use Rattle.table.specs.declared.Kind.{Kind}
 use Rattle.table.specs.declared.Kind.the-variants.{Variables, Homes, Paths, Fields}
 use Rattle.text.specs.Putting.{Puts}
 use Rattle.tab_show.specs.Lines.{shownTexts, shownOf, showingOf, showing}
-use Rattle.tab_show.specs.declared.Shown.{Shown}
 use Rattle.tab_show.specs.declared.Shown.the-variants.{Len, Malformed}
 use Rattle.tab_show.proofs.Writing.{lines-small}
 

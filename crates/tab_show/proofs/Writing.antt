@@ -1,24 +1,21 @@
 -- What a byte, a text and the lines of a table are when shown, piece by piece, and how long. The byte 10 is a newline, 92 a backslash.
-use Prim.Native.Nat.{ℕ, suc, _+_, _-_, _*_, _/_, _%_, _≤_, _<_}
+use Prim.Native.Nat.{ℕ, _+_, _-_, _*_, _/_, _%_, _≤_, _<_}
 use native.Mathlib.Omega.{arith}
 use native.Mathlib.Numerals.{add-one}
-use mathlib.Core.Path.{_≡_, refl, sym, ap, _∙_}
-use mathlib.Core.Bool.{Bool, true, false, _&&_, not}
-use mathlib.Core.List.{List, [], _∷_, _++_, append-assoc}
+use mathlib.Core.Path.{_≡_, refl, ap}
+use mathlib.Core.Bool.{Bool, true, false, not}
+use mathlib.Core.List.{List, [], _∷_, _++_}
 use mathlib.Core.Option.{Option, none, some}
-use lib.Dec.{eqb, ltb, leb}
-use lib.ListN.{length, take, drop, getD, set, length-append, length-drop, drop-of-length-le}
+use lib.Dec.{eqb}
+use lib.ListN.{length, drop, getD, set, length-append, drop-of-length-le}
 use lib.Seq.{drop-cons}
 use borrow.Author.Tests.{eq-eqb, ne-eqb, lt-ltb, le-ltb, lt-leb, le-leb}
 use borrow.Rule.Slice.PartMut.{putMid, midOf}
-use Rattle.stages.specs.Bytes.{Text, text, between, part}
+use Rattle.stages.specs.Bytes.{Text, text, part}
 use Rattle.stages.specs.Images.{heldTexts, texts, recordBytes}
 use Rattle.stages.proofs.Bools.{either}
-use Rattle.stages.proofs.Images.{texts-length}
-use Rattle.table.specs.Pieces.{pieceAt}
-use Rattle.table.specs.declared.Piece.{Piece}
-use Rattle.table.specs.declared.Piece.the-variants.{End, Bad, At}
-use Rattle.table.proofs.Pieces.{Ahead, Next, ahead-first, ahead-end, ahead-bad, ahead-text}
+use Rattle.table.proofs.Pieces.{Next, ahead-first}
+use Rattle.table.proofs.Writing.{Writing as Walk, Facing}
 use Rattle.text.specs.Putting.{Puts}
 use Rattle.text.proofs.Filling.{Filling, fill-starts, fill-byte, fill-piece, fill-ends, fill-next, fill-fits}
 use Rattle.tab_show.specs.Lines.{hexDigit, isPlain, letterOf, escaped, shownByte, shownText, endOf, firstNext, shownTexts}
@@ -117,66 +114,85 @@ four-put b c out h = fill-ends fourth refl
     fourth : Filling (92 ∷ 120 ∷ b ∷ c ∷ []) [] out (set (set (set (set out 0 92) 1 120) 2 b) 3 c) 4
     fourth = fill-byte third c [] 4 refl refl
 
-module _ (b : ℕ) (out : Text) (p : isPlain b ≡ false) (h : length (shownByte b) ≤ length out) where
+-- a byte that is escaped has room
+pub record Escaped (b : ℕ) (out : Text) : Type 0 where
+  pub odd : isPlain b ≡ false
+  pub room : length (shownByte b) ≤ length out
+
+-- and its escape is of two digits
+pub record Hex (b : ℕ) (out : Text) : Type 0 where
+  pub escape : Escaped b out
+  pub not-newline : b ≡ 10 → ⊥
+  pub not-backslash : b ≡ 92 → ⊥
+
+module _ {b : ℕ} {out : Text} (e : Escaped b out) where
+  pub newline-room : b ≡ 10 → 2 ≤ length out
+  newline-room n = omega (arith, e .room, ap length (newline-shown b (e .odd) n))
+
   pub newline-put : b ≡ 10 → Puts (shownByte b) out (set (set out 0 92) 1 110) 2
-  newline-put e = rw (newline-shown b p e) (two-put 110 out (rw (newline-shown b p e) at h))
+  newline-put n = rw (newline-shown b (e .odd) n) (two-put 110 out (newline-room n))
+
+  pub backslash-room : (b ≡ 10 → ⊥) → b ≡ 92 → 2 ≤ length out
+  backslash-room n m = omega (arith, e .room, ap length (backslash-shown b (e .odd) n m))
 
   pub backslash-put : (b ≡ 10 → ⊥) → b ≡ 92 → Puts (shownByte b) out (set (set out 0 92) 1 92) 2
-  backslash-put n e = rw (backslash-shown b p n e) (two-put 92 out (rw (backslash-shown b p n e) at h))
+  backslash-put n m = rw (backslash-shown b (e .odd) n m) (two-put 92 out (backslash-room n m))
 
-  module _ (n : b ≡ 10 → ⊥) (m : b ≡ 92 → ⊥) where
-    pub hex-room : 4 ≤ length out
-    hex-room = omega (arith, h, ap length (hex-shown b p n m))
+module _ {b : ℕ} {out : Text} (h : Hex b out) where
+  shown-hex : shownByte b ≡ 92 ∷ 120 ∷ hexDigit (b / 16) ∷ hexDigit (b % 16) ∷ []
+  shown-hex = hex-shown b (h .escape .odd) (h .not-newline) (h .not-backslash)
 
-    pub hex-put : (c d : ℕ) → c ≡ hexDigit (b / 16) → d ≡ hexDigit (b % 16)
-        → Puts (shownByte b) out (set (set (set (set out 0 92) 1 120) 2 c) 3 d) 4
-    hex-put c d e f = rw (hex-shown b p n m, ← e, ← f) (four-put c d out hex-room)
+  pub hex-room : 4 ≤ length out
+  hex-room = omega (arith, h .escape .room, ap length shown-hex)
+
+  pub hex-put : (c d : ℕ) → c ≡ hexDigit (b / 16) → d ≡ hexDigit (b % 16) → Puts (shownByte b) out (set (set (set (set out 0 92) 1 120) 2 c) 3 d) 4
+  hex-put c d e f = rw (shown-hex, ← e, ← f) (four-put c d out hex-room)
 
 -- `put_texts`: the texts from `at` on are left, the next of which is the first of two or not
-pub record Fills (two : Bool) (t : Text) (at : ℕ) (first : Bool) (old out : Text) (used : ℕ) : Type 0 where
-  pub left : List Text
-  pub ahead : Ahead t at left
-  pub filling : Filling (shownTexts two two (heldTexts t)) (shownTexts two first left) old out used
+abbrev pub Fills : Bool → Text → ℕ → Bool → Text → Text → ℕ → Type 0
+Fills two t at first old out used = Walk (shownTexts two two (heldTexts t)) (shownTexts two first) t at old out used
 
 pub fills-starts : (two : Bool) (t old : Text) → texts t ≡ some (heldTexts t) → length (shownTexts two two (heldTexts t)) ≤ length old
     → Fills two t 1 two old old 0
 fills-starts two t old e h =
     record { left = heldTexts t; ahead = ahead-first t (heldTexts t) e; filling = fill-starts (shownTexts two two (heldTexts t)) old h }
 
-module _ {two : Bool} {t : Text} {at : ℕ} {first : Bool} {old out : Text} {used : ℕ} (f : Fills two t at first old out used) {r : Piece}
-    (s : r ≡ pieceAt t at) where
-  pub fills-end : r ≡ End → Puts (shownTexts two two (heldTexts t)) old out used
+pub shown-none : (two first : Bool) → shownTexts two first [] ≡ []
+unfolding shownTexts
+shown-none two first = refl
+
+-- the text at the walk's place: it is written, then its `=` or newline
+pub record Line (two first : Bool) (whole t : Text) (at end : ℕ) (old out : Text) (used : ℕ) : Type 0 where
+  pub facing : Facing whole (shownTexts two first) t at end old out used
+
+module _ {two first : Bool} {whole t : Text} {at end : ℕ} {old out : Text} {used : ℕ} (f : Line two first whole t at end old out used) where
+  abbrev text-there : Next t at end (f .facing .walk .left)
+  text-there = f .facing .text
+
+  abbrev shown : Text
+  shown = shownText (part t (at + 2) end)
+
+  abbrev behind : Text
+  behind = endOf first ∷ shownTexts two (firstNext two first) (text-there .more)
+
+  line-is : shownTexts two first (f .facing .walk .left) ≡ shown ++ behind
   unfolding shownTexts
-  fills-end e = fill-ends (f .filling) (ap (shownTexts two first) (ahead-end (f .ahead) s e))
+  line-is = ap (shownTexts two first) (text-there .is)
 
-  pub fills-bad : r ≡ Bad → Puts (shownTexts two two (heldTexts t)) old out used
-  fills-bad e = absurd (ahead-bad (f .ahead) s e)
+  pub fills-fits : length shown ≤ length (midOf used (length out - used) out)
+  fills-fits = fill-fits (f .facing .walk .filling) shown behind line-is
 
-  module _ {end : ℕ} (e : r ≡ At end) where
-    pub fills-text : Next t at end (f .left)
-    fills-text = ahead-text (f .ahead) s e
+  pub fills-next : used + length shown ≤ length old
+  fills-next = fill-next (f .facing .walk .filling) shown behind line-is
 
-    abbrev pub behind : Text
-    behind = endOf first ∷ shownTexts two (firstNext two first) (fills-text .more)
+  module _ (ys : Text) (n : ℕ) (p : Puts shown (midOf used (length out - used) out) ys n) where
+    pub fills-bytes : Filling whole behind old (putMid used (length out - used) out ys) (used + n)
+    fills-bytes = fill-piece (f .facing .walk .filling) shown behind ys n (used + n) line-is p refl
 
-    line-is : shownTexts two first (f .left) ≡ shownText (part t (at + 2) end) ++ behind
-    unfolding shownTexts
-    line-is = ap (shownTexts two first) (fills-text .is)
-
-    pub fills-fits : length (shownText (part t (at + 2) end)) ≤ length (midOf used (length out - used) out)
-    fills-fits = fill-fits (f .filling) (shownText (part t (at + 2) end)) behind line-is
-
-    pub fills-next : used + length (shownText (part t (at + 2) end)) ≤ length old
-    fills-next = fill-next (f .filling) (shownText (part t (at + 2) end)) behind line-is
-
-    module _ (ys : Text) (n : ℕ) (p : Puts (shownText (part t (at + 2) end)) (midOf used (length out - used) out) ys n) where
-      pub fills-bytes : Filling (shownTexts two two (heldTexts t)) behind old (putMid used (length out - used) out ys) (used + n)
-      fills-bytes = fill-piece (f .filling) (shownText (part t (at + 2) end)) behind ys n (used + n) line-is p refl
-
-      pub fills-more : (c : ℕ) (next : Bool) → c ≡ endOf first → next ≡ firstNext two first
-          → Fills two t end next old (set (putMid used (length out - used) out ys) (used + n) c) (used + n + 1)
-      fills-more c next g k = rw (g, k) (record {
-        left = fills-text .more;
-        ahead = fills-text .ahead;
-        filling = fill-byte fills-bytes (endOf first) (shownTexts two (firstNext two first) (fills-text .more)) (used + n + 1) refl refl;
-      })
+    pub fills-more : (c : ℕ) (next : Bool) → c ≡ endOf first → next ≡ firstNext two first
+        → Walk whole (shownTexts two next) t end old (set (putMid used (length out - used) out ys) (used + n) c) (used + n + 1)
+    fills-more c next g k = rw (g, k) (record {
+      left = text-there .more;
+      ahead = text-there .ahead;
+      filling = fill-byte fills-bytes (endOf first) (shownTexts two (firstNext two first) (text-there .more)) (used + n + 1) refl refl;
+    })

@@ -7,7 +7,7 @@ use mathlib.Core.List.{List, [], _∷_, _++_}
 use mathlib.Core.Option.{Option, none, some}
 use lib.Dec.{eqb, ltb}
 use lib.ListN.{length}
-use Rattle.stages.specs.Bytes.{Text, text, between}
+use Rattle.stages.specs.Bytes.{Text, between}
 use Rattle.stages.specs.Outcome.{pick}
 use Rattle.stages.specs.Images.{heldTexts}
 use Rattle.stages.specs.Call.{over}

@@ -13,13 +13,13 @@ use lib.Seq.{drop-cons, drop-drop, length-take-le}
 use borrow.Author.Tests.{le-leb, lt-leb}
 use Rattle.stages.specs.Bytes.{Text, part, all, notZero}
 use Rattle.stages.specs.Outcome.{pick}
-use Rattle.stages.specs.Images.{textsIn, texts, push}
+use Rattle.stages.specs.Images.{textsIn, texts, push, orEmpty}
 use Rattle.stages.proofs.Bools.{clash, some-same}
 use Rattle.stages.proofs.Images.{whole, whole-fits, texts-nil, texts-single, texts-bad, texts-good, texts-inside}
 use Rattle.text.specs.Classes.{Runs}
 use Rattle.text.specs.declared.Class.the-variants.{NotZero}
 use Rattle.text.proofs.Runs.{run-passes, run-fails}
-use Rattle.table.specs.Pieces.{sizeAt, pieceOf, pieceAt}
+use Rattle.table.specs.Pieces.{sizeAt, pieceOf, pieceAt, textsFrom}
 use Rattle.table.specs.declared.Piece.{Piece}
 use Rattle.table.specs.declared.Piece.the-variants.{End, Bad, At}
 
@@ -151,6 +151,10 @@ module _ (t : Text) (at : ℕ) {r : Piece} (s : r ≡ pieceAt t at) where
 pub record Ahead (t : Text) (at : ℕ) (l : List Text) : Type 0 where
   pub within : at ≤ length t
   pub is : textsIn (drop at t) ≡ some l
+
+pub ahead-from : {t : Text} {at : ℕ} {l : List Text} → Ahead t at l → textsFrom t at ≡ l
+unfolding textsFrom
+ahead-from h = ap orEmpty (h .is)
 
 pub ahead-first : (t : Text) (l : List Text) → texts t ≡ some l → Ahead t 1 l
 ahead-first t l e =

@@ -256,52 +256,57 @@ module _ {k : Kind} {t : Text} {at from to : ℕ} (g : Going k t at from to) whe
   pub at-bad : textsIn (drop at t) ≡ none → false ≡ wellFormed k t
   at-bad e = sym (g .same ∙ rw e)
 
-  module _ {end : ℕ} (s : Stands t at end) where
-    pub bad-key : keyFits k (part t from to) (part t (at + 2) end) ≡ false → false ≡ wellFormed k t
-    bad-key e = sym (g .same ∙ rw (s .reads) (fails (inTwos k) (keyFits k) _ _ (textsIn (drop end t)) e))
+  pub bad-key : {end : ℕ} → Stands t at end → keyFits k (part t from to) (part t (at + 2) end) ≡ false → false ≡ wellFormed k t
+  bad-key {end} s e = sym (g .same ∙ rw (s .reads) (fails (inTwos k) (keyFits k) _ _ (textsIn (drop end t)) e))
 
-    module _ (e : keyFits k (part t from to) (part t (at + 2) end) ≡ true) where
-      half-end : inTwos k ≡ true → drop end t ≡ [] → false ≡ wellFormed k t
-      half-end w q = sym (g .same ∙ rw (s .reads, q, texts-nil, w))
+-- a record whose key may stand after the last one
+pub record Keyed (k : Kind) (t : Text) (at from to end : ℕ) : Type 0 where
+  pub going : Going k t at from to
+  pub stands : Stands t at end
+  pub fits : keyFits k (part t from to) (part t (at + 2) end) ≡ true
 
-      half-bad : textsIn (drop end t) ≡ none → false ≡ wellFormed k t
-      half-bad q = sym (g .same ∙ rw (s .reads, q))
+module _ {k : Kind} {t : Text} {at from to end : ℕ} (g : Keyed k t at from to end) where
+  half-end : inTwos k ≡ true → drop end t ≡ [] → false ≡ wellFormed k t
+  half-end w q = sym (g .going .same ∙ rw (g .stands .reads, q, texts-nil, w))
 
-      next-one : inTwos k ≡ false → Going k t end (at + 2) end
-      next-one w = record {
-        within = s .high;
-        ordered-texts = s .low;
-        kept = s .high;
-        same = g .same ∙ rw (s .reads, w) (takes-one (keyFits k) _ _ (textsIn (drop end t)) e);
-      }
+  half-bad : textsIn (drop end t) ≡ none → false ≡ wellFormed k t
+  half-bad q = sym (g .going .same ∙ rw (g .stands .reads, q))
 
-      next-two : inTwos k ≡ true → {next : ℕ} → Stands t end next → Going k t next (at + 2) end
-      next-two w {next} z = record {
-        within = z .high;
-        ordered-texts = s .low;
-        kept = s .high;
-        same = g .same ∙ rw (s .reads, z .reads, w) (takes-two (keyFits k) _ _ _ (textsIn (drop next t)) e);
-      }
+  next-one : inTwos k ≡ false → Going k t end (at + 2) end
+  next-one w = record {
+    within = g .stands .high;
+    ordered-texts = g .stands .low;
+    kept = g .stands .high;
+    same = g .going .same ∙ rw (g .stands .reads, w) (takes-one (keyFits k) _ _ (textsIn (drop end t)) (g .fits));
+  }
 
-      -- the record's end: that of its second text, if it has two
-      module _ {r : Piece} (p : r ≡ recordEnd k t end) where
-        one-at : inTwos k ≡ false → r ≡ At end
-        one-at w = p ∙ rw w
+  next-two : inTwos k ≡ true → {next : ℕ} → Stands t end next → Going k t next (at + 2) end
+  next-two w {next} z = record {
+    within = z .high;
+    ordered-texts = g .stands .low;
+    kept = g .stands .high;
+    same = g .going .same ∙ rw (g .stands .reads, z .reads, w) (takes-two (keyFits k) _ _ _ (textsIn (drop next t)) (g .fits));
+  }
 
-        two-at : inTwos k ≡ true → r ≡ pieceAt t end
-        two-at w = p ∙ rw w
+  -- the record's end: that of its second text, if it has two
+  module _ {r : Piece} (p : r ≡ recordEnd k t end) where
+    one-at : inTwos k ≡ false → r ≡ At end
+    one-at w = p ∙ rw w
 
-        pub no-second : r ≡ End → false ≡ wellFormed k t
-        no-second q = either (inTwos k) (λ w. half-end w (is-end t end (two-at w) q)) (λ w. absurd (clash-end (sym (one-at w) ∙ q)))
+    two-at : inTwos k ≡ true → r ≡ pieceAt t end
+    two-at w = p ∙ rw w
 
-        pub bad-second : r ≡ Bad → false ≡ wellFormed k t
-        bad-second q = either (inTwos k) (λ w. half-bad (is-bad t end (two-at w) q)) (λ w. absurd (clash-bad (sym (one-at w) ∙ q)))
+    pub no-second : r ≡ End → false ≡ wellFormed k t
+    no-second q = either (inTwos k) (λ w. half-end w (is-end t end (two-at w) q)) (λ w. absurd (clash-end (sym (one-at w) ∙ q)))
 
-        pub next-record : {next : ℕ} → r ≡ At next → Going k t next (at + 2) end
-        next-record {next} q = either (inTwos k) (λ w. next-two w (is-text t end (two-at w) q)) (λ w. moved (same-at (sym (one-at w) ∙ q)) (next-one w))
-          where
-            moved : end ≡ next → Going k t end (at + 2) end → Going k t next (at + 2) end
-            moved m g = rw (sym m) g
+    pub bad-second : r ≡ Bad → false ≡ wellFormed k t
+    bad-second q = either (inTwos k) (λ w. half-bad (is-bad t end (two-at w) q)) (λ w. absurd (clash-bad (sym (one-at w) ∙ q)))
 
-        pub record-on : {next : ℕ} → r ≡ At next → end ≤ next
-        record-on {next} q = either (inTwos k) (λ w. omega (arith, is-text t end (two-at w) q .low)) (λ w. omega (arith, same-at (sym (one-at w) ∙ q)))
+    pub next-record : {next : ℕ} → r ≡ At next → Going k t next (at + 2) end
+    next-record {next} q = either (inTwos k) (λ w. next-two w (is-text t end (two-at w) q)) (λ w. moved (same-at (sym (one-at w) ∙ q)) (next-one w))
+      where
+        moved : end ≡ next → Going k t end (at + 2) end → Going k t next (at + 2) end
+        moved m g = rw (sym m) g
+
+    pub record-on : {next : ℕ} → r ≡ At next → end ≤ next
+    record-on {next} q = either (inTwos k) (λ w. omega (arith, is-text t end (two-at w) q .low)) (λ w. omega (arith, same-at (sym (one-at w) ∙ q)))

@@ -1,11 +1,12 @@
 -- What stands at a place of an image: "A text is a 2-byte big-endian length, then its bytes; no text holds a zero byte."
 use Prim.Native.Nat.{ℕ, _+_, _*_}
 use mathlib.Core.Bool.{_&&_}
-use mathlib.Core.List.{[], _∷_}
+use mathlib.Core.List.{List, [], _∷_}
 use lib.Dec.{leb}
 use lib.ListN.{length, take, drop, getD}
 use Rattle.stages.specs.Bytes.{Text, all, notZero}
 use Rattle.stages.specs.Outcome.{pick}
+use Rattle.stages.specs.Images.{textsIn, orEmpty}
 use Rattle.table.specs.declared.Piece.{Piece}
 use Rattle.table.specs.declared.Piece.the-variants.{End, Bad, At}
 
@@ -22,3 +23,8 @@ pieceOf at (a ∷ b ∷ t) = pick (leb (a * 256 + b) (length t) && all notZero (
 unfoldable pub pieceAt : Text → ℕ → Piece
 unfolding pieceOf
 pieceAt t at = pieceOf at (drop at t)
+
+-- the texts of an image from a place on
+unfoldable pub textsFrom : Text → ℕ → List Text
+unfolding textsIn
+textsFrom t at = orEmpty (textsIn (drop at t))

@@ -1,7 +1,6 @@
 // Images of the four kinds of table: is one well formed, and what stands at a place of it.
 ghost use mathlib.Core.Path.{_≡_};
-ghost use mathlib.Core.Bool.{Bool, true, false};
-ghost use Prim.Native.Nat.{ℕ, _+_, _<_, _≤_};
+ghost use Prim.Native.Nat.{_+_, _<_};
 ghost use lib.ListN.{length};
 ghost use Rattle.stages.specs.Bytes.{ltText};
 ghost use Rattle.stages.specs.Images.{isName, isLogin};

@@ -9,60 +9,55 @@ use lib.Dec.{leb}
 use lib.ListN.{length, take, drop}
 use lib.Seq.{paste, take-take, length-take-le}
 use borrow.Rule.Slice.PartMut.{putMid, midOf}
-use borrow.Author.Tests.{leb-true, leb-false}
-use Rattle.stages.specs.Numbers.{variableRoom, pathsLimit}
+use borrow.Author.Tests.{le-leb, lt-leb}
+use Rattle.stages.specs.Numbers.{pathsLimit}
 use Rattle.stages.specs.Bytes.{Text, part}
-use Rattle.stages.specs.Outcome.{Outcome, refused, done}
+use Rattle.stages.specs.Outcome.{Outcome}
 use Rattle.stages.specs.Images.{framed, written, image, imageLength, heldTexts}
-use Rattle.stages.specs.Call.{over}
 use Rattle.stages.proofs.Bools.{either}
 use Rattle.stages.proofs.Images.{written-append, length-image}
-use Rattle.table_store.specs.Answers.{recordIn, storedOutcome, Writes}
-use Rattle.table_store.specs.Splice.{spliced, placed, within}
-use Rattle.table_store.specs.declared.Stored.{Stored}
-use Rattle.table_store.specs.declared.Stored.the-variants as stored
-use Rattle.table_store.proofs.Writing.{writes-done, writes-refused}
-use Rattle.table_store.proofs.Splices.{within-fits, within-full, spliced-length, put-placed, splice-is}
+use Rattle.table_store.specs.Answers.{recordIn, Writes}
+use Rattle.table_store.specs.Splice.{spliced, placed}
+use Rattle.table_store.proofs.Splices.{spliced-length, put-placed, splice-is}
 use Rattle.table_store.proofs.StoredImages.{drop-take}
-use Rattle.table_store.proofs.Callers.{Wrote, wrote, unwritten}
-use Rattle.table_insert.specs.Added.{withText, Gap, Free, free, taken, adding, Adds}
+use Rattle.table_insert.specs.Added.{withText, Gap, Free, free, taken, Inserts, adding, Adds}
 use Rattle.table_insert.specs.declared.Place.{Place}
 use Rattle.table_insert.specs.declared.Place.the-variants.{At, Taken}
+use Rattle.table_insert.specs.declared.Added.{Added}
 use Rattle.table_insert.specs.declared.Added.the-variants.{Used, Twice, Full}
 
-same : {t u : Text} → done t ≡ done u → t ≡ u
-same e = cc
-
-other : {t : Text} {k : ℕ} → done t ≡ refused k → ⊥
-other e = let z : _≡_ {A = ℕ} 0 1 = cc in omega arith
-
 -- `insert`
-module _ (b path : Text) (used at cap : ℕ) (h : at ≤ used) (l : used ≤ cap) (c : cap ≤ length b) (g : cap ≤ pathsLimit) where
+module _ (b path : Text) (used at limit : ℕ) (h : (at ≤ used) × (used ≤ limit) × (limit ≤ length b) × (limit ≤ pathsLimit)) where
   abbrev new : Text
   new = spliced b used at at (framed path)
 
   new-length : length new ≡ used + (length path + 2)
-  new-length = spliced-length b (framed path) used at at (omega arith) h (omega arith) ∙ omega arith
+  new-length = spliced-length b (framed path) used at at (omega arith) (h .0) (omega arith) ∙ omega arith
 
-  pub insert-full : cap - used < length path + 2 → Writes (within cap new) b b (refused variableRoom)
-  insert-full m = writes-refused variableRoom b (within-full cap new (omega (arith, new-length)))
+  pub insert-full : limit - used < length path + 2 → Inserts limit new b b Full
+  insert-full m = let d : leb (length new) limit ≡ false = lt-leb (length new) limit (omega (arith, new-length)) in
+      record { answers = rw d; leaves = rw d }
 
-  pub insert-kept : (b1 ys : Text) {r : Outcome ℕ} → length path + 2 ≤ cap - used → b1 ≡ paste b (at + (length path + 2)) (drop at b)
+  pub insert-kept : (b1 ys : Text) {r : Outcome ℕ} → length path + 2 ≤ limit - used → b1 ≡ paste b (at + (length path + 2)) (drop at b)
       (used - at) → length b1 ≡ length b
       → Writes (recordIn (length (midOf at (length b1 - at) b1)) path) (midOf at (length b1 - at) b1) ys r
-      → Writes (within cap new) b (putMid at (length b1 - at) b1 ys) (done (used + (length path + 2)))
+      → Inserts limit new b (putMid at (length b1 - at) b1 ys) (Used (used + (length path + 2)))
   insert-kept b1 ys n e long w =
-      writes-done new b (within-fits cap new (omega (arith, new-length))) (sym new-length)
-      (put-placed at path b1 ys (omega arith) (omega arith) w
-      ∙ ap (placed at (framed path)) e
-      ∙ splice-is b (framed path) used at at (omega arith) h (omega arith) (length path + 2) (omega arith) (omega arith))
+      let d : leb (length new) limit ≡ true = le-leb (length new) limit (omega (arith, new-length)) in
+      record {
+        answers = rw d (ap Used (sym new-length));
+        leaves = rw d
+            (put-placed at path b1 ys (omega arith) (omega arith) w
+            ∙ ap (placed at (framed path)) e
+            ∙ splice-is b (framed path) used at at (omega arith) (h .0) (omega arith) (length path + 2) (omega arith) (omega arith));
+      }
 
 -- `add`
-pub add-taken : {t x : Text} {r : Place} → Free t x r → (cap : ℕ) (old : Text) → r ≡ Taken → Adds (adding cap x (heldTexts t)) old old Twice
+pub add-taken : {t x : Text} {r : Place} → Free t x r → (limit : ℕ) (old : Text) → r ≡ Taken → Adds (adding limit x (heldTexts t)) old old Twice
 unfolding adding
-add-taken {t} {x} s cap old e = of-taken (rw e at s)
+add-taken {t} {x} s limit old e = of-taken (rw e at s)
   where
-    of-taken : Free t x Taken → Adds (adding cap x (heldTexts t)) old old Twice
+    of-taken : Free t x Taken → Adds (adding limit x (heldTexts t)) old old Twice
     of-taken (taken h) = rw h (record { answers = refl; leaves = refl })
 
 pub is-free : {t x : Text} {r : Place} → Free t x r → (at : ℕ) → r ≡ At at → Gap t x at
@@ -71,7 +66,7 @@ is-free {t} {x} s at e = of-free (rw e at s)
     of-free : Free t x (At at) → Gap t x at
     of-free (free g) = g
 
-module _ (b x : Text) (used at cap : ℕ) (l : used ≤ length b) (g : Gap (take used b) x at) where
+module _ (b x : Text) (used at : ℕ) (l : used ≤ length b) (g : Gap (take used b) x at) where
   pub gap-within : at ≤ used
   gap-within = omega (arith, g .within, length-take-le used b l)
 
@@ -82,47 +77,20 @@ module _ (b x : Text) (used at cap : ℕ) (l : used ≤ length b) (g : Gap (take
       let back : part b at used ≡ written (g .back) = sym (drop-take at used b gap-within l) ∙ g .high in
       rw (front, back, g .is, written-append (g .front) (x ∷ g .back))
 
-  abbrev more : List Text
-  more = withText x (heldTexts (take used b))
+  -- the bytes between which a path comes, with its record, are the image with the path
+  pub add-inserts : {limit : ℕ} {left : Text} {r : Added} → Inserts limit (spliced b used at at (framed x)) b left r
+      → Adds (adding limit x (heldTexts (take used b))) b left r
+  unfolding adding
+  add-inserts {limit} {left} {r} w = either (leb (imageLength more) limit) yes none
+    where
+      more : List Text
+      more = withText x (heldTexts (take used b))
 
-  -- the two ways of the test of room
-  module _ {left : Text} where
-    adds-more : (n : ℕ) → leb (imageLength more) cap ≡ true → n ≡ length (image more) → left ≡ over (image more) b
-        → Adds (adding cap x (heldTexts (take used b))) b left (Used n)
-    unfolding adding
-    adds-more n d e k = rw (g .new, d) (record { answers = ap Used (e ∙ length-image more); leaves = k })
-
-    adds-none : leb (imageLength more) cap ≡ false → left ≡ b → Adds (adding cap x (heldTexts (take used b))) b left Full
-    unfolding adding
-    adds-none d k = rw (g .new, d) (record { answers = refl; leaves = k })
-
-    module _ (r : Stored) (w : Writes (within cap (spliced b used at at (framed x))) b left (storedOutcome r)) where
-      here : Writes (within cap (image more)) b left (storedOutcome r)
+      here : Inserts limit (image more) b left r
       here = rw with-is at w
 
-      pub add-used : (n : ℕ) → r ≡ stored.Used n → Adds (adding cap x (heldTexts (take used b))) b left (Used n)
-      add-used n e = either (leb (imageLength more) cap) yes none
-        where
-          given : Wrote (within cap (image more)) b left n
-          given = wrote (within cap (image more)) b left n (rw e at here)
+      yes : leb (imageLength more) limit ≡ true → Adds (adding limit x (heldTexts (take used b))) b left r
+      yes d = rw (g .new, d) (record { answers = here .answers ∙ rw (length-image more, d); leaves = here .leaves ∙ rw (length-image more, d) })
 
-          yes : leb (imageLength more) cap ≡ true → Adds (adding cap x (heldTexts (take used b))) b left (Used n)
-          yes d =
-              let q : given .new ≡ image more =
-              same (sym (given .gives) ∙ within-fits cap (image more) (omega (arith, length-image more, leb-true (imageLength more) cap d))) in
-              adds-more n d (given .long ∙ ap length q) (given .leaves ∙ ap (λ (t : Text). over t b) q)
-
-          none : leb (imageLength more) cap ≡ false → Adds (adding cap x (heldTexts (take used b))) b left (Used n)
-          none d = absurd (other (sym (given .gives) ∙ within-full cap (image more) (omega (arith, length-image more, leb-false (imageLength more) cap d))))
-
-      pub add-full : r ≡ stored.Full → Adds (adding cap x (heldTexts (take used b))) b left Full
-      add-full e = either (leb (imageLength more) cap) yes none
-        where
-          given : (within cap (image more) ≡ refused variableRoom) × (left ≡ b)
-          given = unwritten (within cap (image more)) b left variableRoom (rw e at here)
-
-          yes : leb (imageLength more) cap ≡ true → Adds (adding cap x (heldTexts (take used b))) b left Full
-          yes d = absurd (other (sym (within-fits cap (image more) (omega (arith, length-image more, leb-true (imageLength more) cap d))) ∙ given .0))
-
-          none : leb (imageLength more) cap ≡ false → Adds (adding cap x (heldTexts (take used b))) b left Full
-          none d = adds-none d (given .1)
+      none : leb (imageLength more) limit ≡ false → Adds (adding limit x (heldTexts (take used b))) b left r
+      none d = rw (g .new, d) (record { answers = here .answers ∙ rw (length-image more, d); leaves = here .leaves ∙ rw (length-image more, d) })

@@ -41,6 +41,11 @@ pub record Walking (t x : Text) (at : ℕ) : Type 0 where
   pub has : hasText x (heldTexts t) ≡ hasText x rest
   pub rises : rising rest ≡ true
 
+-- the walk where a text stands at its place, up to `end`
+pub record Facing (t x : Text) (at end : ℕ) : Type 0 where
+  pub walk : Walking t x at
+  pub text : Next t at end (walk .rest)
+
 pub starts : (t x : Text) → Column t → Bytes t → Walking t x 1
 unfolding image written
 starts t x w h =
@@ -84,57 +89,63 @@ module _ {t x : Text} {at : ℕ} (s : Walking t x at) where
     pub place-bad : r ≡ piece.Bad → Free t x (At at)
     place-bad e = absurd (ahead-bad (s .ahead) p e)
 
-    module _ {end : ℕ} (e : r ≡ piece.At end) where
-      pub next : Next t at end (s .rest)
-      next = ahead-text (s .ahead) p e
+    pub next-text : {end : ℕ} → r ≡ piece.At end → Facing t x at end
+    next-text e = record { walk = s; text = ahead-text (s .ahead) p e }
 
-      abbrev key : Text
-      key = part t (at + 2) end
+module _ {t x : Text} {at end : ℕ} (f : Facing t x at end) where
+  abbrev s : Walking t x at
+  s = f .walk
 
-      pub place-less : orderOf x key ≡ Less → Free t x (At at)
-      place-less o = here (rw (next .is) (order-below x key o))
+  abbrev next : Next t at end (s .rest)
+  next = f .text
 
-      pub place-same : orderOf x key ≡ Same → Free t x Taken
-      place-same o = taken (s .has ∙ ap (hasText x) (next .is) ∙ rw (order-equal x key o))
+  abbrev key : Text
+  key = part t (at + 2) end
 
-      framing : Frame t at key (written (next .more))
-      framing = frame t at key (written (next .more)) (s .back ∙ ap written (next .is) ∙ unfolded)
-        where
-          unfolded : written (key ∷ next .more) ≡ framed key ++ written (next .more)
-          unfolded = unfold written in refl
+  pub place-less : orderOf x key ≡ Less → Free t x (At at)
+  place-less o = here s (rw (next .is) (order-below x key o))
 
-      end-is : end ≡ at + 2 + length key
-      end-is = omega (arith, next .low, size)
-        where
-          size : length key ≡ end - (at + 2)
-          size = length-take-le (end - (at + 2)) (drop (at + 2) t) (omega (arith, next .ahead .within, length-drop (at + 2) t))
+  pub place-same : orderOf x key ≡ Same → Free t x Taken
+  place-same o = taken (s .has ∙ ap (hasText x) (next .is) ∙ rw (order-equal x key o))
 
-      passes : take end t ≡ image (s .passed ++ (key ∷ []))
-      passes =
-          let z : end ≡ at + length (written (key ∷ [])) = omega (arith, end-is, one) in
-          ap (λ (n : ℕ). take n t) z ∙ take-add at (length (written (key ∷ []))) t
-          ∙ ap (λ (u : Text). u ++ take (length (written (key ∷ []))) (drop at t)) (s .front)
-          ∙ ap (λ (u : Text). image (s .passed) ++ u)
-          (ap (take (length (written (key ∷ [])))) (s .back ∙ ap written (next .is) ∙ written-one key (next .more))
-          ∙ take-at (written (key ∷ [])) (written (next .more)) (length (written (key ∷ []))) refl)
-          ∙ image-more (s .passed) key
-        where
-          one : length (written (key ∷ [])) ≡ 2 + length key
-          one = unfold written in omega (arith, ap length (append-nil key))
+  framing : Frame t at key (written (next .more))
+  framing = frame t at key (written (next .more)) (s .back ∙ ap written (next .is) ∙ unfolded)
+    where
+      unfolded : written (key ∷ next .more) ≡ framed key ++ written (next .more)
+      unfolded = unfold written in refl
 
-      pub place-more : orderOf x key ≡ More → Walking t x end
-      place-more o = record {
-        passed = s .passed ++ (key ∷ []);
-        rest = next .more;
-        ahead = next .ahead;
-        front = passes;
-        back = ap (λ (n : ℕ). drop n t) end-is ∙ framing .next;
-        with =
-            s .with ∙ ap (λ (l : List Text). s .passed ++ withText x l) (next .is)
-            ∙ ap (λ (l : List Text). s .passed ++ l) later ∙ sym (append-assoc (s .passed) (key ∷ []) (withText x (next .more)));
-        has = s .has ∙ ap (hasText x) (next .is) ∙ rw (above-not-equal x key o);
-        rises = rising-tail key (next .more) (ap rising (sym (next .is)) ∙ s .rises);
-      }
-        where
-          later : withText x (key ∷ next .more) ≡ key ∷ withText x (next .more)
-          later = rw (above-not-below x key o)
+  end-is : end ≡ at + 2 + length key
+  end-is = omega (arith, next .low, size)
+    where
+      size : length key ≡ end - (at + 2)
+      size = length-take-le (end - (at + 2)) (drop (at + 2) t) (omega (arith, next .ahead .within, length-drop (at + 2) t))
+
+  passes : take end t ≡ image (s .passed ++ (key ∷ []))
+  passes =
+      let z : end ≡ at + length (written (key ∷ [])) = omega (arith, end-is, one) in
+      ap (λ (n : ℕ). take n t) z ∙ take-add at (length (written (key ∷ []))) t
+      ∙ ap (λ (u : Text). u ++ take (length (written (key ∷ []))) (drop at t)) (s .front)
+      ∙ ap (λ (u : Text). image (s .passed) ++ u)
+      (ap (take (length (written (key ∷ [])))) (s .back ∙ ap written (next .is) ∙ written-one key (next .more))
+      ∙ take-at (written (key ∷ [])) (written (next .more)) (length (written (key ∷ []))) refl)
+      ∙ image-more (s .passed) key
+    where
+      one : length (written (key ∷ [])) ≡ 2 + length key
+      one = unfold written in omega (arith, ap length (append-nil key))
+
+  pub place-more : orderOf x key ≡ More → Walking t x end
+  place-more o = record {
+    passed = s .passed ++ (key ∷ []);
+    rest = next .more;
+    ahead = next .ahead;
+    front = passes;
+    back = ap (λ (n : ℕ). drop n t) end-is ∙ framing .next;
+    with =
+        s .with ∙ ap (λ (l : List Text). s .passed ++ withText x l) (next .is)
+        ∙ ap (λ (l : List Text). s .passed ++ l) later ∙ sym (append-assoc (s .passed) (key ∷ []) (withText x (next .more)));
+    has = s .has ∙ ap (hasText x) (next .is) ∙ rw (above-not-equal x key o);
+    rises = rising-tail key (next .more) (ap rising (sym (next .is)) ∙ s .rises);
+  }
+    where
+      later : withText x (key ∷ next .more) ≡ key ∷ withText x (next .more)
+      later = rw (above-not-below x key o)

@@ -44,6 +44,11 @@ pub data Free (t x : Text) : Place → Type 0 where
   free : {at : ℕ} → Gap t x at → Free t x (At at)
   taken : hasText x (heldTexts t) ≡ true → Free t x Taken
 
+-- bytes stand at the front of the old ones, if they are at most `limit`; if not, the old ones stand as they were
+pub record Inserts (limit : ℕ) (new old left : Text) (r : Added) : Type 0 where
+  pub answers : r ≡ pick (leb (length new) limit) (Used (length new)) Full
+  pub leaves : left ≡ pick (leb (length new) limit) (over new old) old
+
 -- the paths with one more, or why not
 pub data Adding : Type 0 where
   twice : Adding
@@ -57,7 +62,7 @@ addingBy false true l = holds l
 
 unfoldable pub adding : ℕ → Text → List Text → Adding
 unfolding imageLength
-adding cap x l = addingBy (hasText x l) (leb (imageLength (withText x l)) cap) (withText x l)
+adding limit x l = addingBy (hasText x l) (leb (imageLength (withText x l)) limit) (withText x l)
 
 abbrev pub answerOf : Adding → Added
 answerOf twice = Twice

@@ -1,16 +1,11 @@
 // A path into an image of paths: one walk finds its place, what stands behind moves up, and its record is written.
-ghost use mathlib.Core.Path.{_≡_};
-ghost use mathlib.Core.Bool.{true};
-ghost use mathlib.Core.Option.{some};
 ghost use Prim.Native.Nat.{_≤_};
 ghost use lib.ListN.{length, take};
 ghost use Rattle.stages.specs.Numbers.{pathsLimit};
 ghost use Rattle.stages.specs.Images.{framed, heldTexts};
-ghost use Rattle.table_store.specs.Answers.{storedOutcome, Writes};
-ghost use Rattle.table_store.specs.Splice.{spliced, within};
-ghost use Rattle.table_insert.specs.Added.{Column, Free, adding, Adds};
+ghost use Rattle.table_store.specs.Splice.{spliced};
+ghost use Rattle.table_insert.specs.Added.{Column, Free, Inserts, adding, Adds};
 use table::Piece;
-use table_store::Stored;
 use text::Order;
 
 // What adding answers.
@@ -24,7 +19,7 @@ pub enum Added {
 }
 
 // The place of a path that is not there, or that it is there.
-pub enum Place {
+enum Place {
     At(usize),
     Taken,
 }
@@ -55,42 +50,35 @@ fn place_of(image: &[u8], path: &[u8]) -> Place
     }
 }
 
-// Puts the path's record at a place of the first `used` bytes, if they are then at most `cap`. What stands behind it moves up first; the bytes from the
+// Puts the path's record at a place of the first `used` bytes, if they are then at most `limit`. What stands behind it moves up first; the bytes from the
 // new end on stay.
-fn insert(image: &mut [u8], used: usize, at: usize, path: &[u8], cap: usize) -> Stored
-    requires { ⌜ (at ≤ used) × (used ≤ cap) × (cap ≤ length (now image)) × (cap ≤ pathsLimit) ⌝ }
-    ensures { λ r. ⌜ Writes (within cap (spliced (now (image .entry)) used at at (framed (now (path .entry))))) (now (image .entry))
-        (now (image .exit)) (storedOutcome r) ⌝ }
+fn insert(image: &mut [u8], used: usize, at: usize, path: &[u8], limit: usize) -> Added
+    requires { ⌜ (at ≤ used) × (used ≤ limit) × (limit ≤ length (now image)) × (limit ≤ pathsLimit) ⌝ }
+    ensures { λ r. ⌜ Inserts limit (spliced (now (image .entry)) used at at (framed (now (path .entry)))) (now (image .entry)) (now (image .exit)) r ⌝ }
 {
-    let room = cap - used;
+    let room = limit - used;
     if room < 2 {
-        return Stored::Full;
+        return Added::Full;
     }
     if room - 2 < path.len() {
-        return Stored::Full;
+        return Added::Full;
     }
     let size = path.len() + 2;
     text_copy::shift(image, at, at + size, used - at);
     table_store::put_record(&mut image[at..], path);
-    Stored::Used(used + size)
+    Added::Used(used + size)
 }
 
-// Adds a path to the image that the first `used` bytes are, if it is not there yet and the new image has at most `cap` bytes; if not, all bytes stay.
+// Adds a path to the image that the first `used` bytes are, if it is not there yet and the new image has at most `limit` bytes; if not, all bytes stay.
 // The bytes from the new image's end on stay.
-pub fn add(image: &mut [u8], used: usize, path: &[u8], cap: usize) -> Added
-    requires { ⌜ (used ≤ cap) × (cap ≤ length (now image)) × (cap ≤ pathsLimit) ⌝ }
+pub fn add(image: &mut [u8], used: usize, path: &[u8], limit: usize) -> Added
+    requires { ⌜ (used ≤ limit) × (limit ≤ length (now image)) × (limit ≤ pathsLimit) ⌝ }
     requires { ⌜ Column (take used (now image)) ⌝ }
-    ensures { λ r. ⌜ Adds (adding cap (now (path .entry)) (heldTexts (take used (now (image .entry))))) (now (image .entry)) (now (image .exit)) r ⌝ }
+    ensures { λ r. ⌜ Adds (adding limit (now (path .entry)) (heldTexts (take used (now (image .entry))))) (now (image .entry)) (now (image .exit)) r ⌝ }
 {
     let place = place_of(&image[..used], path);
     match place {
         Place::Taken => Added::Twice,
-        Place::At(at) => {
-            let stored = insert(image, used, at, path, cap);
-            match stored {
-                Stored::Used(n) => Added::Used(n),
-                Stored::Full => Added::Full,
-            }
-        }
+        Place::At(at) => insert(image, used, at, path, limit),
     }
 }

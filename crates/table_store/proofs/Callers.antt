@@ -1,15 +1,14 @@
--- What callers learn from an answer. The record writer: an image grows by a text. The store: the new image holds what the stage's store gives, is again
--- an image of variables, and is looked up as the stage's.
-use Prim.Native.Nat.{ℕ, _+_, _-_, _≤_, _<_}
+-- What callers learn from an answer. The record writer: the text's record stands at the front, or had no room. The store: the new image holds what the
+-- stage's store gives, is again an image of variables, and is looked up as the stage's.
+use Prim.Native.Nat.{ℕ, _+_, _≤_, _<_}
 use native.Mathlib.Omega.{arith}
 use mathlib.Core.Path.{_≡_, refl, sym, ap, _∙_}
 use mathlib.Core.Bool.{Bool, true, false, _&&_}
-use mathlib.Core.List.{List, [], _∷_, _++_, append-assoc, append-nil}
+use mathlib.Core.List.{[], _∷_}
 use mathlib.Core.Option.{some}
 use lib.Dec.{leb}
-use lib.ListN.{length, take, drop, set, length-append, length-drop}
-use lib.Seq.{take-at, drop-at, drop-drop, take-all, drop-length}
-use borrow.Rule.Slice.PartMut.{putMid, midOf}
+use lib.ListN.{length, take, set}
+use lib.Seq.{take-at}
 use borrow.Author.Tests.{leb-true, leb-false, le-leb}
 use Rattle.stages.specs.Numbers.{variableRoom, outputRoom, imageLimit}
 use Rattle.stages.specs.Bytes.{Text, all, notZero, eqText}
@@ -18,11 +17,10 @@ use Rattle.stages.specs.Images.{Pairs, isName, framed, written, image, imageLen
 use Rattle.stages.specs.Expand.{store}
 use Rattle.stages.specs.Call.{over}
 use Rattle.stages.proofs.Bools.{and-left, and-right}
-use Rattle.stages.proofs.Images.{length-image, written-append}
+use Rattle.stages.proofs.Images.{length-image}
 use Rattle.stages.proofs.Tables.{Vars}
 use Rattle.stages.proofs.Stores.{held-stored, vars-stored, lookup-stored, lookup-other}
 use Rattle.stages.proofs.Outcomes.{done-same, never}
-use Rattle.stages.proofs.Rooms.{over-length}
 use Rattle.table_store.specs.Answers.{putOutcome, storedOutcome, textLimit, recordIn, imageIn, Writes}
 use Rattle.table_store.specs.declared.Put.{Put}
 use Rattle.table_store.specs.declared.Put.the-variants.{Len, NoRoom}
@@ -92,127 +90,65 @@ module _ (t out left : Text) (r : Put) (w : Writes (recordIn (length out) t) out
       let d : (recordIn (length out) t ≡ refused outputRoom) × (left ≡ out) = unwritten (recordIn (length out) t) out left outputRoom (rw e at w) in
       (d .1, record-refused (length out) t outputRoom (d .0))
 
--- the image of l stands at the front of a buffer that held `old`
-pub record Fills (l : List Text) (old out : Text) (used : ℕ) : Type 0 where
-  pub long : used ≡ length (image l)
-  pub small : used ≤ length old
-  pub is : out ≡ over (image l) old
-
 -- the version byte alone is the image of no texts
-pub fills-none : (old : Text) → 1 ≤ length old → Fills [] old (set old 0 1) 1
+pub version-first : (old : Text) → 1 ≤ length old → set old 0 1 ≡ over (image []) old
 unfolding image written over
-fills-none [] h = absurd (omega arith)
-fills-none (b ∷ t) h = record { long = refl; small = h; is = refl }
-
-image-snoc : (l : List Text) (t : Text) → image (l ++ (t ∷ [])) ≡ image l ++ framed t
-unfolding image written
-image-snoc l t = ap (λ (x : Text). 1 ∷ x) (written-append l (t ∷ []) ∙ rw (append-nil t))
-
--- an image that is handed over by one copy
-pub copied-over : (t part old left : Text) → part ≡ t → left ≡ part ++ drop (length part) old → left ≡ over t old
-unfolding over
-copied-over t part old left e q = q ∙ ap (λ (x : Text). x ++ drop (length x) old) e
-
--- "Each field is written behind the last one.": `put_record(&mut out[used..], t)`
-module _ (l : List Text) (t old out ys : Text) (used : ℕ) (r : Put) (f : Fills l old out used)
-    (w : Writes (recordIn (length (midOf used (length out - used) out)) t) (midOf used (length out - used) out) ys (putOutcome r)) where
-  out-length : length out ≡ length old
-  out-length = ap length (f .is) ∙ over-length (image l) old (omega (arith, f .long, f .small))
-
-  free-is : midOf used (length out - used) out ≡ drop used old
-  unfolding over
-  free-is =
-      let n : length (drop used out) ≡ length out - used = length-drop used out in
-      take-all (length out - used) (drop used out) (omega arith)
-      ∙ ap (drop used) (f .is)
-      ∙ drop-at (image l) (drop (length (image l)) old) used (sym (f .long))
-      ∙ ap (λ (k : ℕ). drop k old) (sym (f .long))
-
-  free-length : length (midOf used (length out - used) out) ≡ length old - used
-  free-length = ap length free-is ∙ length-drop used old
-
-  pub put-next : (n : ℕ) → r ≡ Len n → Fills (l ++ (t ∷ [])) old (putMid used (length out - used) out ys) (used + n)
-  unfolding over
-  put-next n e =
-      let d : (n ≡ length t + 2) × (ys ≡ over (framed t) (midOf used (length out - used) out)) ×
-      (length t + 2 ≤ length (midOf used (length out - used) out)) =
-      put-len t (midOf used (length out - used) out) ys r w n e in
-      let i : length (image (l ++ (t ∷ []))) ≡ length (image l) + length (framed t) = ap length (image-snoc l t) ∙ length-append (image l) (framed t) in
-      let q : used + length (framed t) ≡ length (image (l ++ (t ∷ []))) = omega (arith, f .long, i) in
-      let m : drop (length (framed t)) (drop used old) ≡ drop (length (image (l ++ (t ∷ [])))) old =
-      drop-drop (length (framed t)) used old ∙ ap (λ (k : ℕ). drop k old) q in
-      let y : ys ≡ framed t ++ drop (length (image (l ++ (t ∷ [])))) old =
-      d .1 ∙ ap (λ (x : Text). framed t ++ drop (length (framed t)) x) free-is ∙ ap (λ (x : Text). framed t ++ x) m in
-      let a : take used out ≡ image l = ap (take used) (f .is) ∙ take-at (image l) (drop (length (image l)) old) used (sym (f .long)) in
-      let z : drop (length out - used) (drop used out) ≡ [] = rw (← length-drop used out) (drop-length (drop used out)) in
-      record {
-        long = omega (arith, f .long, i, d .0);
-        small = omega (arith, f .small, d .0, d .2, free-length);
-        is = rw (z, append-nil ys, a, y)
-            (sym (append-assoc (image l) (framed t) (drop (length (image (l ++ (t ∷ [])))) old)) ∙ ap
-            (λ (x : Text). x ++ drop (length (image (l ++ (t ∷ [])))) old) (sym (image-snoc l t)));
-      }
-
-  pub put-last : r ≡ NoRoom → length t ≤ textLimit → length old < imageLength (l ++ (t ∷ []))
-  put-last e h =
-      let d : length (midOf used (length out - used) out) < length t + 2 = put-none t (midOf used (length out - used) out) ys r w e .1 h in
-      let i : imageLength (l ++ (t ∷ [])) ≡ length (image l) + length (framed t) =
-      sym (length-image (l ++ (t ∷ []))) ∙ ap length (image-snoc l t) ∙ length-append (image l) (framed t) in
-      omega (arith, f .long, f .small, free-length, i)
+version-first [] h = absurd (omega arith)
+version-first (b ∷ t) h = refl
 
 -- `store`
 
 -- the stage's store is made, and its image stands at the front
-pub record Grown (cap : ℕ) (x t : Text) (v : Pairs) (old left : Text) (n : ℕ) : Type 0 where
-  pub gives : store cap x t v ≡ done (stored x t v)
+pub record Grown (limit : ℕ) (x t : Text) (v : Pairs) (old left : Text) (n : ℕ) : Type 0 where
+  pub gives : store limit x t v ≡ done (stored x t v)
   pub long : n ≡ imageLength (flat (stored x t v))
-  pub small : n ≤ cap
+  pub small : n ≤ limit
   pub smaller : n ≤ imageLimit
   pub leaves : left ≡ over (image (flat (stored x t v))) old
 
-module _ (cap : ℕ) (x t : Text) (v : Pairs) (old left : Text) (r : Stored) (w : Writes (imageIn cap x t v) old left (storedOutcome r)) where
+module _ (limit : ℕ) (x t : Text) (v : Pairs) (old left : Text) (r : Stored) (w : Writes (imageIn limit x t v) old left (storedOutcome r)) where
   abbrev bytes : ℕ
   bytes = imageLength (flat (stored x t v))
 
   abbrev new : Text
   new = image (flat (stored x t v))
 
-  pub store-used : (n : ℕ) → r ≡ Used n → Grown cap x t v old left n
-  store-used n e = go (leb bytes cap && leb bytes imageLimit) refl
+  pub store-used : (n : ℕ) → r ≡ Used n → Grown limit x t v old left n
+  store-used n e = go (leb bytes limit && leb bytes imageLimit) refl
     where
-      told : Wrote (imageIn cap x t v) old left n
-      told = wrote (imageIn cap x t v) old left n (rw e at w)
+      told : Wrote (imageIn limit x t v) old left n
+      told = wrote (imageIn limit x t v) old left n (rw e at w)
 
       same : {a b : Text} → done a ≡ done b → a ≡ b
       same e = cc
 
-      grown : (leb bytes cap && leb bytes imageLimit) ≡ true → new ≡ told .new → Grown cap x t v old left n
+      grown : (leb bytes limit && leb bytes imageLimit) ≡ true → new ≡ told .new → Grown limit x t v old left n
       grown d k =
           let m : n ≡ bytes = told .long ∙ ap length (sym k) ∙ length-image (flat (stored x t v)) in
           record {
-            gives = store-by x t v cap true d;
+            gives = store-by x t v limit true d;
             long = m;
-            small = rw m (leb-true bytes cap (and-left (leb bytes cap) (leb bytes imageLimit) d));
-            smaller = rw m (leb-true bytes imageLimit (and-right (leb bytes cap) (leb bytes imageLimit) d));
+            small = rw m (leb-true bytes limit (and-left (leb bytes limit) (leb bytes imageLimit) d));
+            smaller = rw m (leb-true bytes imageLimit (and-right (leb bytes limit) (leb bytes imageLimit) d));
             leaves = told .leaves ∙ ap (λ (y : Text). over y old) (sym k);
           }
 
-      go : (b : Bool) → (leb bytes cap && leb bytes imageLimit) ≡ b → Grown cap x t v old left n
-      go true d = grown d (same (sym (image-by x t v cap true d) ∙ told .gives))
-      go false d = absurd (never (sym (told .gives) ∙ image-by x t v cap false d))
+      go : (b : Bool) → (leb bytes limit && leb bytes imageLimit) ≡ b → Grown limit x t v old left n
+      go true d = grown d (same (sym (image-by x t v limit true d) ∙ told .gives))
+      go false d = absurd (never (sym (told .gives) ∙ image-by x t v limit false d))
 
-  pub store-full : r ≡ Full → (store cap x t v ≡ refused variableRoom) × (left ≡ old)
-  store-full e = go (leb bytes cap && leb bytes imageLimit) refl
+  pub store-full : r ≡ Full → (store limit x t v ≡ refused variableRoom) × (left ≡ old)
+  store-full e = go (leb bytes limit && leb bytes imageLimit) refl
     where
-      told : (imageIn cap x t v ≡ refused variableRoom) × (left ≡ old)
-      told = unwritten (imageIn cap x t v) old left variableRoom (rw e at w)
+      told : (imageIn limit x t v ≡ refused variableRoom) × (left ≡ old)
+      told = unwritten (imageIn limit x t v) old left variableRoom (rw e at w)
 
-      go : (b : Bool) → (leb bytes cap && leb bytes imageLimit) ≡ b → (store cap x t v ≡ refused variableRoom) × (left ≡ old)
-      go true d = absurd (never (sym (image-by x t v cap true d) ∙ told .0))
-      go false d = (store-by x t v cap false d, told .1)
+      go : (b : Bool) → (leb bytes limit && leb bytes imageLimit) ≡ b → (store limit x t v ≡ refused variableRoom) × (left ≡ old)
+      go true d = absurd (never (sym (image-by x t v limit true d) ∙ told .0))
+      go false d = (store-by x t v limit false d, told .1)
 
 -- the variables behind a store: the first n bytes that are left
-module _ (cap : ℕ) (x t : Text) (old left : Text) (used n : ℕ) (g : Grown cap x t (held (take used old)) old left n) where
+module _ (limit : ℕ) (x t : Text) (old left : Text) (used n : ℕ) (g : Grown limit x t (held (take used old)) old left n) where
   pub store-image : take n left ≡ image (flat (stored x t (held (take used old))))
   unfolding over
   store-image =

@@ -1,10 +1,9 @@
 -- The contracts determine every answer and every byte: two outcomes that a contract allows for one input are equal.
 use Prim.Native.Nat.{ℕ}
-use native.Mathlib.Omega.{arith}
 use mathlib.Core.Path.{_≡_, refl, sym, ap, _∙_}
 use lib.ListN.{length, take}
 use Rattle.stages.specs.Bytes.{Text}
-use Rattle.stages.specs.Outcome.{Outcome, refused, done}
+use Rattle.stages.specs.Outcome.{Outcome}
 use Rattle.stages.specs.Images.{held}
 use Rattle.stages.proofs.Outcomes.{done-same, never}
 use Rattle.table_store.specs.Answers.{putOutcome, storedOutcome, recordIn, imageIn, Writes}
@@ -35,8 +34,8 @@ pub put-record-determined : (text out left left′ : Text) (r s : Put) → Write
     → Writes (recordIn (length out) text) out left′ (putOutcome s) → (r ≡ s) × (left ≡ left′)
 put-record-determined text out left left′ r s w w′ = (put-one r s (writes-once w w′ .0), writes-once w w′ .1)
 
-pub store-determined : (vars name value left left′ : Text) (used cap : ℕ) (r s : Stored)
-    → Writes (imageIn cap name value (held (take used vars))) vars left (storedOutcome r)
-    → Writes (imageIn cap name value (held (take used vars))) vars left′ (storedOutcome s)
+pub store-determined : (vars name value left left′ : Text) (used limit : ℕ) (r s : Stored)
+    → Writes (imageIn limit name value (held (take used vars))) vars left (storedOutcome r)
+    → Writes (imageIn limit name value (held (take used vars))) vars left′ (storedOutcome s)
     → (r ≡ s) × (left ≡ left′)
-store-determined vars name value left left′ used cap r s w w′ = (stored-one r s (writes-once w w′ .0), writes-once w w′ .1)
+store-determined vars name value left left′ used limit r s w w′ = (stored-one r s (writes-once w w′ .0), writes-once w w′ .1)

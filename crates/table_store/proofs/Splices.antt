@@ -21,13 +21,13 @@ use Rattle.table_store.specs.Splice.{spliced, placed, within, roomFor}
 use Rattle.table_store.proofs.Placed.{placed-length}
 use Rattle.table_store.proofs.Writing.{writes-done, writes-refused, record-fits}
 
-pub within-fits : (cap : ℕ) (t : Text) → length t ≤ cap → within cap t ≡ done t
+pub within-fits : (limit : ℕ) (t : Text) → length t ≤ limit → within limit t ≡ done t
 unfolding within
-within-fits cap t h = rw (le-leb (length t) cap h)
+within-fits limit t h = rw (le-leb (length t) limit h)
 
-pub within-full : (cap : ℕ) (t : Text) → cap < length t → within cap t ≡ refused variableRoom
+pub within-full : (limit : ℕ) (t : Text) → limit < length t → within limit t ≡ refused variableRoom
 unfolding within
-within-full cap t h = rw (lt-leb (length t) cap h)
+within-full limit t h = rw (lt-leb (length t) limit h)
 
 -- what `fits` answers, and what its answer tells
 
@@ -114,8 +114,8 @@ module _ (b w : Text) (used at end : ℕ) (h : at ≤ end) (k : end ≤ used) (l
         ∙ regroup (take at b) w (part b end used) (drop (length (spliced b used at end w)) b)
 
 -- what `splice` answers and leaves
-module _ (b name value : Text) (used at end cap : ℕ)
-    (p : (at ≤ end) × (end ≤ used) × (used ≤ cap) × (cap ≤ length b) × (cap ≤ imageLimit)) where
+module _ (b name value : Text) (used at end limit : ℕ)
+    (p : (at ≤ end) × (end ≤ used) × (used ≤ limit) × (limit ≤ length b) × (limit ≤ imageLimit)) where
   abbrev new : Text
   new = framed name ++ framed value
 
@@ -128,10 +128,10 @@ module _ (b name value : Text) (used at end cap : ℕ)
   new-length : length (spliced b used at end new) ≡ at + (size + (used - end))
   new-length = spliced-length b new used at end (p .0) (p .1) (omega arith) ∙ ap (λ (n : ℕ). at + (n + (used - end))) new-size
 
-  pub splice-full : cap - (used - (end - at)) < size → Writes (within cap (spliced b used at end new)) b b (refused variableRoom)
-  splice-full m = writes-refused variableRoom b (within-full cap (spliced b used at end new) (omega (arith, new-length)))
+  pub splice-full : limit - (used - (end - at)) < size → Writes (within limit (spliced b used at end new)) b b (refused variableRoom)
+  splice-full m = writes-refused variableRoom b (within-full limit (spliced b used at end new) (omega (arith, new-length)))
 
-  module _ (b1 ys1 : Text) {r1 : Outcome ℕ} (n : size ≤ cap - (used - (end - at))) (e : b1 ≡ paste b (at + size) (drop end b) (used - end))
+  module _ (b1 ys1 : Text) {r1 : Outcome ℕ} (n : size ≤ limit - (used - (end - at))) (e : b1 ≡ paste b (at + size) (drop end b) (used - end))
       (long : length b1 ≡ length b)
       (w1 : Writes (recordIn (length (midOf at (length b1 - at) b1)) name) (midOf at (length b1 - at) b1) ys1 r1) where
     abbrev b2 : Text
@@ -151,10 +151,10 @@ module _ (b name value : Text) (used at end cap : ℕ)
 
     pub splice-kept : (ys2 : Text) {r2 : Outcome ℕ} → Writes (recordIn (length (midOf next (length b2 - next) b2)) value)
         (midOf next (length b2 - next) b2) ys2 r2
-        → Writes (within cap (spliced b used at end new)) b (putMid next (length b2 - next) b2 ys2) (done (used - (end - at) + size))
+        → Writes (within limit (spliced b used at end new)) b (putMid next (length b2 - next) b2 ys2) (done (used - (end - at) + size))
     splice-kept ys2 w2 =
         writes-done (spliced b used at end new) b
-        (within-fits cap (spliced b used at end new) (omega (arith, new-length)))
+        (within-fits limit (spliced b used at end new) (omega (arith, new-length)))
         (omega (arith, new-length))
         (put-placed next value b2 ys2 (omega arith) (omega (arith, b2-length)) w2
         ∙ ap (λ (x : Text). placed next (framed value) x) b2-is

@@ -3,7 +3,6 @@ use Prim.Native.Nat.{ℕ, _+_, _-_, _≤_}
 use native.Mathlib.Omega.{arith}
 use mathlib.Core.Path.{_≡_, refl, sym, ap, _∙_}
 use mathlib.Core.Bool.{Bool, true, false, _&&_}
-use mathlib.Core.Logic.{_⊎_, inl, inr}
 use mathlib.Core.List.{_∷_, _++_, append-assoc}
 use lib.Dec.{leb}
 use lib.ListN.{length, take, drop}
@@ -14,7 +13,7 @@ use Rattle.stages.specs.Bytes.{Text, part}
 use Rattle.stages.specs.Outcome.{Outcome, refused, done, pick}
 use Rattle.stages.specs.Images.{Pairs, framed, written, image, imageLength, flat, stored, held}
 use Rattle.stages.specs.Expand.{store}
-use Rattle.stages.proofs.Bools.{and-left, and-right, and-both, same-tests}
+use Rattle.stages.proofs.Bools.{and-both}
 use Rattle.stages.proofs.Images.{written-append, flat-append, length-image}
 use Rattle.table.specs.Places.{Hole, before, behind}
 use Rattle.table.proofs.Splits.{stored-between}
@@ -66,32 +65,17 @@ module _ (x t : Text) (v : Pairs) where
           (rw (length-image (flat (stored x t v)), e))
       go false e = image-by room false (rw e) ∙ sym (rw (length-image (flat (stored x t v)), e))
 
-  -- the lesser of a buffer and 8,192 gives what the buffer gives
-  pub store-capped : (cap room : ℕ) → cap ≤ room → (cap ≡ room) ⊎ (cap ≡ imageLimit) → store cap x t v ≡ store room x t v
-  store-capped cap room h (inl e) = ap (λ (n : ℕ). store n x t v) e
-  store-capped cap room h (inr e) = store-by cap (fits room) (same-tests (fits cap) (fits room) more less) ∙ sym (store-by room (fits room) refl)
-    where
-      more : fits cap ≡ true → fits room ≡ true
-      more d =
-          and-both (le-leb bytes room (omega (arith, leb-true bytes cap (and-left (leb bytes cap) (leb bytes imageLimit) d))))
-          (and-right (leb bytes cap) (leb bytes imageLimit) d)
-
-      less : fits room ≡ true → fits cap ≡ true
-      less d =
-          let k : leb bytes imageLimit ≡ true = and-right (leb bytes room) (leb bytes imageLimit) d in
-          let m : leb bytes cap ≡ true = rw e k in
-          and-both m k
-
 -- the place of a name, and what `splice` does there
 module _ (b name : Text) (used at end : ℕ) (l : used ≤ length b) (h : Hole (take used b) name at end) where
   pub hole-within : (at ≤ end) × (end ≤ used)
   hole-within = let u : length (take used b) ≡ used = length-take-le used b l in (h .low, omega (arith, h .high))
 
-  pub store-writes : (value left : Text) (cap : ℕ) {r : Outcome ℕ} → cap ≤ imageLimit
-      → Writes (within cap (spliced b used at end (framed name ++ framed value))) b left r → Writes (imageIn cap name value (held (take used b))) b left r
-  store-writes value left cap {r} k w =
+  pub store-writes : (value left : Text) (limit : ℕ) {r : Outcome ℕ} → limit ≤ imageLimit
+      → Writes (within limit (spliced b used at end (framed name ++ framed value))) b left r
+      → Writes (imageIn limit name value (held (take used b))) b left r
+  store-writes value left limit {r} k w =
       let e : spliced b used at end (framed name ++ framed value) ≡ image (flat (stored name value (held (take used b)))) =
       splice-image b name value used at end (before name (held (take used b))) (behind name (held (take used b))) (hole-within .0) (hole-within .1) l
       (h .front) (h .back)
       ∙ ap (λ (v : Pairs). image (flat v)) (sym (stored-between name value (held (take used b)))) in
-      rw (image-within name value (held (take used b)) cap k, ← e) w
+      rw (image-within name value (held (take used b)) limit k, ← e) w

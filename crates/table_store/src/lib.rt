@@ -1,7 +1,7 @@
 // Writing into images: a text's record at the front of a lent area, and a variable stored in place by one splice.
 ghost use mathlib.Core.Path.{_≡_};
 ghost use mathlib.Core.List.{_++_};
-ghost use Prim.Native.Nat.{ℕ, _+_, _≤_};
+ghost use Prim.Native.Nat.{_+_, _≤_};
 ghost use lib.ListN.{length, take};
 ghost use Rattle.stages.specs.Numbers.{imageLimit};
 ghost use Rattle.stages.specs.Images.{framed, held};
@@ -58,45 +58,45 @@ fn fits(name: usize, value: usize, room: usize) -> bool
     4 <= room - name - value
 }
 
-// Puts the two records in the place of the bytes from `at` to `end`, if the first `used` bytes are then at most `cap`. What stands behind them moves
+// Puts the two records in the place of the bytes from `at` to `end`, if the first `vars_used` bytes are then at most `limit`. What stands behind them moves
 // first, up or down; the bytes from the new end on stay.
 fn splice(
     vars: &mut [u8],
-    used: usize,
+    vars_used: usize,
     at: usize,
     end: usize,
     name: &[u8],
     value: &[u8],
-    cap: usize,
+    limit: usize,
 ) -> Stored
-    requires { ⌜ (at ≤ end) × (end ≤ used) × (used ≤ cap) × (cap ≤ length (now vars)) × (cap ≤ imageLimit) ⌝ }
-    ensures { λ r. ⌜ Writes (within cap (spliced (now (vars .entry)) used at end (framed (now (name .entry)) ++ framed (now (value .entry)))))
+    requires { ⌜ (at ≤ end) × (end ≤ «vars_used») × («vars_used» ≤ limit) × (limit ≤ length (now vars)) × (limit ≤ imageLimit) ⌝ }
+    ensures { λ r. ⌜ Writes (within limit (spliced (now (vars .entry)) «vars_used» at end (framed (now (name .entry)) ++ framed (now (value .entry)))))
         (now (vars .entry)) (now (vars .exit)) (storedOutcome r) ⌝ }
 {
-    let kept = used - (end - at);
-    if !fits(name.len(), value.len(), cap - kept) {
+    let kept = vars_used - (end - at);
+    if !fits(name.len(), value.len(), limit - kept) {
         return Stored::Full;
     }
     let size = name.len() + value.len() + 4;
-    text_copy::shift(vars, end, at + size, used - end);
+    text_copy::shift(vars, end, at + size, vars_used - end);
     put_record(&mut vars[at..], name);
     let next = at + 2 + name.len();
     put_record(&mut vars[next..], value);
     Stored::Used(kept + size)
 }
 
-// Stores a value under a name in the image that the first `used` bytes are, if the new image has at most `cap` bytes; if not, all bytes stay. A name
+// Stores a value under a name in the image that the first `vars_used` bytes are, if the new image has at most `limit` bytes; if not, all bytes stay. A name
 // that is there gets the new value in its place, a new one comes where its order wants it. The bytes from the new image's end on stay, also when it
-// is shorter than the old one. A caller gives the lesser of its buffer and 8,192 as `cap`.
-pub fn store(vars: &mut [u8], used: usize, name: &[u8], value: &[u8], cap: usize) -> Stored
-    requires { ⌜ (used ≤ cap) × (cap ≤ length (now vars)) × (cap ≤ imageLimit) ⌝ }
-    requires { ⌜ Table (take used (now vars)) ⌝ }
-    ensures { λ r. ⌜ Writes (imageIn cap (now (name .entry)) (now (value .entry)) (held (take used (now (vars .entry))))) (now (vars .entry))
+// is shorter than the old one. A caller gives the lesser of its buffer and 8,192 as `limit`.
+pub fn store(vars: &mut [u8], vars_used: usize, name: &[u8], value: &[u8], limit: usize) -> Stored
+    requires { ⌜ («vars_used» ≤ limit) × (limit ≤ length (now vars)) × (limit ≤ imageLimit) ⌝ }
+    requires { ⌜ Table (take «vars_used» (now vars)) ⌝ }
+    ensures { λ r. ⌜ Writes (imageIn limit (now (name .entry)) (now (value .entry)) (held (take «vars_used» (now (vars .entry))))) (now (vars .entry))
         (now (vars .exit)) (storedOutcome r) ⌝ }
 {
-    let spot = table_find::place_of(&vars[..used], name);
+    let spot = table_find::place_of(&vars[..vars_used], name);
     match spot {
-        Spot::Known { at, mid: _, end } => splice(vars, used, at, end, name, value, cap),
-        Spot::Fresh(at) => splice(vars, used, at, at, name, value, cap),
+        Spot::Known { at, mid: _, end } => splice(vars, vars_used, at, end, name, value, limit),
+        Spot::Fresh(at) => splice(vars, vars_used, at, at, name, value, limit),
     }
 }

@@ -31,7 +31,7 @@ fn hold_numbers(told: Told, case: &[u8], answer: Answer) -> Told {
     hold_word(
         told,
         b"used length",
-        answer.used_len,
+        answer.vars_used,
         case,
         words::USED_LENGTH,
     )

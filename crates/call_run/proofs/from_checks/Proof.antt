@@ -1,9 +1,14 @@
 -- A call is refused by its checks, or worked out on copies.
+use mathlib.Core.Path.{refl}
 use Rattle.call_check.proofs.Checking.{check-passed, check-refused}
 use Rattle.call_run.proofs.Answering.{answer-refused}
 use borrow.Author.Needs.{needs}
 use Rattle.call_run.proofs.from_checks.Statement.{statement}
 use Rattle.call_run.proofs.from_checks.Tie as tie
+
+-- the call's entry, where it has been checked
+abbrev entry : tie.After-check → tie.Start
+entry c = c .before .before .before .before .before .before .before .before .before .before
 
 check-requires : tie.Need-check-requires
 check-requires c κs = search needs
@@ -17,8 +22,10 @@ refuse-requires c κs = search needs
 enum-told : tie.Need-enum-told
 enum-told c = search needs
 
-with-copies-requires : tie.Need-with-copies-requires
-with-copies-requires c κs = check-passed _ _ (c .before .before .before .before .before .check .ensures) (c .before .before .before .enum-told .given .1)
+with-copy-requires : tie.Need-with-copy-requires
+with-copy-requires c κs =
+    let t = c .before .before .before in
+    (check-passed _ _ (t .before .before .check .ensures) (t .enum-told .given .1), refl)
 
 same-length : tie.Need-same-length
 same-length c = search needs
@@ -30,10 +37,10 @@ same-length-3 : tie.Need-same-length-3
 same-length-3 c = search needs
 
 returns : tie.Need-returns
-returns c = answer-refused
-    (c .before .before .before .before .before .before .before .before .before .before .before .before .before .before .args .job) _
-    (check-refused (c .before .before .before .before .before .before .before .before .before .before .before .before .before .before .args .job) _
-    (c .before .before .before .before .check .ensures) (c .before .before .checked .given .1)) (c .refuse .ensures)
+returns c =
+    let k = c .before .before .before .before in
+    let job = entry k .args .job in
+    answer-refused job _ (check-refused job _ (k .check .ensures) (c .before .before .checked .given .1)) (c .refuse .ensures)
 
 same-length-4 : tie.Need-same-length-4
 same-length-4 c = search needs
@@ -55,7 +62,7 @@ from-checks-spec =
     enum-known-checked
     refuse-requires
     enum-told
-    with-copies-requires
+    with-copy-requires
     same-length
     same-length-2
     same-length-3

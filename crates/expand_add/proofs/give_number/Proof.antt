@@ -1,8 +1,10 @@
 -- Twenty bytes are lent for the digits.
-use Rattle.expand_add.proofs.Fitting.{adds-marked}
+use Rattle.expand_add.proofs.Fitting.{adds-text}
 use Rattle.stages.specs.Constants.{signed}
+use Rattle.stages.specs.Units.{expandedMark}
+use Rattle.row.specs.Marks.{markOf}
 use borrow.Author.Needs.{needs}
-use mathlib.Core.Path.{refl, ap}
+use mathlib.Core.Path.{ap}
 use mir.Syntax.{w64}
 use mir.ValLaws.{toZ-ofZ}
 use Rattle.expand_add.proofs.give_number.Statement.{statement}
@@ -18,10 +20,12 @@ same-length : tie.Need-same-length
 same-length c = search needs
 
 returns : tie.Need-returns
-returns c = adds-marked (c .before .before .before .before .before .before .before .args .used)
-    (c .before .before .before .give-signed .last .1 .1 .1 .1 .0) (c .before .before .before .give-signed .result) refl
-    (ap signed (toZ-ofZ w64 (c .before .before .before .before .before .before .before .args .z)
-    (c .before .before .before .before .before .before .before .fits .z))) (c .before .before .before .give-signed .ensures)
+returns c =
+    let g = c .before .before .before .give-signed in
+    let start = c .before .before .before .before .before .before .before in
+    let a = start .args in
+    adds-text (a .row .units) (a .on) (expandedMark (markOf (a .row .mark))) (g .last .1 .1 .1 .1 .0) (g .result)
+    (ap signed (toZ-ofZ w64 (a .z) (start .fits .z))) (g .ensures)
 
 pub give-number-spec : {M : Type 1} → statement M
 give-number-spec = tie.close (tie.spec slice-aggregate-give-signed give-signed-requires same-length returns)

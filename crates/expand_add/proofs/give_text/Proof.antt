@@ -12,8 +12,8 @@ sub-room c = search needs
 
 returns : tie.Need-returns
 returns c =
-    let a = c .before .before .before .args in
-    measured-full (a .used) (marked (markOf (a .mark)) (a .text .now)) (omega (arith, marked-count (markOf (a .mark)) (a .text .now)))
+    let a = c .before .before .before .before .args in
+    measured-full (a .row .units) (marked (markOf (a .row .mark)) (a .text .now)) (omega (arith, marked-count (markOf (a .row .mark)) (a .text .now)))
 
 put-marked-requires : tie.Need-put-marked-requires
 put-marked-requires c κs = search needs
@@ -23,9 +23,9 @@ same-length c = search needs
 
 returns-2 : tie.Need-returns-2
 returns-2 c =
-    let a = c .before .before .before .before .before .before .before .args in
-    fronted-fits (a .used) _ (marked (markOf (a .mark)) (a .text .now)) (a .area .now) _ (marked-count (markOf (a .mark)) (a .text .now))
-    (omega arith) (c .before .before .put-marked .ensures)
+    let a = c .before .before .before .before .before .before .before .before .args in
+    fronted-fits (a .row .units) (a .on) _ (marked (markOf (a .row .mark)) (a .text .now)) (a .area .now) _
+    (marked-count (markOf (a .row .mark)) (a .text .now)) (omega arith) (c .before .before .put-marked .ensures)
 
 pub give-text-spec : {M : Type 1} → statement M
 give-text-spec = tie.close (tie.spec sub-room returns put-marked-requires same-length returns-2)

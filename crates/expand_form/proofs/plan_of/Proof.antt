@@ -1,9 +1,10 @@
 -- The test of `is_missing` decides as the plan's.
 use borrow.Author.Needs.{needs}
 use mathlib.Core.Path.{sym, _∙_, ap}
-use mathlib.Core.Bool.{true, false}
+use mathlib.Core.Bool.{Bool, true, false}
 use Rattle.text.proofs.Cases.{reach-back}
-use Rattle.expand_form.specs.declared.Plan.the-variants.{Cuts}
+use Rattle.expand_form.specs.declared.Plan.the-variants as plan
+use Rattle.expand_form.specs.declared.Used.the-variants.{Removed}
 use Rattle.expand_form.proofs.plan_of.Statement.{statement}
 use Rattle.expand_form.proofs.plan_of.Tie as tie
 
@@ -62,10 +63,10 @@ returns-8 : tie.Need-returns-8
 returns-8 c = rw (c .before .before .before .form4 .given .1, sym (c .before .is-missing4 .ensures) ∙ c .if4 .left)
 
 returns-9 : tie.Need-returns-9
-returns-9 c = rw (c .before .form5 .given .1) (ap (Cuts true) (reach-back _))
+returns-9 c = rw (c .before .form5 .given .1) (ap (λ (long : Bool). plan.Used (Removed true long)) (reach-back _))
 
 returns-10 : tie.Need-returns-10
-returns-10 c = rw (c .before .form6 .given .1) (ap (Cuts false) (reach-back _))
+returns-10 c = rw (c .before .form6 .given .1) (ap (λ (long : Bool). plan.Used (Removed false long)) (reach-back _))
 
 pub plan-of-spec : {M : Type 1} → statement M
 plan-of-spec = tie.close

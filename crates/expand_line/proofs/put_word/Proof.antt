@@ -1,13 +1,52 @@
 -- The row stands at the front of the work area, and its fields or the number that refuses them are the word's.
+use Prim.Native.Nat.{ℕ}
 use native.Mathlib.Omega.{arith}
 use mathlib.Core.Path.{sym}
+use lib.ListN.{take}
 use lib.Seq.{length-take-le}
+use Rattle.stages.specs.Bytes.{Text}
+use Rattle.stages.specs.Images.{held}
+use Rattle.stages.specs.Expand.{wordRow}
 use Rattle.stages.proofs.Tables.{paths-of}
 use Rattle.table.proofs.Tables.{variables-table, homes-table}
+use Rattle.expand_add.specs.Answers.{IsRow}
 use Rattle.expand_line.proofs.Wording.{row-within, there, word-refused, word-class, word-full, word-written}
 use borrow.Author.Needs.{needs}
 use Rattle.expand_line.proofs.put_word.Statement.{statement}
 use Rattle.expand_line.proofs.put_word.Tie as tie
+
+-- the call's entry, where the word has been expanded; the work area and the variables then
+module _ (c : tie.After-expand-word) where
+  abbrev entry : tie.Start
+  entry = c .before .before .before .before .before .before .before .before .before
+
+  abbrev area : Text
+  area = c .expand-word .last .1 .1 .1 .1 .1 .0
+
+  abbrev vars : Text
+  vars = c .expand-word .last .1 .1 .0
+
+-- that place, where the word is refused and where it has a row
+abbrev refusing : tie.After-got → tie.After-expand-word
+refusing c = c .before .before .before .before .before .before
+
+abbrev giving : tie.After-got2 → tie.After-expand-word
+giving c = c .before .before .before .before .before .before
+
+-- the row, where it stands
+row : (c : tie.After-got2) →
+    let s = entry (giving c) in
+    let x = s .args .extent in
+    IsRow (x .«vars_room») 0
+    (wordRow (x .«vars_room») (held (s .args .homes .now)) (s .pre .ready .tree) (held (take (x .«vars_used») (s .args .vars .now))))
+    (area (giving c)) (vars (giving c)) (c .got2 .given .0 .0) (c .got2 .given .0 .1 .1 .0)
+row c =
+    let e = giving c in
+    there (entry e .pre) (area e) (vars e) (e .expand-word .result) (e .expand-word .ensures) (c .got2 .given .1)
+
+-- the arm of the row, where its fields have been put
+abbrev split : tie.After-put-word-fields → tie.After-got2
+split c = c .before .before .before .before .before
 
 expand-word-requires : tie.Need-expand-word-requires
 expand-word-requires c κs = let p = c .before .before .before .before .before .before .before .before .pre in (p .ready, p .holds, homes-table _ (p .housed))
@@ -19,26 +58,19 @@ enum-known-got-2 : tie.Need-enum-known-got-2
 enum-known-got-2 c = search needs
 
 mul-end : tie.Need-mul-end
-mul-end c =
-    let e = c .before .before .before .before .before .before .before .expand-word in
-    omega (arith, there (c .before .before .before .before .before .before .before .before .before .before .before .before .before .before .before .before .pre) (e .last .1 .1 .1 .1 .1 .1 .0) (e .last .1 .1 .0) (e .result) (e .ensures) (c .before .got2 .given .1) .fits)
+mul-end c = omega (arith, row (c .before) .fits)
 
 slice-relend-prefix-put-word-fields : tie.Need-slice-relend-prefix-put-word-fields
-slice-relend-prefix-put-word-fields c =
-    let e = c .before .before .before .before .before .before .before .expand-word in
-    row-within (there (c .before .before .before .before .before .before .before .before .before .before .before .before .before .before .before .before .pre) (e .last .1 .1 .1 .1 .1 .1 .0) (e .last .1 .1 .0) (e .result) (e .ensures) (c .before .got2 .given .1))
+slice-relend-prefix-put-word-fields c = row-within (row (c .before))
 
 slice-aggregate-put-word-fields : tie.Need-slice-aggregate-put-word-fields
-slice-aggregate-put-word-fields c =
-    let e = c .before .before .before .before .before .before .before .before .expand-word in
-    sym (length-take-le _ _
-    (row-within (there (c .before .before .before .before .before .before .before .before .before .before .before .before .before .before .before .before .before .pre) (e .last .1 .1 .1 .1 .1 .1 .0) (e .last .1 .1 .0) (e .result) (e .ensures) (c .before .before .got2 .given .1))))
+slice-aggregate-put-word-fields c = sym (length-take-le _ _ (row-within (row (c .before .before))))
 
 put-word-fields-requires : tie.Need-put-word-fields-requires
 put-word-fields-requires c κs =
-    let p = c .before .before .before .before .before .before .before .before .before .before .before .before .before .before .before .before .before .before .before .pre in
-    let e = c .before .before .before .before .before .before .before .before .before .before .expand-word in
-    let h = there p (e .last .1 .1 .1 .1 .1 .1 .0) (e .last .1 .1 .0) (e .result) (e .ensures) (c .before .before .before .before .got2 .given .1) .holds in
+    let g = c .before .before .before .before in
+    let p = entry (giving g) .pre in
+    let h = row g .holds in
     ((h .inside, variables-table _ (h .formed)), ((p .low, p .few), paths-of _ (p .listed) .table))
 
 enum-told : tie.Need-enum-told
@@ -58,8 +90,8 @@ same-length-2 c = search needs
 
 returns : tie.Need-returns
 returns c =
-    let e = c .before .before .before .before .before .before .before .expand-word in
-    word-refused (c .before .before .before .before .before .before .before .before .before .before .before .before .before .before .before .before .pre) (e .last .1 .1 .1 .1 .1 .1 .0) (e .last .1 .1 .0) (e .result) (e .ensures) (c .before .got .given .1)
+    let e = refusing (c .before) in
+    word-refused (entry e .pre) (area e) (vars e) (e .expand-word .result) (e .expand-word .ensures) (c .before .got .given .1)
 
 same-length-3 : tie.Need-same-length-3
 same-length-3 c = search needs
@@ -72,8 +104,11 @@ same-length-5 c = search needs
 
 returns-2 : tie.Need-returns-2
 returns-2 c =
-    let e = c .before .before .before .before .before .before .before .before .before .before .before .before .before .before .before .before .before .expand-word in
-    word-class (c .before .before .before .before .before .before .before .before .before .before .before .before .before .before .before .before .before .before .before .before .before .before .before .before .before .before .pre) (e .last .1 .1 .1 .1 .1 .1 .0) (e .last .1 .1 .0) (e .result) (e .ensures) (c .before .before .before .before .before .before .before .before .before .before .before .got2 .given .1) (c .before .before .before .before .before .before .put-word-fields .ensures) (c .enum-told .given .1)
+    let f = c .before .before .before .before .before .before in
+    let g = split f in
+    let e = giving g in
+    word-class (entry e .pre) (area e) (vars e) (e .expand-word .result) (e .expand-word .ensures) (g .got2 .given .1) (f .put-word-fields .ensures)
+    (c .enum-told .given .1)
 
 same-length-6 : tie.Need-same-length-6
 same-length-6 c = search needs
@@ -86,8 +121,11 @@ same-length-8 c = search needs
 
 returns-3 : tie.Need-returns-3
 returns-3 c =
-    let e = c .before .before .before .before .before .before .before .before .before .before .before .before .before .before .before .before .before .expand-word in
-    word-full (c .before .before .before .before .before .before .before .before .before .before .before .before .before .before .before .before .before .before .before .before .before .before .before .before .before .before .pre) (e .last .1 .1 .1 .1 .1 .1 .0) (e .last .1 .1 .0) (e .result) (e .ensures) (c .before .before .before .before .before .before .before .before .before .before .before .got2 .given .1) (c .before .before .before .before .before .before .put-word-fields .ensures) (c .enum-told2 .given .1)
+    let f = c .before .before .before .before .before .before in
+    let g = split f in
+    let e = giving g in
+    word-full (entry e .pre) (area e) (vars e) (e .expand-word .result) (e .expand-word .ensures) (g .got2 .given .1) (f .put-word-fields .ensures)
+    (c .enum-told2 .given .1)
 
 same-length-9 : tie.Need-same-length-9
 same-length-9 c = search needs
@@ -100,8 +138,11 @@ same-length-11 c = search needs
 
 returns-4 : tie.Need-returns-4
 returns-4 c =
-    let e = c .before .before .before .before .before .before .before .before .before .before .before .before .before .before .before .before .before .before .expand-word in
-    word-written (c .before .before .before .before .before .before .before .before .before .before .before .before .before .before .before .before .before .before .before .before .before .before .before .before .before .before .before .pre) (e .last .1 .1 .1 .1 .1 .1 .0) (e .last .1 .1 .0) (e .result) (e .ensures) (c .before .before .before .before .before .before .before .before .before .before .before .before .got2 .given .1) (c .before .before .before .before .before .before .before .put-word-fields .ensures) (c .before .put .given .1)
+    let f = c .before .before .before .before .before .before .before in
+    let g = split f in
+    let e = giving g in
+    word-written (entry e .pre) (area e) (vars e) (e .expand-word .result) (e .expand-word .ensures) (g .got2 .given .1) (f .put-word-fields .ensures)
+    (c .before .put .given .1)
 
 pub put-word-spec : {M : Type 1} → statement M
 put-word-spec =

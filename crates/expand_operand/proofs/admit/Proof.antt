@@ -9,10 +9,15 @@ sub-if1 : tie.Need-sub-if1
 sub-if1 c = search needs
 
 returns : tie.Need-returns
-returns c = admitted-full (c .before .args .used) (c .before .args .units) (omega arith)
+returns c = let a = c .before .before .args in admitted-full (a .row .units) (a .on) (a .units) (omega arith)
 
 returns-2 : tie.Need-returns-2
-returns-2 c = admitted-ok (c .before .args .used) (c .before .args .units) (omega arith)
+returns-2 c = let a = c .before .before .args in admitted-ok (a .row .units) (a .on) (a .units) (omega arith)
 
 pub admit-spec : {M : Type 1} → statement M
-admit-spec = tie.close (tie.spec sub-if1 returns returns-2)
+admit-spec =
+    tie.close
+    (tie.spec
+    sub-if1
+    returns
+    returns-2)

@@ -1,27 +1,28 @@
 -- The bytes that are left at the front come to the stage's number.
-use Prim.Native.Nat.{_*_}
-use Rattle.expand_operand.proofs.Finishing.{stripped-inside, stripped-front, sum-refuses, sum-gives}
-use Rattle.row.specs.Marks.{markOf}
-use Rattle.stages.specs.Images.{held}
-use Rattle.arith_int.proofs.Ranges.{kept}
-use Rattle.text.specs.Rows.{rowOf}
-use borrow.Author.Needs.{needs}
-use lib.ListN.{take, drop, length-append, length-drop}
-use lib.Seq.{length-take-le}
-use mathlib.Core.List.{_++_}
 use mathlib.Core.Path.{sym}
-use native.Mathlib.Omega.{arith}
+use borrow.Author.Needs.{needs}
+use lib.Seq.{length-take-le}
+use Rattle.stages.specs.Images.{held}
+use Rattle.row.specs.Marks.{markOf}
+use Rattle.arith_int.proofs.Ranges.{kept}
+use Rattle.expand_operand.specs.Operands.{rowAt}
+use Rattle.expand_operand.proofs.Fronts.{stripped-front, stripped-inside, stripped-length}
+use Rattle.expand_operand.proofs.Summing.{sum-refuses, sum-gives}
 use Rattle.expand_operand.proofs.sum_up.Statement.{statement}
 use Rattle.expand_operand.proofs.sum_up.Tie as tie
+
+-- where the function began, seen from where the marks are gone
+abbrev start : tie.After-strip-marks → tie.Start
+start c = c .before .before .before .before
 
 mul-end : tie.Need-mul-end
 mul-end c = search needs
 
 slice-relend-prefix-strip-marks : tie.Need-slice-relend-prefix-strip-marks
-slice-relend-prefix-strip-marks c = c .before .before .pre .1
+slice-relend-prefix-strip-marks c = search needs
 
 slice-aggregate-strip-marks : tie.Need-slice-aggregate-strip-marks
-slice-aggregate-strip-marks c = sym (length-take-le _ (c .before .before .before .args .work .now) (c .before .before .before .pre .1))
+slice-aggregate-strip-marks c = let s = c .before .before .before in sym (length-take-le _ (s .args .work .now) (s .pre .1))
 
 strip-marks-requires : tie.Need-strip-marks-requires
 strip-marks-requires c κs = search needs
@@ -30,14 +31,10 @@ slice-reshare-prefix-evaluate-text : tie.Need-slice-reshare-prefix-evaluate-text
 slice-reshare-prefix-evaluate-text c = stripped-inside _ (c .before .before .strip-marks .ensures)
 
 slice-aggregate-evaluate-text : tie.Need-slice-aggregate-evaluate-text
-slice-aggregate-evaluate-text c =
-    let a = c .before .before .before .before .before .before .before .args in
-    sym (length-take-le (c .before .before .before .strip-marks .result)
-    (c .before .before .before .strip-marks .last .0 ++ drop (2 * a .units) (a .work .now))
-    (stripped-inside _ (c .before .before .before .strip-marks .ensures)))
+slice-aggregate-evaluate-text c = stripped-length _ (c .before .before .before .strip-marks .ensures)
 
 evaluate-text-requires : tie.Need-evaluate-text-requires
-evaluate-text-requires c κs = c .before .before .before .before .before .before .before .pre .0
+evaluate-text-requires c κs = search needs
 
 enum-known-got : tie.Need-enum-known-got
 enum-known-got c = search needs
@@ -46,50 +43,49 @@ enum-known-got-2 : tie.Need-enum-known-got-2
 enum-known-got-2 c = search needs
 
 give-number-requires : tie.Need-give-number-requires
-give-number-requires c κs = (
-  c .before .before .before .before .before .before .before .before .before .before .before .before .pre .2,
-  omega (
-    arith,
-    c .before .before .before .before .before .before .before .before .before .before .before .before .pre .3,
-    c .before .before .before .before .before .before .before .before .before .before .before .before .pre .1,
-    c .before .before .before .before .before .before .before .before .strip-marks .kept .0,
-    length-append (c .before .before .before .before .before .before .before .before .strip-marks .last .0)
-        (drop (2 * c .before .before .before .before .before .before .before .before .before .before .before .before .args .units)
-        (c .before .before .before .before .before .before .before .before .before .before .before .before .args .work .now)),
-    length-drop (2 * c .before .before .before .before .before .before .before .before .before .before .before .before .args .units)
-        (c .before .before .before .before .before .before .before .before .before .before .before .before .args .work .now),
-    length-take-le (2 * c .before .before .before .before .before .before .before .before .before .before .before .before .args .units)
-        (c .before .before .before .before .before .before .before .before .before .before .before .before .args .work .now)
-        (c .before .before .before .before .before .before .before .before .before .before .before .before .pre .1),
-  ),
-)
+give-number-requires c κs = search needs
 
 same-length : tie.Need-same-length
 same-length c = search needs
 
 returns : tie.Need-returns
 returns c =
-    let a = c .before .before .before .before .before .before .before .before .before .before .before .args in
-    sum-refuses (markOf (a .mark)) (rowOf (take (2 * a .units) (a .work .now))) (held (a .vars .now)) _
-    (stripped-front _ _ _ _ (c .before .before .before .before .before .before .before .strip-marks .ensures))
-    (c .before .before .before .evaluate-text .result) (c .before .before .before .evaluate-text .ensures) (a .used)
-    (c .before .before .before .before .before .before .before .strip-marks .last .0 ++ drop (2 * a .units) (a .work .now)) (c .before .got .given .1)
+    let eval = c .before .before .before in
+    let strip = eval .before .before .before .before in
+    let a = start strip .args in
+    sum-refuses (a .row .units) (a .on) (markOf (a .row .mark)) (rowAt (a .work .now) (a .units)) (held (a .vars .now))
+    (stripped-front _ (strip .strip-marks .ensures)) (eval .evaluate-text .result) (eval .evaluate-text .ensures) (c .before .got .given .1)
 
 same-length-2 : tie.Need-same-length-2
 same-length-2 c = search needs
 
 returns-2 : tie.Need-returns-2
 returns-2 c =
-    let a = c .before .before .before .before .before .before .before .before .before .before .before .before .before .before .before .args in
-    sum-gives (markOf (a .mark)) (rowOf (take (2 * a .units) (a .work .now))) (held (a .vars .now)) _
-    (stripped-front _ _ _ _ (c .before .before .before .before .before .before .before .before .before .before .before .strip-marks .ensures))
-    (c .before .before .before .before .before .before .before .evaluate-text .result)
-    (c .before .before .before .before .before .before .before .evaluate-text .ensures) (a .used) (c .before .before .give-number .last .1 .1 .1 .0)
-    (c .before .before .give-number .result) (c .before .before .before .before .before .got2 .given .1)
-    (kept (c .before .before .before .before .before .got2 .given .0 .0) (c .before .before .before .before .known-told2 .given .0 .1))
-    (c .before .before .give-number .ensures)
+    let g = c .before .before .give-number in
+    let told = c .before .before .before .before in
+    let got = told .before .got2 .given in
+    let eval = told .before .before .before in
+    let strip = eval .before .before .before .before in
+    let a = start strip .args in
+    sum-gives (a .row .units) (a .on) (markOf (a .row .mark)) (rowAt (a .work .now) (a .units)) (held (a .vars .now))
+    (stripped-front _ (strip .strip-marks .ensures)) (eval .evaluate-text .result) (eval .evaluate-text .ensures) (g .last .1 .1 .1 .0) (g .result)
+    (got .1) (kept (got .0 .0) (told .known-told2 .given .0 .1)) (g .ensures)
 
 pub sum-up-spec : {M : Type 1} → statement M
-sum-up-spec = tie.close
-    (tie.spec mul-end slice-relend-prefix-strip-marks slice-aggregate-strip-marks strip-marks-requires slice-reshare-prefix-evaluate-text
-    slice-aggregate-evaluate-text evaluate-text-requires enum-known-got enum-known-got-2 give-number-requires same-length returns same-length-2 returns-2)
+sum-up-spec =
+    tie.close
+    (tie.spec
+    mul-end
+    slice-relend-prefix-strip-marks
+    slice-aggregate-strip-marks
+    strip-marks-requires
+    slice-reshare-prefix-evaluate-text
+    slice-aggregate-evaluate-text
+    evaluate-text-requires
+    enum-known-got
+    enum-known-got-2
+    give-number-requires
+    same-length
+    returns
+    same-length-2
+    returns-2)

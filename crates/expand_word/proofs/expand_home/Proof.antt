@@ -1,81 +1,116 @@
--- The directory's row stands at the front, and the text behind the login behind it.
-use Prim.Native.Nat.{_+_, _-_, _*_}
+-- The directory's row stands at the front, and the row of the text after the login follows it.
+use Prim.Native.Nat.{ℕ, _+_, _-_, _*_, _≤_}
+use mathlib.Core.Option.{Option}
 use Rattle.expand_add.proofs.Holding.{table-held}
+use Rattle.expand_word.specs.Tildes.{Given, Opens}
 use Rattle.expand_word.proofs.Wording.{
   ready-size,
   home-known,
   home-none,
   home-refused,
   home-inside,
-  home-units,
   home-ready,
   plain-word,
   behind-refused,
   behind-fits,
   behind-given,
 }
-use Rattle.stages.specs.Bytes.{part}
+use Rattle.stages.specs.Numbers.{rowLimit}
+use Rattle.stages.specs.Bytes.{Text, part}
 use Rattle.stages.specs.Expand.{directory}
-use Rattle.stages.specs.Images.{held}
+use Rattle.stages.specs.Images.{Pairs, held}
 use borrow.Author.Needs.{needs}
-use borrow.Rule.Slice.PartMut.{same-len-mid, mid-len}
+use borrow.Rule.Slice.PartMut.{putMid, same-len-mid, mid-len}
 use lib.ListN.{length, take}
 use lib.Seq.{length-take-le}
-use mathlib.Core.Path.{sym, _∙_}
+use mathlib.Core.Path.{_≡_, sym, _∙_}
 use native.Mathlib.Omega.{arith}
 use Rattle.expand_word.proofs.expand_home.Statement.{statement}
 use Rattle.expand_word.proofs.expand_home.Tie as tie
 
+-- the call's entry, before the directory is looked for and after
+abbrev begun : tie.After-slice-known2 → tie.Start
+begun c = c .before .before .before .before
+
+abbrev entry : tie.After-give-home → tie.Start
+entry c = begun (c .before .before .before .before)
+
+abbrev homes : tie.Start → Pairs
+homes s = held (s .args .homes .now)
+
+-- what is looked up for the login
+abbrev sought : tie.Start → Option Text
+sought s =
+    directory (held (take (s .args .extent .«vars_used») (s .args .vars .now))) (homes s) (part (s .args .line .now) (s .args .at + 1) (s .args .to))
+
+-- the work area after that, as long as before
+abbrev area : tie.After-give-home → Text
+area c = c .give-home .last .1 .1 .1 .0
+
+same : (c : tie.After-give-home) → length (area c) ≡ length (entry c .args .work .now)
+same c = c .give-home .kept .1 .1 .1 .0
+
+-- the place where it was looked for, from each of the three arms
+abbrev refusing : tie.After-home → tie.After-give-home
+refusing c = c .before .before .before .before
+
+abbrev missing : tie.After-enum-told → tie.After-give-home
+missing c = c .before .before .before .before
+
+abbrev finding : tie.After-home2 → tie.After-give-home
+finding c = c .before .before .before .before
+
+-- the directory's row, which stands at the front of the area
+module _ (c : tie.After-home2) where
+  abbrev units : ℕ
+  units = c .home2 .given .0 .0
+
+  given : Given (sought (entry (finding c))) (area (finding c)) units
+  given = home-known (sought (entry (finding c))) (area (finding c)) (finding c .give-home .ensures) (c .home2 .given .1)
+
+  few : units ≤ rowLimit
+  few = given .fits
+
+  inside : 2 * units ≤ length (area (finding c))
+  inside = let s = entry (finding c) in home-inside (homes s) (s .pre .1) (s .pre .2) (s .pre .0) given
+
+-- the place where the directory was found, from where the text after the login has been expanded
+abbrev found : tie.After-expand-rest2 → tie.After-home2
+found c = c .before .before .before .before
+
+-- the area is as long as at the entry
+same-after : (c : tie.After-expand-rest2) →
+    let h = found c in
+    let front = 2 * units h in
+    length (putMid front (length (area (finding h)) - front) (area (finding h)) (c .expand-rest2 .last .1 .1 .1 .1 .1 .0))
+    ≡ length (entry (finding h) .args .work .now)
+same-after c =
+    let h = found c in
+    let e = c .expand-rest2 in
+    same-len-mid (2 * units h) (length (area (finding h)) - 2 * units h) (area (finding h)) (e .last .1 .1 .1 .1 .1 .0)
+    (e .kept .1 .1 .1 .1 .1 .0)
+    ∙ same (finding h)
+
 add-start : tie.Need-add-start
-add-start c =
-    let a = c .before .before .before .before .args in
-    let o = c .before .before .before .before .pre .0 in
-    let y = c .before .before .before .before .pre .1 in
-    let w = c .before .before .before .before .pre .2 in
-    omega (arith, o .onward, o .within)
+add-start c = let o = begun c .pre .0 in omega (arith, o .onward, o .within)
 
 sub-give-home : tie.Need-sub-give-home
-sub-give-home c =
-    let a = c .before .before .before .before .args in
-    let o = c .before .before .before .before .pre .0 in
-    let y = c .before .before .before .before .pre .1 in
-    let w = c .before .before .before .before .pre .2 in
-    omega (arith, o .onward, o .within)
+sub-give-home c = let o = begun c .pre .0 in omega (arith, o .onward, o .within)
 
 part-give-home-start : tie.Need-part-give-home-start
-part-give-home-start c =
-    let a = c .before .before .before .before .args in
-    let o = c .before .before .before .before .pre .0 in
-    let y = c .before .before .before .before .pre .1 in
-    let w = c .before .before .before .before .pre .2 in
-    omega (arith, o .onward, o .within)
+part-give-home-start c = let o = begun c .pre .0 in omega (arith, o .onward, o .within)
 
 part-give-home-end : tie.Need-part-give-home-end
-part-give-home-end c =
-    let a = c .before .before .before .before .args in
-    let o = c .before .before .before .before .pre .0 in
-    let y = c .before .before .before .before .pre .1 in
-    let w = c .before .before .before .before .pre .2 in
-    omega (arith, o .onward, o .within)
+part-give-home-end c = let o = begun c .pre .0 in omega (arith, o .onward, o .within)
 
 slice-reshare-prefix-give-home : tie.Need-slice-reshare-prefix-give-home
-slice-reshare-prefix-give-home c = c .before .before .before .before .before .pre .2 .inside
+slice-reshare-prefix-give-home c = begun (c .before) .pre .2 .inside
 
 slice-aggregate-give-home : tie.Need-slice-aggregate-give-home
-slice-aggregate-give-home c =
-    let a = c .before .before .before .before .before .before .args in
-    let o = c .before .before .before .before .before .before .pre .0 in
-    let y = c .before .before .before .before .before .before .pre .1 in
-    let w = c .before .before .before .before .before .before .pre .2 in
-    sym (length-take-le (a .have) (a .vars .now) (w .inside))
+slice-aggregate-give-home c = sym (length-take-le _ _ (begun (c .before .before) .pre .2 .inside))
 
 give-home-requires : tie.Need-give-home-requires
-give-home-requires c κs =
-    let a = c .before .before .before .before .before .before .before .args in
-    let o = c .before .before .before .before .before .before .before .pre .0 in
-    let y = c .before .before .before .before .before .before .before .pre .1 in
-    let w = c .before .before .before .before .before .before .before .pre .2 in
-    (table-held (a .room) (a .vars .now) (a .have) w, c .before .before .before .before .before .before .before .pre .3, omega (arith, y .area))
+give-home-requires c κs = let s = begun (c .before .before .before) in (table-held _ _ _ (s .pre .2), s .pre .3, omega (arith, s .pre .1 .area))
 
 enum-known-home : tie.Need-enum-known-home
 enum-known-home c = search needs
@@ -83,98 +118,32 @@ enum-known-home c = search needs
 enum-told : tie.Need-enum-told
 enum-told c = search needs
 
-expand-text-requires : tie.Need-expand-text-requires
-expand-text-requires c κs =
-    let a = c .before .before .before .before .before .before .before .before .before .before .before .before .before .before .args in
-    let o = c .before .before .before .before .before .before .before .before .before .before .before .before .before .before .pre .0 in
-    let y = c .before .before .before .before .before .before .before .before .before .before .before .before .before .before .pre .1 in
-    let w = c .before .before .before .before .before .before .before .before .before .before .before .before .before .before .pre .2 in
-    (ready-size y (c .before .before .before .before .before .before .give-home .kept .1 .1 .1 .0), w)
+expand-rest-requires : tie.Need-expand-rest-requires
+expand-rest-requires c κs = let m = missing (c .before .before) in (ready-size (entry m .pre .1) (same m), entry m .pre .2)
 
 enum-known-home-2 : tie.Need-enum-known-home-2
 enum-known-home-2 c = search needs
 
 mul-front : tie.Need-mul-front
-mul-front c =
-    let a = c .before .before .before .before .before .before .before .before .before .before .before .before .before .args in
-    let o = c .before .before .before .before .before .before .before .before .before .before .before .before .before .pre .0 in
-    let y = c .before .before .before .before .before .before .before .before .before .before .before .before .before .pre .1 in
-    let w = c .before .before .before .before .before .before .before .before .before .before .before .before .before .pre .2 in
-    let g = home-known (directory (held (take (a .have) (a .vars .now))) (held (a .homes .now)) (part (a .line .now) (a .at + 1) (a .to)))
-    (c .before .before .before .before .before .give-home .last .1 .1 .1 .0) (c .before .before .before .before .before .give-home .ensures)
-    (c .before .home2 .given .1) in
-    omega (
-      arith,
-      home-units (a .room) (a .line .now) (a .at) _ (a .vars .now) (a .have) (held (a .homes .now)) y w (a .to) o
-          (c .before .before .before .before .before .give-home .last .1 .1 .1 .0) g,
-    )
+mul-front c = omega (arith, few (c .before))
 
-sub-expand-text : tie.Need-sub-expand-text
-sub-expand-text c =
-    let a = c .before .before .before .before .before .before .before .before .before .before .before .before .before .before .args in
-    let o = c .before .before .before .before .before .before .before .before .before .before .before .before .before .before .pre .0 in
-    let y = c .before .before .before .before .before .before .before .before .before .before .before .before .before .before .pre .1 in
-    let w = c .before .before .before .before .before .before .before .before .before .before .before .before .before .before .pre .2 in
-    let g = home-known (directory (held (take (a .have) (a .vars .now))) (held (a .homes .now)) (part (a .line .now) (a .at + 1) (a .to)))
-    (c .before .before .before .before .before .before .give-home .last .1 .1 .1 .0)
-    (c .before .before .before .before .before .before .give-home .ensures) (c .before .before .home2 .given .1) in
-    omega (
-      arith,
-      home-inside (a .room) (a .line .now) (a .at) _ (a .vars .now) (a .have) (held (a .homes .now)) y w (a .to) o
-          (c .before .before .before .before .before .before .give-home .last .1 .1 .1 .0) g,
-    )
+sub-expand-rest : tie.Need-sub-expand-rest
+sub-expand-rest c = omega (arith, inside (c .before .before))
 
-part-expand-text-start : tie.Need-part-expand-text-start
-part-expand-text-start c =
-    let a = c .before .before .before .before .before .before .before .before .before .before .before .before .before .before .args in
-    let o = c .before .before .before .before .before .before .before .before .before .before .before .before .before .before .pre .0 in
-    let y = c .before .before .before .before .before .before .before .before .before .before .before .before .before .before .pre .1 in
-    let w = c .before .before .before .before .before .before .before .before .before .before .before .before .before .before .pre .2 in
-    let g = home-known (directory (held (take (a .have) (a .vars .now))) (held (a .homes .now)) (part (a .line .now) (a .at + 1) (a .to)))
-    (c .before .before .before .before .before .before .give-home .last .1 .1 .1 .0)
-    (c .before .before .before .before .before .before .give-home .ensures) (c .before .before .home2 .given .1) in
-    omega (
-      arith,
-      home-inside (a .room) (a .line .now) (a .at) _ (a .vars .now) (a .have) (held (a .homes .now)) y w (a .to) o
-          (c .before .before .before .before .before .before .give-home .last .1 .1 .1 .0) g,
-    )
+part-expand-rest-start : tie.Need-part-expand-rest-start
+part-expand-rest-start c = omega (arith, inside (c .before .before))
 
-part-expand-text-end : tie.Need-part-expand-text-end
-part-expand-text-end c =
-    let a = c .before .before .before .before .before .before .before .before .before .before .before .before .before .before .args in
-    let o = c .before .before .before .before .before .before .before .before .before .before .before .before .before .before .pre .0 in
-    let y = c .before .before .before .before .before .before .before .before .before .before .before .before .before .before .pre .1 in
-    let w = c .before .before .before .before .before .before .before .before .before .before .before .before .before .before .pre .2 in
-    let g = home-known (directory (held (take (a .have) (a .vars .now))) (held (a .homes .now)) (part (a .line .now) (a .at + 1) (a .to)))
-    (c .before .before .before .before .before .before .give-home .last .1 .1 .1 .0)
-    (c .before .before .before .before .before .before .give-home .ensures) (c .before .before .home2 .given .1) in
-    omega (
-      arith,
-      home-inside (a .room) (a .line .now) (a .at) _ (a .vars .now) (a .have) (held (a .homes .now)) y w (a .to) o
-          (c .before .before .before .before .before .before .give-home .last .1 .1 .1 .0) g,
-    )
+part-expand-rest-end : tie.Need-part-expand-rest-end
+part-expand-rest-end c = omega (arith, inside (c .before .before))
 
-expand-text-requires-2 : tie.Need-expand-text-requires-2
-expand-text-requires-2 c κs =
-    let a = c .before .before .before .before .before .before .before .before .before .before .before .before .before .before .before .args in
-    let o = c .before .before .before .before .before .before .before .before .before .before .before .before .before .before .before .pre .0 in
-    let y = c .before .before .before .before .before .before .before .before .before .before .before .before .before .before .before .pre .1 in
-    let w = c .before .before .before .before .before .before .before .before .before .before .before .before .before .before .before .pre .2 in
-    let g = home-known (directory (held (take (a .have) (a .vars .now))) (held (a .homes .now)) (part (a .line .now) (a .at + 1) (a .to)))
-    (c .before .before .before .before .before .before .before .give-home .last .1 .1 .1 .0)
-    (c .before .before .before .before .before .before .before .give-home .ensures) (c .before .before .before .home2 .given .1) in (
-      home-ready (a .room) (a .line .now) (a .at) _ (a .vars .now) (a .have) (held (a .homes .now)) y w (a .to) o
-          (c .before .before .before .before .before .before .before .give-home .last .1 .1 .1 .0) g _
-          (omega (
-            arith,
-            home-inside (a .room) (a .line .now) (a .at) _ (a .vars .now) (a .have) (held (a .homes .now)) y w (a .to) o
-                (c .before .before .before .before .before .before .before .give-home .last .1 .1 .1 .0) g,
-            c .before .before .before .before .before .before .before .give-home .kept .1 .1 .1 .0,
-            mid-len (2 * (c .before .before .before .home2 .given .0 .0))
-                (length (c .before .before .before .before .before .before .before .give-home .last .1 .1 .1 .0))
-                (c .before .before .before .before .before .before .before .give-home .last .1 .1 .1 .0) (omega arith),
-          )),
-      w,
+expand-rest-requires-2 : tie.Need-expand-rest-requires-2
+expand-rest-requires-2 c κs =
+    let h = c .before .before .before in
+    let s = entry (finding h) in
+    let a = area (finding h) in (
+      home-ready (homes s) (s .pre .1) (s .pre .2) (s .pre .0) (given h) _
+          (omega (arith, inside h, same (finding h), mid-len (2 * units h) (length a) a (omega arith))),
+      s .pre .2,
     )
 
 enum-known-got : tie.Need-enum-known-got
@@ -183,98 +152,72 @@ enum-known-got c = search needs
 enum-known-got-2 : tie.Need-enum-known-got-2
 enum-known-got-2 c = search needs
 
-add-t43 : tie.Need-add-t43
-add-t43 c =
-    let a = c .before .before .before .before .before .before .before .before .before .before .before .before .before .before .before .before .before .before .before .before .before .before .before .args in
-    let o = c .before .before .before .before .before .before .before .before .before .before .before .before .before .before .before .before .before .before .before .before .before .before .before .pre .0 in
-    let y = c .before .before .before .before .before .before .before .before .before .before .before .before .before .before .before .before .before .before .before .before .before .before .before .pre .1 in
-    let w = c .before .before .before .before .before .before .before .before .before .before .before .before .before .before .before .before .before .before .before .before .before .before .before .pre .2 in
-    let g = home-known (directory (held (take (a .have) (a .vars .now))) (held (a .homes .now)) (part (a .line .now) (a .at + 1) (a .to)))
-    (c .before .before .before .before .before .before .before .before .before .before .before .before .before .before .before .give-home .last .1 .1 .1 .0) (c .before .before .before .before .before .before .before .before .before .before .before .before .before .before .before .give-home .ensures) (c .before .before .before .before .before .before .before .before .before .before .before .home2 .given .1) in
-    let f = behind-fits (a .room) (a .line .now) (a .at) _ (a .vars .now) (a .have) (held (a .homes .now)) y w (a .to) o
-    (c .before .before .before .before .before .before .before .before .before .before .before .before .before .before .before .give-home .last .1 .1 .1 .0) g _ _ _ (c .before .before .before .before .before .before .before .expand-text2 .ensures) (c .before .got2 .given .1) in
-    omega arith
+add-t39 : tie.Need-add-t39
+add-t39 c =
+    let e = c .before .before .before .before .before .before .before in
+    let s = entry (finding (found e)) in
+    omega (
+      arith,
+      behind-fits (homes s) (s .pre .1) (s .pre .2) (s .pre .0) (given (found e)) _ _ _ (e .expand-rest2 .ensures) (c .before .got2 .given .1),
+    )
 
 same-length : tie.Need-same-length
 same-length c = search needs
 
 same-length-2 : tie.Need-same-length-2
-same-length-2 c = omega (arith, c .before .before .before .before .before .give-home .kept .1 .1 .1 .0)
+same-length-2 c = omega (arith, same (refusing (c .before)))
 
 returns : tie.Need-returns
 returns c =
-    let a = c .before .before .before .before .before .before .before .before .before .before .before .before .before .args in
-    let o = c .before .before .before .before .before .before .before .before .before .before .before .before .before .pre .0 in
-    let y = c .before .before .before .before .before .before .before .before .before .before .before .before .before .pre .1 in
-    let w = c .before .before .before .before .before .before .before .before .before .before .before .before .before .pre .2 in
-    home-refused (a .room) (a .line .now) (a .at) _ (a .vars .now) (a .have) (held (a .homes .now)) y w (a .to) o _ _
-    (home-known (directory (held (take (a .have) (a .vars .now))) (held (a .homes .now)) (part (a .line .now) (a .at + 1) (a .to)))
-    (c .before .before .before .before .before .give-home .last .1 .1 .1 .0) (c .before .before .before .before .before .give-home .ensures)
-    (c .before .home .given .1))
+    let r = refusing (c .before) in
+    let s = entry r in
+    home-refused (homes s) (s .pre .1) (s .pre .2) (s .pre .0) _ _ (home-known (sought s) (area r) (r .give-home .ensures) (c .before .home .given .1))
 
 same-length-3 : tie.Need-same-length-3
-same-length-3 c = omega (arith, c .before .before .before .before .expand-text .kept .1 .1 .1 .1 .1 .1 .0)
+same-length-3 c = omega (arith, c .before .before .before .before .expand-rest .kept .1 .1 .1 .0)
 
 same-length-4 : tie.Need-same-length-4
-same-length-4 c = omega (
-  arith,
-  c .before .before .before .before .expand-text .kept .1 .1 .1 .1 .1 .1 .1 .1 .1 .0,
-  c .before .before .before .before .before .before .before .before .before .before .before .give-home .kept .1 .1 .1 .0,
-)
+same-length-4 c =
+    let e = c .before .before .before .before in
+    omega (arith, e .expand-rest .kept .1 .1 .1 .1 .1 .0, same (missing (e .before .before .before)))
 
 returns-2 : tie.Need-returns-2
 returns-2 c =
-    let a = c .before .before .before .before .before .before .before .before .before .before .before .before .before .before .before .before .before .before .before .args in
-    let o = c .before .before .before .before .before .before .before .before .before .before .before .before .before .before .before .before .before .before .before .pre .0 in
-    let y = c .before .before .before .before .before .before .before .before .before .before .before .before .before .before .before .before .before .before .before .pre .1 in
-    let w = c .before .before .before .before .before .before .before .before .before .before .before .before .before .before .before .before .before .before .before .pre .2 in
-    plain-word (a .room) (a .line .now) (a .at) _ (a .vars .now) (a .have) (held (a .homes .now)) y w
-    (home-none (a .room) (a .line .now) (a .at) _ (a .vars .now) (a .have) (held (a .homes .now)) y w (a .to) o
-    (home-known (directory (held (take (a .have) (a .vars .now))) (held (a .homes .now)) (part (a .line .now) (a .at + 1) (a .to)))
-    (c .before .before .before .before .before .before .before .before .before .before .before .give-home .last .1 .1 .1 .0)
-    (c .before .before .before .before .before .before .before .before .before .before .before .give-home .ensures)
-    (c .before .before .before .before .before .before .before .enum-told .given .1))) _ _ (c .before .before .before .before .expand-text .result)
-    (c .before .before .before .before .expand-text .ensures)
+    let e = c .before .before .before .before in
+    let t = e .before .before .before in
+    let m = missing t in
+    let s = entry m in
+    plain-word (homes s) (s .pre .1) (s .pre .2)
+    (home-none (homes s) (s .pre .1) (s .pre .2) (s .pre .0) (home-known (sought s) (area m) (m .give-home .ensures) (t .enum-told .given .1)))
+    _ _ (e .expand-rest .result) (e .expand-rest .ensures)
 
 same-length-5 : tie.Need-same-length-5
-same-length-5 c = omega (arith, c .before .before .before .before .before .before .before .expand-text2 .kept .1 .1 .1 .1 .1 .1 .0)
+same-length-5 c = omega (arith, c .before .before .before .before .before .before .before .expand-rest2 .kept .1 .1 .1 .0)
 
 same-length-6 : tie.Need-same-length-6
-same-length-6 c = same-len-mid (2 * (c .before .before .before .before .before .before .before .before .before .before .before .home2 .given .0 .0))
-    (length (c .before .before .before .before .before .before .before .before .before .before .before .before .before .before .before .give-home .last .1 .1 .1 .0) - 2 * (c .before .before .before .before .before .before .before .before .before .before .before .home2 .given .0 .0)) (c .before .before .before .before .before .before .before .before .before .before .before .before .before .before .before .give-home .last .1 .1 .1 .0) (c .before .before .before .before .before .before .before .expand-text2 .last .1 .1 .1 .1 .1 .1 .1 .1 .1 .0) (c .before .before .before .before .before .before .before .expand-text2 .kept .1 .1 .1 .1 .1 .1 .1 .1 .1 .0) ∙ c .before .before .before .before .before .before .before .before .before .before .before .before .before .before .before .give-home .kept .1 .1 .1 .0
+same-length-6 c = same-after (c .before .before .before .before .before .before .before)
 
 returns-3 : tie.Need-returns-3
 returns-3 c =
-    let a = c .before .before .before .before .before .before .before .before .before .before .before .before .before .before .before .before .before .before .before .before .before .before .before .args in
-    let o = c .before .before .before .before .before .before .before .before .before .before .before .before .before .before .before .before .before .before .before .before .before .before .before .pre .0 in
-    let y = c .before .before .before .before .before .before .before .before .before .before .before .before .before .before .before .before .before .before .before .before .before .before .before .pre .1 in
-    let w = c .before .before .before .before .before .before .before .before .before .before .before .before .before .before .before .before .before .before .before .before .before .before .before .pre .2 in
-    let g = home-known (directory (held (take (a .have) (a .vars .now))) (held (a .homes .now)) (part (a .line .now) (a .at + 1) (a .to)))
-    (c .before .before .before .before .before .before .before .before .before .before .before .before .before .before .before .give-home .last .1 .1 .1 .0) (c .before .before .before .before .before .before .before .before .before .before .before .before .before .before .before .give-home .ensures) (c .before .before .before .before .before .before .before .before .before .before .before .home2 .given .1) in
-    behind-refused (a .room) (a .line .now) (a .at) _ (a .vars .now) (a .have) (held (a .homes .now)) y w (a .to) o
-    (c .before .before .before .before .before .before .before .before .before .before .before .before .before .before .before .give-home .last .1 .1 .1 .0) g _ _ _ (c .before .before .before .before .before .before .before .expand-text2 .ensures) _ (c .before .got .given .1)
+    let e = c .before .before .before .before .before .before .before in
+    let s = entry (finding (found e)) in
+    behind-refused (homes s) (s .pre .1) (s .pre .2) (s .pre .0) (given (found e)) _ _ _ (e .expand-rest2 .ensures) _ (c .before .got .given .1)
 
 same-length-7 : tie.Need-same-length-7
-same-length-7 c = omega (arith, c .before .before .before .before .before .before .before .expand-text2 .kept .1 .1 .1 .1 .1 .1 .0)
+same-length-7 c = omega (arith, c .before .before .before .before .before .before .before .expand-rest2 .kept .1 .1 .1 .0)
 
 same-length-8 : tie.Need-same-length-8
-same-length-8 c = same-len-mid (2 * (c .before .before .before .before .before .before .before .before .before .before .before .home2 .given .0 .0))
-    (length (c .before .before .before .before .before .before .before .before .before .before .before .before .before .before .before .give-home .last .1 .1 .1 .0) - 2 * (c .before .before .before .before .before .before .before .before .before .before .before .home2 .given .0 .0)) (c .before .before .before .before .before .before .before .before .before .before .before .before .before .before .before .give-home .last .1 .1 .1 .0) (c .before .before .before .before .before .before .before .expand-text2 .last .1 .1 .1 .1 .1 .1 .1 .1 .1 .0) (c .before .before .before .before .before .before .before .expand-text2 .kept .1 .1 .1 .1 .1 .1 .1 .1 .1 .0) ∙ c .before .before .before .before .before .before .before .before .before .before .before .before .before .before .before .give-home .kept .1 .1 .1 .0
+same-length-8 c = same-after (c .before .before .before .before .before .before .before)
 
 returns-4 : tie.Need-returns-4
 returns-4 c =
-    let a = c .before .before .before .before .before .before .before .before .before .before .before .before .before .before .before .before .before .before .before .before .before .before .before .args in
-    let o = c .before .before .before .before .before .before .before .before .before .before .before .before .before .before .before .before .before .before .before .before .before .before .before .pre .0 in
-    let y = c .before .before .before .before .before .before .before .before .before .before .before .before .before .before .before .before .before .before .before .before .before .before .before .pre .1 in
-    let w = c .before .before .before .before .before .before .before .before .before .before .before .before .before .before .before .before .before .before .before .before .before .before .before .pre .2 in
-    let g = home-known (directory (held (take (a .have) (a .vars .now))) (held (a .homes .now)) (part (a .line .now) (a .at + 1) (a .to)))
-    (c .before .before .before .before .before .before .before .before .before .before .before .before .before .before .before .give-home .last .1 .1 .1 .0) (c .before .before .before .before .before .before .before .before .before .before .before .before .before .before .before .give-home .ensures) (c .before .before .before .before .before .before .before .before .before .before .before .home2 .given .1) in
-    behind-given (a .room) (a .line .now) (a .at) _ (a .vars .now) (a .have) (held (a .homes .now)) y w (a .to) o
-    (c .before .before .before .before .before .before .before .before .before .before .before .before .before .before .before .give-home .last .1 .1 .1 .0) g _ _ _ (c .before .before .before .before .before .before .before .expand-text2 .ensures) (c .before .got2 .given .1) _
+    let e = c .before .before .before .before .before .before .before in
+    let s = entry (finding (found e)) in
+    behind-given (homes s) (s .pre .1) (s .pre .2) (s .pre .0) (given (found e)) _ _ _ (e .expand-rest2 .ensures) (c .before .got2 .given .1) _
 
 pub expand-home-spec : {M : Type 1} → statement M
 expand-home-spec = tie.close
     (tie.spec add-start sub-give-home part-give-home-start part-give-home-end slice-reshare-prefix-give-home slice-aggregate-give-home
-    give-home-requires enum-known-home enum-told expand-text-requires enum-known-home-2 mul-front sub-expand-text part-expand-text-start
-    part-expand-text-end expand-text-requires-2 enum-known-got enum-known-got-2 add-t43 same-length same-length-2 returns same-length-3 same-length-4
+    give-home-requires enum-known-home enum-told expand-rest-requires enum-known-home-2 mul-front sub-expand-rest part-expand-rest-start
+    part-expand-rest-end expand-rest-requires-2 enum-known-got enum-known-got-2 add-t39 same-length same-length-2 returns same-length-3 same-length-4
     returns-2 same-length-5 same-length-6 returns-3 same-length-7 same-length-8 returns-4)

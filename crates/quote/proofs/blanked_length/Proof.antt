@@ -1,9 +1,9 @@
--- `quoting::blanked_length` meets its contract: what is counted and what the fields ahead take are together what they all take.
-use Prim.Native.Nat.{_-_}
+-- `quote::blanked_length` meets its contract: what is counted and what the fields ahead take are together what they all take.
+use Prim.Native.Nat.{_+_, _-_}
 use native.Mathlib.Omega.{arith}
 use borrow.Author.Needs.{needs}
 use lib.ListN.{length}
-use Rattle.quote.proofs.Walks.{Counts, counts-starts, counts-end, counts-bad, counts-text, counts-more}
+use Rattle.quote.proofs.Walks.{Field, Counts, counts-starts, counts-end, counts-bad, counts-text, counts-more}
 use Rattle.quote.proofs.blanked_length.Statement.{statement}
 use Rattle.quote.proofs.blanked_length.Tie as tie
 
@@ -34,73 +34,50 @@ returns-2 c = counts-bad (c .before .before .before .loop .inv) (c .before .befo
 enum-known-piece : tie.Need-enum-known-piece Inv-loop μ-loop
 enum-known-piece c = search needs
 
+-- the field at the walk's place
+field : (c : tie.After-piece Inv-loop μ-loop) →
+    let l = c .before .before .before in
+    Field (l .before .before .args .fields .now) (l .loop .at + 2) (c .piece .given .0 .0)
+field c = counts-text (c .before .before .before .loop .inv) (c .before .before .text-at .ensures) (c .piece .given .1)
+
+-- the count with that field
+more : (c : tie.After-field-length Inv-loop μ-loop) →
+    let p = c .before .before .before in
+    let l = p .before .before .before in
+    let a = l .before .before .args in
+    Counts (a .fields .now) (a .from) (p .piece .given .0 .0) (l .loop .n + (1 + c .field-length .result))
+more c =
+    let p = c .before .before .before in
+    let l = p .before .before .before in
+    counts-more (l .loop .inv) (p .before .before .text-at .ensures) (c .field-length .result) (p .piece .given .1) (c .field-length .ensures)
+    (l .before .before .pre)
+
 add-start : tie.Need-add-start Inv-loop μ-loop
-add-start c =
-    let s = c .before .before .before .text-at .ensures in
-    let e = c .before .piece .given .1 in
-    let t = counts-text (c .before .before .before .before .loop .inv) s e in
-    omega (arith, t .low, t .high)
+add-start c = let f = field (c .before) in omega (arith, f .low, f .high)
 
 sub-field-length : tie.Need-sub-field-length Inv-loop μ-loop
-sub-field-length c =
-    let s = c .before .before .before .text-at .ensures in
-    let e = c .before .piece .given .1 in
-    let t = counts-text (c .before .before .before .before .loop .inv) s e in
-    t .low
+sub-field-length c = field (c .before) .low
 
 part-field-length-start : tie.Need-part-field-length-start Inv-loop μ-loop
-part-field-length-start c =
-    let s = c .before .before .before .text-at .ensures in
-    let e = c .before .piece .given .1 in
-    let t = counts-text (c .before .before .before .before .loop .inv) s e in
-    t .low
+part-field-length-start c = field (c .before) .low
 
 part-field-length-end : tie.Need-part-field-length-end Inv-loop μ-loop
-part-field-length-end c =
-    let s = c .before .before .before .text-at .ensures in
-    let e = c .before .piece .given .1 in
-    let t = counts-text (c .before .before .before .before .loop .inv) s e in
-    t .high
+part-field-length-end c = field (c .before) .high
 
 field-length-requires : tie.Need-field-length-requires Inv-loop μ-loop
-field-length-requires c κs =
-    let s = c .before .before .before .before .text-at .ensures in
-    let e = c .before .before .piece .given .1 in
-    let t = counts-text (c .before .before .before .before .before .loop .inv) s e in
-    t .short
+field-length-requires c κs = field (c .before .before) .short
 
 add-n : tie.Need-add-n Inv-loop μ-loop
-add-n c =
-    let s = c .before .before .before .before .before .text-at .ensures in
-    let e = c .before .before .before .piece .given .1 in
-    let t = counts-text (c .before .before .before .before .before .before .loop .inv) s e in
-    omega (arith, c .field-length .ensures, t .small)
+add-n c = omega (arith, c .field-length .ensures, field (c .before .before .before) .small)
 
 add-n-2 : tie.Need-add-n-2 Inv-loop μ-loop
-add-n-2 c =
-    let s = c .before .before .before .before .before .text-at .ensures in
-    let e = c .before .before .before .piece .given .1 in
-    let f = c .field-length in
-    omega (
-      arith,
-      counts-more (c .before .before .before .before .before .before .loop .inv) s (f .result) e (f .ensures)
-          (c .before .before .before .before .before .before .before .before .pre) .bound,
-    )
+add-n-2 c = omega (arith, more c .bound)
 
 loop-less : tie.Need-loop-less Inv-loop μ-loop
-loop-less c =
-    let s = c .before .before .before .before .before .text-at .ensures in
-    let e = c .before .before .before .piece .given .1 in
-    let t = counts-text (c .before .before .before .before .before .before .loop .inv) s e in
-    omega (arith, t .low, t .high)
+loop-less c = let f = field (c .before .before .before) in omega (arith, f .low, f .high)
 
 loop-again : tie.Need-loop-again Inv-loop μ-loop
-loop-again c =
-    let s = c .before .before .before .before .before .text-at .ensures in
-    let e = c .before .before .before .piece .given .1 in
-    let f = c .field-length in
-    counts-more (c .before .before .before .before .before .before .loop .inv) s (f .result) e (f .ensures)
-    (c .before .before .before .before .before .before .before .before .pre)
+loop-again c = more c
 
 pub blanked-length-spec : {M : Type 1} → statement M
 blanked-length-spec =

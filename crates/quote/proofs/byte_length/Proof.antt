@@ -1,4 +1,4 @@
--- `quoting::byte_length` meets its contract: its test is the stage's.
+-- `quote::byte_length` meets its contract: its test is the stage's.
 use mathlib.Core.Path.{sym, ap}
 use lib.ListN.{length}
 use Rattle.quote.proofs.Lengths.{byte-quote, byte-other}

@@ -1,4 +1,4 @@
--- `quoting::bytes_length` meets its contract: what is counted and what the bytes from `i` on take are together what the field takes.
+-- `quote::bytes_length` meets its contract: what is counted and what the bytes from `i` on take are together what the field takes.
 use Prim.Native.Nat.{_+_, _-_}
 use native.Mathlib.Omega.{arith}
 use borrow.Author.Needs.{needs}

@@ -1,4 +1,4 @@
--- `quoting::field_length` meets its contract: two quotes around the bytes.
+-- `quote::field_length` meets its contract: two quotes around the bytes.
 use native.Mathlib.Omega.{arith}
 use borrow.Author.Needs.{needs}
 use Rattle.quote.proofs.Lengths.{bytes-small, field-length}

@@ -1,9 +1,9 @@
--- `quoting::line_length` meets its contract: the first field and those behind it.
+-- `quote::line_length` meets its contract: the first field and those after it.
 use native.Mathlib.Omega.{arith}
 use mathlib.Core.Path.{sym, ap}
 use borrow.Author.Needs.{needs}
 use lib.ListN.{length}
-use Rattle.quote.proofs.Walks.{line-end, line-bad, line-text, line-rest, line-length, line-bound}
+use Rattle.quote.proofs.Walks.{First, line-end, line-bad, line-first, line-length, line-bound}
 use Rattle.quote.proofs.line_length.Statement.{statement}
 use Rattle.quote.proofs.line_length.Tie as tie
 
@@ -19,43 +19,31 @@ enum-told-2 c = search needs
 enum-known-first : tie.Need-enum-known-first
 enum-known-first c = search needs
 
+-- the first field, and those after it
+first : (c : tie.After-first) → First (c .before .before .before .before .args .fields .now) (c .first .given .0 .0)
+first c =
+    let s = c .before .before .before .before in
+    line-first (s .args .fields .now) (s .pre) (c .before .before .text-at .ensures) (c .first .given .1)
+
 sub-field-length : tie.Need-sub-field-length
-sub-field-length c =
-    let a = c .before .before .before .before .before in
-    let t = line-text (a .args .fields .now) (a .pre) (c .before .before .before .text-at .ensures) (c .before .first .given .1) in
-    t .low
+sub-field-length c = first (c .before) .text .low
 
 part-field-length-start : tie.Need-part-field-length-start
-part-field-length-start c =
-    let a = c .before .before .before .before .before in
-    let t = line-text (a .args .fields .now) (a .pre) (c .before .before .before .text-at .ensures) (c .before .first .given .1) in
-    t .low
+part-field-length-start c = first (c .before) .text .low
 
 part-field-length-end : tie.Need-part-field-length-end
-part-field-length-end c =
-    let a = c .before .before .before .before .before in
-    let t = line-text (a .args .fields .now) (a .pre) (c .before .before .before .text-at .ensures) (c .before .first .given .1) in
-    t .high
+part-field-length-end c = first (c .before) .text .high
 
 field-length-requires : tie.Need-field-length-requires
-field-length-requires c κs =
-    let a = c .before .before .before .before .before .before in
-    let t = line-text (a .args .fields .now) (a .pre) (c .before .before .before .before .text-at .ensures) (c .before .before .first .given .1) in
-    t .short
+field-length-requires c κs = first (c .before .before) .text .short
 
 blanked-length-requires : tie.Need-blanked-length-requires
-blanked-length-requires c κs =
-    let a = c .before .before .before .before .before .before .before in
-    let t = line-rest (a .args .fields .now) (a .pre) (c .before .before .before .before .before .text-at .ensures)
-    (c .before .before .before .first .given .1) in
-    t
+blanked-length-requires c κs = first (c .before .before .before) .rest
 
 add-result : tie.Need-add-result
 add-result c =
-    let a = c .before .before .before .before .before .before .before .before in
-    let t = line-bound (a .args .fields .now) (a .pre) (c .before .before .before .before .before .before .text-at .ensures)
-    (c .before .before .before .before .first .given .1) in
-    omega (arith, c .before .field-length .ensures, c .blanked-length .ensures, t)
+    let l = c .before in
+    omega (arith, l .field-length .ensures, c .blanked-length .ensures, line-bound (first (l .before .before .before)))
 
 returns : tie.Need-returns
 returns c =
@@ -69,10 +57,8 @@ returns-2 c =
 
 returns-3 : tie.Need-returns-3
 returns-3 c =
-    let a = c .before .before .before .before .before .before .before .before in
-    let t = line-length (a .args .fields .now) (a .pre) (c .before .before .before .before .before .before .text-at .ensures)
-    (c .before .before .before .before .first .given .1) in
-    omega (arith, c .before .field-length .ensures, c .blanked-length .ensures, t)
+    let l = c .before in
+    omega (arith, l .field-length .ensures, c .blanked-length .ensures, line-length (first (l .before .before .before)))
 
 pub line-length-spec : {M : Type 1} → statement M
 line-length-spec =

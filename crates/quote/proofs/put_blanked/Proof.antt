@@ -1,10 +1,13 @@
--- `quoting::put_blanked` meets its contract: the fields passed stand in the buffer, each behind its blank, and those ahead are left.
+-- `quote::put_blanked` meets its contract: the fields passed stand in the buffer, each behind its blank, and those ahead are left.
 use Prim.Native.Nat.{_-_}
 use native.Mathlib.Omega.{arith}
 use borrow.Author.Needs.{needs}
 use lib.ListN.{length}
 use Rattle.text.proofs.Filling.{fill-room, fill-length}
-use Rattle.quote.proofs.Walks.{Fills, fills-starts, fills-end, fills-bad, fills-text, fills-blank, fills-fits, fills-next, fills-more}
+use Rattle.stages.specs.Quote.{blanked}
+use Rattle.table.specs.Pieces.{textsFrom}
+use Rattle.table.proofs.Writing.{Facing, writing-end, writing-bad, writing-text}
+use Rattle.quote.proofs.Walks.{Fills, fills-starts, blanked-none, fills-blank, fills-fits, fills-next, fills-more}
 use Rattle.quote.proofs.put_blanked.Statement.{statement}
 use Rattle.quote.proofs.put_blanked.Tie as tie
 
@@ -13,6 +16,14 @@ Inv-loop fields from out₀ used₀ at₀ out used at = Fills fields from at out
 
 abbrev μ-loop : tie.MeasureT-loop
 μ-loop fields from out₀ used₀ at₀ out used at = length fields - at
+
+-- the walk where a field stands at its place
+facing : (c : tie.After-piece Inv-loop μ-loop) →
+    let l = c .before .before .before in
+    let a = l .before .before .before .args in
+    Facing (blanked (textsFrom (a .fields .now) (a .from))) blanked (a .fields .now) (l .loop .at) (c .piece .given .0 .0) (a .out .now)
+    (l .loop .out) (l .loop .used)
+facing c = writing-text (c .before .before .before .loop .inv) (c .before .before .text-at .ensures) (c .piece .given .1)
 
 loop-holds : tie.Need-loop-holds Inv-loop μ-loop
 loop-holds c = fills-starts (c .before .before .args .out .now) (c .before .before .pre .0) (c .before .before .pre .1)
@@ -27,7 +38,7 @@ same-length : tie.Need-same-length Inv-loop μ-loop
 same-length c = fill-length (c .before .before .before .loop .inv .filling)
 
 returns : tie.Need-returns Inv-loop μ-loop
-returns c = fills-end (c .before .before .before .loop .inv) (c .before .before .text-at .ensures) (c .enum-told .given .1)
+returns c = writing-end (c .before .before .before .loop .inv) (c .before .before .text-at .ensures) blanked-none (c .enum-told .given .1)
 
 enum-told-2 : tie.Need-enum-told-2 Inv-loop μ-loop
 enum-told-2 c = search needs
@@ -36,100 +47,53 @@ same-length-2 : tie.Need-same-length-2 Inv-loop μ-loop
 same-length-2 c = fill-length (c .before .before .before .loop .inv .filling)
 
 returns-2 : tie.Need-returns-2 Inv-loop μ-loop
-returns-2 c = fills-bad (c .before .before .before .loop .inv) (c .before .before .text-at .ensures) (c .enum-told2 .given .1)
+returns-2 c = writing-bad (c .before .before .before .loop .inv) (c .before .before .text-at .ensures) (c .enum-told2 .given .1)
 
 enum-known-piece : tie.Need-enum-known-piece Inv-loop μ-loop
 enum-known-piece c = search needs
 
 slice-write-out : tie.Need-slice-write-out Inv-loop μ-loop
-slice-write-out c =
-    let s = c .before .before .before .text-at .ensures in
-    let e = c .before .piece .given .1 in
-    let f = fills-blank (c .before .before .before .before .loop .inv) s e in
-    omega (arith, fill-room f, fill-length (c .before .before .before .before .loop .inv .filling))
+slice-write-out c = let f = facing (c .before) in omega (arith, fill-room (fills-blank f), fill-length (f .walk .filling))
 
 add-next : tie.Need-add-next Inv-loop μ-loop
-add-next c =
-    let s = c .before .before .before .text-at .ensures in
-    let e = c .before .piece .given .1 in
-    let f = fills-blank (c .before .before .before .before .loop .inv) s e in
-    omega (arith, fill-room f)
+add-next c = omega (arith, fill-room (fills-blank (facing (c .before))))
 
 add-start : tie.Need-add-start Inv-loop μ-loop
-add-start c =
-    let s = c .before .before .before .text-at .ensures in
-    let e = c .before .piece .given .1 in
-    let t = fills-text (c .before .before .before .before .loop .inv) s e in
-    omega (arith, t .low, t .ahead .within)
+add-start c = let t = facing (c .before) .text in omega (arith, t .low, t .ahead .within)
 
 sub-put-field : tie.Need-sub-put-field Inv-loop μ-loop
-sub-put-field c =
-    let s = c .before .before .before .text-at .ensures in
-    let e = c .before .piece .given .1 in
-    let t = fills-text (c .before .before .before .before .loop .inv) s e in
-    t .low
+sub-put-field c = facing (c .before) .text .low
 
 part-put-field-start : tie.Need-part-put-field-start Inv-loop μ-loop
-part-put-field-start c =
-    let s = c .before .before .before .text-at .ensures in
-    let e = c .before .piece .given .1 in
-    let t = fills-text (c .before .before .before .before .loop .inv) s e in
-    t .low
+part-put-field-start c = facing (c .before) .text .low
 
 part-put-field-end : tie.Need-part-put-field-end Inv-loop μ-loop
-part-put-field-end c =
-    let s = c .before .before .before .text-at .ensures in
-    let e = c .before .piece .given .1 in
-    let t = fills-text (c .before .before .before .before .loop .inv) s e in
-    t .ahead .within
+part-put-field-end c = facing (c .before) .text .ahead .within
 
 sub-put-field-2 : tie.Need-sub-put-field-2 Inv-loop μ-loop
-sub-put-field-2 c =
-    let s = c .before .before .before .before .text-at .ensures in
-    let e = c .before .before .piece .given .1 in
-    let f = fills-blank (c .before .before .before .before .before .loop .inv) s e in
-    omega (arith, fill-room f, fill-length f)
+sub-put-field-2 c = let b = fills-blank (facing (c .before .before)) in omega (arith, fill-room b, fill-length b)
 
 part-put-field-start-2 : tie.Need-part-put-field-start-2 Inv-loop μ-loop
-part-put-field-start-2 c =
-    let s = c .before .before .before .before .text-at .ensures in
-    let e = c .before .before .piece .given .1 in
-    let f = fills-blank (c .before .before .before .before .before .loop .inv) s e in
-    omega (arith, fill-room f, fill-length f)
+part-put-field-start-2 c = let b = fills-blank (facing (c .before .before)) in omega (arith, fill-room b, fill-length b)
 
 part-put-field-end-2 : tie.Need-part-put-field-end-2 Inv-loop μ-loop
 part-put-field-end-2 c = search needs
 
 put-field-requires : tie.Need-put-field-requires Inv-loop μ-loop
-put-field-requires c κs =
-    let s = c .before .before .before .before .before .text-at .ensures in
-    let e = c .before .before .before .piece .given .1 in
-    fills-fits (c .before .before .before .before .before .before .loop .inv) s e
+put-field-requires c κs = fills-fits (facing (c .before .before .before))
 
 add-used : tie.Need-add-used Inv-loop μ-loop
 add-used c =
-    let s = c .before .before .before .before .before .before .before .before .text-at .ensures in
-    let e = c .before .before .before .before .before .before .piece .given .1 in
-    omega (
-      arith,
-      c .before .before .put-field .ensures .counts,
-      fills-next
-          (c .before .before .before .before .before .before .before .before .before .loop .inv) s e,
-    )
+    let p = c .before .before in
+    omega (arith, p .put-field .ensures .counts, fills-next (facing (p .before .before .before .before)))
 
 loop-less : tie.Need-loop-less Inv-loop μ-loop
-loop-less c =
-    let s = c .before .before .before .before .before .before .before .before .text-at .ensures in
-    let e = c .before .before .before .before .before .before .piece .given .1 in
-    let t = fills-text (c .before .before .before .before .before .before .before .before .before .loop .inv) s e in
-    omega (arith, t .low, t .ahead .within)
+loop-less c = let t = facing (c .before .before .before .before .before .before) .text in omega (arith, t .low, t .ahead .within)
 
 loop-again : tie.Need-loop-again Inv-loop μ-loop
 loop-again c =
-    let s = c .before .before .before .before .before .before .before .before .text-at .ensures in
-    let e = c .before .before .before .before .before .before .piece .given .1 in
-    let p = c .before .before .put-field in
-    fills-more (c .before .before .before .before .before .before .before .before .before .loop .inv) s (p .last .1 .0) (p .result) e (p .ensures)
+    let p = c .before .before in
+    fills-more (facing (p .before .before .before .before)) (p .put-field .last .1 .0) (p .put-field .result) (p .put-field .ensures)
 
 pub put-blanked-spec : {M : Type 1} → statement M
 put-blanked-spec =

@@ -1,4 +1,4 @@
--- `quoting::put_byte` meets its contract: one byte, or the four that stand for a quote.
+-- `quote::put_byte` meets its contract: one byte, or the four that stand for a quote.
 use native.Mathlib.Omega.{arith}
 use mathlib.Core.Path.{ap}
 use lib.ListN.{length, length-set}

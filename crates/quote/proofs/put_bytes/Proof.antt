@@ -1,4 +1,4 @@
--- `quoting::put_bytes` meets its contract: the bytes passed stand in the buffer, and those from `i` on are left.
+-- `quote::put_bytes` meets its contract: the bytes passed stand in the buffer, and those from `i` on are left.
 use Prim.Native.Nat.{_+_, _-_, _≤_}
 use native.Mathlib.Omega.{arith}
 use mathlib.Core.Path.{refl}

@@ -1,4 +1,4 @@
--- `quoting::put_field` meets its contract: a quote, the bytes behind it, and a quote behind those.
+-- `quote::put_field` meets its contract: a quote, the bytes behind it, and a quote behind those.
 use native.Mathlib.Omega.{arith}
 use mathlib.Core.Path.{refl}
 use mathlib.Core.List.{[], _∷_}

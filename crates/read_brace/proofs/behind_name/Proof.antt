@@ -1,21 +1,28 @@
--- `braces::behind_name` meets its contract: the byte behind decides.
-use Prim.Native.Nat.{suc, _+_, _-_}
-use mathlib.Core.Path.{_≡_, refl, sym, ap, _∙_}
+-- The byte after the name decides.
+use mathlib.Core.Path.{sym, _∙_}
 use native.Mathlib.Omega.{arith}
-use lib.ListN.{drop, getD}
-use Rattle.stages.specs.Bytes.{part}
-use Rattle.stages.specs.Syntax.{suffix, prefix}
-use Rattle.read_mode.specs.Modes.{modeOf}
-use Rattle.read_brace.proofs.Showing.{same-item, shows-value, braced-name, shows-inner, inner-same}
-use Rattle.read_brace.proofs.Names.{name-end, name-close, name-colon, name-sign, name-suffix, name-prefix, name-wrong, colon-place, removal-place}
+use Rattle.read_brace.proofs.Names.{Ended, NoSign, name-end, name-close, name-colon, name-sign, name-suffix, name-prefix, name-wrong}
 use borrow.Author.Needs.{needs}
 use Rattle.read_brace.proofs.behind_name.Statement.{statement}
 use Rattle.read_brace.proofs.behind_name.Tie as tie
 
+-- a byte stands after the name
+ended : (c : tie.Else1) → let a = c .before .before .args in Ended (a .text .now) (a .from) (a .to)
+ended c = let p = c .before .before .pre in record { name = p .0; there = omega (arith, c .if1 .left); deep = p .2 }
+
+-- and it does not close, and is no colon and none of `-=?+`
+no-sign : (c : tie.Else4) → let a = c .before .before .before .before .before .before .before .before .args in NoSign (a .text .now) (a .from) (a .to)
+no-sign c =
+    let colon = c .before .before .before in
+    record {
+      ended = ended (colon .before .before .before);
+      close = colon .before .if2 .left;
+      colon = colon .if3 .left;
+      sign = sym (c .before .is-in .ensures) ∙ c .if4 .left;
+    }
+
 returns : tie.Need-returns
-returns c =
-    let a = c .before .before .args in
-    name-end (modeOf (a .from .mode)) (a .text .now) (part (a .text .now) (a .from .at + 2) (a .to)) (a .to - a .from .at) (a .to) (c .if1 .taken)
+returns c = let a = c .before .before .args in name-end (a .text .now) (a .from) (a .to) (c .if1 .taken)
 
 shared-slice-read-b : tie.Need-shared-slice-read-b
 shared-slice-read-b c = search needs
@@ -27,25 +34,15 @@ add-t13 : tie.Need-add-t13
 add-t13 c = search needs
 
 returns-2 : tie.Need-returns-2
-returns-2 c =
-    let a = c .before .before .before .before .args in
-    shows-value (a .text .now) (a .from .at) (a .from .depth) (a .to + 1) (a .to - a .from .at) (omega (arith, c .before .before .before .before .pre .0))
-    (omega (arith, c .before .before .if1 .left)) (a .from .at + 2) (a .to) (c .before .before .before .before .pre .0)
-    (c .before .before .before .before .pre .1) (braced-name (a .from .at) (a .to) (c .before .before .before .before .pre .0))
-    (name-close (modeOf (a .from .mode)) (a .text .now) (part (a .text .now) (a .from .at + 2) (a .to)) (a .to - a .from .at) (a .to)
-    (omega (arith, c .before .before .if1 .left)) (c .if2 .taken))
+returns-2 c = name-close (ended (c .before .before)) (c .if2 .taken)
 
 behind-colon-requires : tie.Need-behind-colon-requires
 behind-colon-requires c κs = search needs
 
 returns-3 : tie.Need-returns-3
 returns-3 c =
-    let a = c .before .before .before .before .before .before .args in
-    same-item (a .text .now) (a .from .at) (a .from .depth) (c .behind-colon .result)
-    (name-colon (modeOf (a .from .mode)) (a .text .now) (part (a .text .now) (a .from .at + 2) (a .to)) (a .to - a .from .at) (a .to)
-    (omega (arith, c .before .before .before .before .if1 .left)) (c .before .before .if2 .left) (c .before .if3 .taken) ∙ colon-place
-    (modeOf (a .from .mode)) (part (a .text .now) (a .from .at + 2) (a .to)) (a .text .now) (a .from .at) (a .to)
-    (omega (arith, c .before .before .before .before .before .before .pre .0))) (c .behind-colon .ensures)
+    name-colon (ended (c .before .before .before .before)) (c .before .before .if2 .left) (c .before .if3 .taken) (c .behind-colon .result)
+    (c .behind-colon .ensures)
 
 slice-aggregate-is-in : tie.Need-slice-aggregate-is-in
 slice-aggregate-is-in c = search needs
@@ -67,57 +64,30 @@ add-t20 c = search needs
 
 returns-4 : tie.Need-returns-4
 returns-4 c =
-    let a = c .before .before .before .before .before .before .before .before .before .before .args in
-    shows-inner (a .text .now) (a .from .at) (a .from .depth) (a .to + 1) (a .to - a .from .at)
-    (omega (arith, c .before .before .before .before .before .before .before .before .before .before .pre .0))
-    (omega (arith, c .before .before .before .before .before .before .before .before .if1 .left)) (a .from .at + 2) (a .to)
-    (c .before .before .before .before .before .before .before .before .before .before .pre .0)
-    (c .before .before .before .before .before .before .before .before .before .before .pre .1) refl (c .before .sign-form .result)
-    (c .operand-mode .result) (c .before .before .before .before .before .before .before .before .before .before .pre .2) (c .operand-mode .ensures .closed)
-    (name-sign (modeOf (a .from .mode)) (a .text .now) (part (a .text .now) (a .from .at + 2) (a .to)) (a .to - a .from .at) (a .to)
-    (omega (arith, c .before .before .before .before .before .before .before .before .if1 .left))
-    (c .before .before .before .before .before .before .if2 .left) (c .before .before .before .before .before .if3 .left)
-    (sym (c .before .before .before .is-in .ensures) ∙ c .before .before .if4 .taken) ∙ inner-same (part (a .text .now) (a .from .at + 2) (a .to))
-    (a .to - a .from .at) (sym (c .before .sign-form .ensures)) (sym (c .operand-mode .ensures .is)))
+    let colon = c .before .before .before .before .before in
+    let f = c .before .sign-form in
+    name-sign (ended (colon .before .before .before)) (colon .before .if2 .left) (colon .if3 .left)
+    (sym (c .before .before .before .is-in .ensures) ∙ c .before .before .if4 .taken) (f .result) (c .operand-mode .result) (f .ensures)
+    (c .operand-mode .ensures)
 
 removal-at-requires : tie.Need-removal-at-requires
 removal-at-requires c κs = search needs
 
 returns-5 : tie.Need-returns-5
-returns-5 c =
-    let a = c .before .before .before .before .before .before .before .before .before .before .args in
-    same-item (a .text .now) (a .from .at) (a .from .depth) (c .removal-at .result)
-    (name-suffix (modeOf (a .from .mode)) (a .text .now) (part (a .text .now) (a .from .at + 2) (a .to)) (a .to - a .from .at) (a .to)
-    (omega (arith, c .before .before .before .before .before .before .before .before .if1 .left))
-    (c .before .before .before .before .before .before .if2 .left) (c .before .before .before .before .before .if3 .left)
-    (sym (c .before .before .before .is-in .ensures) ∙ c .before .before .if4 .left) (c .before .if5 .taken) ∙ removal-place
-    (part (a .text .now) (a .from .at + 2) (a .to)) suffix (getD (a .text .now) (a .to) 0) (a .to - a .from .at) (a .to) (a .text .now)) (c .removal-at .ensures)
+returns-5 c = name-suffix (no-sign (c .before .before)) (c .before .if5 .taken) (c .removal-at .result) (c .removal-at .ensures)
 
 removal-at-requires-2 : tie.Need-removal-at-requires-2
 removal-at-requires-2 c κs = search needs
 
 returns-6 : tie.Need-returns-6
 returns-6 c =
-    let a = c .before .before .before .before .before .before .before .before .before .before .before .args in
-    same-item (a .text .now) (a .from .at) (a .from .depth) (c .removal-at2 .result)
-    (name-prefix (modeOf (a .from .mode)) (a .text .now) (part (a .text .now) (a .from .at + 2) (a .to)) (a .to - a .from .at) (a .to)
-    (omega (arith, c .before .before .before .before .before .before .before .before .before .if1 .left))
-    (c .before .before .before .before .before .before .before .if2 .left) (c .before .before .before .before .before .before .if3 .left)
-    (sym (c .before .before .before .before .is-in .ensures) ∙ c .before .before .before .if4 .left) (c .before .before .if5 .left)
-    (c .before .if6 .taken) ∙ removal-place (part (a .text .now) (a .from .at + 2) (a .to)) prefix (getD (a .text .now) (a .to) 0) (a .to - a .from .at) (a .to)
-    (a .text .now)) (c .removal-at2 .ensures)
+    name-prefix (no-sign (c .before .before .before)) (c .before .before .if5 .left) (c .before .if6 .taken) (c .removal-at2 .result) (c .removal-at2 .ensures)
 
 wrong-byte-requires : tie.Need-wrong-byte-requires
 wrong-byte-requires c κs = search needs
 
 returns-7 : tie.Need-returns-7
-returns-7 c =
-    let a = c .before .before .before .before .before .before .before .before .before .before .before .args in
-    name-wrong (modeOf (a .from .mode)) (a .text .now) (part (a .text .now) (a .from .at + 2) (a .to)) (a .to - a .from .at) (a .to)
-    (omega (arith, c .before .before .before .before .before .before .before .before .before .if1 .left))
-    (c .before .before .before .before .before .before .before .if2 .left) (c .before .before .before .before .before .before .if3 .left)
-    (sym (c .before .before .before .before .is-in .ensures) ∙ c .before .before .before .if4 .left) (c .before .before .if5 .left)
-    (c .before .if6 .left) (c .wrong-byte .ensures)
+returns-7 c = name-wrong (no-sign (c .before .before .before)) (c .before .before .if5 .left) (c .before .if6 .left) (c .wrong-byte .ensures)
 
 pub behind-name-spec : {M : Type 1} → statement M
 behind-name-spec =

@@ -1,4 +1,4 @@
--- `items::is_at` meets its contract: a place behind the text has no byte.
+-- A place after the text has no byte.
 use native.Mathlib.Omega.{arith}
 use Rattle.read_brace.proofs.Showing.{at-none, at-here}
 use borrow.Author.Needs.{needs}

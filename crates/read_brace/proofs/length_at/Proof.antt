@@ -1,19 +1,22 @@
--- `braces::length_at` meets its contract: the byte behind decides.
-use mathlib.Core.Path.{_≡_, refl, sym, ap, _∙_}
+-- The byte after the `#` decides.
+use Prim.Native.Nat.{_+_, _<_}
+use mathlib.Core.Path.{sym, _∙_}
 use native.Mathlib.Omega.{arith}
-use Rattle.read_brace.proofs.Showing.{same-item}
+use lib.ListN.{length}
 use Rattle.read_brace.proofs.Names.{counted-end, counted-name, counted-wrong}
 use borrow.Author.Needs.{needs}
 use Rattle.read_brace.proofs.length_at.Statement.{statement}
 use Rattle.read_brace.proofs.length_at.Tie as tie
 
+-- a byte stands after the `#`
+there : (c : tie.Else1) → let a = c .before .before .args in a .from .at + 3 < length (a .text .now)
+there c = omega (arith, c .if1 .left)
+
 add-if1 : tie.Need-add-if1
 add-if1 c = search needs
 
 returns : tie.Need-returns
-returns c =
-    let a = c .before .before .args in
-    counted-end (a .text .now) (a .from .at) (c .if1 .taken)
+returns c = let a = c .before .before .args in counted-end (a .text .now) (a .from) (c .if1 .taken)
 
 add-b : tie.Need-add-b
 add-b c = search needs
@@ -35,19 +38,20 @@ behind-length-requires c κs = search needs
 
 returns-2 : tie.Need-returns-2
 returns-2 c =
-    let a = c .before .before .before .before .before .before .before .args in
-    same-item (a .text .now) (a .from .at) (a .from .depth) (c .behind-length .result)
-    (counted-name (a .text .now) (a .from .at) (omega (arith, c .before .before .before .before .before .if1 .left))
-    (sym (c .before .before .before .in-class .ensures) ∙ c .before .before .if2 .taken) _ (c .before .run-end .ensures)) (c .behind-length .ensures)
+    let e = c .before .before .before in
+    let a = e .before .before .before .before .args in
+    let to = c .before .run-end in
+    counted-name (a .text .now) (a .from) (there (e .before .before)) (sym (e .in-class .ensures) ∙ c .before .before .if2 .taken) (to .result)
+    (to .ensures) (c .behind-length .result) (c .behind-length .ensures)
 
 wrong-byte-requires : tie.Need-wrong-byte-requires
 wrong-byte-requires c κs = search needs
 
 returns-3 : tie.Need-returns-3
 returns-3 c =
-    let a = c .before .before .before .before .before .before .args in
-    counted-wrong (a .text .now) (a .from .at) (omega (arith, c .before .before .before .before .if1 .left))
-    (sym (c .before .before .in-class .ensures) ∙ c .before .if2 .left) (c .wrong-byte .ensures)
+    let e = c .before .before in
+    let a = e .before .before .before .before .args in
+    counted-wrong (a .text .now) (a .from) (there (e .before .before)) (sym (e .in-class .ensures) ∙ c .before .if2 .left) (c .wrong-byte .ensures)
 
 pub length-at-spec : {M : Type 1} → statement M
 length-at-spec =

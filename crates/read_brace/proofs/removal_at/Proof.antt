@@ -1,19 +1,17 @@
--- `braces::removal_at` meets its contract: whether the sign stands twice decides the form and the place.
-use Prim.Native.Nat.{suc, _+_, _-_}
-use mathlib.Core.Path.{_≡_, refl, sym, ap, _∙_}
-use native.Mathlib.Omega.{arith}
-use lib.ListN.{drop, getD}
+-- Whether the sign stands twice decides the form and the place.
+use mathlib.Core.Path.{sym, ap, _∙_}
 use mathlib.Core.Bool.{Bool}
-use Rattle.stages.specs.Bytes.{part}
 use Rattle.stages.specs.Syntax.{removal}
 use Rattle.text.specs.Cases.{reachOf}
-use Rattle.read_mode.specs.declared.Mode.the-variants as mode
 use Rattle.read_brace.specs.Shows.{removalSide}
-use Rattle.read_brace.proofs.Showing.{at-within, shows-inner, inner-same}
-use Rattle.read_brace.proofs.Names.{removal-doubled, removal-once}
+use Rattle.read_brace.proofs.Names.{Ended, removal-doubled, removal-once}
 use borrow.Author.Needs.{needs}
 use Rattle.read_brace.proofs.removal_at.Statement.{statement}
 use Rattle.read_brace.proofs.removal_at.Tie as tie
+
+-- where the name ends
+ended : (s : tie.Start) → Ended (s .args .text .now) (s .args .from) (s .args .to)
+ended s = record { name = s .pre .0; there = s .pre .1; deep = s .pre .2 }
 
 add-is-at : tie.Need-add-is-at
 add-is-at c = search needs
@@ -38,26 +36,17 @@ add-t22-2 c = search needs
 
 returns : tie.Need-returns
 returns c =
-    let start = c .before .before .before .before .before in
-    let a = start .args in
-    let e = sym (c .before .before .is-at .ensures) ∙ c .if1 .taken in
-    let w = at-within (getD (a .text .now) (a .to) 0) (a .to + 1) (a .text .now) e in
-    shows-inner (a .text .now) (a .from .at) (a .from .depth) (a .to + 2) (suc (a .to - a .from .at)) (omega (arith, start .pre .0)) (omega (arith, start .pre .1))
-    (a .from .at + 2) (a .to) (start .pre .0) (omega (arith, start .pre .1)) refl (c .before .removal-form .result) mode.Bare (start .pre .2) refl
-    (removal-doubled (part (a .text .now) (a .from .at + 2) (a .to)) (removalSide (a .prefix)) (getD (a .text .now) (a .to) 0) (a .to - a .from .at)
-    (drop (a .to + 1) (a .text .now)) e ∙ inner-same (part (a .text .now) (a .from .at + 2) (a .to)) (suc (a .to - a .from .at))
-    (sym (c .before .removal-form .ensures ∙ ap (λ (d : Bool). removal (removalSide (a .prefix)) (reachOf d)) (c .if1 .taken))) refl)
+    let s = c .before .before .before .before .before in
+    let f = c .before .removal-form in
+    removal-doubled (ended s) (s .args .prefix) (sym (c .before .before .is-at .ensures) ∙ c .if1 .taken) (f .result)
+    (f .ensures ∙ ap (λ (d : Bool). removal (removalSide (s .args .prefix)) (reachOf d)) (c .if1 .taken))
 
 returns-2 : tie.Need-returns-2
 returns-2 c =
-    let start = c .before .before .before .before .before in
-    let a = start .args in
-    let e = sym (c .before .before .is-at .ensures) ∙ c .if1 .left in
-    shows-inner (a .text .now) (a .from .at) (a .from .depth) (a .to + 1) (a .to - a .from .at) (omega (arith, start .pre .0)) (omega (arith, start .pre .1))
-    (a .from .at + 2) (a .to) (start .pre .0) (omega (arith, start .pre .1)) refl (c .before .removal-form .result) mode.Bare (start .pre .2) refl
-    (removal-once (part (a .text .now) (a .from .at + 2) (a .to)) (removalSide (a .prefix)) (getD (a .text .now) (a .to) 0) (a .to - a .from .at)
-    (drop (a .to + 1) (a .text .now)) e ∙ inner-same (part (a .text .now) (a .from .at + 2) (a .to)) (a .to - a .from .at)
-    (sym (c .before .removal-form .ensures ∙ ap (λ (d : Bool). removal (removalSide (a .prefix)) (reachOf d)) (c .if1 .left))) refl)
+    let s = c .before .before .before .before .before in
+    let f = c .before .removal-form in
+    removal-once (ended s) (s .args .prefix) (sym (c .before .before .is-at .ensures) ∙ c .if1 .left) (f .result)
+    (f .ensures ∙ ap (λ (d : Bool). removal (removalSide (s .args .prefix)) (reachOf d)) (c .if1 .left))
 
 pub removal-at-spec : {M : Type 1} → statement M
 removal-at-spec =

@@ -1,4 +1,4 @@
--- `braces::removal_form` meets its contract: the sign decides.
+-- The sign decides.
 use Rattle.read_brace.proofs.removal_form.Statement.{statement}
 use Rattle.read_brace.proofs.removal_form.Tie as tie
 

@@ -1,12 +1,18 @@
--- `items::closed_at` meets its contract: an open parenthesis first, then the byte behind.
-use Prim.Native.Nat.{_+_}
+-- An open parenthesis decides, then the byte after the `)`.
+use mathlib.Core.Path.{_≡_}
 use native.Mathlib.Omega.{arith}
-use lib.ListN.{getD}
-use Rattle.read_brace.proofs.Showing.{shows-stop}
-use Rattle.read_item.proofs.Class.{closed-paren, closed-end, closed-stop, closed-wrong}
+use Rattle.read_item.proofs.Class.{Second, closed-paren, closed-end, closed-stop, closed-wrong}
 use borrow.Author.Needs.{needs}
 use Rattle.read_item.proofs.closed_at.Statement.{statement}
 use Rattle.read_item.proofs.closed_at.Tie as tie
+
+-- no parenthesis is open
+outer : (c : tie.Else1) → c .before .before .args .parens ≡ 0
+outer c = omega (arith, c .if1 .left)
+
+-- and a byte stands after the `)`
+second : (c : tie.Else2) → let a = c .before .before .before .args in Second (a .text .now) (a .from)
+second c = record { there = omega (arith, c .if2 .left) }
 
 shared-slice-read-t8 : tie.Need-shared-slice-read-t8
 shared-slice-read-t8 c = search needs
@@ -16,19 +22,15 @@ sub-t9 c = search needs
 
 returns : tie.Need-returns
 returns c =
-    let a = c .before .before .before .args in (
-      closed-paren (a .parens) (getD (a .text .now) (a .from .at) 0) (a .text .now) (a .from .at) (omega (arith, c .before .if1 .taken)),
-      c .before .before .before .pre .0,
-      omega (arith, c .before .before .before .pre .1),
-    )
+    let s = c .before .before .before in
+    let a = s .args in
+    closed-paren (a .text .now) (a .from) (a .parens) (s .pre .0) (s .pre .1) (omega (arith, c .before .if1 .taken))
 
 add-if2 : tie.Need-add-if2
 add-if2 c = search needs
 
 returns-2 : tie.Need-returns-2
-returns-2 c =
-    let a = c .before .before .before .args in
-    closed-end (a .parens) (getD (a .text .now) (a .from .at) 0) (a .text .now) (a .from .at) (omega (arith, c .before .if1 .left)) (c .if2 .taken)
+returns-2 c = let a = c .before .before .before .args in closed-end (a .text .now) (a .from) (a .parens) (outer (c .before)) (c .if2 .taken)
 
 add-b : tie.Need-add-b
 add-b c = search needs
@@ -42,9 +44,7 @@ add-t14 c = search needs
 returns-3 : tie.Need-returns-3
 returns-3 c =
     let a = c .before .before .before .before .before .args in
-    shows-stop (a .text .now) (a .from .at) (a .from .depth) (a .from .at + 2) 2 (omega arith) (omega (arith, c .before .before .if2 .left))
-    (closed-stop (a .parens) (getD (a .text .now) (a .from .at) 0) (a .text .now) (a .from .at) (omega (arith, c .before .before .before .if1 .left))
-    (omega (arith, c .before .before .if2 .left)) (c .if3 .taken))
+    closed-stop (a .text .now) (a .from) (a .parens) (outer (c .before .before .before)) (second (c .before .before)) (c .if3 .taken)
 
 wrong-byte-requires : tie.Need-wrong-byte-requires
 wrong-byte-requires c κs = search needs
@@ -52,8 +52,8 @@ wrong-byte-requires c κs = search needs
 returns-4 : tie.Need-returns-4
 returns-4 c =
     let a = c .before .before .before .before .before .before .args in
-    closed-wrong (a .parens) (getD (a .text .now) (a .from .at) 0) (a .text .now) (a .from .at) (omega (arith, c .before .before .before .before .if1 .left))
-    (omega (arith, c .before .before .before .if2 .left)) (c .before .if3 .left) (c .wrong-byte .ensures)
+    closed-wrong (a .text .now) (a .from) (a .parens) (outer (c .before .before .before .before)) (second (c .before .before .before))
+    (c .before .if3 .left) (c .wrong-byte .ensures)
 
 pub closed-at-spec : {M : Type 1} → statement M
 closed-at-spec =

@@ -1,4 +1,4 @@
--- `reading::next_word` meets its contract: the run of blanks ends where the next word begins.
+-- The run of blanks ends where the next word begins.
 use native.Mathlib.Omega.{arith}
 use Rattle.read_line.proofs.Lines.{next-at, next-none}
 use borrow.Author.Needs.{needs}

@@ -1,5 +1,8 @@
--- `reading::read_word` meets its contract: the first byte decides, then the text is read.
+-- The first byte decides, then the text is read.
 use mathlib.Core.Path.{_≡_, sym, _∙_}
+use mathlib.Core.Bool.{false}
+use lib.ListN.{getD}
+use Rattle.stages.specs.Bytes.{isOperator}
 use Rattle.read_line.proofs.Lines.{word-operator, word-hash, word-read}
 use borrow.Author.Needs.{needs}
 use Rattle.read_line.proofs.read_word.Statement.{statement}
@@ -13,25 +16,26 @@ in-class-requires c κs = search needs
 
 returns : tie.Need-returns
 returns c =
-    let a = c .before .before .before .before .args in
-    word-operator (a .line .now) (a .place) (c .before .before .before .before .pre .0) (c .before .before .before .before .pre .1)
-    (sym (c .before .in-class .ensures) ∙ c .if1 .taken)
+    let s = c .before .before .before .before in
+    word-operator (s .args .line .now) (s .args .place) (s .pre .0) (s .pre .1) (sym (c .before .in-class .ensures) ∙ c .if1 .taken)
+
+-- no operator stands at the place
+plain : (c : tie.Else1) → let s = c .before .before .before .before in isOperator (getD (s .args .line .now) (s .args .place) 0) ≡ false
+plain c = sym (c .before .in-class .ensures) ∙ c .if1 .left
 
 returns-2 : tie.Need-returns-2
 returns-2 c =
-    let a = c .before .before .before .before .before .args in
-    word-hash (a .line .now) (a .place) (c .before .before .before .before .before .pre .0) (c .before .before .before .before .before .pre .1)
-    (sym (c .before .before .in-class .ensures) ∙ c .before .if1 .left) (c .if2 .taken)
+    let s = c .before .before .before .before .before in
+    word-hash (s .args .line .now) (s .args .place) (s .pre .0) (s .pre .1) (plain (c .before)) (c .if2 .taken)
 
 read-text-requires : tie.Need-read-text-requires
 read-text-requires c κs = search needs
 
 returns-3 : tie.Need-returns-3
 returns-3 c =
-    let a = c .before .before .before .before .before .before .args in
-    word-read (a .line .now) (a .place) (c .before .before .before .before .before .before .pre .0)
-    (c .before .before .before .before .before .before .pre .1) (sym (c .before .before .before .in-class .ensures) ∙ c .before .before .if1 .left)
-    (c .before .if2 .left) (c .read-text .result) (c .read-text .ensures)
+    let s = c .before .before .before .before .before .before in
+    word-read (s .args .line .now) (s .args .place) (s .pre .0) (s .pre .1) (plain (c .before .before)) (c .before .if2 .left) (c .read-text .result)
+    (c .read-text .ensures)
 
 pub read-word-spec : {M : Type 1} → statement M
 read-word-spec =

@@ -1,4 +1,4 @@
--- `modes::is_not_served` meets its contract: each mode has its own set.
+-- Each mode has its own set.
 use Rattle.stages.specs.Items.{notServed}
 use borrow.Author.Needs.{needs}
 use Rattle.read_mode.proofs.is_not_served.Statement.{statement}

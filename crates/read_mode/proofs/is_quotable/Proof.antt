@@ -1,4 +1,4 @@
--- `modes::is_quotable` meets its contract: each mode has its own set.
+-- Each mode has its own set.
 use Rattle.stages.specs.Items.{quotable}
 use borrow.Author.Needs.{needs}
 use Rattle.read_mode.proofs.is_quotable.Statement.{statement}

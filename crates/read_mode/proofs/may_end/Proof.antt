@@ -1,4 +1,4 @@
--- `modes::may_end` meets its contract: the stage goes by the same cases.
+-- The stage goes by the same cases.
 use Rattle.stages.specs.Items.{ended}
 use borrow.Author.Needs.{needs}
 use Rattle.read_mode.proofs.may_end.Statement.{statement}

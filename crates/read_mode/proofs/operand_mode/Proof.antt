@@ -1,4 +1,4 @@
--- `modes::operand_mode` meets its contract: the stage goes by the same cases.
+-- The stage goes by the same cases.
 use Rattle.stages.specs.Items.{operandMode}
 use borrow.Author.Needs.{needs}
 use Rattle.read_mode.proofs.operand_mode.Statement.{statement}

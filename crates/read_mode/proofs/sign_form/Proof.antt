@@ -1,4 +1,4 @@
--- `modes::sign_form` meets its contract: each test decides as in the stage.
+-- Each test decides as in the stage.
 use borrow.Author.Tests.{eq-eqb, ne-eqb}
 use Rattle.stages.specs.Items.{signForm}
 use Rattle.read_mode.proofs.sign_form.Statement.{statement}

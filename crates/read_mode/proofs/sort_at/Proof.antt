@@ -1,4 +1,4 @@
--- `modes::sort_at` meets its contract: each mode has its own tests.
+-- Each mode has its own tests.
 use borrow.Author.Needs.{needs}
 use Rattle.read_mode.proofs.sort_at.Statement.{statement}
 use Rattle.read_mode.proofs.sort_at.Tie as tie

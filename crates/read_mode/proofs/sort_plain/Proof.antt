@@ -1,4 +1,4 @@
--- `modes::sort_plain` meets its contract: each test decides as in the stage.
+-- Each test decides as in the stage.
 use borrow.Author.Tests.{eq-eqb, ne-eqb}
 use Rattle.read_mode.specs.Modes.{plainSort}
 use Rattle.read_mode.proofs.sort_plain.Statement.{statement}

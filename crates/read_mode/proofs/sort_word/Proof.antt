@@ -1,5 +1,5 @@
--- `modes::sort_word` meets its contract: each test decides as in the stage.
-use mathlib.Core.Path.{_≡_, refl, sym, _∙_}
+-- Each test decides as in the stage.
+use mathlib.Core.Path.{refl, sym, _∙_}
 use borrow.Author.Tests.{eq-eqb, ne-eqb}
 use Rattle.stages.specs.Syntax.{word}
 use Rattle.stages.specs.Items.{sort, closerLength}

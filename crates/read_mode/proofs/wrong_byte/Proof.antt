@@ -1,4 +1,4 @@
--- `modes::wrong_byte` meets its contract: each test decides as in the stage.
+-- Each test decides as in the stage.
 use borrow.Author.Tests.{eq-eqb, ne-eqb}
 use Rattle.stages.specs.Items.{wrong}
 use Rattle.read_mode.proofs.wrong_byte.Statement.{statement}

@@ -1,12 +1,31 @@
--- `recipe::run` is safe: each table lies within its buffer, so the parts that are lent are there.
+-- Each table lies within its buffer, so the parts that are lent are there.
 use native.Mathlib.Omega.{arith}
 use mathlib.Core.Path.{sym}
+use Prim.Native.Nat.{_≤_}
 use lib.ListN.{length}
+use Rattle.stages.specs.Numbers.{imageLimit}
 use lib.Seq.{length-take-le}
 use borrow.Author.Needs.{needs}
 use Rattle.recipe_load.proofs.Reading.{loads-inside}
 use Rattle.recipe.proofs.run.Statement.{statement}
 use Rattle.recipe.proofs.run.Tie as tie
+
+-- where the third table has been loaded, the second before it, and the entry
+abbrev entry : tie.After-load2 → tie.Start
+entry c = c .before .before .before .before .before .before .before .before .before .before .before .before .before .before
+
+abbrev second : tie.After-load3 → tie.After-load2
+second c = c .before .before .before .before .before .before .before .before
+
+homes-inside : (c : tie.After-h) → (c .h .given .0 .0) ≤ length (entry (c .before .before .before .before) .args .homes .now)
+homes-inside c =
+    let l = c .before .before .before .before in
+    loads-inside (length (entry l .args .homes .now)) (l .load2 .result) (c .h .given .1) (l .load2 .ensures)
+
+paths-inside : (c : tie.After-p) → (c .p .given .0 .0) ≤ length (entry (second (c .before .before .before .before)) .args .paths .now)
+paths-inside c =
+    let l = c .before .before .before .before in
+    loads-inside (length (entry (second l) .args .paths .now)) (l .load3 .result) (c .p .given .1) (l .load3 .ensures)
 
 slice-aggregate-load : tie.Need-slice-aggregate-load
 slice-aggregate-load c = search needs
@@ -14,8 +33,8 @@ slice-aggregate-load c = search needs
 load-requires : tie.Need-load-requires
 load-requires c κs = search needs
 
-enum-known-used : tie.Need-enum-known-used
-enum-known-used c = search needs
+enum-known-vars-used : tie.Need-enum-known-vars-used
+enum-known-vars-used c = search needs
 
 enum-told : tie.Need-enum-told
 enum-told c = search needs
@@ -76,42 +95,21 @@ slice-relend-prefix-answer-with c = search needs
 
 slice-aggregate-answer-with : tie.Need-slice-aggregate-answer-with
 slice-aggregate-answer-with c =
-    sym (length-take-le 8192
+    sym (length-take-le imageLimit
     (c .before .before .before .before .before .before .before .before .before .before .before .before .before .before .before .before .before .before .before .before .before .before .load .last .1 .0) (omega arith))
 
 slice-reshare-prefix-answer-with : tie.Need-slice-reshare-prefix-answer-with
-slice-reshare-prefix-answer-with c =
-    omega (
-      arith,
-      loads-inside
-          (length (c .before .before .before .before .before .before .before .before .before .before .before .before .before .before .before .before .before .before .before .before .before .before .before .before .before .before .before .before .args .homes .now)) (c .before .before .before .before .before .before .before .before .before .before .before .before .before .before .load2 .result) (c .before .before .before .before .before .before .before .before .before .before .h .given .1) (c .before .before .before .before .before .before .before .before .before .before .before .before .before .before .load2 .ensures),
-    )
+slice-reshare-prefix-answer-with c = omega (arith, homes-inside (c .before .before .before .before .before .before .before .before .before .before))
 
 slice-aggregate-answer-with-2 : tie.Need-slice-aggregate-answer-with-2
 slice-aggregate-answer-with-2 c =
-    sym (length-take-le _ _
-    (omega (
-      arith,
-      loads-inside
-          (length (c .before .before .before .before .before .before .before .before .before .before .before .before .before .before .before .before .before .before .before .before .before .before .before .before .before .before .before .before .before .args .homes .now)) (c .before .before .before .before .before .before .before .before .before .before .before .before .before .before .before .load2 .result) (c .before .before .before .before .before .before .before .before .before .before .before .h .given .1) (c .before .before .before .before .before .before .before .before .before .before .before .before .before .before .before .load2 .ensures),
-    )))
+    sym (length-take-le _ _ (omega (arith, homes-inside (c .before .before .before .before .before .before .before .before .before .before .before))))
 
 slice-reshare-prefix-answer-with-2 : tie.Need-slice-reshare-prefix-answer-with-2
-slice-reshare-prefix-answer-with-2 c =
-    omega (
-      arith,
-      loads-inside
-          (length (c .before .before .before .before .before .before .before .before .before .before .before .before .before .before .before .before .before .before .before .before .before .before .before .before .before .before .before .before .before .args .paths .now)) (c .before .before .before .before .before .before .before .load3 .result) (c .before .before .before .p .given .1) (c .before .before .before .before .before .before .before .load3 .ensures),
-    )
+slice-reshare-prefix-answer-with-2 c = omega (arith, paths-inside (c .before .before .before))
 
 slice-aggregate-answer-with-3 : tie.Need-slice-aggregate-answer-with-3
-slice-aggregate-answer-with-3 c =
-    sym (length-take-le _ _
-    (omega (
-      arith,
-      loads-inside
-          (length (c .before .before .before .before .before .before .before .before .before .before .before .before .before .before .before .before .before .before .before .before .before .before .before .before .before .before .before .before .before .before .args .paths .now)) (c .before .before .before .before .before .before .before .before .load3 .result) (c .before .before .before .before .p .given .1) (c .before .before .before .before .before .before .before .before .load3 .ensures),
-    )))
+slice-aggregate-answer-with-3 c = sym (length-take-le _ _ (omega (arith, paths-inside (c .before .before .before .before))))
 
 answer-with-requires : tie.Need-answer-with-requires
 answer-with-requires c κs = search needs
@@ -134,7 +132,7 @@ run-spec =
     (tie.spec
     slice-aggregate-load
     load-requires
-    enum-known-used
+    enum-known-vars-used
     enum-told
     same-length
     returns

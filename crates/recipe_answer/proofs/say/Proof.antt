@@ -1,35 +1,40 @@
--- `say` meets its contract: the normaliser's answer in `cutting`'s words is what the stage says of the line.
+-- The normaliser's answer, put in words, is what the stage says of the line.
 use mathlib.Core.Path.{sym}
+use Prim.Native.Nat.{_≤_}
 use lib.ListN.{length}
 use lib.Seq.{length-take-le}
 use borrow.Author.Needs.{needs}
+use Rattle.stages.specs.Call.{Given}
 use Rattle.call_check.specs.Calls.{given}
 use Rattle.recipe_answer.proofs.Saying.{out-inside, room-fits, said-so}
 use Rattle.recipe_answer.proofs.say.Statement.{statement}
 use Rattle.recipe_answer.proofs.say.Tie as tie
 
+-- the call's entry, where the normaliser has answered, and what it was given
+abbrev entry : tie.After-normalise → tie.Start
+entry c = c .before .before .before .before .before .before .before .before .before .before .before
+
+abbrev asked : tie.After-normalise → Given
+asked c =
+    let a = entry c .args in
+    given (a .line .now) (a .vars .now) (a .vars-used) (a .homes .now) (a .paths .now) (a .work .now) (a .out .now)
+
+inside : (c : tie.After-normalise) → (c .normalise .result .«out_len») ≤ length (c .normalise .last .1 .1 .1 .1 .1 .1 .0)
+inside c = out-inside (asked c) (c .normalise .ensures)
+
 normalise-requires : tie.Need-normalise-requires
 normalise-requires c κs = search needs
 
 slice-reshare-prefix-put-answer : tie.Need-slice-reshare-prefix-put-answer
-slice-reshare-prefix-put-answer c =
-    let a = c .before .before .before .before .before .before .before .before .before .before .before .before .before .before .before .before .before .args in
-    out-inside (given (a .line .now) (a .vars .now) (a .used) (a .homes .now) (a .paths .now) (a .work .now) (a .out .now))
-    (c .before .before .before .before .before .before .normalise .ensures)
+slice-reshare-prefix-put-answer c = inside (c .before .before .before .before .before .before)
 
 slice-aggregate-put-answer : tie.Need-slice-aggregate-put-answer
-slice-aggregate-put-answer c =
-    let a = c .before .before .before .before .before .before .before .before .before .before .before .before .before .before .before .before .before .before .args in
-    sym (length-take-le _ _
-    (out-inside (given (a .line .now) (a .vars .now) (a .used) (a .homes .now) (a .paths .now) (a .work .now) (a .out .now))
-    (c .before .before .before .before .before .before .before .normalise .ensures)))
+slice-aggregate-put-answer c = sym (length-take-le _ _ (inside (c .before .before .before .before .before .before .before)))
 
 put-answer-requires : tie.Need-put-answer-requires
 put-answer-requires c κs =
-    let a = c .before .before .before .before .before .before .before .before .before .before .before .before .before .before .before .before .before .before .before .args in
-    room-fits (given (a .line .now) (a .vars .now) (a .used) (a .homes .now) (a .paths .now) (a .work .now) (a .out .now))
-    (c .before .before .before .before .before .before .before .before .normalise .ensures) (length (a .said .now))
-    (c .before .before .before .before .before .before .before .before .before .before .before .before .before .before .before .before .before .before .before .pre .2)
+    let n = c .before .before .before .before .before .before .before .before in
+    room-fits (asked n) (n .normalise .ensures) (length (entry n .args .said .now)) (entry n .pre .2)
 
 same-length : tie.Need-same-length
 same-length c = search needs
@@ -45,10 +50,10 @@ same-length-4 c = search needs
 
 returns : tie.Need-returns
 returns c =
-    let s = c .before .before .before .before .before .before .before .before .before .before .before .before .before .before .before .before .before .before .before .before .before .before in
-    let a = s .args in
-    said-so (a .line .now) (a .vars .now) (a .used) (a .homes .now) (a .paths .now) (a .work .now) (a .out .now) (s .pre .0) (s .pre .1)
-    (c .before .before .before .before .before .before .before .before .before .before .before .normalise .ensures) (c .before .before .put-answer .ensures)
+    let n = c .before .before .before .before .before .before .before .before .before .before .before in
+    let a = entry n .args in
+    said-so (a .line .now) (a .vars .now) (a .vars-used) (a .homes .now) (a .paths .now) (a .work .now) (a .out .now) (entry n .pre .0)
+    (entry n .pre .1) (n .normalise .ensures) (c .before .before .put-answer .ensures)
 
 pub say-spec : {M : Type 1} → statement M
 say-spec =

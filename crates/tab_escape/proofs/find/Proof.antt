@@ -1,5 +1,4 @@
--- `escapes::find` meets its contract: no byte before `i` is the one that is sought.
-use borrow.Author.Needs.{needs}
+-- `tab_escape::find` meets its contract: no byte before `i` is the one that is sought.
 use Prim.Native.Nat.{_-_}
 use native.Mathlib.Omega.{arith}
 use lib.ListN.{length}

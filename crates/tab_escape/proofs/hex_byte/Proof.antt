@@ -1,4 +1,4 @@
--- `escapes::hex_byte` meets its contract: its tests are the definition's.
+-- `tab_escape::hex_byte` meets its contract: its tests are the definition's.
 use Rattle.tab_escape.proofs.Escaping.{byte-high, byte-low, byte-zero, byte-is}
 use borrow.Author.Needs.{needs}
 use Rattle.tab_escape.proofs.hex_byte.Statement.{statement}

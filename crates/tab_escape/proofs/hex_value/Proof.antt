@@ -1,4 +1,4 @@
--- `escapes::hex_value` meets its contract: its tests are the definition's.
+-- `tab_escape::hex_value` meets its contract: its tests are the definition's.
 use Rattle.tab_escape.proofs.Escaping.{value-1, value-2, value-3, value-4, value-5, value-6, value-7}
 use borrow.Author.Needs.{needs}
 use Rattle.tab_escape.proofs.hex_value.Statement.{statement}

@@ -1,4 +1,4 @@
--- `tabling::hex_digit` meets its contract: its test is the definition's.
+-- `tab_show::hex_digit` meets its contract: its test is the definition's.
 use borrow.Author.Needs.{needs}
 use Rattle.tab_show.proofs.Writing.{digit-low, digit-high}
 use Rattle.tab_show.proofs.hex_digit.Statement.{statement}

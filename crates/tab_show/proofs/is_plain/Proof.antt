@@ -1,4 +1,4 @@
--- `tabling::is_plain` meets its contract: its tests are the definition's.
+-- `tab_show::is_plain` meets its contract: its tests are the definition's.
 use Rattle.tab_show.proofs.Writing.{below-plain, above-plain, within-plain}
 use Rattle.tab_show.proofs.is_plain.Statement.{statement}
 use Rattle.tab_show.proofs.is_plain.Tie as tie

@@ -1,8 +1,7 @@
--- `tabling::put_text` meets its contract: the bytes passed stand in the buffer, and those from `i` on are left.
-use Prim.Native.Nat.{_+_, _-_, _≤_, _<_}
+-- `tab_show::put_text` meets its contract: the bytes passed stand in the buffer, and those from `i` on are left.
+use Prim.Native.Nat.{_+_, _-_, _≤_}
 use native.Mathlib.Omega.{arith}
-use mathlib.Core.Path.{_≡_, refl}
-use mathlib.Core.List.{_++_}
+use mathlib.Core.Path.{refl}
 use borrow.Author.Needs.{needs}
 use lib.ListN.{length, drop, getD}
 use Rattle.tab_show.specs.Lines.{shownByte, shownText}

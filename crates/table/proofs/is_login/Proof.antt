@@ -1,4 +1,4 @@
--- `tables::is_login` meets its contract: a run of login bytes reaches the end just if all are.
+-- `table::is_login` meets its contract: a run of login bytes reaches the end just if all are.
 use Rattle.table.proofs.Keys.{no-login, login-is}
 use borrow.Author.Needs.{needs}
 use Rattle.table.proofs.is_login.Statement.{statement}

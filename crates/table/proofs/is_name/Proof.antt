@@ -1,4 +1,4 @@
--- `tables::is_name` meets its contract: behind the first byte a run of name bytes reaches the end just if all are.
+-- `table::is_name` meets its contract: behind the first byte a run of name bytes reaches the end just if all are.
 use mathlib.Core.Path.{sym, _∙_}
 use borrow.Author.Tests.{not-true, not-false}
 use Rattle.table.proofs.Keys.{no-name, bad-start, name-is}

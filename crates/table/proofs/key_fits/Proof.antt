@@ -1,4 +1,4 @@
--- `tables::key_fits` meets its contract, kind by kind.
+-- `table::key_fits` meets its contract, kind by kind.
 use mathlib.Core.Path.{sym, _∙_}
 use borrow.Author.Needs.{needs}
 use Rattle.table.proofs.key_fits.Statement.{statement}

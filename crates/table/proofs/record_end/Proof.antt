@@ -1,4 +1,4 @@
--- `tables::record_end` meets its contract, kind by kind.
+-- `table::record_end` meets its contract, kind by kind.
 use borrow.Author.Needs.{needs}
 use Rattle.table.proofs.record_end.Statement.{statement}
 use Rattle.table.proofs.record_end.Tie as tie

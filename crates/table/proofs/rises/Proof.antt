@@ -1,4 +1,4 @@
--- `tables::rises` meets its contract by what each answer of the comparison says.
+-- `table::rises` meets its contract by what each answer of the comparison says.
 use mathlib.Core.Path.{sym, _∙_}
 use Rattle.text.proofs.Orders.{order-below, equal-not-below, above-not-below}
 use borrow.Author.Needs.{needs}

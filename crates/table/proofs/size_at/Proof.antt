@@ -1,4 +1,4 @@
--- `tables::size_at` meets its contract: each of the two is a byte, so the number they say fits.
+-- `table::size_at` meets its contract: each of the two is a byte, so the number they say fits.
 use native.Mathlib.Omega.{arith}
 use Prim.Native.Nat.{_+_}
 use borrow.Author.Needs.{needs}

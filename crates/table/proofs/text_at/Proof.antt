@@ -1,4 +1,4 @@
--- `tables::text_at` meets its contract: the bytes that are left, the length that the first two say, and the run of bytes that are not zero decide.
+-- `table::text_at` meets its contract: the bytes that are left, the length that the first two say, and the run of bytes that are not zero decide.
 use native.Mathlib.Omega.{arith}
 use Rattle.table.proofs.Pieces.{piece-end, piece-one, piece-long, piece-text, piece-zero}
 use borrow.Author.Needs.{needs}

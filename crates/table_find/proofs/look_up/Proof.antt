@@ -1,4 +1,4 @@
--- `lookups::look_up` meets its contract: the value of a known key is what stands behind its name.
+-- `table_find::look_up` meets its contract: the value of a known key is what stands behind its name.
 use native.Mathlib.Omega.{arith}
 use Rattle.table.proofs.Finds.{is-known, look-known, look-fresh}
 use borrow.Author.Needs.{needs}

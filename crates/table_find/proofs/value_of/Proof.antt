@@ -1,4 +1,4 @@
--- `lookups::value_of` meets its contract: the part is the value that the look-up shows, and the empty part that of no value.
+-- `table_find::value_of` meets its contract: the part is the value that the look-up shows, and the empty part that of no value.
 use Rattle.table.proofs.Finds.{is-shown, shown-value, absent-value}
 use borrow.Author.Needs.{needs}
 use Rattle.table_find.proofs.value_of.Statement.{statement}

@@ -1,4 +1,4 @@
--- `adding::insert` meets its contract: where there is room, `shift` makes the place and `put_record` fills it.
+-- `table_insert::insert` meets its contract: where there is room, `shift` makes the place and `put_record` fills it.
 use native.Mathlib.Omega.{arith}
 use borrow.Author.Needs.{needs}
 use Rattle.table_insert.proofs.Inserting.{insert-full, insert-kept}
@@ -9,14 +9,16 @@ sub-room : tie.Need-sub-room
 sub-room c = search needs
 
 returns : tie.Need-returns
-returns c = insert-full (c .before .before .before .args .image .now) (c .before .before .before .args .path .now)
-    (c .before .before .before .args .used) (c .before .before .before .args .at) (c .before .before .before .args .cap) (omega arith) (omega arith)
-    (omega arith) (omega arith) (omega (arith, c .if1 .taken))
+returns c =
+    let s = c .before .before .before in
+    let a = s .args in
+    insert-full (a .image .now) (a .path .now) (a .used) (a .at) (a .limit) (s .pre) (omega (arith, c .if1 .taken))
 
 returns-2 : tie.Need-returns-2
-returns-2 c = insert-full (c .before .before .before .before .args .image .now) (c .before .before .before .before .args .path .now)
-    (c .before .before .before .before .args .used) (c .before .before .before .before .args .at) (c .before .before .before .before .args .cap)
-    (omega arith) (omega arith) (omega arith) (omega arith) (omega (arith, c .before .if1 .left, c .if2 .taken))
+returns-2 c =
+    let s = c .before .before .before .before in
+    let a = s .args in
+    insert-full (a .image .now) (a .path .now) (a .used) (a .at) (a .limit) (s .pre) (omega (arith, c .before .if1 .left, c .if2 .taken))
 
 add-size : tie.Need-add-size
 add-size c = search needs
@@ -49,18 +51,14 @@ same-length : tie.Need-same-length
 same-length c = search needs
 
 returns-3 : tie.Need-returns-3
-returns-3 c = insert-kept (c .before .before .before .before .before .before .before .before .before .before .before .before .args .image .now)
-    (c .before .before .before .before .before .before .before .before .before .before .before .before .args .path .now)
-    (c .before .before .before .before .before .before .before .before .before .before .before .before .args .used)
-    (c .before .before .before .before .before .before .before .before .before .before .before .before .args .at)
-    (c .before .before .before .before .before .before .before .before .before .before .before .before .args .cap) (omega arith) (omega arith)
-    (omega arith) (omega arith) (c .before .before .before .before .before .before .shift .last .0) (c .before .before .put-record .last .0)
-    (omega (
-      arith,
-      c .before .before .before .before .before .before .before .before .before .if1 .left,
-      c .before .before .before .before .before .before .before .before .if2 .left,
-    )) (c .before .before .before .before .before .before .shift .ensures) (c .before .before .before .before .before .before .shift .kept .0)
-    (c .before .before .put-record .ensures)
+returns-3 c =
+    let written = c .before .before in
+    let moved = written .before .before .before .before in
+    let tested = moved .before .before in
+    let s = tested .before .before .before .before in
+    let a = s .args in
+    insert-kept (a .image .now) (a .path .now) (a .used) (a .at) (a .limit) (s .pre) (moved .shift .last .0) (written .put-record .last .0)
+    (omega (arith, tested .before .if1 .left, tested .if2 .left)) (moved .shift .ensures) (moved .shift .kept .0) (written .put-record .ensures)
 
 pub insert-spec : {M : Type 1} → statement M
 insert-spec =

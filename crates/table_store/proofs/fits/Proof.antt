@@ -1,4 +1,4 @@
--- `stores::fits` meets its contract: each test leaves what is left of the room.
+-- `table_store::fits` meets its contract: each test leaves what is left of the room.
 use native.Mathlib.Omega.{arith}
 use borrow.Author.Needs.{needs}
 use Rattle.table_store.proofs.Splices.{fits-not, fits-left}

@@ -1,4 +1,4 @@
--- `stores::put_record` meets its contract: by the two tests the record has room or not, and `copy_in` puts the text behind its length.
+-- `table_store::put_record` meets its contract: by the two tests the record has room or not, and `copy_in` puts the text behind its length.
 use native.Mathlib.Omega.{arith}
 use borrow.Author.Needs.{needs}
 use lib.ListN.{length-set}

@@ -1,7 +1,7 @@
 -- The answer of `read_line` has the stage's number, whatever its case.
 use mathlib.Core.Path.{_≡_, refl, sym, ap, _∙_}
 use borrow.Author.Needs.{needs}
-use Rattle.stages.specs.Outcome.{Placed, refusedAt, doneAt}
+use Rattle.stages.specs.Outcome.{refusedAt, doneAt}
 use Rattle.stages.specs.Read.{Words, readLine}
 use Rattle.read_line.specs.Says.{verdict, verdictOf}
 use Rattle.read_line.specs.declared.LineRead.{LineRead}

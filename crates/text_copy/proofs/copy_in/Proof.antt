@@ -1,4 +1,4 @@
--- `moves::copy_in` meets its contract: the area is the first `i` bytes of the text, then the area as it was.
+-- `text_copy::copy_in` meets its contract: the area is the first `i` bytes of the text, then the area as it was.
 use Prim.Native.Nat.{ℕ, _-_, _≤_}
 use mathlib.Core.Path.{_≡_, refl, ap, _∙_}
 use mathlib.Core.List.{List, _++_}

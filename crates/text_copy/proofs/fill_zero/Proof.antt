@@ -1,4 +1,4 @@
--- `moves::fill_zero` meets its contract: `i` zeros stand before the area as it was.
+-- `text_copy::fill_zero` meets its contract: `i` zeros stand before the area as it was.
 use Prim.Native.Nat.{ℕ, _-_, _≤_}
 use mathlib.Core.Path.{_≡_, refl, ap, _∙_}
 use mathlib.Core.List.{List, _++_}

@@ -1,4 +1,4 @@
--- `moves::shift_down` meets its contract: `i` bytes are pasted, and those to be read lie behind what is written.
+-- `text_copy::shift_down` meets its contract: `i` bytes are pasted, and those to be read lie behind what is written.
 use native.Mathlib.Omega.{arith}
 use Prim.Native.Nat.{_-_}
 use Rattle.text_copy.proofs.Moves.{Down, down-starts, down-step, down-ends}

@@ -1,4 +1,4 @@
--- `moves::shift_up` meets its contract: all but `left` bytes are pasted, and those to be read lie before what is written.
+-- `text_copy::shift_up` meets its contract: all but `left` bytes are pasted, and those to be read lie before what is written.
 use native.Mathlib.Omega.{arith}
 use Rattle.text_copy.proofs.Moves.{Up, up-starts, ups, up-ends}
 use Rattle.text_copy.proofs.shift_up.Statement.{statement}

@@ -1,216 +1,226 @@
 -- A parameter with an operand: the operand is expanded or only read, and its plan does the rest.
 use Prim.Native.Nat.{ℕ}
-use mathlib.Core.Path.{sym, _∙_}
+use mathlib.Core.Path.{_≡_, sym, _∙_}
+use lib.ListN.{length}
 use lib.Seq.{length-take-le}
 use Rattle.read_mode.specs.Modes.{formOf}
 use Rattle.row.specs.Marks.{markOf}
+use Rattle.expand_form.specs.Plans.{planOf, missingIn}
+use Rattle.expand_form.specs.declared.Used.{Used}
+use Rattle.expand_form.specs.declared.Plan.the-variants as plan
 use Rattle.expand_add.proofs.Holding.{table-held}
-use Rattle.expand_text.proofs.Inside.{read-known, unused-fault, unused-given, used-refused, used-holds, used-ready, used-given}
+use Rattle.expand_text.proofs.Inside.{
+  reading-known,
+  unused-fault,
+  unused-given,
+  OperandExpanded,
+  used-refused,
+  used-holds,
+  used-ready,
+  used-given,
+}
 use borrow.Author.Needs.{needs}
 use native.Mathlib.Omega.{arith}
+use Rattle.expand_text.proofs.+expand_inner+expand_item+expand_quote+expand_sum+expand_text.Lts-expand_inner as lts
 use Rattle.expand_text.proofs.expand_inner.Reads as expand-inner
-use Rattle.expand_text.proofs.+expand_inner+expand_item+expand_quote+expand_sum+expand_text.Lts-expand_inner as expand-inner-lts
 use Rattle.expand_text.proofs.expand_text.Reads as expand-text
-use Rattle.expand_add.proofs.answers.going_on.Reads as going-on-reads
-use Rattle.expand_operand.proofs.finish.Reads as finish-reads
-use Rattle.expand_operand.proofs.settle.Reads as settle-reads
-use Rattle.expand_form.proofs.operand_mark.Reads as operand-mark-reads
-use Rattle.expand_form.proofs.plan_of.Reads as plan-of-reads
-use Rattle.expand_form.proofs.wants_operand.Reads as wants-operand-reads
-use Rattle.read_line.proofs.read_text.Reads as read-text-reads
-use Rattle.table_find.proofs.look_up.Reads as look-up-reads
-use Rattle.expand_text.proofs.+expand_inner+expand_item+expand_quote+expand_sum+expand_text.Proof.Measures.{expand-inner-at, expand-text-below}
+use Rattle.table_find.proofs.look_up.Reads as look-up
+use Rattle.expand_form.proofs.plan_of.Reads as plan-of
+use Rattle.read_line.proofs.read_text.Reads as read-text
+use Rattle.expand_operand.proofs.settle.Reads as settle
+use Rattle.expand_form.proofs.operand_mark.Reads as operand-mark
+use Rattle.expand_operand.proofs.finish.Reads as finish
+use Rattle.expand_text.proofs.+expand_inner+expand_item+expand_quote+expand_sum+expand_text.Proof.Measures.{
+  expand-inner-at,
+  expand-text-below,
+}
 
-abbrev pub expand-inner-callees : ℕ → expand-inner-lts.Claims
-expand-inner-callees t = (
-  look-up-reads.Asked,
-  look-up-reads.Learnt,
-  plan-of-reads.Asked,
-  plan-of-reads.Learnt,
-  wants-operand-reads.Asked,
-  wants-operand-reads.Learnt,
-  operand-mark-reads.Asked,
-  operand-mark-reads.Learnt,
+abbrev pub callees : ℕ → lts.Claims
+callees t = (
+  look-up.Asked,
+  look-up.Learnt,
+  plan-of.Asked,
+  plan-of.Learnt,
+  read-text.Asked,
+  read-text.Learnt,
+  settle.Asked,
+  settle.Learnt,
+  operand-mark.Asked,
+  operand-mark.Learnt,
   expand-text-below t,
   expand-text.Post,
-  finish-reads.Asked,
-  finish-reads.Learnt,
-  read-text-reads.Asked,
-  read-text-reads.Learnt,
-  settle-reads.Asked,
-  settle-reads.Learnt,
-  going-on-reads.Asked,
-  going-on-reads.Learnt,
+  finish.Asked,
+  finish.Learnt,
 )
 
 module _ (t : ℕ) where
-  pub expand-inner-slice-reshare-prefix-look-up : expand-inner-lts.Need-slice-reshare-prefix-look-up (expand-inner-callees t) (expand-inner-at t)
-      expand-inner.Post
-  expand-inner-slice-reshare-prefix-look-up c =
-      c .before .before .before .before .pre .1 .1 .inside
+  abbrev began : lts.After-plan-of (callees t) (expand-inner-at t) expand-inner.Post
+      → lts.Start (callees t) (expand-inner-at t) expand-inner.Post
+  began c = c .before .before .before .before .before .before .before
 
-  pub expand-inner-slice-aggregate-look-up : expand-inner-lts.Need-slice-aggregate-look-up (expand-inner-callees t) (expand-inner-at t) expand-inner.Post
-  expand-inner-slice-aggregate-look-up c =
-      let a = c .before .before .before .before .before .args in
-      let y = c .before .before .before .before .before .pre .1 .0 in
-      let w = c .before .before .before .before .before .pre .1 .1 in
-      sym (length-take-le (a .have) (a .vars .now) (w .inside))
+  -- the plan of an operand that is not used, and that is only read
+  abbrev unused : lts.After-read-text (callees t) (expand-inner-at t) expand-inner.Post
+      → lts.After-plan-of (callees t) (expand-inner-at t) expand-inner.Post
+  unused c = c .before .before .before .before
 
-  pub expand-inner-look-up-requires : expand-inner-lts.Need-look-up-requires (expand-inner-callees t) (expand-inner-at t) expand-inner.Post
-  expand-inner-look-up-requires c κs =
-      let a = c .before .before .before .before .before .args in
-      let y = c .before .before .before .before .before .pre .1 .0 in
-      let w = c .before .before .before .before .before .pre .1 .1 in
-      table-held (a .room) (a .vars .now) (a .have) w
+  -- the plan of an operand that is used, and that is expanded
+  abbrev used : lts.After-expand-text (callees t) (expand-inner-at t) expand-inner.Post
+      → lts.After-plan-of (callees t) (expand-inner-at t) expand-inner.Post
+  used c = c .before .before .before .before .before .before .before
 
-  pub expand-inner-plan-of-requires : expand-inner-lts.Need-plan-of-requires (expand-inner-callees t) (expand-inner-at t) expand-inner.Post
-  expand-inner-plan-of-requires c κs = search needs
+  -- the operand was expanded, where it is refused and where it has a row
+  abbrev refused : lts.After-known-told5 (callees t) (expand-inner-at t) expand-inner.Post
+      → lts.After-expand-text (callees t) (expand-inner-at t) expand-inner.Post
+  refused c = c .before .before .before .before .before .before .before
 
-  pub expand-inner-wants-operand-requires : expand-inner-lts.Need-wants-operand-requires (expand-inner-callees t) (expand-inner-at t) expand-inner.Post
-  expand-inner-wants-operand-requires c κs = search needs
+  abbrev given : lts.After-known-told6 (callees t) (expand-inner-at t) expand-inner.Post
+      → lts.After-expand-text (callees t) (expand-inner-at t) expand-inner.Post
+  given c = c .before .before .before .before .before .before .before
 
-  pub expand-inner-operand-mark-requires : expand-inner-lts.Need-operand-mark-requires (expand-inner-callees t) (expand-inner-at t) expand-inner.Post
-  expand-inner-operand-mark-requires c κs = search needs
+  -- the row that is finished
+  abbrev finished : lts.After-finish (callees t) (expand-inner-at t) expand-inner.Post
+      → lts.After-known-told6 (callees t) (expand-inner-at t) expand-inner.Post
+  finished c = c .before .before .before
 
-  pub expand-inner-expand-text-requires : expand-inner-lts.Need-expand-text-requires (expand-inner-callees t) (expand-inner-at t) expand-inner.Post
-  expand-inner-expand-text-requires c κs =
-      let a = c .before .before .before .before .before .before .before .before .before .before .before .before .args in
-      let y = c .before .before .before .before .before .before .before .before .before .before .before .before .pre .1 .0 in
-      let w = c .before .before .before .before .before .before .before .before .before .before .before .before .pre .1 .1 in
-      (omega (arith, c .before .before .before .before .before .before .before .before .before .before .before .before .pre .0), (y, w))
+  inside : (c : lts.After-expand-text (callees t) (expand-inner-at t) expand-inner.Post) →
+      let a = began (used c) .args in
+      OperandExpanded (a .extent .«vars_room») (a .text .now) (a .from .at) (a .from .mode) (a .from .depth) (length (a .work .now)) (a .vars .now)
+      (a .extent .«vars_used») (a .name .now) (a .row .units) (formOf (a .form)) (markOf (a .row .mark))
+      (c .before .before .before .before .before .plan2 .given .0 .0)
+      (c .expand-text .last .1 .1 .1 .1 .1 .0) (c .expand-text .last .1 .1 .1 .0) (c .expand-text .result)
+  inside c =
+      let p = used c in
+      let s = began p in
+      record {
+        ready = s .pre .1 .0;
+        holds = s .pre .1 .1;
+        found = p .before .look-up .result;
+        shows = p .before .look-up .ensures .shows;
+        planned = sym (c .before .before .before .before .before .plan2 .given .1) ∙ p .plan-of .ensures;
+        mark = markOf (c .before .before .before .operand-mark .result);
+        is = c .before .before .before .operand-mark .ensures;
+        says = c .expand-text .ensures;
+      }
 
-  pub expand-inner-enum-known-got : expand-inner-lts.Need-enum-known-got (expand-inner-callees t) (expand-inner-at t) expand-inner.Post
-  expand-inner-enum-known-got c = search needs
+  pub slice-reshare-prefix-look-up : lts.Need-slice-reshare-prefix-look-up (callees t) (expand-inner-at t) expand-inner.Post
+  slice-reshare-prefix-look-up c = c .before .before .before .before .pre .1 .1 .inside
 
-  pub expand-inner-enum-known-got-2 : expand-inner-lts.Need-enum-known-got-2 (expand-inner-callees t) (expand-inner-at t) expand-inner.Post
-  expand-inner-enum-known-got-2 c = search needs
+  pub slice-aggregate-look-up : lts.Need-slice-aggregate-look-up (callees t) (expand-inner-at t) expand-inner.Post
+  slice-aggregate-look-up c =
+      let s = c .before .before .before .before .before in
+      sym (length-take-le (s .args .extent .«vars_used») (s .args .vars .now) (s .pre .1 .1 .inside))
 
-  pub expand-inner-finish-requires : expand-inner-lts.Need-finish-requires (expand-inner-callees t) (expand-inner-at t) expand-inner.Post
-  expand-inner-finish-requires c κs =
-      let a = c .before .before .before .before .before .before .before .before .before .before .before .before .before .before .before .before .before .before .before .before .before .before .args in
-      let y = c .before .before .before .before .before .before .before .before .before .before .before .before .before .before .before .before .before .before .before .before .before .before .pre .1 .0 in
-      let w = c .before .before .before .before .before .before .before .before .before .before .before .before .before .before .before .before .before .before .before .before .before .before .pre .1 .1 in (
-        used-ready (a .room) (a .text .now) (a .at) (a .mode) (a .depth) (a .used) _ (a .vars .now) (a .have) (a .name .now) (formOf (a .form))
-            (markOf (a .mark)) y w
-            (c .before .before .before .before .before .before .before .before .before .before .before .before .before .before .before .before .look-up .result) (c .before .before .before .before .before .before .before .before .before .before .before .before .before .before .before .before .look-up .ensures .shows) (c .before .before .before .before .before .before .before .before .before .before .before .before .before .before .before .plan-of .ensures) (sym (c .before .before .before .before .before .before .before .before .before .before .before .before .before .before .wants-operand .ensures) ∙ c .before .before .before .before .before .before .before .before .before .before .before .before .before .if1 .taken) (markOf (c .before .before .before .before .before .before .before .before .before .before .before .before .operand-mark .result)) (c .before .before .before .before .before .before .before .before .before .before .before .before .operand-mark .ensures) _ _ _ (c .before .before .before .before .before .before .before .before .before .expand-text .ensures) (c .before .before .before .got2 .given .1) (c .before .before .before .before .before .before .before .before .before .before .before .before .before .before .before .before .before .before .before .before .before .before .pre .1 .3),
-        used-holds (a .room) (a .text .now) (a .at) (a .mode) (a .depth) (a .used) _ (a .vars .now) (a .have) (a .name .now) (formOf (a .form))
-            (markOf (a .mark)) y w
-            (c .before .before .before .before .before .before .before .before .before .before .before .before .before .before .before .before .look-up .result) (c .before .before .before .before .before .before .before .before .before .before .before .before .before .before .before .before .look-up .ensures .shows) (c .before .before .before .before .before .before .before .before .before .before .before .before .before .before .before .plan-of .ensures) (sym (c .before .before .before .before .before .before .before .before .before .before .before .before .before .before .wants-operand .ensures) ∙ c .before .before .before .before .before .before .before .before .before .before .before .before .before .if1 .taken) (markOf (c .before .before .before .before .before .before .before .before .before .before .before .before .operand-mark .result)) (c .before .before .before .before .before .before .before .before .before .before .before .before .operand-mark .ensures) _ _ _ (c .before .before .before .before .before .before .before .before .before .expand-text .ensures) (c .before .before .before .got2 .given .1),
-        c .before .before .before .before .before .before .before .before .before .before .before .before .before .before .before .before .before .before .before .before .before .before .pre .1 .2,
-        omega (arith, y .area, c .before .before .before .before .before .before .before .before .before .expand-text .kept .1 .1 .1 .1 .1 .1 .1 .1 .1 .0),
+  pub look-up-requires : lts.Need-look-up-requires (callees t) (expand-inner-at t) expand-inner.Post
+  look-up-requires c κs = table-held _ _ _ (c .before .before .before .before .before .pre .1 .1)
+
+  pub plan-of-requires : lts.Need-plan-of-requires (callees t) (expand-inner-at t) expand-inner.Post
+  plan-of-requires c κs = search needs
+
+  pub enum-known-plan : lts.Need-enum-known-plan (callees t) (expand-inner-at t) expand-inner.Post
+  enum-known-plan c = search needs
+
+  pub read-text-requires : lts.Need-read-text-requires (callees t) (expand-inner-at t) expand-inner.Post
+  read-text-requires c κs =
+      let y = c .before .before .before .before .before .before .before .before .before .before .pre .1 .0 in (y .start, y .opens)
+
+  pub enum-known-got : lts.Need-enum-known-got (callees t) (expand-inner-at t) expand-inner.Post
+  enum-known-got c = search needs
+
+  pub enum-known-got-2 : lts.Need-enum-known-got-2 (callees t) (expand-inner-at t) expand-inner.Post
+  enum-known-got-2 c = search needs
+
+  pub slice-reshare-prefix-settle : lts.Need-slice-reshare-prefix-settle (callees t) (expand-inner-at t) expand-inner.Post
+  slice-reshare-prefix-settle c = began (unused (c .before .before .before)) .pre .1 .1 .inside
+
+  pub slice-aggregate-settle : lts.Need-slice-aggregate-settle (callees t) (expand-inner-at t) expand-inner.Post
+  slice-aggregate-settle c =
+      let s = began (unused (c .before .before .before .before)) in
+      sym (length-take-le (s .args .extent .«vars_used») (s .args .vars .now) (s .pre .1 .1 .inside))
+
+  pub settle-requires : lts.Need-settle-requires (callees t) (expand-inner-at t) expand-inner.Post
+  settle-requires c κs =
+      let s = began (unused (c .before .before .before .before .before)) in
+      (table-held _ _ _ (s .pre .1 .1), s .pre .1 .2, omega (arith, s .pre .1 .0 .area))
+
+  pub enum-known-plan-2 : lts.Need-enum-known-plan-2 (callees t) (expand-inner-at t) expand-inner.Post
+  enum-known-plan-2 c = search needs
+
+  pub operand-mark-requires : lts.Need-operand-mark-requires (callees t) (expand-inner-at t) expand-inner.Post
+  operand-mark-requires c κs = search needs
+
+  pub expand-text-requires : lts.Need-expand-text-requires (callees t) (expand-inner-at t) expand-inner.Post
+  expand-text-requires c κs =
+      let s = c .before .before .before .before .before .before .before .before .before .before .before .before .before in
+      (omega (arith, s .pre .0), (s .pre .1 .0, s .pre .1 .1))
+
+  pub enum-known-got-3 : lts.Need-enum-known-got-3 (callees t) (expand-inner-at t) expand-inner.Post
+  enum-known-got-3 c = search needs
+
+  pub enum-known-got-4 : lts.Need-enum-known-got-4 (callees t) (expand-inner-at t) expand-inner.Post
+  enum-known-got-4 c = search needs
+
+  pub finish-requires : lts.Need-finish-requires (callees t) (expand-inner-at t) expand-inner.Post
+  finish-requires c κs =
+      let g = c .before .before in
+      let e = given g in
+      let s = began (used e) in
+      let q = g .before .got4 .given .1 in (
+        used-ready (inside e) q (s .pre .1 .3),
+        used-holds (inside e) q,
+        s .pre .1 .2,
+        omega (arith, s .pre .1 .0 .area, e .expand-text .kept .1 .1 .1 .1 .1 .0),
       )
 
-  pub expand-inner-read-text-requires : expand-inner-lts.Need-read-text-requires (expand-inner-callees t) (expand-inner-at t) expand-inner.Post
-  expand-inner-read-text-requires c κs =
-      let a = c .before .before .before .before .before .before .before .before .before .args in
-      let y = c .before .before .before .before .before .before .before .before .before .pre .1 .0 in
-      let w = c .before .before .before .before .before .before .before .before .before .pre .1 .1 in
-      (y .start, y .opens)
+  pub same-length : lts.Need-same-length (callees t) (expand-inner-at t) expand-inner.Post
+  same-length c = search needs
 
-  pub expand-inner-enum-known-got-3 : expand-inner-lts.Need-enum-known-got-3 (expand-inner-callees t) (expand-inner-at t) expand-inner.Post
-  expand-inner-enum-known-got-3 c = search needs
+  pub returns : lts.Need-returns (callees t) (expand-inner-at t) expand-inner.Post
+  returns c =
+      let r = c .before .before .before in
+      let p = unused r in
+      let s = began p in
+      let a = s .args in
+      unused-fault (a .row .units) (formOf (a .form)) (markOf (a .row .mark)) (s .pre .1 .0) (s .pre .1 .1) (p .before .look-up .ensures .shows)
+      (p .plan-of .ensures) _ _ (reading-known (a .text .now) (a .from .at) _ (r .read-text .ensures) (c .before .got .given .1)) _
 
-  pub expand-inner-enum-known-got-4 : expand-inner-lts.Need-enum-known-got-4 (expand-inner-callees t) (expand-inner-at t) expand-inner.Post
-  expand-inner-enum-known-got-4 c = search needs
+  pub same-length-2 : lts.Need-same-length-2 (callees t) (expand-inner-at t) expand-inner.Post
+  same-length-2 c = search needs
 
-  pub expand-inner-slice-reshare-prefix-settle : expand-inner-lts.Need-slice-reshare-prefix-settle (expand-inner-callees t) (expand-inner-at t)
-      expand-inner.Post
-  expand-inner-slice-reshare-prefix-settle c =
-      c .before .before .before .before .before .before .before .before .before .before .before .before .before .pre .1 .1 .inside
+  pub same-length-3 : lts.Need-same-length-3 (callees t) (expand-inner-at t) expand-inner.Post
+  same-length-3 c = omega (arith, c .before .before .settle .kept .1 .1 .1 .1 .1 .0)
 
-  pub expand-inner-slice-aggregate-settle : expand-inner-lts.Need-slice-aggregate-settle (expand-inner-callees t) (expand-inner-at t) expand-inner.Post
-  expand-inner-slice-aggregate-settle c =
-      let a = c .before .before .before .before .before .before .before .before .before .before .before .before .before .before .args in
-      let y = c .before .before .before .before .before .before .before .before .before .before .before .before .before .before .pre .1 .0 in
-      let w = c .before .before .before .before .before .before .before .before .before .before .before .before .before .before .pre .1 .1 in
-      sym (length-take-le (a .have) (a .vars .now) (w .inside))
+  pub returns-2 : lts.Need-returns-2 (callees t) (expand-inner-at t) expand-inner.Post
+  returns-2 c =
+      let g = c .before .before .settle in
+      let q = c .before .before .before .before .before .before in
+      let r = q .before .before in
+      let p = unused r in
+      let s = began p in
+      let a = s .args in
+      unused-given (a .row .units) (formOf (a .form)) (markOf (a .row .mark)) (s .pre .1 .0) (s .pre .1 .1) (p .before .look-up .ensures .shows)
+      (p .plan-of .ensures) (r .before .before .plan .given .1)
+      (reading-known (a .text .now) (a .from .at) _ (r .read-text .ensures) (q .got2 .given .1)) _ (g .result) (g .ensures)
 
-  pub expand-inner-settle-requires : expand-inner-lts.Need-settle-requires (expand-inner-callees t) (expand-inner-at t) expand-inner.Post
-  expand-inner-settle-requires c κs =
-      let a = c .before .before .before .before .before .before .before .before .before .before .before .before .before .before .before .args in
-      let y = c .before .before .before .before .before .before .before .before .before .before .before .before .before .before .before .pre .1 .0 in
-      let w = c .before .before .before .before .before .before .before .before .before .before .before .before .before .before .before .pre .1 .1 in (
-        table-held (a .room) (a .vars .now) (a .have) w,
-        c .before .before .before .before .before .before .before .before .before .before .before .before .before .before .before .pre .1 .2,
-        omega (arith, y .area),
-      )
+  pub same-length-4 : lts.Need-same-length-4 (callees t) (expand-inner-at t) expand-inner.Post
+  same-length-4 c = omega (arith, refused c .expand-text .kept .1 .1 .1 .0)
 
-  pub expand-inner-going-on-requires : expand-inner-lts.Need-going-on-requires (expand-inner-callees t) (expand-inner-at t) expand-inner.Post
-  expand-inner-going-on-requires c κs = search needs
+  pub same-length-5 : lts.Need-same-length-5 (callees t) (expand-inner-at t) expand-inner.Post
+  same-length-5 c = omega (arith, refused c .expand-text .kept .1 .1 .1 .1 .1 .0)
 
-  pub expand-inner-same-length : expand-inner-lts.Need-same-length (expand-inner-callees t) (expand-inner-at t) expand-inner.Post
-  expand-inner-same-length c =
-      omega (arith, c .before .before .before .before .before .before .before .expand-text .kept .1 .1 .1 .1 .1 .1 .0)
+  pub returns-3 : lts.Need-returns-3 (callees t) (expand-inner-at t) expand-inner.Post
+  returns-3 c = used-refused (inside (refused c)) _ (c .before .got3 .given .1)
 
-  pub expand-inner-same-length-2 : expand-inner-lts.Need-same-length-2 (expand-inner-callees t) (expand-inner-at t) expand-inner.Post
-  expand-inner-same-length-2 c =
-      omega (arith, c .before .before .before .before .before .before .before .expand-text .kept .1 .1 .1 .1 .1 .1 .1 .1 .1 .0)
+  pub same-length-6 : lts.Need-same-length-6 (callees t) (expand-inner-at t) expand-inner.Post
+  same-length-6 c =
+      let f = c .before .before .before .before in
+      omega (arith, given (finished f) .expand-text .kept .1 .1 .1 .0, f .finish .kept .1 .1 .1 .1 .1 .0)
 
-  pub expand-inner-returns : expand-inner-lts.Need-returns (expand-inner-callees t) (expand-inner-at t) expand-inner.Post
-  expand-inner-returns c =
-      let a = c .before .before .before .before .before .before .before .before .before .before .before .before .before .before .before .before .before .before .before .before .args in
-      let y = c .before .before .before .before .before .before .before .before .before .before .before .before .before .before .before .before .before .before .before .before .pre .1 .0 in
-      let w = c .before .before .before .before .before .before .before .before .before .before .before .before .before .before .before .before .before .before .before .before .pre .1 .1 in
-      used-refused (a .room) (a .text .now) (a .at) (a .mode) (a .depth) (a .used) _ (a .vars .now) (a .have) (a .name .now) (formOf (a .form))
-      (markOf (a .mark)) y w
-      (c .before .before .before .before .before .before .before .before .before .before .before .before .before .before .look-up .result)
-      (c .before .before .before .before .before .before .before .before .before .before .before .before .before .before .look-up .ensures .shows)
-      (c .before .before .before .before .before .before .before .before .before .before .before .before .before .plan-of .ensures)
-      (sym (c .before .before .before .before .before .before .before .before .before .before .before .before .wants-operand .ensures) ∙
-      c .before .before .before .before .before .before .before .before .before .before .before .if1 .taken)
-      (markOf (c .before .before .before .before .before .before .before .before .before .before .operand-mark .result))
-      (c .before .before .before .before .before .before .before .before .before .before .operand-mark .ensures) _ _ _ (c .before .before .before .before .before .before .before .expand-text .ensures) _ (c .before .got .given .1)
+  pub same-length-7 : lts.Need-same-length-7 (callees t) (expand-inner-at t) expand-inner.Post
+  same-length-7 c =
+      let f = c .before .before .before .before in
+      omega (arith, given (finished f) .expand-text .kept .1 .1 .1 .1 .1 .0, f .finish .kept .1 .1 .1 .1 .1 .1 .1 .0)
 
-  pub expand-inner-same-length-3 : expand-inner-lts.Need-same-length-3 (expand-inner-callees t) (expand-inner-at t) expand-inner.Post
-  expand-inner-same-length-3 c =
-      omega (arith, c .before .before .before .before .before .before .before .before .before .before .before .before .before .before .expand-text .kept .1 .1 .1 .1 .1 .1 .0, c .before .before .before .before .finish .kept .1 .1 .1 .1 .1 .1 .0)
-
-  pub expand-inner-same-length-4 : expand-inner-lts.Need-same-length-4 (expand-inner-callees t) (expand-inner-at t) expand-inner.Post
-  expand-inner-same-length-4 c =
-      omega (arith, c .before .before .before .before .before .before .before .before .before .before .before .before .before .before .expand-text .kept .1 .1 .1 .1 .1 .1 .1 .1 .1 .0, c .before .before .before .before .finish .kept .1 .1 .1 .1 .1 .1 .1 .1 .1 .0)
-
-  pub expand-inner-returns-2 : expand-inner-lts.Need-returns-2 (expand-inner-callees t) (expand-inner-at t) expand-inner.Post
-  expand-inner-returns-2 c =
-      let a = c .before .before .before .before .before .before .before .before .before .before .before .before .before .before .before .before .before .before .before .before .before .before .before .before .before .before .before .args in
-      let y = c .before .before .before .before .before .before .before .before .before .before .before .before .before .before .before .before .before .before .before .before .before .before .before .before .before .before .before .pre .1 .0 in
-      let w = c .before .before .before .before .before .before .before .before .before .before .before .before .before .before .before .before .before .before .before .before .before .before .before .before .before .before .before .pre .1 .1 in
-      used-given (a .room) (a .text .now) (a .at) (a .mode) (a .depth) (a .used) _ (a .vars .now) (a .have) (a .name .now) (formOf (a .form))
-      (markOf (a .mark)) y w
-      (c .before .before .before .before .before .before .before .before .before .before .before .before .before .before .before .before .before .before .before .before .before .look-up .result) (c .before .before .before .before .before .before .before .before .before .before .before .before .before .before .before .before .before .before .before .before .before .look-up .ensures .shows) (c .before .before .before .before .before .before .before .before .before .before .before .before .before .before .before .before .before .before .before .before .plan-of .ensures) (sym (c .before .before .before .before .before .before .before .before .before .before .before .before .before .before .before .before .before .before .before .wants-operand .ensures) ∙ c .before .before .before .before .before .before .before .before .before .before .before .before .before .before .before .before .before .before .if1 .taken) (markOf (c .before .before .before .before .before .before .before .before .before .before .before .before .before .before .before .before .before .operand-mark .result)) (c .before .before .before .before .before .before .before .before .before .before .before .before .before .before .before .before .before .operand-mark .ensures) _ _ _ (c .before .before .before .before .before .before .before .before .before .before .before .before .before .before .expand-text .ensures) (c .before .before .before .before .before .before .before .before .got2 .given .1) _ _ (c .before .before .before .before .finish .result) (c .before .before .before .before .finish .ensures)
-
-  pub expand-inner-same-length-5 : expand-inner-lts.Need-same-length-5 (expand-inner-callees t) (expand-inner-at t) expand-inner.Post
-  expand-inner-same-length-5 c = search needs
-
-  pub expand-inner-returns-3 : expand-inner-lts.Need-returns-3 (expand-inner-callees t) (expand-inner-at t) expand-inner.Post
-  expand-inner-returns-3 c =
-      let a = c .before .before .before .before .before .before .before .before .before .before .before .before .before .args in
-      let y = c .before .before .before .before .before .before .before .before .before .before .before .before .before .pre .1 .0 in
-      let w = c .before .before .before .before .before .before .before .before .before .before .before .before .before .pre .1 .1 in
-      unused-fault (a .room) (a .text .now) (a .at) (a .mode) (a .depth) (a .used) _ (a .vars .now) (a .have) (a .name .now) (formOf (a .form))
-      (markOf (a .mark)) y w (c .before .before .before .before .before .before .before .look-up .result)
-      (c .before .before .before .before .before .before .before .look-up .ensures .shows)
-      (c .before .before .before .before .before .before .plan-of .ensures) _ _
-      (read-known (a .text .now) (a .at) _ (c .before .before .before .read-text .ensures) (c .before .got3 .given .1)) _
-
-  pub expand-inner-same-length-6 : expand-inner-lts.Need-same-length-6 (expand-inner-callees t) (expand-inner-at t) expand-inner.Post
-  expand-inner-same-length-6 c = search needs
-
-  pub expand-inner-same-length-7 : expand-inner-lts.Need-same-length-7 (expand-inner-callees t) (expand-inner-at t) expand-inner.Post
-  expand-inner-same-length-7 c =
-      omega (arith, c .before .before .before .settle .kept .1 .1 .1 .1 .1 .0)
-
-  pub expand-inner-returns-4 : expand-inner-lts.Need-returns-4 (expand-inner-callees t) (expand-inner-at t) expand-inner.Post
-  expand-inner-returns-4 c =
-      let a = c .before .before .before .before .before .before .before .before .before .before .before .before .before .before .before .before .before .before .before .args in
-      let y = c .before .before .before .before .before .before .before .before .before .before .before .before .before .before .before .before .before .before .before .pre .1 .0 in
-      let w = c .before .before .before .before .before .before .before .before .before .before .before .before .before .before .before .before .before .before .before .pre .1 .1 in
-      let t = read-known (a .text .now) (a .at) _ (c .before .before .before .before .before .before .before .before .before .read-text .ensures)
-      (c .before .before .before .before .before .before .before .got4 .given .1) in
-      unused-given (a .room) (a .text .now) (a .at) (a .mode) (a .depth) (a .used) _ (a .vars .now) (a .have) (a .name .now) (formOf (a .form))
-      (markOf (a .mark)) y w
-      (c .before .before .before .before .before .before .before .before .before .before .before .before .before .look-up .result)
-      (c .before .before .before .before .before .before .before .before .before .before .before .before .before .look-up .ensures .shows)
-      (c .before .before .before .before .before .before .before .before .before .before .before .before .plan-of .ensures)
-      (sym (c .before .before .before .before .before .before .before .before .before .before .before .wants-operand .ensures) ∙
-      c .before .before .before .before .before .before .before .before .before .before .if1 .left) (t .is) (t .onward) (t .within) _
-      (c .before .before .before .settle .result) (c .before .before .before .settle .ensures) (c .going-on .ensures)
+  pub returns-4 : lts.Need-returns-4 (callees t) (expand-inner-at t) expand-inner.Post
+  returns-4 c =
+      let f = c .before .before .before .before in
+      used-given (inside (given (finished f))) (finished f .before .got4 .given .1) _ _ (f .finish .result) (f .finish .ensures)

@@ -1,31 +1,46 @@
--- What stands at a place: a member of the cycle for each item that holds a text, and its own row for any other.
+-- What stands at a place is added at once, or holds a text: by the cases of the item.
 use Prim.Native.Nat.{ℕ}
 use mathlib.Core.Path.{sym}
+use lib.ListN.{length}
 use lib.Seq.{length-take-le}
 use Rattle.row.specs.Marks.{markOf}
-use Rattle.expand_text.proofs.Turning.{
-  shown,
-  shown-within,
-  item-given,
+use Rattle.expand_add.proofs.Holding.{table-held}
+use Rattle.expand_text.proofs.Items.{
+  Here,
+  item-fault,
+  item-stop,
+  item-byte,
+  paren-place,
+  item-paren,
+  value-name,
+  item-value,
+  count-name,
+  item-count,
+  quote-place,
   quote-ready,
   item-quote,
+  inner-place,
+  inner-places,
+  inner-depth,
   inner-name,
   inner-ready,
   item-inner,
+  sum-place,
+  sum-depth,
   sum-ready,
   item-sum,
 }
-use Rattle.expand_add.proofs.Holding.{table-held}
 use borrow.Author.Needs.{needs}
 use native.Mathlib.Omega.{arith}
+use Rattle.expand_text.proofs.+expand_inner+expand_item+expand_quote+expand_sum+expand_text.Lts-expand_item as lts
 use Rattle.expand_text.proofs.expand_inner.Reads as expand-inner
 use Rattle.expand_text.proofs.expand_item.Reads as expand-item
-use Rattle.expand_text.proofs.+expand_inner+expand_item+expand_quote+expand_sum+expand_text.Lts-expand_item as expand-item-lts
 use Rattle.expand_text.proofs.expand_quote.Reads as expand-quote
 use Rattle.expand_text.proofs.expand_sum.Reads as expand-sum
-use Rattle.expand_text.proofs.turn_from.Reads as turn-from-reads
-use Rattle.expand_item.proofs.give_item.Reads as give-item-reads
-use Rattle.read_item.proofs.item_at.Reads as item-at-reads
+use Rattle.row.proofs.literal_mark.Reads as literal-mark
+use Rattle.expand_item.proofs.give_unit.Reads as give-unit
+use Rattle.expand_add.proofs.give_value.Reads as give-value
+use Rattle.expand_item.proofs.give_length.Reads as give-length
 use Rattle.expand_text.proofs.+expand_inner+expand_item+expand_quote+expand_sum+expand_text.Proof.Measures.{
   expand-inner-below,
   expand-item-at,
@@ -33,220 +48,312 @@ use Rattle.expand_text.proofs.+expand_inner+expand_item+expand_quote+ex
   expand-sum-below,
 }
 
-abbrev pub expand-item-callees : ℕ → expand-item-lts.Claims
-expand-item-callees t = (
-  item-at-reads.Asked,
-  item-at-reads.Learnt,
+abbrev pub callees : ℕ → lts.Claims
+callees t = (
+  literal-mark.Asked,
+  literal-mark.Learnt,
+  give-unit.Asked,
+  give-unit.Learnt,
   expand-quote-below t,
   expand-quote.Post,
-  turn-from-reads.Asked,
-  turn-from-reads.Learnt,
+  give-value.Asked,
+  give-value.Learnt,
+  give-length.Asked,
+  give-length.Learnt,
   expand-inner-below t,
   expand-inner.Post,
   expand-sum-below t,
   expand-sum.Post,
-  give-item-reads.Asked,
-  give-item-reads.Learnt,
 )
 
 module _ (t : ℕ) where
-  pub expand-item-item-at-requires : expand-item-lts.Need-item-at-requires (expand-item-callees t) (expand-item-at t) expand-item.Post
-  expand-item-item-at-requires c κs =
-      let y = c .before .before .before .pre .1 .0 in
-      (y .start, y .opens)
+  -- the item stands where the text is read
+  here : (s : lts.Start (callees t) (expand-item-at t) expand-item.Post) →
+      let a = s .args in
+      Here (a .extent .«vars_room») (a .text .now) (a .from .at) (a .from .mode) (a .from .depth) (markOf (a .row .mark)) (a .row .units)
+      (length (a .work .now)) (a .vars .now) (a .extent .«vars_used») (a .item)
+  here s = record { ready = s .pre .1 .1; holds = s .pre .1 .2; shows = s .pre .1 .0 }
 
-  pub expand-item-enum-known-item : expand-item-lts.Need-enum-known-item (expand-item-callees t) (expand-item-at t) expand-item.Post
-  expand-item-enum-known-item c = search needs
+  -- where it was matched, from each arm that looks back
+  abbrev byte : lts.After-item3 (callees t) (expand-item-at t) expand-item.Post
+      → lts.Start (callees t) (expand-item-at t) expand-item.Post
+  byte c = c .before .before .before .before .before
 
-  pub expand-item-add-expand-quote : expand-item-lts.Need-add-expand-quote (expand-item-callees t) (expand-item-at t) expand-item.Post
-  expand-item-add-expand-quote c =
-      let a = c .before .before .before .before .before .before .before .args in
-      let s = shown (a .text .now) (a .at) (a .depth) _ (c .before .before .before .item-at .ensures) (c .before .item .given .1) in
-      omega (arith, s .1)
+  abbrev paren : lts.After-item4 (callees t) (expand-item-at t) expand-item.Post
+      → lts.Start (callees t) (expand-item-at t) expand-item.Post
+  paren c = c .before .before .before .before .before
 
-  pub expand-item-expand-quote-requires : expand-item-lts.Need-expand-quote-requires (expand-item-callees t) (expand-item-at t) expand-item.Post
-  expand-item-expand-quote-requires c κs =
-      let a = c .before .before .before .before .before .before .before .before .before .args in
-      let y = c .before .before .before .before .before .before .before .before .before .pre .1 .0 in
-      let w = c .before .before .before .before .before .before .before .before .before .pre .1 .1 in
-      let s = shown (a .text .now) (a .at) (a .depth) _ (c .before .before .before .before .before .item-at .ensures)
-      (c .before .before .before .item .given .1) in (
-        omega (arith, c .before .before .before .before .before .before .before .before .before .pre .0, s .1),
-        (
-          quote-ready (a .room) (a .text .now) (a .at) (a .mode) (a .depth) (markOf (a .mark)) (a .used) _ (a .vars .now) (a .have) y w
-              (c .before .before .before .before .before .item-at .ensures) (c .before .before .before .item .given .1),
-          w,
-        ),
+  abbrev quote : lts.After-item5 (callees t) (expand-item-at t) expand-item.Post
+      → lts.Start (callees t) (expand-item-at t) expand-item.Post
+  quote c = c .before .before .before .before .before
+
+  abbrev value : lts.After-item6 (callees t) (expand-item-at t) expand-item.Post
+      → lts.Start (callees t) (expand-item-at t) expand-item.Post
+  value c = c .before .before .before .before .before
+
+  abbrev count : lts.After-item7 (callees t) (expand-item-at t) expand-item.Post
+      → lts.Start (callees t) (expand-item-at t) expand-item.Post
+  count c = c .before .before .before .before .before
+
+  abbrev inner : lts.After-item8 (callees t) (expand-item-at t) expand-item.Post
+      → lts.Start (callees t) (expand-item-at t) expand-item.Post
+  inner c = c .before .before .before .before .before
+
+  abbrev sum : lts.After-item9 (callees t) (expand-item-at t) expand-item.Post
+      → lts.Start (callees t) (expand-item-at t) expand-item.Post
+  sum c = c .before .before .before .before .before
+
+  pub enum-known-item : lts.Need-enum-known-item (callees t) (expand-item-at t) expand-item.Post
+  enum-known-item c = search needs
+
+  pub enum-known-item-2 : lts.Need-enum-known-item-2 (callees t) (expand-item-at t) expand-item.Post
+  enum-known-item-2 c = search needs
+
+  pub enum-known-item-3 : lts.Need-enum-known-item-3 (callees t) (expand-item-at t) expand-item.Post
+  enum-known-item-3 c = search needs
+
+  pub literal-mark-requires : lts.Need-literal-mark-requires (callees t) (expand-item-at t) expand-item.Post
+  literal-mark-requires c κs = search needs
+
+  pub give-unit-requires : lts.Need-give-unit-requires (callees t) (expand-item-at t) expand-item.Post
+  give-unit-requires c κs =
+      let i = c .before .before .before in
+      let y = byte i .pre .1 .1 in
+      (y .few, omega (arith, y .area))
+
+  pub enum-known-item-4 : lts.Need-enum-known-item-4 (callees t) (expand-item-at t) expand-item.Post
+  enum-known-item-4 c = search needs
+
+  pub add-t40 : lts.Need-add-t40 (callees t) (expand-item-at t) expand-item.Post
+  add-t40 c =
+      let i = c .before .before in
+      omega (arith, paren-place (here (paren i)) (i .item4 .given .1))
+
+  pub give-unit-requires-2 : lts.Need-give-unit-requires-2 (callees t) (expand-item-at t) expand-item.Post
+  give-unit-requires-2 c κs =
+      let i = c .before .before .before in
+      let y = paren i .pre .1 .1 in
+      (y .few, omega (arith, y .area))
+
+  pub enum-known-item-5 : lts.Need-enum-known-item-5 (callees t) (expand-item-at t) expand-item.Post
+  enum-known-item-5 c = search needs
+
+  pub add-t43 : lts.Need-add-t43 (callees t) (expand-item-at t) expand-item.Post
+  add-t43 c =
+      let i = c .before .before in
+      omega (arith, quote-place (here (quote i)) (i .item5 .given .1))
+
+  pub expand-quote-requires : lts.Need-expand-quote-requires (callees t) (expand-item-at t) expand-item.Post
+  expand-quote-requires c κs =
+      let i = c .before .before .before .before in
+      let p = quote i .pre in
+      (omega (arith, p .0, quote-place (here (quote i)) (i .item5 .given .1)), (quote-ready (here (quote i)) (i .item5 .given .1), p .1 .2))
+
+  pub enum-known-item-6 : lts.Need-enum-known-item-6 (callees t) (expand-item-at t) expand-item.Post
+  enum-known-item-6 c = search needs
+
+  pub sub-give-value : lts.Need-sub-give-value (callees t) (expand-item-at t) expand-item.Post
+  sub-give-value c =
+      let i = c .before in
+      let n = value-name (here (value i)) (i .item6 .given .1) in
+      omega (arith, n .onward, n .within)
+
+  pub part-give-value-start : lts.Need-part-give-value-start (callees t) (expand-item-at t) expand-item.Post
+  part-give-value-start c =
+      let i = c .before in
+      let n = value-name (here (value i)) (i .item6 .given .1) in
+      omega (arith, n .onward, n .within)
+
+  pub part-give-value-end : lts.Need-part-give-value-end (callees t) (expand-item-at t) expand-item.Post
+  part-give-value-end c =
+      let i = c .before in
+      let n = value-name (here (value i)) (i .item6 .given .1) in
+      omega (arith, n .onward, n .within)
+
+  pub slice-reshare-prefix-give-value : lts.Need-slice-reshare-prefix-give-value (callees t) (expand-item-at t) expand-item.Post
+  slice-reshare-prefix-give-value c = value (c .before .before) .pre .1 .2 .inside
+
+  pub slice-aggregate-give-value : lts.Need-slice-aggregate-give-value (callees t) (expand-item-at t) expand-item.Post
+  slice-aggregate-give-value c =
+      let i = c .before .before .before in
+      let s = value i in
+      sym (length-take-le (s .args .extent .«vars_used») (s .args .vars .now) (s .pre .1 .2 .inside))
+
+  pub give-value-requires : lts.Need-give-value-requires (callees t) (expand-item-at t) expand-item.Post
+  give-value-requires c κs =
+      let i = c .before .before .before .before in
+      let p = value i .pre .1 in
+      (table-held _ _ _ (p .2), p .1 .few, omega (arith, p .1 .area))
+
+  pub enum-known-item-7 : lts.Need-enum-known-item-7 (callees t) (expand-item-at t) expand-item.Post
+  enum-known-item-7 c = search needs
+
+  pub sub-give-length : lts.Need-sub-give-length (callees t) (expand-item-at t) expand-item.Post
+  sub-give-length c =
+      let i = c .before in
+      let n = count-name (here (count i)) (i .item7 .given .1) in
+      omega (arith, n .onward, n .within)
+
+  pub part-give-length-start : lts.Need-part-give-length-start (callees t) (expand-item-at t) expand-item.Post
+  part-give-length-start c =
+      let i = c .before in
+      let n = count-name (here (count i)) (i .item7 .given .1) in
+      omega (arith, n .onward, n .within)
+
+  pub part-give-length-end : lts.Need-part-give-length-end (callees t) (expand-item-at t) expand-item.Post
+  part-give-length-end c =
+      let i = c .before in
+      let n = count-name (here (count i)) (i .item7 .given .1) in
+      omega (arith, n .onward, n .within)
+
+  pub slice-reshare-prefix-give-length : lts.Need-slice-reshare-prefix-give-length (callees t) (expand-item-at t) expand-item.Post
+  slice-reshare-prefix-give-length c = count (c .before .before) .pre .1 .2 .inside
+
+  pub slice-aggregate-give-length : lts.Need-slice-aggregate-give-length (callees t) (expand-item-at t) expand-item.Post
+  slice-aggregate-give-length c =
+      let i = c .before .before .before in
+      let s = count i in
+      sym (length-take-le (s .args .extent .«vars_used») (s .args .vars .now) (s .pre .1 .2 .inside))
+
+  pub give-length-requires : lts.Need-give-length-requires (callees t) (expand-item-at t) expand-item.Post
+  give-length-requires c κs =
+      let i = c .before .before .before .before in
+      let p = count i .pre .1 in
+      (table-held _ _ _ (p .2), p .1 .few, omega (arith, p .1 .area))
+
+  pub enum-known-item-8 : lts.Need-enum-known-item-8 (callees t) (expand-item-at t) expand-item.Post
+  enum-known-item-8 c = search needs
+
+  pub sub-expand-inner : lts.Need-sub-expand-inner (callees t) (expand-item-at t) expand-item.Post
+  sub-expand-inner c =
+      let i = c .before .before in
+      let n = inner-places (here (inner i)) (i .item8 .given .1) in
+      omega (arith, inner-depth (here (inner i)) (i .item8 .given .1), n .onward, n .within)
+
+  pub sub-expand-inner-2 : lts.Need-sub-expand-inner-2 (callees t) (expand-item-at t) expand-item.Post
+  sub-expand-inner-2 c =
+      let i = c .before .before in
+      let n = inner-places (here (inner i)) (i .item8 .given .1) in
+      omega (arith, inner-depth (here (inner i)) (i .item8 .given .1), n .onward, n .within)
+
+  pub part-expand-inner-start : lts.Need-part-expand-inner-start (callees t) (expand-item-at t) expand-item.Post
+  part-expand-inner-start c =
+      let i = c .before .before in
+      let n = inner-places (here (inner i)) (i .item8 .given .1) in
+      omega (arith, n .onward, n .within)
+
+  pub part-expand-inner-end : lts.Need-part-expand-inner-end (callees t) (expand-item-at t) expand-item.Post
+  part-expand-inner-end c =
+      let i = c .before .before in
+      let n = inner-places (here (inner i)) (i .item8 .given .1) in
+      omega (arith, n .onward, n .within)
+
+  pub expand-inner-requires : lts.Need-expand-inner-requires (callees t) (expand-item-at t) expand-item.Post
+  expand-inner-requires c κs =
+      let i = c .before .before .before .before .before in
+      let p = inner i .pre in
+      let n = inner-place (here (inner i)) (i .item8 .given .1) in (
+        omega (arith, p .0, n .onward, n .within),
+        (inner-ready (here (inner i)) (i .item8 .given .1), p .1 .2, p .1 .1 .few, inner-name (here (inner i)) (i .item8 .given .1)),
       )
 
-  pub expand-item-turn-from-requires : expand-item-lts.Need-turn-from-requires (expand-item-callees t) (expand-item-at t) expand-item.Post
-  expand-item-turn-from-requires c κs = search needs
+  pub enum-known-item-9 : lts.Need-enum-known-item-9 (callees t) (expand-item-at t) expand-item.Post
+  enum-known-item-9 c = search needs
 
-  pub expand-item-enum-known-item-2 : expand-item-lts.Need-enum-known-item-2 (expand-item-callees t) (expand-item-at t) expand-item.Post
-  expand-item-enum-known-item-2 c = search needs
+  pub sub-expand-sum : lts.Need-sub-expand-sum (callees t) (expand-item-at t) expand-item.Post
+  sub-expand-sum c =
+      let i = c .before .before in
+      omega (arith, sum-depth (here (sum i)) (i .item9 .given .1))
 
-  pub expand-item-sub-expand-inner : expand-item-lts.Need-sub-expand-inner (expand-item-callees t) (expand-item-at t) expand-item.Post
-  expand-item-sub-expand-inner c =
-      let a = c .before .before .before .before .before .before .before .args in
-      let s = shown (a .text .now) (a .at) (a .depth) _ (c .before .before .before .item-at .ensures) (c .before .item2 .given .1) in
-      omega (arith, s .2 .onward)
+  pub expand-sum-requires : lts.Need-expand-sum-requires (callees t) (expand-item-at t) expand-item.Post
+  expand-sum-requires c κs =
+      let i = c .before .before .before .before in
+      let p = sum i .pre in
+      let y = sum-ready (here (sum i)) (i .item9 .given .1) in
+      (omega (arith, p .0, sum-place (here (sum i)) (i .item9 .given .1), y .start), (y, p .1 .2, p .1 .1 .few))
 
-  pub expand-item-part-expand-inner-start : expand-item-lts.Need-part-expand-inner-start (expand-item-callees t) (expand-item-at t) expand-item.Post
-  expand-item-part-expand-inner-start c =
-      let a = c .before .before .before .before .before .before .before .args in
-      let s = shown (a .text .now) (a .at) (a .depth) _ (c .before .before .before .item-at .ensures) (c .before .item2 .given .1) in
-      omega (arith, s .2 .onward, s .2 .within)
+  pub returns : lts.Need-returns (callees t) (expand-item-at t) expand-item.Post
+  returns c =
+      item-fault (here (c .before .before .before .before .before .before)) _ _ (c .before .item .given .1)
 
-  pub expand-item-part-expand-inner-end : expand-item-lts.Need-part-expand-inner-end (expand-item-callees t) (expand-item-at t) expand-item.Post
-  expand-item-part-expand-inner-end c =
-      let a = c .before .before .before .before .before .before .before .args in
-      let s = shown (a .text .now) (a .at) (a .depth) _ (c .before .before .before .item-at .ensures) (c .before .item2 .given .1) in
-      omega (arith, s .2 .onward, s .2 .within)
+  pub returns-2 : lts.Need-returns-2 (callees t) (expand-item-at t) expand-item.Post
+  returns-2 c = item-stop (here (c .before .before .before .before .before .before)) _ (c .before .item2 .given .1)
 
-  pub expand-item-sub-expand-inner-2 : expand-item-lts.Need-sub-expand-inner-2 (expand-item-callees t) (expand-item-at t) expand-item.Post
-  expand-item-sub-expand-inner-2 c =
-      let a = c .before .before .before .before .before .before .before .before .args in
-      let s = shown (a .text .now) (a .at) (a .depth) _ (c .before .before .before .before .item-at .ensures) (c .before .before .item2 .given .1) in
-      omega (arith, s .3)
+  pub same-length : lts.Need-same-length (callees t) (expand-item-at t) expand-item.Post
+  same-length c = search needs
 
-  pub expand-item-expand-inner-requires : expand-item-lts.Need-expand-inner-requires (expand-item-callees t) (expand-item-at t) expand-item.Post
-  expand-item-expand-inner-requires c κs =
-      let a = c .before .before .before .before .before .before .before .before .before .before .args in
-      let y = c .before .before .before .before .before .before .before .before .before .before .pre .1 .0 in
-      let w = c .before .before .before .before .before .before .before .before .before .before .pre .1 .1 in
-      let s = shown (a .text .now) (a .at) (a .depth) _ (c .before .before .before .before .before .before .item-at .ensures)
-      (c .before .before .before .before .item2 .given .1) in (
-        omega (arith, c .before .before .before .before .before .before .before .before .before .before .pre .0, s .1 .onward, s .1 .within),
-        (
-          inner-ready (a .room) (a .text .now) (a .at) (a .mode) (a .depth) (markOf (a .mark)) (a .used) _ (a .vars .now) (a .have) y w
-              (c .before .before .before .before .before .before .item-at .ensures) (c .before .before .before .before .item2 .given .1),
-          w,
-          y .few,
-          inner-name (a .room) (a .text .now) (a .at) (a .mode) (a .depth) (markOf (a .mark)) (a .used) _ (a .vars .now) (a .have) y w
-              (c .before .before .before .before .before .before .item-at .ensures) (c .before .before .before .before .item2 .given .1),
-        ),
-      )
+  pub returns-3 : lts.Need-returns-3 (callees t) (expand-item-at t) expand-item.Post
+  returns-3 c =
+      let g = c .before .before in
+      let m = g .before .before in
+      let i = m .before .before in
+      item-byte (here (byte i)) (i .item3 .given .1) (m .literal-mark .ensures) _ (g .give-unit .result) (g .give-unit .ensures)
 
-  pub expand-item-turn-from-requires-2 : expand-item-lts.Need-turn-from-requires-2 (expand-item-callees t) (expand-item-at t) expand-item.Post
-  expand-item-turn-from-requires-2 c κs = search needs
+  pub same-length-2 : lts.Need-same-length-2 (callees t) (expand-item-at t) expand-item.Post
+  same-length-2 c = search needs
 
-  pub expand-item-enum-known-item-3 : expand-item-lts.Need-enum-known-item-3 (expand-item-callees t) (expand-item-at t) expand-item.Post
-  expand-item-enum-known-item-3 c = search needs
+  pub returns-4 : lts.Need-returns-4 (callees t) (expand-item-at t) expand-item.Post
+  returns-4 c =
+      let g = c .before .before in
+      let i = g .before .before .before .before in
+      item-paren (here (paren i)) (i .item4 .given .1) _ (g .give-unit2 .result) (g .give-unit2 .ensures)
 
-  pub expand-item-sub-expand-sum : expand-item-lts.Need-sub-expand-sum (expand-item-callees t) (expand-item-at t) expand-item.Post
-  expand-item-sub-expand-sum c =
-      let a = c .before .before .before .before .before .before .before .args in
-      let s = shown (a .text .now) (a .at) (a .depth) _ (c .before .before .before .item-at .ensures) (c .before .item3 .given .1) in
-      omega (arith, s .3)
+  pub same-length-3 : lts.Need-same-length-3 (callees t) (expand-item-at t) expand-item.Post
+  same-length-3 c = omega (arith, c .before .before .before .before .expand-quote .kept .1 .1 .1 .0)
 
-  pub expand-item-expand-sum-requires : expand-item-lts.Need-expand-sum-requires (expand-item-callees t) (expand-item-at t) expand-item.Post
-  expand-item-expand-sum-requires c κs =
-      let a = c .before .before .before .before .before .before .before .before .before .args in
-      let y = c .before .before .before .before .before .before .before .before .before .pre .1 .0 in
-      let w = c .before .before .before .before .before .before .before .before .before .pre .1 .1 in
-      let s = shown (a .text .now) (a .at) (a .depth) _ (c .before .before .before .before .before .item-at .ensures)
-      (c .before .before .before .item3 .given .1) in (
-        omega (arith, c .before .before .before .before .before .before .before .before .before .pre .0, s .1, s .2),
-        (
-          sum-ready (a .room) (a .text .now) (a .at) (a .mode) (a .depth) (markOf (a .mark)) (a .used) _ (a .vars .now) (a .have) y w
-              (c .before .before .before .before .before .item-at .ensures) (c .before .before .before .item3 .given .1),
-          w,
-          y .few,
-        ),
-      )
+  pub same-length-4 : lts.Need-same-length-4 (callees t) (expand-item-at t) expand-item.Post
+  same-length-4 c = omega (arith, c .before .before .before .before .expand-quote .kept .1 .1 .1 .1 .1 .0)
 
-  pub expand-item-turn-from-requires-3 : expand-item-lts.Need-turn-from-requires-3 (expand-item-callees t) (expand-item-at t) expand-item.Post
-  expand-item-turn-from-requires-3 c κs = search needs
+  pub returns-5 : lts.Need-returns-5 (callees t) (expand-item-at t) expand-item.Post
+  returns-5 c =
+      let g = c .before .before .before .before in
+      let i = g .before .before .before .before .before in
+      item-quote (here (quote i)) (i .item5 .given .1) _ _ (g .expand-quote .result) (g .expand-quote .ensures)
 
-  pub expand-item-slice-reshare-prefix-give-item : expand-item-lts.Need-slice-reshare-prefix-give-item (expand-item-callees t) (expand-item-at t)
-      expand-item.Post
-  expand-item-slice-reshare-prefix-give-item c =
-      let w = c .before .before .before .before .before .pre .1 .1 in
-      w .inside
+  pub same-length-5 : lts.Need-same-length-5 (callees t) (expand-item-at t) expand-item.Post
+  same-length-5 c = search needs
 
-  pub expand-item-slice-aggregate-give-item : expand-item-lts.Need-slice-aggregate-give-item (expand-item-callees t) (expand-item-at t) expand-item.Post
-  expand-item-slice-aggregate-give-item c =
-      let a = c .before .before .before .before .before .before .args in
-      let w = c .before .before .before .before .before .before .pre .1 .1 in
-      sym (length-take-le (a .have) (a .vars .now) (w .inside))
+  pub same-length-6 : lts.Need-same-length-6 (callees t) (expand-item-at t) expand-item.Post
+  same-length-6 c = omega (arith, c .before .before .give-value .kept .1 .1 .1 .1 .0)
 
-  pub expand-item-give-item-requires : expand-item-lts.Need-give-item-requires (expand-item-callees t) (expand-item-at t) expand-item.Post
-  expand-item-give-item-requires c κs =
-      let a = c .before .before .before .before .before .before .before .args in
-      let y = c .before .before .before .before .before .before .before .pre .1 .0 in
-      let w = c .before .before .before .before .before .before .before .pre .1 .1 in (
-        shown-within (a .text .now) (a .at) (a .depth) (c .before .before .before .item-at .result) _ (c .before .before .before .item-at .ensures),
-        table-held (a .room) (a .vars .now) (a .have) w,
-        y .few,
-        omega (arith, y .area),
-      )
+  pub returns-6 : lts.Need-returns-6 (callees t) (expand-item-at t) expand-item.Post
+  returns-6 c =
+      let g = c .before .before in
+      let i = g .before .before .before .before .before in
+      item-value (here (value i)) (i .item6 .given .1) _ (g .give-value .result) (g .give-value .ensures)
 
-  pub expand-item-same-length : expand-item-lts.Need-same-length (expand-item-callees t) (expand-item-at t) expand-item.Post
-  expand-item-same-length c =
-      omega (arith, c .before .before .before .before .before .expand-quote .kept .1 .1 .1 .1 .1 .0)
+  pub same-length-7 : lts.Need-same-length-7 (callees t) (expand-item-at t) expand-item.Post
+  same-length-7 c = search needs
 
-  pub expand-item-same-length-2 : expand-item-lts.Need-same-length-2 (expand-item-callees t) (expand-item-at t) expand-item.Post
-  expand-item-same-length-2 c =
-      omega (arith, c .before .before .before .before .before .expand-quote .kept .1 .1 .1 .1 .1 .1 .1 .1 .0)
+  pub same-length-8 : lts.Need-same-length-8 (callees t) (expand-item-at t) expand-item.Post
+  same-length-8 c = omega (arith, c .before .before .give-length .kept .1 .1 .1 .1 .0)
 
-  pub expand-item-returns : expand-item-lts.Need-returns (expand-item-callees t) (expand-item-at t) expand-item.Post
-  expand-item-returns c =
-      let a = c .before .before .before .before .before .before .before .before .before .before .before .before .before .before .before .args in
-      let y = c .before .before .before .before .before .before .before .before .before .before .before .before .before .before .before .pre .1 .0 in
-      let w = c .before .before .before .before .before .before .before .before .before .before .before .before .before .before .before .pre .1 .1 in
-      item-quote (a .room) (a .text .now) (a .at) (a .mode) (a .depth) (markOf (a .mark)) (a .used) _ (a .vars .now) (a .have) y w
-      (c .before .before .before .before .before .before .before .before .before .before .before .item-at .ensures)
-      (c .before .before .before .before .before .before .before .before .before .item .given .1) _ _ _
-      (c .before .before .before .before .before .expand-quote .ensures) (c .turn-from .ensures)
+  pub returns-7 : lts.Need-returns-7 (callees t) (expand-item-at t) expand-item.Post
+  returns-7 c =
+      let g = c .before .before in
+      let i = g .before .before .before .before .before in
+      item-count (here (count i)) (i .item7 .given .1) _ (g .give-length .result) (g .give-length .ensures)
 
-  pub expand-item-same-length-3 : expand-item-lts.Need-same-length-3 (expand-item-callees t) (expand-item-at t) expand-item.Post
-  expand-item-same-length-3 c =
-      omega (arith, c .before .before .before .before .before .expand-inner .kept .1 .1 .1 .1 .1 .1 .1 .1 .0)
+  pub same-length-9 : lts.Need-same-length-9 (callees t) (expand-item-at t) expand-item.Post
+  same-length-9 c = omega (arith, c .before .before .before .before .expand-inner .kept .1 .1 .1 .1 .1 .0)
 
-  pub expand-item-same-length-4 : expand-item-lts.Need-same-length-4 (expand-item-callees t) (expand-item-at t) expand-item.Post
-  expand-item-same-length-4 c =
-      omega (arith, c .before .before .before .before .before .expand-inner .kept .1 .1 .1 .1 .1 .1 .1 .1 .1 .1 .1 .0)
+  pub same-length-10 : lts.Need-same-length-10 (callees t) (expand-item-at t) expand-item.Post
+  same-length-10 c = omega (arith, c .before .before .before .before .expand-inner .kept .1 .1 .1 .1 .1 .1 .1 .0)
 
-  pub expand-item-returns-2 : expand-item-lts.Need-returns-2 (expand-item-callees t) (expand-item-at t) expand-item.Post
-  expand-item-returns-2 c =
-      let a = c .before .before .before .before .before .before .before .before .before .before .before .before .before .before .before .before .args in
-      let y = c .before .before .before .before .before .before .before .before .before .before .before .before .before .before .before .before .pre .1 .0 in
-      let w = c .before .before .before .before .before .before .before .before .before .before .before .before .before .before .before .before .pre .1 .1 in
-      item-inner (a .room) (a .text .now) (a .at) (a .mode) (a .depth) (markOf (a .mark)) (a .used) _ (a .vars .now) (a .have) y w
-      (c .before .before .before .before .before .before .before .before .before .before .before .before .item-at .ensures)
-      (c .before .before .before .before .before .before .before .before .before .before .item2 .given .1) _ _ _
-      (c .before .before .before .before .before .expand-inner .ensures) (c .turn-from2 .ensures)
+  pub returns-8 : lts.Need-returns-8 (callees t) (expand-item-at t) expand-item.Post
+  returns-8 c =
+      let g = c .before .before .before .before in
+      let i = g .before .before .before .before .before .before in
+      item-inner (here (inner i)) (i .item8 .given .1) _ _ (g .expand-inner .result) (g .expand-inner .ensures)
 
-  pub expand-item-same-length-5 : expand-item-lts.Need-same-length-5 (expand-item-callees t) (expand-item-at t) expand-item.Post
-  expand-item-same-length-5 c =
-      omega (arith, c .before .before .before .before .before .expand-sum .kept .1 .1 .1 .1 .1 .0)
+  pub same-length-11 : lts.Need-same-length-11 (callees t) (expand-item-at t) expand-item.Post
+  same-length-11 c = omega (arith, c .before .before .before .before .expand-sum .kept .1 .1 .1 .1 .0)
 
-  pub expand-item-same-length-6 : expand-item-lts.Need-same-length-6 (expand-item-callees t) (expand-item-at t) expand-item.Post
-  expand-item-same-length-6 c =
-      omega (arith, c .before .before .before .before .before .expand-sum .kept .1 .1 .1 .1 .1 .1 .1 .1 .0)
+  pub same-length-12 : lts.Need-same-length-12 (callees t) (expand-item-at t) expand-item.Post
+  same-length-12 c = omega (arith, c .before .before .before .before .expand-sum .kept .1 .1 .1 .1 .1 .1 .0)
 
-  pub expand-item-returns-3 : expand-item-lts.Need-returns-3 (expand-item-callees t) (expand-item-at t) expand-item.Post
-  expand-item-returns-3 c =
-      let a = c .before .before .before .before .before .before .before .before .before .before .before .before .before .before .before .args in
-      let y = c .before .before .before .before .before .before .before .before .before .before .before .before .before .before .before .pre .1 .0 in
-      let w = c .before .before .before .before .before .before .before .before .before .before .before .before .before .before .before .pre .1 .1 in
-      item-sum (a .room) (a .text .now) (a .at) (a .mode) (a .depth) (markOf (a .mark)) (a .used) _ (a .vars .now) (a .have) y w
-      (c .before .before .before .before .before .before .before .before .before .before .before .item-at .ensures)
-      (c .before .before .before .before .before .before .before .before .before .item3 .given .1) _ _ _
-      (c .before .before .before .before .before .expand-sum .ensures) (c .turn-from3 .ensures)
-
-  pub expand-item-same-length-7 : expand-item-lts.Need-same-length-7 (expand-item-callees t) (expand-item-at t) expand-item.Post
-  expand-item-same-length-7 c = search needs
-
-  pub expand-item-same-length-8 : expand-item-lts.Need-same-length-8 (expand-item-callees t) (expand-item-at t) expand-item.Post
-  expand-item-same-length-8 c =
-      omega (arith, c .before .before .give-item .kept .1 .1 .1 .1 .1 .1 .1 .1 .0)
-
-  pub expand-item-returns-4 : expand-item-lts.Need-returns-4 (expand-item-callees t) (expand-item-at t) expand-item.Post
-  expand-item-returns-4 c =
-      let a = c .before .before .before .before .before .before .before .before .before .before .args in
-      let y = c .before .before .before .before .before .before .before .before .before .before .pre .1 .0 in
-      let w = c .before .before .before .before .before .before .before .before .before .before .pre .1 .1 in
-      item-given (a .room) (a .text .now) (a .at) (a .mode) (a .depth) (markOf (a .mark)) (a .used) _ (a .vars .now) (a .have) y w
-      (c .before .before .before .before .before .before .item-at .result) (c .before .before .before .before .before .before .item-at .ensures) _ _
-      (c .before .before .before .before .before .match .keys4) (c .before .before .give-item .ensures)
+  pub returns-9 : lts.Need-returns-9 (callees t) (expand-item-at t) expand-item.Post
+  returns-9 c =
+      let g = c .before .before .before .before in
+      let i = g .before .before .before .before .before in
+      item-sum (here (sum i)) (i .item9 .given .1) _ _ (g .expand-sum .result) (g .expand-sum .ensures)

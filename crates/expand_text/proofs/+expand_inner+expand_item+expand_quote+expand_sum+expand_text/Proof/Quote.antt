@@ -1,145 +1,132 @@
--- A quote: its empty mark, and the text in it behind that.
-use Prim.Native.Nat.{ℕ, _≤_, _-_}
-use mathlib.Core.Path.{_∙_}
+-- An N is put at the front, and what the quote holds is expanded after it.
+use Prim.Native.Nat.{ℕ, _≤_, _<_, _-_}
+use mathlib.Core.Path.{_≡_, _∙_}
 use lib.ListN.{length}
-use borrow.Rule.Slice.PartMut.{same-len-mid, mid-len}
-use Rattle.expand_text.proofs.Inside.{quote-full, quote-inner, quote-refused, quote-fits, quote-row}
+use borrow.Rule.Slice.PartMut.{putMid, same-len-mid, mid-len}
+use Rattle.stages.specs.Numbers.{rowLimit}
 use Rattle.expand_add.proofs.Standing.{empty-front}
+use Rattle.expand_text.proofs.Inside.{QuoteExpanded, quote-full, quote-inner, quote-refused, quote-fits, quote-row}
 use borrow.Author.Needs.{needs}
 use native.Mathlib.Omega.{arith}
+use Rattle.expand_text.proofs.+expand_inner+expand_item+expand_quote+expand_sum+expand_text.Lts-expand_quote as lts
 use Rattle.expand_text.proofs.expand_quote.Reads as expand-quote
-use Rattle.expand_text.proofs.+expand_inner+expand_item+expand_quote+expand_sum+expand_text.Lts-expand_quote as expand-quote-lts
 use Rattle.expand_text.proofs.expand_text.Reads as expand-text
-use Rattle.row.proofs.put_empty.Reads as put-empty-reads
-use Rattle.expand_text.proofs.+expand_inner+expand_item+expand_quote+expand_sum+expand_text.Proof.Measures.{expand-quote-at, expand-text-below}
+use Rattle.row.proofs.put_empty.Reads as put-empty
+use Rattle.expand_text.proofs.+expand_inner+expand_item+expand_quote+expand_sum+expand_text.Proof.Measures.{
+  expand-quote-at,
+  expand-text-below,
+}
 
-abbrev pub expand-quote-callees : ℕ → expand-quote-lts.Claims
-expand-quote-callees t = (put-empty-reads.Asked, put-empty-reads.Learnt, expand-text-below t, expand-text.Post)
+abbrev pub callees : ℕ → lts.Claims
+callees t = (
+  put-empty.Asked,
+  put-empty.Learnt,
+  expand-text-below t,
+  expand-text.Post,
+)
 
 module _ (t : ℕ) where
-  pub expand-quote-returns : expand-quote-lts.Need-returns (expand-quote-callees t) (expand-quote-at t) expand-quote.Post
-  expand-quote-returns c =
-      let a = c .before .before .before .before .args in
-      let y = c .before .before .before .before .pre .1 .0 in
-      let w = c .before .before .before .before .pre .1 .1 in
-      quote-full (a .room) (a .text .now) (a .at) (a .mode) (a .depth) (a .used) _ (a .vars .now) (a .have) y _ _ (c .if1 .taken)
+  abbrev began : lts.After-put-empty (callees t) (expand-quote-at t) expand-quote.Post
+      → lts.Start (callees t) (expand-quote-at t) expand-quote.Post
+  began c = c .before .before .before .before .before .before
 
-  pub expand-quote-put-empty-requires : expand-quote-lts.Need-put-empty-requires (expand-quote-callees t) (expand-quote-at t) expand-quote.Post
-  expand-quote-put-empty-requires c κs =
-      let a = c .before .before .before .before .before .args in
-      let y = c .before .before .before .before .before .pre .1 .0 in
-      let w = c .before .before .before .before .before .pre .1 .1 in
-      omega (arith, y .area, y .few, c .before .if1 .left)
+  -- where the N was put
+  abbrev emptied : lts.After-expand-text (callees t) (expand-quote-at t) expand-quote.Post
+      → lts.After-put-empty (callees t) (expand-quote-at t) expand-quote.Post
+  emptied c = c .before .before .before .before .before
 
-  pub expand-quote-add-expand-text : expand-quote-lts.Need-add-expand-text (expand-quote-callees t) (expand-quote-at t) expand-quote.Post
-  expand-quote-add-expand-text c =
-      search needs
+  -- the quote's text was expanded, where it is refused and where it has a row
+  abbrev refused : lts.After-known-told (callees t) (expand-quote-at t) expand-quote.Post
+      → lts.After-expand-text (callees t) (expand-quote-at t) expand-quote.Post
+  refused c = c .before .before .before .before .before .before .before
 
-  pub expand-quote-sub-expand-text : expand-quote-lts.Need-sub-expand-text (expand-quote-callees t) (expand-quote-at t) expand-quote.Post
-  expand-quote-sub-expand-text c =
-      let a = c .before .before .before .before .before .before .before .before .before .args in
-      let y = c .before .before .before .before .before .before .before .before .before .pre .1 .0 in
-      let w = c .before .before .before .before .before .before .before .before .before .pre .1 .1 in
-      omega (arith, y .area, c .before .before .before .before .before .if1 .left, c .before .before .before .put-empty .kept .0)
+  abbrev given : lts.After-known-told2 (callees t) (expand-quote-at t) expand-quote.Post
+      → lts.After-expand-text (callees t) (expand-quote-at t) expand-quote.Post
+  given c = c .before .before .before .before .before .before .before
 
-  pub expand-quote-part-expand-text-start : expand-quote-lts.Need-part-expand-text-start (expand-quote-callees t) (expand-quote-at t) expand-quote.Post
-  expand-quote-part-expand-text-start c =
-      let a = c .before .before .before .before .before .before .before .before .before .args in
-      let y = c .before .before .before .before .before .before .before .before .before .pre .1 .0 in
-      let w = c .before .before .before .before .before .before .before .before .before .pre .1 .1 in
-      omega (arith, y .area, c .before .before .before .before .before .if1 .left, c .before .before .before .put-empty .kept .0)
+  room-left : (c : lts.After-put-empty (callees t) (expand-quote-at t) expand-quote.Post) → began c .args .units < rowLimit
+  room-left c = omega (arith, c .before .before .if1 .left)
 
-  pub expand-quote-part-expand-text-end : expand-quote-lts.Need-part-expand-text-end (expand-quote-callees t) (expand-quote-at t) expand-quote.Post
-  expand-quote-part-expand-text-end c =
-      let a = c .before .before .before .before .before .before .before .before .before .args in
-      let y = c .before .before .before .before .before .before .before .before .before .pre .1 .0 in
-      let w = c .before .before .before .before .before .before .before .before .before .pre .1 .1 in
-      omega (arith, y .area, c .before .before .before .before .before .if1 .left, c .before .before .before .put-empty .kept .0)
+  long : (c : lts.After-put-empty (callees t) (expand-quote-at t) expand-quote.Post) → 2 ≤ length (c .put-empty .last .0)
+  long c = omega (arith, began c .pre .1 .0 .area, room-left c, c .put-empty .kept .0)
 
-  pub expand-quote-expand-text-requires : expand-quote-lts.Need-expand-text-requires (expand-quote-callees t) (expand-quote-at t) expand-quote.Post
-  expand-quote-expand-text-requires c κs =
-      let a = c .before .before .before .before .before .before .before .before .before .before .args in
-      let y = c .before .before .before .before .before .before .before .before .before .before .pre .1 .0 in
-      let w = c .before .before .before .before .before .before .before .before .before .before .pre .1 .1 in
-      let b : 2 ≤ length (c .before .before .before .before .put-empty .last .0) =
-      omega (arith, y .area, c .before .before .before .before .before .before .if1 .left, c .before .before .before .before .put-empty .kept .0) in (
-        omega (arith, c .before .before .before .before .before .before .before .before .before .before .pre .0),
+  inside : (c : lts.After-expand-text (callees t) (expand-quote-at t) expand-quote.Post) →
+      let a = began (emptied c) .args in
+      QuoteExpanded (a .extent .«vars_room») (a .text .now) (a .from .at) (a .from .mode) (a .from .depth) (a .units) (length (a .work .now)) (a .vars .now)
+      (a .extent .«vars_used») (c .expand-text .last .1 .1 .1 .1 .1 .0) (c .expand-text .last .1 .1 .1 .0) (c .expand-text .result)
+  inside c =
+      let s = began (emptied c) in
+      record { ready = s .pre .1 .0; holds = s .pre .1 .1; room = room-left (emptied c); says = c .expand-text .ensures }
+
+  -- what was lent came back as long as it was
+  same-work : (c : lts.After-expand-text (callees t) (expand-quote-at t) expand-quote.Post) →
+      let p = emptied c in
+      let w = p .put-empty .last .0 in
+      length (putMid 2 (length w - 2) w (c .expand-text .last .1 .1 .1 .1 .1 .0)) ≡ length (began p .args .work .now)
+  same-work c =
+      let p = emptied c in
+      let w = p .put-empty .last .0 in
+      same-len-mid 2 (length w - 2) w (c .expand-text .last .1 .1 .1 .1 .1 .0) (c .expand-text .kept .1 .1 .1 .1 .1 .0) ∙ p .put-empty .kept .0
+
+  pub returns : lts.Need-returns (callees t) (expand-quote-at t) expand-quote.Post
+  returns c =
+      let s = c .before .before .before .before in
+      quote-full (s .pre .1 .0) (s .pre .1 .1) _ _ (c .if1 .taken)
+
+  pub put-empty-requires : lts.Need-put-empty-requires (callees t) (expand-quote-at t) expand-quote.Post
+  put-empty-requires c κs =
+      let y = c .before .before .before .before .before .pre .1 .0 in omega (arith, y .area, y .few, c .before .if1 .left)
+
+  pub add-expand-text : lts.Need-add-expand-text (callees t) (expand-quote-at t) expand-quote.Post
+  add-expand-text c = search needs
+
+  pub sub-expand-text : lts.Need-sub-expand-text (callees t) (expand-quote-at t) expand-quote.Post
+  sub-expand-text c = omega (arith, long (c .before .before .before))
+
+  pub part-expand-text-start : lts.Need-part-expand-text-start (callees t) (expand-quote-at t) expand-quote.Post
+  part-expand-text-start c = omega (arith, long (c .before .before .before))
+
+  pub part-expand-text-end : lts.Need-part-expand-text-end (callees t) (expand-quote-at t) expand-quote.Post
+  part-expand-text-end c = omega (arith, long (c .before .before .before))
+
+  pub expand-text-requires : lts.Need-expand-text-requires (callees t) (expand-quote-at t) expand-quote.Post
+  expand-text-requires c κs =
+      let p = c .before .before .before .before in
+      let s = began p in
+      let w = p .put-empty .last .0 in
+      let l = long p in (
+        omega (arith, s .pre .0),
         (
-          quote-inner (a .room) (a .text .now) (a .at) (a .mode) (a .depth) (a .used) _ (a .vars .now) (a .have) y
-              (omega (arith, c .before .before .before .before .before .before .if1 .left)) _
-              (omega (
-                arith,
-                mid-len 2 (length (c .before .before .before .before .put-empty .last .0))
-                    (c .before .before .before .before .put-empty .last .0) (omega arith),
-                c .before .before .before .before .put-empty .kept .0,
-              )),
-          w,
+          quote-inner (s .pre .1 .0) (s .pre .1 .1) (room-left p) _ (omega (arith, mid-len 2 (length w) w (omega arith), l, p .put-empty .kept .0)),
+          s .pre .1 .1,
         ),
       )
 
-  pub expand-quote-enum-known-got : expand-quote-lts.Need-enum-known-got (expand-quote-callees t) (expand-quote-at t) expand-quote.Post
-  expand-quote-enum-known-got c = search needs
+  pub enum-known-got : lts.Need-enum-known-got (callees t) (expand-quote-at t) expand-quote.Post
+  enum-known-got c = search needs
 
-  pub expand-quote-enum-known-got-2 : expand-quote-lts.Need-enum-known-got-2 (expand-quote-callees t) (expand-quote-at t) expand-quote.Post
-  expand-quote-enum-known-got-2 c = search needs
+  pub enum-known-got-2 : lts.Need-enum-known-got-2 (callees t) (expand-quote-at t) expand-quote.Post
+  enum-known-got-2 c = search needs
 
-  pub expand-quote-add-t28 : expand-quote-lts.Need-add-t28 (expand-quote-callees t) (expand-quote-at t) expand-quote.Post
-  expand-quote-add-t28 c =
-      let a = c .before .before .before .before .before .before .before .before .before .before .before .before .before .before .before .before .before .before .args in
-      let y = c .before .before .before .before .before .before .before .before .before .before .before .before .before .before .before .before .before .before .pre .1 .0 in
-      let w = c .before .before .before .before .before .before .before .before .before .before .before .before .before .before .before .before .before .before .pre .1 .1 in
-      let f = quote-fits (a .room) (a .text .now) (a .at) (a .mode) (a .depth) (a .used) _ (a .vars .now) (a .have) y
-      (omega (arith, c .before .before .before .before .before .before .before .before .before .before .before .before .before .before .if1 .left)) _
-      _ _ (c .before .before .before .before .before .before .before .expand-text .ensures) (c .before .got2 .given .1) in
-      omega arith
+  pub add-t25 : lts.Need-add-t25 (callees t) (expand-quote-at t) expand-quote.Post
+  add-t25 c = omega (arith, quote-fits (inside (given c)) (c .before .got2 .given .1))
 
-  pub expand-quote-same-length : expand-quote-lts.Need-same-length (expand-quote-callees t) (expand-quote-at t) expand-quote.Post
-  expand-quote-same-length c =
-      omega (arith, c .before .before .before .before .before .before .before .expand-text .kept .1 .1 .1 .1 .1 .1 .0)
+  pub same-length : lts.Need-same-length (callees t) (expand-quote-at t) expand-quote.Post
+  same-length c = omega (arith, refused c .expand-text .kept .1 .1 .1 .0)
 
-  pub expand-quote-same-length-2 : expand-quote-lts.Need-same-length-2 (expand-quote-callees t) (expand-quote-at t) expand-quote.Post
-  expand-quote-same-length-2 c =
-      let a = c .before .before .before .before .before .before .before .before .before .before .before .before .before .before .before .before .before .before .args in
-      let y = c .before .before .before .before .before .before .before .before .before .before .before .before .before .before .before .before .before .before .pre .1 .0 in
-      let w = c .before .before .before .before .before .before .before .before .before .before .before .before .before .before .before .before .before .before .pre .1 .1 in
-      same-len-mid 2 (length (c .before .before .before .before .before .before .before .before .before .before .before .before .put-empty .last .0) -
-      2) (c .before .before .before .before .before .before .before .before .before .before .before .before .put-empty .last .0)
-      (c .before .before .before .before .before .before .before .expand-text .last .1 .1 .1 .1 .1 .1 .1 .1 .1 .0)
-      (c .before .before .before .before .before .before .before .expand-text .kept .1 .1 .1 .1 .1 .1 .1 .1 .1 .0) ∙
-      c .before .before .before .before .before .before .before .before .before .before .before .before .put-empty .kept .0
+  pub same-length-2 : lts.Need-same-length-2 (callees t) (expand-quote-at t) expand-quote.Post
+  same-length-2 c = same-work (refused c)
 
-  pub expand-quote-returns-2 : expand-quote-lts.Need-returns-2 (expand-quote-callees t) (expand-quote-at t) expand-quote.Post
-  expand-quote-returns-2 c =
-      let a = c .before .before .before .before .before .before .before .before .before .before .before .before .before .before .before .before .before .before .args in
-      let y = c .before .before .before .before .before .before .before .before .before .before .before .before .before .before .before .before .before .before .pre .1 .0 in
-      let w = c .before .before .before .before .before .before .before .before .before .before .before .before .before .before .before .before .before .before .pre .1 .1 in
-      quote-refused (a .room) (a .text .now) (a .at) (a .mode) (a .depth) (a .used) _ (a .vars .now) (a .have) y
-      (omega (arith, c .before .before .before .before .before .before .before .before .before .before .before .before .before .before .if1 .left)) _
-      _ _ (c .before .before .before .before .before .before .before .expand-text .ensures) _ (c .before .got .given .1)
+  pub returns-2 : lts.Need-returns-2 (callees t) (expand-quote-at t) expand-quote.Post
+  returns-2 c = quote-refused (inside (refused c)) _ (c .before .got .given .1)
 
-  pub expand-quote-same-length-3 : expand-quote-lts.Need-same-length-3 (expand-quote-callees t) (expand-quote-at t) expand-quote.Post
-  expand-quote-same-length-3 c =
-      omega (arith, c .before .before .before .before .before .before .before .expand-text .kept .1 .1 .1 .1 .1 .1 .0)
+  pub same-length-3 : lts.Need-same-length-3 (callees t) (expand-quote-at t) expand-quote.Post
+  same-length-3 c = omega (arith, given c .expand-text .kept .1 .1 .1 .0)
 
-  pub expand-quote-same-length-4 : expand-quote-lts.Need-same-length-4 (expand-quote-callees t) (expand-quote-at t) expand-quote.Post
-  expand-quote-same-length-4 c =
-      let a = c .before .before .before .before .before .before .before .before .before .before .before .before .before .before .before .before .before .before .args in
-      let y = c .before .before .before .before .before .before .before .before .before .before .before .before .before .before .before .before .before .before .pre .1 .0 in
-      let w = c .before .before .before .before .before .before .before .before .before .before .before .before .before .before .before .before .before .before .pre .1 .1 in
-      same-len-mid 2 (length (c .before .before .before .before .before .before .before .before .before .before .before .before .put-empty .last .0) -
-      2) (c .before .before .before .before .before .before .before .before .before .before .before .before .put-empty .last .0)
-      (c .before .before .before .before .before .before .before .expand-text .last .1 .1 .1 .1 .1 .1 .1 .1 .1 .0)
-      (c .before .before .before .before .before .before .before .expand-text .kept .1 .1 .1 .1 .1 .1 .1 .1 .1 .0) ∙
-      c .before .before .before .before .before .before .before .before .before .before .before .before .put-empty .kept .0
+  pub same-length-4 : lts.Need-same-length-4 (callees t) (expand-quote-at t) expand-quote.Post
+  same-length-4 c = same-work (given c)
 
-  pub expand-quote-returns-3 : expand-quote-lts.Need-returns-3 (expand-quote-callees t) (expand-quote-at t) expand-quote.Post
-  expand-quote-returns-3 c =
-      let a = c .before .before .before .before .before .before .before .before .before .before .before .before .before .before .before .before .before .before .args in
-      let y = c .before .before .before .before .before .before .before .before .before .before .before .before .before .before .before .before .before .before .pre .1 .0 in
-      let w = c .before .before .before .before .before .before .before .before .before .before .before .before .before .before .before .before .before .before .pre .1 .1 in
-      quote-row (a .room) (a .text .now) (a .at) (a .mode) (a .depth) (a .used) _ (a .vars .now) (a .have) y
-      (omega (arith, c .before .before .before .before .before .before .before .before .before .before .before .before .before .before .if1 .left)) _
-      _ _ (c .before .before .before .before .before .before .before .expand-text .ensures) (c .before .got2 .given .1) _ _ _
-      (empty-front (a .work .now)
-      (c .before .before .before .before .before .before .before .before .before .before .before .before .put-empty .last .0)
-      (c .before .before .before .before .before .before .before .before .before .before .before .before .put-empty .ensures))
+  pub returns-3 : lts.Need-returns-3 (callees t) (expand-quote-at t) expand-quote.Post
+  returns-3 c =
+      let p = emptied (given c) in
+      quote-row (inside (given c)) (c .before .got2 .given .1) _ _ _ (empty-front (began p .args .work .now) (p .put-empty .last .0) (p .put-empty .ensures))

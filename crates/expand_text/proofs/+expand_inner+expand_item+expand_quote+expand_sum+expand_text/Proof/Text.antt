@@ -1,207 +1,177 @@
--- A text item by item: the rows of the items that were passed stand at the front of the area, one behind the other.
+-- A text item by item: the rows of the items that were passed stand at the front of the area, one after the other.
 use Prim.Native.Nat.{ℕ, _*_, _-_}
-use mathlib.Core.Path.{_∙_}
+use mathlib.Core.Path.{_≡_, sym, _∙_}
 use lib.ListN.{length, take}
-use borrow.Rule.Slice.PartMut.{same-len-mid, mid-len}
+use borrow.Rule.Slice.PartMut.{putMid, same-len-mid, mid-len}
 use Rattle.stages.specs.Images.{held}
 use Rattle.row.specs.Marks.{markOf}
-use Rattle.expand_text.proofs.Looping.{Going, going-start, going-room, going-ready, going-refused, going-end, moved, going-row}
+use Rattle.read_item.specs.After.{modeAfter, isStop}
+use Rattle.expand_text.proofs.Looping.{
+  Going,
+  Expanding,
+  going-start,
+  going-room,
+  going-ready,
+  going-refused,
+  going-fits,
+  going-end,
+  moved,
+  going-row,
+}
 use borrow.Author.Needs.{needs}
 use native.Mathlib.Omega.{arith}
+use Rattle.expand_text.proofs.+expand_inner+expand_item+expand_quote+expand_sum+expand_text.Lts-expand_text as lts
 use Rattle.expand_text.proofs.expand_item.Reads as expand-item
 use Rattle.expand_text.proofs.expand_text.Reads as expand-text
-use Rattle.expand_text.proofs.+expand_inner+expand_item+expand_quote+expand_sum+expand_text.Lts-expand_text as expand-text-lts
-use Rattle.expand_text.proofs.+expand_inner+expand_item+expand_quote+expand_sum+expand_text.Proof.Measures.{expand-item-below, expand-text-at}
+use Rattle.read_item.proofs.item_at.Reads as item-at
+use Rattle.read_item.proofs.is_stop.Reads as is-stop
+use Rattle.read_item.proofs.mode_after.Reads as mode-after
+use Rattle.expand_text.proofs.+expand_inner+expand_item+expand_quote+expand_sum+expand_text.Proof.Measures.{
+  expand-item-below,
+  expand-text-at,
+}
 
-abbrev pub expand-text-callees : ℕ → expand-text-lts.Claims
-expand-text-callees t = (expand-item-below t, expand-item.Post)
+abbrev pub callees : ℕ → lts.Claims
+callees t = (
+  item-at.Asked,
+  item-at.Learnt,
+  expand-item-below t,
+  expand-item.Post,
+  is-stop.Asked,
+  is-stop.Learnt,
+  mode-after.Asked,
+  mode-after.Learnt,
+)
 
-abbrev pub expand-text-Inv-loop : expand-text-lts.InvT-loop
-expand-text-Inv-loop text at depth mark used vars₀ have room work₀ n₀ i₀ inside₀ left₀ vars work n i inside left =
-    Going room text at inside₀ depth (markOf mark) used (held (take left₀ vars₀)) work₀ vars₀ work vars n i inside left
+abbrev pub Inv-loop : lts.InvT-loop
+Inv-loop text from row vars₀ extent work₀ mark n₀ i₀ inside₀ left₀ vars work n i inside left =
+    Going (extent .«vars_room») text (from .at) (from .mode) (from .depth) (markOf (row .mark)) (row .units)
+    (held (take (extent .«vars_used») vars₀)) work₀ vars₀ work vars n i inside left
 
-abbrev pub expand-text-μ-loop : expand-text-lts.MeasureT-loop
-expand-text-μ-loop text at depth mark used vars₀ have room work₀ n₀ i₀ inside₀ left₀ vars work n i inside left = length text - i
+abbrev pub μ-loop : lts.MeasureT-loop
+μ-loop text from row vars₀ extent work₀ mark n₀ i₀ inside₀ left₀ vars work n i inside left = length text - i
 
 module _ (t : ℕ) where
-  pub expand-text-loop-holds : expand-text-lts.Need-loop-holds (expand-text-callees t) (expand-text-at t) expand-text.Post expand-text-Inv-loop
-      expand-text-μ-loop
-  expand-text-loop-holds c =
-      let a = c .before .before .before .args in
-      let y = c .before .before .before .pre .1 .0 in
-      let w = c .before .before .before .pre .1 .1 in
-      going-start (a .room) (a .text .now) (a .at) (a .mode) (a .depth) (markOf (a .mark)) (a .used) (a .work .now) (a .vars .now) (a .have) y w
+  -- where the loop stood when the item was expanded, and where the text began
+  abbrev looped : lts.After-expand-item (callees t) (expand-text-at t) expand-text.Post Inv-loop μ-loop
+      → lts.At-loop (callees t) (expand-text-at t) expand-text.Post Inv-loop μ-loop
+  looped c = c .before .before .before .before .before
 
-  pub expand-text-mul-start : expand-text-lts.Need-mul-start (expand-text-callees t) (expand-text-at t) expand-text.Post expand-text-Inv-loop
-      expand-text-μ-loop
-  expand-text-mul-start c =
-      let a = c .before .before .before .before .args in
-      let y = c .before .before .before .before .pre .1 .0 in
-      let w = c .before .before .before .before .pre .1 .1 in
-      let g = going-room (a .room) (a .text .now) (a .at) (a .mode) (a .depth) (markOf (a .mark)) (a .used) _ _ _ _ _ _ _ _ _ (c .loop .inv) in
-      omega arith
+  abbrev began : lts.After-expand-item (callees t) (expand-text-at t) expand-text.Post Inv-loop μ-loop
+      → lts.Start (callees t) (expand-text-at t) expand-text.Post Inv-loop μ-loop
+  began c = looped c .before .before .before .before
 
-  pub expand-text-add-expand-item : expand-text-lts.Need-add-expand-item (expand-text-callees t) (expand-text-at t) expand-text.Post
-      expand-text-Inv-loop expand-text-μ-loop
-  expand-text-add-expand-item c =
-      let a = c .before .before .before .before .args in
-      let y = c .before .before .before .before .pre .1 .0 in
-      let w = c .before .before .before .before .pre .1 .1 in
-      let f = c .loop .inv .fits in
-      omega arith
+  -- an item that was expanded, where it refuses the text and where it has a row
+  abbrev refused : lts.After-known-told (callees t) (expand-text-at t) expand-text.Post Inv-loop μ-loop
+      → lts.After-expand-item (callees t) (expand-text-at t) expand-text.Post Inv-loop μ-loop
+  refused c = c .before .before .before .before .before .before .before
 
-  pub expand-text-sub-expand-item : expand-text-lts.Need-sub-expand-item (expand-text-callees t) (expand-text-at t) expand-text.Post
-      expand-text-Inv-loop expand-text-μ-loop
-  expand-text-sub-expand-item c =
-      let a = c .before .before .before .before .before .args in
-      let y = c .before .before .before .before .before .pre .1 .0 in
-      let w = c .before .before .before .before .before .pre .1 .1 in
-      let g = going-room (a .room) (a .text .now) (a .at) (a .mode) (a .depth) (markOf (a .mark)) (a .used) _ _ _ _ _ _ _ _ _ (c .before .loop .inv) in
-      omega arith
+  abbrev given : lts.After-known-told2 (callees t) (expand-text-at t) expand-text.Post Inv-loop μ-loop
+      → lts.After-expand-item (callees t) (expand-text-at t) expand-text.Post Inv-loop μ-loop
+  given c = c .before .before .before .before .before .before .before
 
-  pub expand-text-part-expand-item-start : expand-text-lts.Need-part-expand-item-start (expand-text-callees t) (expand-text-at t) expand-text.Post
-      expand-text-Inv-loop expand-text-μ-loop
-  expand-text-part-expand-item-start c =
-      let a = c .before .before .before .before .before .args in
-      let y = c .before .before .before .before .before .pre .1 .0 in
-      let w = c .before .before .before .before .before .pre .1 .1 in
-      let g = going-room (a .room) (a .text .now) (a .at) (a .mode) (a .depth) (markOf (a .mark)) (a .used) _ _ _ _ _ _ _ _ _ (c .before .loop .inv) in
-      omega arith
+  expanding : (c : lts.After-expand-item (callees t) (expand-text-at t) expand-text.Post Inv-loop μ-loop) →
+      let l = looped c .loop in
+      let a = began c .args in
+      let item = c .before .before .before .before .item-at .result in
+      Expanding (a .extent .«vars_room») (a .text .now) (a .from .at) (a .from .mode) (a .from .depth) (markOf (a .row .mark)) (a .row .units)
+      (held (take (a .extent .«vars_used») (a .vars .now))) (a .work .now) (a .vars .now) (l .work) (l .vars) (l .n) (l .i) (l .inside) (l .left)
+      (isStop item) (modeAfter item (l .inside)) (c .expand-item .last .1 .1 .1 .1 .1 .1 .0) (c .expand-item .last .1 .1 .1 .1 .0) (c .expand-item .result)
+  expanding c = record { going = looped c .loop .inv; says = c .expand-item .ensures }
 
-  pub expand-text-part-expand-item-end : expand-text-lts.Need-part-expand-item-end (expand-text-callees t) (expand-text-at t) expand-text.Post
-      expand-text-Inv-loop expand-text-μ-loop
-  expand-text-part-expand-item-end c =
-      let a = c .before .before .before .before .before .args in
-      let y = c .before .before .before .before .before .pre .1 .0 in
-      let w = c .before .before .before .before .before .pre .1 .1 in
-      let g = going-room (a .room) (a .text .now) (a .at) (a .mode) (a .depth) (markOf (a .mark)) (a .used) _ _ _ _ _ _ _ _ _ (c .before .loop .inv) in
-      omega arith
+  -- what was lent came back as long as it was
+  same-vars : (c : lts.After-expand-item (callees t) (expand-text-at t) expand-text.Post Inv-loop μ-loop)
+      → length (c .expand-item .last .1 .1 .1 .1 .0) ≡ length (looped c .loop .vars)
+  same-vars c = c .expand-item .kept .1 .1 .1 .1 .0
 
-  pub expand-text-expand-item-requires : expand-text-lts.Need-expand-item-requires (expand-text-callees t) (expand-text-at t) expand-text.Post
-      expand-text-Inv-loop expand-text-μ-loop
-  expand-text-expand-item-requires c κs =
-      let a = c .before .before .before .before .before .before .args in
-      let y = c .before .before .before .before .before .before .pre .1 .0 in
-      let w = c .before .before .before .before .before .before .pre .1 .1 in
-      let g = going-room (a .room) (a .text .now) (a .at) (a .mode) (a .depth) (markOf (a .mark)) (a .used) _ _ _ _ _ _ _ _ _
-      (c .before .before .loop .inv) in (
-        omega (
-          arith,
-          c .before .before .before .before .before .before .pre .0,
-          c .before .before .loop .inv .onward,
-          c .before .before .loop .inv .within,
-        ),
+  same-work : (c : lts.After-expand-item (callees t) (expand-text-at t) expand-text.Post Inv-loop μ-loop) →
+      let l = looped c .loop in
+      length (putMid (2 * l .n) (length (l .work) - 2 * l .n) (l .work) (c .expand-item .last .1 .1 .1 .1 .1 .1 .0)) ≡ length (l .work)
+  same-work c =
+      let l = looped c .loop in
+      same-len-mid (2 * l .n) (length (l .work) - 2 * l .n) (l .work) (c .expand-item .last .1 .1 .1 .1 .1 .1 .0)
+      (c .expand-item .kept .1 .1 .1 .1 .1 .1 .0)
+
+  pub loop-holds : lts.Need-loop-holds (callees t) (expand-text-at t) expand-text.Post Inv-loop μ-loop
+  loop-holds c =
+      let s = c .before .before .before in
+      going-start (markOf (s .args .row .mark)) (s .args .work .now) (s .pre .1 .0) (s .pre .1 .1)
+
+  pub item-at-requires : lts.Need-item-at-requires (callees t) (expand-text-at t) expand-text.Post Inv-loop μ-loop
+  item-at-requires c κs = (c .loop .inv .within, c .loop .inv .opens)
+
+  pub add-expand-item : lts.Need-add-expand-item (callees t) (expand-text-at t) expand-text.Post Inv-loop μ-loop
+  add-expand-item c = omega (arith, c .before .before .loop .inv .fits)
+
+  pub mul-start : lts.Need-mul-start (callees t) (expand-text-at t) expand-text.Post Inv-loop μ-loop
+  mul-start c = omega (arith, going-room (c .before .before .loop .inv))
+
+  pub sub-expand-item : lts.Need-sub-expand-item (callees t) (expand-text-at t) expand-text.Post Inv-loop μ-loop
+  sub-expand-item c = omega (arith, going-room (c .before .before .before .loop .inv))
+
+  pub part-expand-item-start : lts.Need-part-expand-item-start (callees t) (expand-text-at t) expand-text.Post Inv-loop μ-loop
+  part-expand-item-start c = omega (arith, going-room (c .before .before .before .loop .inv))
+
+  pub part-expand-item-end : lts.Need-part-expand-item-end (callees t) (expand-text-at t) expand-text.Post Inv-loop μ-loop
+  part-expand-item-end c = omega (arith, going-room (c .before .before .before .loop .inv))
+
+  pub expand-item-requires : lts.Need-expand-item-requires (callees t) (expand-text-at t) expand-text.Post Inv-loop μ-loop
+  expand-item-requires c κs =
+      let l = c .before .before .before .before .loop in
+      let s = c .before .before .before .before .before .before .before .before in
+      let y = s .pre .1 .0 in
+      let g = going-room (l .inv) in (
+        omega (arith, s .pre .0, l .inv .onward, l .inv .within),
         (
-          going-ready (a .room) (a .text .now) (a .at) (a .mode) (a .depth) (markOf (a .mark)) (a .used) _ _ _ _ _ _ _ _ _
-              (c .before .before .loop .inv) (y .clean) _ (y .area)
-              (omega (
-                arith,
-                mid-len (2 * c .before .before .loop .n) (length (c .before .before .loop .work)) (c .before .before .loop .work)
-                    (omega arith),
-                g,
-              )),
-          c .before .before .loop .inv .holds,
+          c .before .before .before .item-at .ensures,
+          going-ready (l .inv) (y .clean) _ (y .area) (omega (arith, mid-len (2 * l .n) (length (l .work)) (l .work) (omega arith), g)),
+          l .inv .holds,
         ),
       )
 
-  pub expand-text-enum-known-got : expand-text-lts.Need-enum-known-got (expand-text-callees t) (expand-text-at t) expand-text.Post
-      expand-text-Inv-loop expand-text-μ-loop
-  expand-text-enum-known-got c = search needs
+  pub enum-known-got : lts.Need-enum-known-got (callees t) (expand-text-at t) expand-text.Post Inv-loop μ-loop
+  enum-known-got c = search needs
 
-  pub expand-text-same-length : expand-text-lts.Need-same-length (expand-text-callees t) (expand-text-at t) expand-text.Post expand-text-Inv-loop
-      expand-text-μ-loop
-  expand-text-same-length c =
-      c .before .before .before .before .before .before .before .expand-item .kept .1 .1 .1 .1 .1 .1 .0 ∙
-      c .before .before .before .before .before .before .before .before .before .before .loop .inv .same
+  pub same-length : lts.Need-same-length (callees t) (expand-text-at t) expand-text.Post Inv-loop μ-loop
+  same-length c = same-vars (refused c) ∙ looped (refused c) .loop .inv .same
 
-  pub expand-text-same-length-2 : expand-text-lts.Need-same-length-2 (expand-text-callees t) (expand-text-at t) expand-text.Post expand-text-Inv-loop
-      expand-text-μ-loop
-  expand-text-same-length-2 c =
-      same-len-mid (2 * c .before .before .before .before .before .before .before .before .before .before .loop .n)
-      (length (c .before .before .before .before .before .before .before .before .before .before .loop .work) - 2 *
-      c .before .before .before .before .before .before .before .before .before .before .loop .n)
-      (c .before .before .before .before .before .before .before .before .before .before .loop .work)
-      (c .before .before .before .before .before .before .before .expand-item .last .1 .1 .1 .1 .1 .1 .1 .1 .1 .0)
-      (c .before .before .before .before .before .before .before .expand-item .kept .1 .1 .1 .1 .1 .1 .1 .1 .1 .0) ∙
-      c .before .before .before .before .before .before .before .before .before .before .loop .inv .long
+  pub same-length-2 : lts.Need-same-length-2 (callees t) (expand-text-at t) expand-text.Post Inv-loop μ-loop
+  same-length-2 c = same-work (refused c) ∙ looped (refused c) .loop .inv .long
 
-  pub expand-text-returns : expand-text-lts.Need-returns (expand-text-callees t) (expand-text-at t) expand-text.Post expand-text-Inv-loop expand-text-μ-loop
-  expand-text-returns c =
-      let a = c .before .before .before .before .before .before .before .before .before .before .before .before .before .before .args in
-      let y = c .before .before .before .before .before .before .before .before .before .before .before .before .before .before .pre .1 .0 in
-      let w = c .before .before .before .before .before .before .before .before .before .before .before .before .before .before .pre .1 .1 in
-      going-refused (a .room) (a .text .now) (a .at) (a .mode) (a .depth) (markOf (a .mark)) (a .used) _ _ _ _ _ _ _ _ _
-      (c .before .before .before .before .before .before .before .before .before .before .loop .inv) _ _
-      (c .before .before .before .before .before .before .before .expand-item .ensures) _ (c .before .got .given .1)
+  pub returns : lts.Need-returns (callees t) (expand-text-at t) expand-text.Post Inv-loop μ-loop
+  returns c = going-refused (expanding (refused c)) _ (c .before .got .given .1)
 
-  pub expand-text-enum-known-got-2 : expand-text-lts.Need-enum-known-got-2 (expand-text-callees t) (expand-text-at t) expand-text.Post
-      expand-text-Inv-loop expand-text-μ-loop
-  expand-text-enum-known-got-2 c = search needs
+  pub enum-known-got-2 : lts.Need-enum-known-got-2 (callees t) (expand-text-at t) expand-text.Post Inv-loop μ-loop
+  enum-known-got-2 c = search needs
 
-  pub expand-text-same-length-3 : expand-text-lts.Need-same-length-3 (expand-text-callees t) (expand-text-at t) expand-text.Post expand-text-Inv-loop
-      expand-text-μ-loop
-  expand-text-same-length-3 c =
-      c .before .before .before .before .before .before .before .expand-item .kept .1 .1 .1 .1 .1 .1 .0 ∙
-      c .before .before .before .before .before .before .before .before .before .before .loop .inv .same
+  pub add-n : lts.Need-add-n (callees t) (expand-text-at t) expand-text.Post Inv-loop μ-loop
+  add-n c = omega (arith, going-fits (expanding (given c)) (c .before .got2 .given .1))
 
-  pub expand-text-same-length-4 : expand-text-lts.Need-same-length-4 (expand-text-callees t) (expand-text-at t) expand-text.Post expand-text-Inv-loop
-      expand-text-μ-loop
-  expand-text-same-length-4 c =
-      same-len-mid (2 * c .before .before .before .before .before .before .before .before .before .before .loop .n)
-      (length (c .before .before .before .before .before .before .before .before .before .before .loop .work) - 2 *
-      c .before .before .before .before .before .before .before .before .before .before .loop .n)
-      (c .before .before .before .before .before .before .before .before .before .before .loop .work)
-      (c .before .before .before .before .before .before .before .expand-item .last .1 .1 .1 .1 .1 .1 .1 .1 .1 .0)
-      (c .before .before .before .before .before .before .before .expand-item .kept .1 .1 .1 .1 .1 .1 .1 .1 .1 .0) ∙
-      c .before .before .before .before .before .before .before .before .before .before .loop .inv .long
+  pub is-stop-requires : lts.Need-is-stop-requires (callees t) (expand-text-at t) expand-text.Post Inv-loop μ-loop
+  is-stop-requires c κs = search needs
 
-  pub expand-text-returns-2 : expand-text-lts.Need-returns-2 (expand-text-callees t) (expand-text-at t) expand-text.Post expand-text-Inv-loop
-      expand-text-μ-loop
-  expand-text-returns-2 c =
-      let a = c .before .before .before .before .before .before .before .before .before .before .before .before .before .before .args in
-      let y = c .before .before .before .before .before .before .before .before .before .before .before .before .before .before .pre .1 .0 in
-      let w = c .before .before .before .before .before .before .before .before .before .before .before .before .before .before .pre .1 .1 in
-      going-end (a .room) (a .text .now) (a .at) (a .mode) (a .depth) (markOf (a .mark)) (a .used) _ _ _ _ _ _ _ _ _
-      (c .before .before .before .before .before .before .before .before .before .before .loop .inv) _ _
-      (c .before .before .before .before .before .before .before .expand-item .ensures) _ (c .before .got2 .given .1)
+  pub same-length-3 : lts.Need-same-length-3 (callees t) (expand-text-at t) expand-text.Post Inv-loop μ-loop
+  same-length-3 c = let e = given (c .before .before) in same-vars e ∙ looped e .loop .inv .same
 
-  pub expand-text-enum-known-got-3 : expand-text-lts.Need-enum-known-got-3 (expand-text-callees t) (expand-text-at t) expand-text.Post
-      expand-text-Inv-loop expand-text-μ-loop
-  expand-text-enum-known-got-3 c = search needs
+  pub same-length-4 : lts.Need-same-length-4 (callees t) (expand-text-at t) expand-text.Post Inv-loop μ-loop
+  same-length-4 c = let e = given (c .before .before) in same-work e ∙ looped e .loop .inv .long
 
-  pub expand-text-add-n : expand-text-lts.Need-add-n (expand-text-callees t) (expand-text-at t) expand-text.Post expand-text-Inv-loop expand-text-μ-loop
-  expand-text-add-n c =
-      let a = c .before .before .before .before .before .before .before .before .before .before .before .before .before .before .args in
-      let y = c .before .before .before .before .before .before .before .before .before .before .before .before .before .before .pre .1 .0 in
-      let w = c .before .before .before .before .before .before .before .before .before .before .before .before .before .before .pre .1 .1 in
-      let h = moved (a .room) (a .text .now) (a .at) (a .mode) (a .depth) (markOf (a .mark)) (a .used) _ _ _ _ _ _ _ _ _
-      (c .before .before .before .before .before .before .before .before .before .before .loop .inv) _ _
-      (c .before .before .before .before .before .before .before .expand-item .ensures) (c .before .got3 .given .1) in
-      omega (arith, h .fits)
+  pub returns-2 : lts.Need-returns-2 (callees t) (expand-text-at t) expand-text.Post Inv-loop μ-loop
+  returns-2 c =
+      let g = c .before .before in
+      going-end (expanding (given g)) (g .before .got2 .given .1) (sym (c .before .is-stop .ensures) ∙ c .if1 .taken) _
 
-  pub expand-text-loop-less : expand-text-lts.Need-loop-less (expand-text-callees t) (expand-text-at t) expand-text.Post expand-text-Inv-loop
-      expand-text-μ-loop
-  expand-text-loop-less c =
-      let a = c .before .before .before .before .before .before .before .before .before .before .before .before .before .before .args in
-      let y = c .before .before .before .before .before .before .before .before .before .before .before .before .before .before .pre .1 .0 in
-      let w = c .before .before .before .before .before .before .before .before .before .before .before .before .before .before .pre .1 .1 in
-      let h = moved (a .room) (a .text .now) (a .at) (a .mode) (a .depth) (markOf (a .mark)) (a .used) _ _ _ _ _ _ _ _ _
-      (c .before .before .before .before .before .before .before .before .before .before .loop .inv) _ _
-      (c .before .before .before .before .before .before .before .expand-item .ensures) (c .before .got3 .given .1) in
-      omega (arith, h .onward, h .within)
+  pub mode-after-requires : lts.Need-mode-after-requires (callees t) (expand-text-at t) expand-text.Post Inv-loop μ-loop
+  mode-after-requires c κs = search needs
 
-  pub expand-text-loop-again : expand-text-lts.Need-loop-again (expand-text-callees t) (expand-text-at t) expand-text.Post expand-text-Inv-loop
-      expand-text-μ-loop
-  expand-text-loop-again c =
-      let a = c .before .before .before .before .before .before .before .before .before .before .before .before .before .before .args in
-      let y = c .before .before .before .before .before .before .before .before .before .before .before .before .before .before .pre .1 .0 in
-      let w = c .before .before .before .before .before .before .before .before .before .before .before .before .before .before .pre .1 .1 in
-      going-row (a .room) (a .text .now) (a .at) (a .mode) (a .depth) (markOf (a .mark)) (a .used) _ _ _ _ _ _ _ _ _
-      (c .before .before .before .before .before .before .before .before .before .before .loop .inv) _ _
-      (c .before .before .before .before .before .before .before .expand-item .ensures) (c .before .got3 .given .1) _
-      (same-len-mid (2 * c .before .before .before .before .before .before .before .before .before .before .loop .n)
-      (length (c .before .before .before .before .before .before .before .before .before .before .loop .work) - 2 *
-      c .before .before .before .before .before .before .before .before .before .before .loop .n)
-      (c .before .before .before .before .before .before .before .before .before .before .loop .work)
-      (c .before .before .before .before .before .before .before .expand-item .last .1 .1 .1 .1 .1 .1 .1 .1 .1 .0)
-      (c .before .before .before .before .before .before .before .expand-item .kept .1 .1 .1 .1 .1 .1 .1 .1 .1 .0)) (c .before .before .before .before .before .before .before .expand-item .kept .1 .1 .1 .1 .1 .1 .0)
+  pub loop-less : lts.Need-loop-less (callees t) (expand-text-at t) expand-text.Post Inv-loop μ-loop
+  loop-less c =
+      let g = c .before .before .before in
+      let m = moved (expanding (given g)) (g .before .got2 .given .1) (sym (c .before .before .is-stop .ensures) ∙ c .before .if1 .left) in
+      omega (arith, m .onward, m .within)
+
+  pub loop-again : lts.Need-loop-again (callees t) (expand-text-at t) expand-text.Post Inv-loop μ-loop
+  loop-again c =
+      let g = c .before .before .before in
+      going-row (expanding (given g)) (g .before .got2 .given .1) (sym (c .before .before .is-stop .ensures) ∙ c .before .if1 .left)
+      (c .mode-after .ensures) _ (same-work (given g)) (same-vars (given g))

@@ -1,4 +1,4 @@
--- `recipe::answering::answer_block` is safe and ends: each line that is cut off ends further on in the block, and what is kept of a line fits its buffer.
+-- Each line that is cut off ends further on in the block, and what is kept of a line fits its buffer.
 use borrow.Author.Needs.{needs}
 use native.Mathlib.Omega.{arith}
 use Prim.Native.Nat.{_-_}
@@ -14,6 +14,13 @@ Inv-loop block line₀ vars₀ homes paths so-far₀ at₀ line vars so-far at =
 
 abbrev μ-loop : tie.MeasureT-loop
 μ-loop block line₀ vars₀ homes paths so-far₀ at₀ line vars so-far at = length block - at
+
+-- the turn in which a line has been cut off or kept, and that cut where it ended
+abbrev turn : tie.After-take-in Inv-loop μ-loop → tie.At-loop Inv-loop μ-loop
+turn c = c .before .before .before .before
+
+abbrev cut : tie.After-taken2 Inv-loop μ-loop → tie.After-take-in Inv-loop μ-loop
+cut c = c .before .before .before .before
 
 loop-holds : tie.Need-loop-holds Inv-loop μ-loop
 loop-holds c = search needs
@@ -33,7 +40,7 @@ same-length-2 c = search needs
 returns : tie.Need-returns Inv-loop μ-loop
 returns c =
     let w = c .before .before .before .before .before in
-    let i = c .before .before .before .before .before .before .before .before .before .loop .inv in
+    let i = turn w .loop .inv in
     record { most = open-most (w .take-in .ensures) (c .before .taken .given .1); room = omega (arith, left-length (w .take-in .ensures) (i .room), i .room) }
 
 enum-known-taken-2 : tie.Need-enum-known-taken-2 Inv-loop μ-loop
@@ -41,33 +48,34 @@ enum-known-taken-2 c = search needs
 
 slice-reshare-prefix-answer-line : tie.Need-slice-reshare-prefix-answer-line Inv-loop μ-loop
 slice-reshare-prefix-answer-line c =
-    ended-inside (c .before .before .before .before .before .take-in .ensures)
-    (c .before .before .before .before .before .before .before .before .before .loop .inv .room) (c .before .taken2 .given .1)
+    let w = cut (c .before) in
+    ended-inside (w .take-in .ensures) (turn w .loop .inv .room) (c .before .taken2 .given .1)
 
 slice-aggregate-answer-line : tie.Need-slice-aggregate-answer-line Inv-loop μ-loop
 slice-aggregate-answer-line c =
-    sym (length-take-le _ _
-    (ended-inside (c .before .before .before .before .before .before .take-in .ensures)
-    (c .before .before .before .before .before .before .before .before .before .before .loop .inv .room) (c .before .before .taken2 .given .1)))
+    let t = c .before .before in
+    let w = cut t in
+    sym (length-take-le _ _ (ended-inside (w .take-in .ensures) (turn w .loop .inv .room) (t .taken2 .given .1)))
 
 answer-line-requires : tie.Need-answer-line-requires Inv-loop μ-loop
 answer-line-requires c κs = search needs
 
 loop-less : tie.Need-loop-less Inv-loop μ-loop
 loop-less c =
-    let i = c .before .before .before .before .before .before .before .before .before .before .before .before .before .before .loop .inv in
-    let n = ended-next (c .before .before .before .before .before .before .before .before .before .before .take-in .ensures)
-    (c .before .before .before .before .before .before .taken2 .given .1) (i .inside) in
+    let t = c .before .before .before .before .before .before in
+    let w = cut t in
+    let n = ended-next (w .take-in .ensures) (t .taken2 .given .1) (turn w .loop .inv .inside) in
     omega (arith, n .0, n .1)
 
 loop-again : tie.Need-loop-again Inv-loop μ-loop
 loop-again c =
-    let w = c .before .before .before .before .before .before .before .before .before .before in
-    let i = c .before .before .before .before .before .before .before .before .before .before .before .before .before .before .loop .inv in
+    let t = c .before .before .before .before .before .before in
+    let w = cut t in
+    let i = turn w .loop .inv in
     record {
       most = omega (arith, c .before .before .answer-line .ensures);
       room = omega (arith, left-length (w .take-in .ensures) (i .room), i .room);
-      inside = ended-next (w .take-in .ensures) (c .before .before .before .before .before .before .taken2 .given .1) (i .inside) .1;
+      inside = ended-next (w .take-in .ensures) (t .taken2 .given .1) (i .inside) .1;
       sameLine = left-length (w .take-in .ensures) (i .room) ∙ i .sameLine;
       sameVars = search needs;
     }

@@ -1,0 +1,154 @@
+-- The variables are copied, the line is drafted with the copy, and what came of it is the answer.
+use Prim.Native.Nat.{_≤_}
+use mathlib.Core.Path.{sym}
+use lib.ListN.{length}
+use lib.Seq.{length-take-le}
+use Rattle.stages.specs.Bytes.{Text}
+use Rattle.call_run.proofs.Working.{copy-fits, drafting, call-refused, left-within, accept-ready, call-accepted}
+use borrow.Author.Needs.{needs}
+use Rattle.call_run.proofs.on_copy.Statement.{statement}
+use Rattle.call_run.proofs.on_copy.Tie as tie
+
+-- the call's entry, before the variables are copied and after
+abbrev begun : tie.After-extent → tie.Start
+begun c = c .before .before .before .before .before .before .before .before
+
+module _ (c : tie.After-copy-in) where
+  abbrev entry : tie.Start
+  entry = begun (c .before .before .before)
+
+  abbrev copied : Text
+  copied = c .copy-in .last .1 .0
+
+-- where the line has been drafted: the place before, the variables' copy and the output
+module _ (c : tie.After-with-image) where
+  abbrev copying : tie.After-copy-in
+  copying = c .before .before .before .before .before .before
+
+  abbrev drawn : Text
+  drawn = c .with-image .last .1 .1 .0
+
+  abbrev written : Text
+  written = c .with-image .last .1 .1 .1 .1 .1 .1 .0
+
+-- that place, where the call is refused and where it is accepted
+abbrev refusing : tie.After-got → tie.After-with-image
+refusing c = c .before .before .before .before .before .before .before .before
+
+module _ (c : tie.After-got2) where
+  abbrev accepting : tie.After-with-image
+  accepting = c .before .before .before .before .before .before .before .before
+
+  within : c .got2 .given .0 .1 .0 ≤ length (drawn accepting)
+  within =
+      let w = accepting in
+      let k = copying w in
+      let s = entry k in
+      left-within (s .pre .0) (s .pre .1 .0) (s .args .copy .now) (copied k) (s .pre .1 .1) (k .copy-in .ensures)
+      (drawn w) (written w) (w .with-image .result) (w .with-image .ensures) (c .got2 .given .1)
+
+slice-reshare-prefix-copy-in : tie.Need-slice-reshare-prefix-copy-in
+slice-reshare-prefix-copy-in c = begun c .pre .0 .tables .inside
+
+slice-aggregate-copy-in : tie.Need-slice-aggregate-copy-in
+slice-aggregate-copy-in c = sym (length-take-le _ _ (begun (c .before) .pre .0 .tables .inside))
+
+copy-in-requires : tie.Need-copy-in-requires
+copy-in-requires c κs = let s = begun (c .before .before) in copy-fits (s .pre .0) (s .args .copy .now) (s .pre .1 .1)
+
+with-image-requires : tie.Need-with-image-requires
+with-image-requires c κs =
+    let k = c .before .before .before .before .before in
+    let s = entry k in
+    drafting (s .pre .0) (s .pre .1 .0) (s .args .copy .now) (copied k) (s .pre .1 .1) (k .copy-in .ensures)
+
+enum-known-got : tie.Need-enum-known-got
+enum-known-got c = search needs
+
+refuse-requires : tie.Need-refuse-requires
+refuse-requires c κs = search needs
+
+enum-known-got-2 : tie.Need-enum-known-got-2
+enum-known-got-2 c = search needs
+
+slice-reshare-prefix-accept : tie.Need-slice-reshare-prefix-accept
+slice-reshare-prefix-accept c = within (c .before)
+
+slice-aggregate-accept : tie.Need-slice-aggregate-accept
+slice-aggregate-accept c = sym (length-take-le _ _ (within (c .before .before)))
+
+accept-requires : tie.Need-accept-requires
+accept-requires c κs =
+    let g = c .before .before .before in
+    let w = accepting g in
+    let k = copying w in
+    let s = entry k in
+    accept-ready (s .pre .0) (s .pre .1 .0) (s .args .copy .now) (copied k) (s .pre .1 .1) (k .copy-in .ensures)
+    (drawn w) (written w) (w .with-image .result) (w .with-image .ensures) (g .got2 .given .1)
+
+same-length : tie.Need-same-length
+same-length c = search needs
+
+same-length-2 : tie.Need-same-length-2
+same-length-2 c = search needs
+
+same-length-3 : tie.Need-same-length-3
+same-length-3 c = search needs
+
+same-length-4 : tie.Need-same-length-4
+same-length-4 c = search needs
+
+returns : tie.Need-returns
+returns c =
+    let w = refusing (c .before .before) in
+    let k = copying w in
+    let s = entry k in
+    call-refused (s .pre .0) (s .pre .1 .0) (s .args .copy .now) (copied k) (s .pre .1 .1) (k .copy-in .ensures)
+    (drawn w) (written w) (w .with-image .result) (w .with-image .ensures) (c .before .before .got .given .1) (c .refuse .ensures)
+
+same-length-5 : tie.Need-same-length-5
+same-length-5 c = search needs
+
+same-length-6 : tie.Need-same-length-6
+same-length-6 c = search needs
+
+same-length-7 : tie.Need-same-length-7
+same-length-7 c = search needs
+
+same-length-8 : tie.Need-same-length-8
+same-length-8 c = search needs
+
+returns-2 : tie.Need-returns-2
+returns-2 c =
+    let g = c .before .before .before .before .before .before in
+    let w = accepting g in
+    let k = copying w in
+    let s = entry k in
+    call-accepted (s .pre .0) (s .pre .1 .0) (s .args .copy .now) (copied k) (s .pre .1 .1) (k .copy-in .ensures)
+    (drawn w) (written w) (w .with-image .result) (w .with-image .ensures) (g .got2 .given .1)
+    (λ i. g .before .before .before .before .before .before .slice-known6 .given i .fits) (c .before .before .accept .ensures)
+
+pub on-copy-spec : {M : Type 1} → statement M
+on-copy-spec =
+    tie.close
+    (tie.spec
+    slice-reshare-prefix-copy-in
+    slice-aggregate-copy-in
+    copy-in-requires
+    with-image-requires
+    enum-known-got
+    refuse-requires
+    enum-known-got-2
+    slice-reshare-prefix-accept
+    slice-aggregate-accept
+    accept-requires
+    same-length
+    same-length-2
+    same-length-3
+    same-length-4
+    returns
+    same-length-5
+    same-length-6
+    same-length-7
+    same-length-8
+    returns-2)

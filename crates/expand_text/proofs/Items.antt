@@ -1,0 +1,343 @@
+-- What an item says of expanding: the item's own row, and after it what is still to be expanded. One law for the items that are added at once, one for
+-- those that hold a text.
+use Prim.Native.Nat.{ℕ, _+_, _-_, _≤_, _<_}
+use native.Mathlib.Omega.{arith}
+use mathlib.Core.Path.{_≡_, refl, sym, ap, _∙_, subst}
+use mathlib.Core.Bool.{Bool, true, false}
+use mathlib.Core.List.{[], _∷_}
+use lib.ListN.{length, take, drop}
+use Rattle.stages.specs.Bytes.{Text, part, notZero}
+use Rattle.stages.specs.Outcome.{Outcome, refused, done}
+use Rattle.stages.specs.Images.{Pairs, isName, held}
+use Rattle.stages.specs.Syntax.{unescaped, Form, Parts, plain, end, lit, quo, par, len, ari, arith as sums}
+use Rattle.stages.specs.Items.{item}
+use Rattle.stages.specs.Read.{Taken, parts, nest}
+use Rattle.stages.specs.Units.{Mark, cell, Row, marked, expandedMark, litMark, decimal}
+use Rattle.stages.specs.Expand.{Made, value, parameter, expand}
+use Rattle.text.specs.Cases.{escapeOf}
+use Rattle.stages.proofs.Texts.{all-drop}
+use Rattle.stages.proofs.Outcomes.{safe-done}
+use Rattle.stages.proofs.Safe.{SafeParts, parts-safe}
+use Rattle.stages.proofs.Read.{at-fault, at-stop, at-byte, at-paren, at-value, at-count, at-quote, at-inner, at-sum, behind, Within, within}
+use Rattle.read_mode.specs.Modes.{modeOf, openIn, formOf}
+use Rattle.read_mode.specs.declared.Mode.{Mode}
+use Rattle.read_mode.specs.declared.Mode.the-variants.{Arith}
+use Rattle.read_mode.specs.declared.Form as code-form
+use Rattle.read_brace.specs.Shows.{Shows, Behind, Name}
+use Rattle.read_brace.specs.declared.Item.{Item}
+use Rattle.read_brace.specs.declared.Item.the-variants.{Fault, Stop, Byte, Paren, Quote, Value, Count, Inner, Sum}
+use Rattle.expand_add.specs.Added.{Adds}
+use Rattle.expand_add.specs.Steps.{beside, placed, quoted, summing, followed}
+use Rattle.read_item.specs.After.{modeAfter, isStop}
+use Rattle.expand_text.specs.Items.{ItemAnswers, ItemRead}
+use Rattle.expand_add.specs.Answers.{Holds, Ready, IsRow, Answers, Says, Finishes}
+use Rattle.expand_add.specs.declared.answers.Expanded.{Expanded}
+use Rattle.expand_add.specs.declared.answers.Expanded.the-variants as answer
+use Rattle.expand_add.proofs.Steps.{expand-lit, expand-par, expand-len, expand-quo, expand-ari, followed-refused, followed-row}
+use Rattle.expand_add.proofs.Fitting.{adds-same}
+use Rattle.expand_add.proofs.Holding.{says-known, adds-finishes}
+
+-- an enum's answer, once its case is known
+pub shown : (text : Text) (at d : ℕ) {r s : Item} (i : _) → Shows text at d r i → r ≡ s → Shows text at d s i
+shown text at d i h e = subst (λ (x : Item). Shows text at d x i) e h
+
+-- The text from `at` on is read (`y`), the variables stand in their bytes (`w`).
+
+module _ {varsRoom : ℕ} {text : Text} {at : ℕ} {mode : Mode} {d : ℕ} (m : Mark) {units size : ℕ} {vars₀ : Text} {varsUsed : ℕ}
+    (y : Ready text at mode d units size) (w : Holds varsRoom vars₀ varsUsed) where
+  abbrev v : Pairs
+  v = held (take varsUsed vars₀)
+
+  abbrev Passed : Bool → Mode → Text → Text → Expanded → Type 0
+  Passed stops after area vars g =
+      ItemRead stops after varsRoom text at d m units (λ t. expand varsRoom t m units v) (parts (modeOf mode) d (drop at text)) area vars g
+
+  so : (stops : Bool) (after : Mode) (area vars : Text) (g : Expanded)
+      → ItemAnswers stops after varsRoom text at d m units (expand varsRoom (y .tree) m units v) (y .rest) area vars g → Passed stops after area vars g
+  so stops after area vars g h = rw (y .is) h
+
+  -- an item whose own row is `own`, and after it the parts p
+  module _ (p : Parts) (own : Made) (is : expand varsRoom (y .tree) m units v ≡ followed varsRoom p m units own) where
+    own-refused : (after : Mode) (area vars : Text) {e : ℕ} → own ≡ refused e → Passed false after area vars (answer.Refused e)
+    own-refused after area vars {e} h = so false after area vars (answer.Refused e) (is ∙ followed-refused varsRoom p m units own e h)
+
+    own-row : (after : Mode) (area vars : Text) (count next left : ℕ) → IsRow varsRoom units own area vars count left
+        → parts (modeOf after) d (drop next text) ≡ done (p, y .rest) → openIn after ≤ next → at < next → next ≤ length text
+        → Passed false after area vars (answer.Row count next left)
+    own-row after area vars count next left i read o l k =
+        so false after area vars (answer.Row count next left)
+        (record {
+          more = p;
+          read = read;
+          opens = o;
+          row = i .row;
+          is = is ∙ followed-row varsRoom p m units own (i .row) (held (take left vars)) count (i .is) (i .counts);
+          counts = i .counts;
+          stands = i .stands;
+          fits = i .fits;
+          holds = i .holds;
+          onward = l;
+          within = k;
+        })
+
+    -- what a leaf finishes, after which the text goes on at `next`
+    own-finished : (next : ℕ) (after : Mode) → parts (modeOf after) d (drop next text) ≡ done (p, y .rest) → openIn after ≤ next → at < next
+        → next ≤ length text → (area vars : Text) (g : Expanded) → Finishes varsRoom units own next area vars g → Passed false after area vars g
+    own-finished next after read o l k area vars (answer.Refused e) h = own-refused after area vars h
+    own-finished next after read o l k area vars (answer.Row count next′ left) h =
+        rw (h .0) (own-row after area vars count next left (h .1) read o l k)
+
+    -- what holds a text from `from` on, with `mid` after it
+    own-text : (from : ℕ) (mid : Text) → parts (modeOf mode) d mid ≡ done (p, y .rest) → at < from → (area vars : Text) (g : Expanded)
+        → Answers varsRoom text from units own mid area vars g → Passed false mode area vars g
+    own-text from mid read l area vars (answer.Refused e) h = own-refused mode area vars h
+    own-text from mid read l area vars (answer.Row count next left) h =
+        let o = y .opens in
+        let k = h .1 .onward in
+        own-row mode area vars count next left (h .0) (ap (parts (modeOf mode) d) (h .1 .ends) ∙ read) (omega arith) (omega arith) (h .1 .within)
+
+  -- a row that is added at once
+  own-added : (p : Parts) (o : Outcome Row) → expand varsRoom (y .tree) m units v ≡ followed varsRoom p m units (placed units (beside v o))
+      → (next : ℕ) (after : Mode) → parts (modeOf after) d (drop next text) ≡ done (p, y .rest) → openIn after ≤ next → at < next
+      → next ≤ length text → (area : Text) (g : Expanded) → Adds units (record { next = next; «vars_used» = varsUsed }) o area g
+      → Passed false after area vars₀ g
+  own-added p o is next after read i l k area g h =
+      own-finished p (placed units (beside v o)) is next after read i l k area vars₀ g
+      (adds-finishes varsRoom units (record { next = next; «vars_used» = varsUsed }) o area vars₀ g h w)
+
+  abbrev Turned : Item → Text → Text → Expanded → Type 0
+  Turned r area vars g = Passed (isStop r) (modeAfter r mode) area vars g
+
+  known : {r s : Item} → r ≡ s → (area vars : Text) (g : Expanded) → Turned s area vars g → Turned r area vars g
+  known c area vars g t = subst (λ (s : Item). Turned s area vars g) (sym c) t
+
+-- The item r stands there.
+pub record Here (varsRoom : ℕ) (text : Text) (at : ℕ) (mode : Mode) (d : ℕ) (m : Mark) (units size : ℕ) (vars₀ : Text) (varsUsed : ℕ) (r : Item)
+    : Type 0 where
+  pub ready : Ready text at mode d units size
+  pub holds : Holds varsRoom vars₀ varsUsed
+  pub shows : Shows text at d r (item (modeOf mode) d (drop at text))
+
+module _ {varsRoom : ℕ} {text : Text} {at : ℕ} {mode : Mode} {d : ℕ} {m : Mark} {units size : ℕ} {vars₀ : Text} {varsUsed : ℕ} {r : Item}
+    (x : Here varsRoom text at mode d m units size vars₀ varsUsed r) where
+  abbrev u : Pairs
+  u = held (take varsUsed vars₀)
+
+  abbrev Said : Text → Text → Expanded → Type 0
+  Said area vars g = Turned m (x .ready) (x .holds) r area vars g
+
+  pub item-fault : (area vars : Text) {e : ℕ} → r ≡ Fault e → Said area vars (answer.Refused e)
+  item-fault area vars {e} c =
+      let n : parts (modeOf mode) d (drop at text) ≡ refused e = at-fault text at (modeOf mode) d e (shown text at d _ (x .shows) c) in
+      let q : _≡_ {A = Taken} (refused e) (done (x .ready .tree, x .ready .rest)) = sym n ∙ x .ready .is in
+      let z : _≡_ {A = ℕ} 0 1 = cc in
+      absurd (omega arith)
+
+  pub item-stop : (area : Text) {next : ℕ} → r ≡ Stop next → Said area vars₀ (answer.Row 0 next varsUsed)
+  unfolding expand
+  item-stop area {next} c =
+      let s = shown text at d _ (x .shows) c in
+      let n : parts (modeOf mode) d (drop at text) ≡ done (end, drop next text) = at-stop text at (modeOf mode) d next (s .0) (s .1) in
+      known m (x .ready) (x .holds) c area vars₀ (answer.Row 0 next varsUsed)
+      (rw n (record { is = refl; none = refl; holds = x .holds; ends = record { ends = refl; onward = s .1; within = s .2 } }))
+
+  pub item-byte : {q : Bool} {b next : ℕ} → r ≡ Byte q b next → {k : Mark} → k ≡ litMark (escapeOf q) m → (area : Text) (g : Expanded)
+      → Adds units (record { next = next; «vars_used» = varsUsed }) (done (cell k b ∷ [])) area g → Said area vars₀ g
+  item-byte {q} {b} {next} c {k} e area g f =
+      let s = shown text at d _ (x .shows) c in
+      let o = x .ready .opens in
+      let i = s .1 .onward in
+      let t = behind (lit (escapeOf q) b) (parts (modeOf mode) d (drop next text)) (x .ready .tree) (x .ready .rest)
+      (sym (at-byte text at (modeOf mode) d (escapeOf q) b next (s .0) (s .1 .onward)) ∙ x .ready .is) in
+      known m (x .ready) (x .holds) c area vars₀ g
+      (own-added m (x .ready) (x .holds) (t .next) (done (cell (litMark (escapeOf q) m) b ∷ []))
+      (ap (λ (x : Parts). expand varsRoom x m units u) (t .whole) ∙ expand-lit varsRoom (t .next) m units (escapeOf q) b u)
+      next mode (t .read) (omega arith) i (s .1 .within) area g
+      (adds-same units (record { next = next; «vars_used» = varsUsed }) area g (ap (λ (j : Mark). done (cell j b ∷ [])) e) f))
+
+  pub paren-place : {b n : ℕ} → r ≡ Paren b n → at < length text
+  paren-place c = shown text at d _ (x .shows) c .1
+
+  pub item-paren : {b n : ℕ} → r ≡ Paren b n → (area : Text) (g : Expanded)
+      → Adds units (record { next = at + 1; «vars_used» = varsUsed }) (done (cell m b ∷ [])) area g → Said area vars₀ g
+  item-paren {b} {n} c area g f =
+      let s = shown text at d _ (x .shows) c in
+      let i = s .1 in
+      let t = behind (lit unescaped b) (parts (sums n) d (drop (at + 1) text)) (x .ready .tree) (x .ready .rest)
+      (sym (at-paren text at (modeOf mode) d b n (s .0)) ∙ x .ready .is) in
+      known m (x .ready) (x .holds) c area vars₀ g
+      (own-added m (x .ready) (x .holds) (t .next) (done (cell m b ∷ []))
+      (ap (λ (x : Parts). expand varsRoom x m units u) (t .whole) ∙ expand-lit varsRoom (t .next) m units unescaped b u)
+      (at + 1) (Arith n) (t .read) (s .2) (omega arith) (omega arith) area g f)
+
+  module _ {from to next : ℕ} (c : r ≡ Value from to next) where
+    pub value-name : Name text from to
+    value-name = shown text at d _ (x .shows) c .2
+
+    pub item-value : (area : Text) (g : Expanded)
+        → Adds units (record { next = next; «vars_used» = varsUsed }) (done (marked (expandedMark m) (value u (part text from to)))) area g
+        → Said area vars₀ g
+    unfolding parameter
+    item-value area g f =
+        let s = shown text at d _ (x .shows) c in
+        let o = x .ready .opens in
+        let i = s .1 .onward in
+        let t = behind (par (part text from to) plain end) (parts (modeOf mode) d (drop next text)) (x .ready .tree) (x .ready .rest)
+        (sym (at-value text at (modeOf mode) d (part text from to) next (s .0) (s .1 .onward)) ∙ x .ready .is) in
+        known m (x .ready) (x .holds) c area vars₀ g
+        (own-added m (x .ready) (x .holds) (t .next) (done (marked (expandedMark m) (value u (part text from to))))
+        (ap (λ (x : Parts). expand varsRoom x m units u) (t .whole) ∙ expand-par varsRoom (t .next) m units (part text from to) plain end u)
+        next mode (t .read) (omega arith) i (s .1 .within) area g f)
+
+  module _ {from to next : ℕ} (c : r ≡ Count from to next) where
+    pub count-name : Name text from to
+    count-name = shown text at d _ (x .shows) c .2
+
+    pub item-count : (area : Text) (g : Expanded)
+        → Adds units (record { next = next; «vars_used» = varsUsed })
+        (done (marked (expandedMark m) (decimal (length (value u (part text from to)))))) area g
+        → Said area vars₀ g
+    item-count area g f =
+        let s = shown text at d _ (x .shows) c in
+        let o = x .ready .opens in
+        let i = s .1 .onward in
+        let t = behind (len (part text from to)) (parts (modeOf mode) d (drop next text)) (x .ready .tree) (x .ready .rest)
+        (sym (at-count text at (modeOf mode) d (part text from to) next (s .0) (s .1 .onward)) ∙ x .ready .is) in
+        known m (x .ready) (x .holds) c area vars₀ g
+        (own-added m (x .ready) (x .holds) (t .next) (done (marked (expandedMark m) (decimal (length (value u (part text from to))))))
+        (ap (λ (x : Parts). expand varsRoom x m units u) (t .whole) ∙ expand-len varsRoom (t .next) m units (part text from to) u)
+        next mode (t .read) (omega arith) i (s .1 .within) area g f)
+
+  module _ {n : Mode} (c : r ≡ Quote n) where
+    quote-parts : Within quo (parts (modeOf n) d (drop (at + 1) text)) (parts (modeOf mode) d) (x .ready .tree) (x .ready .rest)
+    quote-parts = within quo _ (parts (modeOf mode) d) (x .ready .tree) (x .ready .rest)
+        (sym (at-quote text at (modeOf mode) d (modeOf n) (shown text at d _ (x .shows) c .0)) ∙ x .ready .is)
+
+    pub quote-place : at < length text
+    quote-place = shown text at d _ (x .shows) c .1
+
+    pub quote-ready : Ready text (at + 1) n d units size
+    quote-ready =
+        let s = shown text at d _ (x .shows) c in
+        let l = s .1 in
+        let o = s .2 in
+        record {
+          start = omega arith;
+          opens = omega arith;
+          few = x .ready .few;
+          area = x .ready .area;
+          clean = x .ready .clean;
+          tree = quote-parts .inside;
+          rest = quote-parts .mid;
+          is = quote-parts .first;
+        }
+
+    pub item-quote : (area vars : Text) (g : Expanded) → Says varsRoom text (at + 1) units (λ q. quoted varsRoom q units u)
+        (parts (modeOf n) d (drop (at + 1) text)) area vars g
+        → Said area vars g
+    item-quote area vars g s =
+        let t = quote-parts in
+        known m (x .ready) (x .holds) c area vars g
+        (own-text m (x .ready) (x .holds) (t .next) (quoted varsRoom (t .inside) units u)
+        (ap (λ (x : Parts). expand varsRoom x m units u) (t .whole) ∙ expand-quo varsRoom (t .next) m units (t .inside) u)
+        (at + 1) (t .mid) (t .read) (omega arith) area vars g
+        (says-known varsRoom text (at + 1) units (λ q. quoted varsRoom q units u) area vars g s (t .first)))
+
+  module _ {from to : ℕ} {f : code-form.Form} {n : Mode} {next : ℕ} (c : r ≡ Inner from to f n next) where
+    inner-parts : Within (par (part text from to) (formOf f)) (parts (modeOf n) (d - 1) (drop next text)) (parts (modeOf mode) d)
+        (x .ready .tree) (x .ready .rest)
+    inner-parts =
+        let s = shown text at d _ (x .shows) c in
+        within (par (part text from to) (formOf f)) _ (parts (modeOf mode) d) (x .ready .tree) (x .ready .rest)
+        (sym (at-inner text at (modeOf mode) d (part text from to) (formOf f) (modeOf n) next (s .0) (s .1 .onward)) ∙ x .ready .is)
+
+    pub inner-place : Behind text at next
+    inner-place = shown text at d _ (x .shows) c .1
+
+    pub inner-places : Name text from to
+    inner-places = shown text at d _ (x .shows) c .2
+
+    pub inner-depth : 0 < d
+    inner-depth = shown text at d _ (x .shows) c .3
+
+    pub inner-name : isName (part text from to) ≡ true
+    inner-name = subst SafeParts (inner-parts .whole)
+        (safe-done (parts-safe (modeOf mode) d (drop at text) (all-drop notZero at text (x .ready .clean))) (x .ready .is) .clean) .0
+
+    pub inner-ready : Ready text next n (d - 1) 0 size
+    inner-ready =
+        let s = shown text at d _ (x .shows) c in
+        let b = x .ready .area in
+        let l = x .ready .few in
+        let t = s .3 in
+        let o = s .4 in
+        record {
+          start = s .1 .within;
+          opens = omega arith;
+          few = omega arith;
+          area = omega arith;
+          clean = x .ready .clean;
+          tree = inner-parts .inside;
+          rest = inner-parts .mid;
+          is = inner-parts .first;
+        }
+
+    pub item-inner : (area vars : Text) (g : Expanded)
+        → Says varsRoom text next units
+        (λ q. placed units (parameter varsRoom (λ k u. expand varsRoom q k 0 u) (part text from to) (formOf f) m u))
+        (parts (modeOf n) (d - 1) (drop next text)) area vars g
+        → Said area vars g
+    item-inner area vars g s =
+        let t = inner-parts in
+        known m (x .ready) (x .holds) c area vars g
+        (own-text m (x .ready) (x .holds) (t .next)
+        (placed units (parameter varsRoom (λ k u. expand varsRoom (t .inside) k 0 u) (part text from to) (formOf f) m u))
+        (ap (λ (x : Parts). expand varsRoom x m units u) (t .whole)
+        ∙ expand-par varsRoom (t .next) m units (part text from to) (formOf f) (t .inside) u)
+        next (t .mid) (t .read) (shown text at d _ (x .shows) c .1 .onward) area vars g
+        (says-known varsRoom text next units
+        (λ q. placed units (parameter varsRoom (λ k u. expand varsRoom q k 0 u) (part text from to) (formOf f) m u)) area vars g s (t .first)))
+
+  module _ {next : ℕ} (c : r ≡ Sum next) where
+    sum-parts : Within ari (parts (sums 0) (d - 1) (drop next text)) (parts (modeOf mode) d) (x .ready .tree) (x .ready .rest)
+    sum-parts =
+        let s = shown text at d _ (x .shows) c in
+        within ari _ (parts (modeOf mode) d) (x .ready .tree) (x .ready .rest)
+        (sym (at-sum text at (modeOf mode) d (s .0) ∙ ap (λ (k : ℕ). nest ari (parts (sums 0) (d - 1) (drop k text)) (parts (modeOf mode) d))
+        (sym (s .1))) ∙ x .ready .is)
+
+    pub sum-place : next ≡ at + 3
+    sum-place = shown text at d _ (x .shows) c .1
+
+    pub sum-depth : 0 < d
+    sum-depth = shown text at d _ (x .shows) c .3
+
+    pub sum-ready : Ready text next (Arith 0) (d - 1) 0 size
+    sum-ready =
+        let s = shown text at d _ (x .shows) c in
+        let b = x .ready .area in
+        let l = x .ready .few in
+        let t = s .3 in
+        record {
+          start = s .2;
+          opens = omega arith;
+          few = omega arith;
+          area = omega arith;
+          clean = x .ready .clean;
+          tree = sum-parts .inside;
+          rest = sum-parts .mid;
+          is = sum-parts .first;
+        }
+
+    pub item-sum : (area vars : Text) (g : Expanded)
+        → Says varsRoom text next units (λ q. placed units (summing varsRoom q m u)) (parts (sums 0) (d - 1) (drop next text)) area vars g
+        → Said area vars g
+    unfolding summing
+    item-sum area vars g s =
+        let t = sum-parts in
+        let e = shown text at d _ (x .shows) c .1 in
+        known m (x .ready) (x .holds) c area vars g
+        (own-text m (x .ready) (x .holds) (t .next) (placed units (summing varsRoom (t .inside) m u))
+        (ap (λ (x : Parts). expand varsRoom x m units u) (t .whole) ∙ expand-ari varsRoom (t .next) m units (t .inside) u)
+        next (t .mid) (t .read) (omega arith) area vars g
+        (says-known varsRoom text next units (λ q. placed units (summing varsRoom q m u)) area vars g s (t .first)))

@@ -1,0 +1,62 @@
+-- By the two cases of what was found.
+use Prim.Native.Nat.{_≤_}
+use mathlib.Core.Path.{sym, ap}
+use native.Mathlib.Omega.{arith}
+use borrow.Author.Needs.{needs}
+use lib.ListN.{length}
+use Rattle.expand_word.specs.Tildes.{textAt}
+use Rattle.expand_word.proofs.Directories.{inside-known, home-same}
+use Rattle.expand_word.proofs.homes.give_found.Statement.{statement}
+use Rattle.expand_word.proofs.homes.give_found.Tie as tie
+
+-- the call's entry, from the arm where something was found
+abbrev entry : tie.After-found → tie.Start
+entry c = c .before .before .before .before
+
+-- where it was found is inside the image
+inside : (c : tie.After-found) → (c .found .given .0 .0 ≤ c .found .given .0 .1 .0) × (c .found .given .0 .1 .0 ≤ length (entry c .args .image .now))
+inside c = inside-known (entry c .args .image .now) (entry c .pre .0) (c .found .given .1)
+
+enum-told : tie.Need-enum-told
+enum-told c = search needs
+
+enum-known-found : tie.Need-enum-known-found
+enum-known-found c = search needs
+
+sub-give-directory : tie.Need-sub-give-directory
+sub-give-directory c = omega (arith, inside (c .before) .0)
+
+part-give-directory-start : tie.Need-part-give-directory-start
+part-give-directory-start c = omega (arith, inside (c .before) .0, inside (c .before) .1)
+
+part-give-directory-end : tie.Need-part-give-directory-end
+part-give-directory-end c = omega (arith, inside (c .before) .0, inside (c .before) .1)
+
+give-directory-requires : tie.Need-give-directory-requires
+give-directory-requires c κs = entry (c .before .before .before) .pre .1
+
+returns : tie.Need-returns
+returns c = ap (textAt (c .before .before .before .before .args .image .now)) (c .enum-told .given .1)
+
+same-length : tie.Need-same-length
+same-length c = search needs
+
+returns-2 : tie.Need-returns-2
+returns-2 c =
+    let g = c .before .before .give-directory in
+    let f = c .before .before .before .before .before .before in
+    home-same (g .last .1 .0) (g .result) (ap (textAt (entry f .args .image .now)) (f .found .given .1)) (g .ensures)
+
+pub give-found-spec : {M : Type 1} → statement M
+give-found-spec =
+    tie.close
+    (tie.spec
+    enum-told
+    enum-known-found
+    sub-give-directory
+    part-give-directory-start
+    part-give-directory-end
+    give-directory-requires
+    returns
+    same-length
+    returns-2)
