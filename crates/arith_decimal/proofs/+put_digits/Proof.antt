@@ -116,7 +116,8 @@ module _ (t : ℕ) where
         counts = rw (long-digits l, length-append, is .counts);
         leaves =
             rw (is .leaves, long-digits l)
-            (put-last (digits (a .k - 1) (a .n / 10)) (a .out .now) (48 + a .n % 10) (call .result) (sym (is .counts)) (omega (arith, long-room l, is .counts)));
+            (put-last (digits (a .k - 1) (a .n / 10)) (a .out .now) (48 + a .n % 10) (call .result) (sym (is .counts))
+            (omega (arith, long-room l, is .counts)));
       }
 
 pub +put-digits-spec : {M : Type 1} → statement M
