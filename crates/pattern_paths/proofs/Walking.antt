@@ -3,34 +3,29 @@ use Prim.Native.Nat.{ℕ, _+_, _-_, _≤_}
 use mathlib.Core.Path.{_≡_, refl, sym, _∙_, ap}
 use mathlib.Core.Bool.{Bool, true, false}
 use mathlib.Core.List.{List, [], _∷_}
-use mathlib.Core.Option.{Option, some}
+use mathlib.Core.Option.{some}
 use native.Mathlib.Omega.{arith}
 use lib.ListN.{length, drop, length-drop}
 use lib.Seq.{length-take-le}
 use Rattle.stages.specs.Bytes.{Text, part}
 use Rattle.stages.specs.Outcome.{pick}
-use Rattle.stages.specs.Images.{texts, orEmpty, heldTexts}
+use Rattle.stages.specs.Images.{texts, heldTexts}
 use Rattle.stages.specs.Pattern.{Element, forPaths, matches}
 use Rattle.stages.specs.Paths.{chosen}
 use Rattle.stages.proofs.Tables.{Paths}
-use Rattle.table.specs.Pieces.{pieceAt}
+use Rattle.table.specs.Pieces.{pieceAt, textsFrom}
 use Rattle.table.specs.declared.Piece.{Piece}
 use Rattle.table.specs.declared.Piece.the-variants.{End, Bad, At}
-use Rattle.table.proofs.Pieces.{Ahead, ahead-first, Next, ahead-end, ahead-bad, ahead-text}
-use Rattle.pattern_paths.specs.Chosen.{textsFrom, Walks, pathElements, nextIn, nothing, path, NextSays}
+use Rattle.table.proofs.Pieces.{Ahead, ahead-from, ahead-first, Next, ahead-end, ahead-bad, ahead-text}
+use Rattle.pattern_paths.specs.Chosen.{Walks, pathElements, nextIn, nothing, path, NextSays}
 use Rattle.pattern_paths.specs.declared.Next.the-variants.{Path, Nothing}
 
--- the texts ahead are those from a place on
-from-ahead : (t : Text) (at : ℕ) (l : List Text) → Ahead t at l → textsFrom t at ≡ l
-unfolding textsFrom
-from-ahead t at l h = ap (λ (o : Option (List Text)). orEmpty o) (h .is)
-
 walks-ahead : (t : Text) (at : ℕ) (l : List Text) → Ahead t at l → Walks t at
-walks-ahead t at l h = record { within = h .within; reads = h .is ∙ ap (λ (k : List Text). some k) (sym (from-ahead t at l h)) }
+walks-ahead t at l h = record { within = h .within; reads = h .is ∙ ap (λ (k : List Text). some k) (sym (ahead-from h)) }
 
 -- a whole image of texts is walked from its first record on
 pub walks-first : (t : Text) (l : List Text) → texts t ≡ some l → Walks t 1 × (textsFrom t 1 ≡ l)
-walks-first t l e = let h = ahead-first t l e in (walks-ahead t 1 l h, from-ahead t 1 l h)
+walks-first t l e = let h = ahead-first t l e in (walks-ahead t 1 l h, ahead-from h)
 
 -- and so is one of paths
 pub walks-paths : (t : Text) → Paths t → Walks t 1 × (textsFrom t 1 ≡ heldTexts t)
@@ -91,7 +86,7 @@ module _ {p t : Text} {at i : ℕ} (g : Passing p t at i) {r : Piece} (s : r ≡
         omega (arith, length-take-le (end - (i + 2)) (drop (i + 2) t) (simp length-drop (omega arith)))
 
     here : textsFrom t i ≡ found ∷ textsFrom t end
-    here = step .is ∙ ap (λ (l : List Text). found ∷ l) (sym (from-ahead t end (step .more) (step .ahead)))
+    here = step .is ∙ ap (λ (l : List Text). found ∷ l) (sym (ahead-from (step .ahead)))
 
     next-here : nextIn (pathElements p) i (textsFrom t i) ≡ pick (matches forPaths (pathElements p) found) (Path (i + 2) end)
         (nextIn (pathElements p) end (textsFrom t end))

@@ -7,17 +7,13 @@ use mathlib.Core.Option.{some}
 use lib.ListN.{length, drop}
 use Rattle.stages.specs.Bytes.{Text, part}
 use Rattle.stages.specs.Outcome.{pick}
-use Rattle.stages.specs.Images.{textsIn, orEmpty}
+use Rattle.stages.specs.Images.{textsIn}
 use Rattle.stages.specs.Pattern.{Element, elements, forPaths, matches}
 use Rattle.stages.specs.Paths.{chosen}
 use Rattle.text.specs.Rows.{signsOf}
+use Rattle.table.specs.Pieces.{textsFrom}
 use Rattle.pattern_paths.specs.declared.Next.{Next}
 use Rattle.pattern_paths.specs.declared.Next.the-variants.{Path, Nothing}
-
--- the texts of an image from a place on
-unfoldable pub textsFrom : Text → ℕ → List Text
-unfolding textsIn
-textsFrom t at = orEmpty (textsIn (drop at t))
 
 -- texts stand from a place on to the image's end
 pub record Walks (t : Text) (at : ℕ) : Type 0 where

@@ -19,7 +19,8 @@ use Rattle.text.specs.Rows.{rowOf, signsOf}
 use Rattle.pattern_row.specs.Kept.{withoutEmpty, kept, Dropped}
 use Rattle.text.proofs.Rows.{rowOf-rowBytes}
 use Rattle.pattern_row.proofs.Keeping.{kept-fits, kept-signs}
-use Rattle.pattern_paths.specs.Chosen.{textsFrom, Walks, pathElements, Shows, nothing, path, NextSays}
+use Rattle.table.specs.Pieces.{textsFrom}
+use Rattle.pattern_paths.specs.Chosen.{Walks, pathElements, Shows, nothing, path, NextSays}
 use Rattle.pattern_paths.specs.declared.Next.{Next}
 use Rattle.pattern_paths.specs.declared.Next.the-variants.{Path, Nothing}
 use Rattle.pattern_paths.proofs.Walking.{walks-first}

@@ -1,6 +1,5 @@
 -- What one field becomes, by the stages; and an image of paths as the writers ask for it.
 use mathlib.Core.Path.{_≡_}
-use mathlib.Core.Bool.{true}
 use mathlib.Core.List.{List}
 use mathlib.Core.Option.{some}
 use Rattle.stages.specs.Bytes.{Text}

@@ -1,7 +1,6 @@
 -- The definition's cases.
 use mathlib.Core.Path.{_∙_}
 use Rattle.pattern_remove.proofs.Cutting.{from-suffix, from-prefix}
-use borrow.Author.Needs.{needs}
 use Rattle.pattern_remove.proofs.from_end.Statement.{statement}
 use Rattle.pattern_remove.proofs.from_end.Tie as tie
 

@@ -3,7 +3,8 @@ use native.Mathlib.Omega.{arith}
 use mathlib.Core.Path.{ap, _∙_}
 use lib.ListN.{length}
 use Rattle.stages.specs.Paths.{chosen}
-use Rattle.pattern_paths.specs.Chosen.{textsFrom, pathElements}
+use Rattle.table.specs.Pieces.{textsFrom}
+use Rattle.pattern_paths.specs.Chosen.{pathElements}
 use Rattle.split_field.specs.Answers.{answered}
 use Rattle.split_field.proofs.Filling.{filled-length}
 use Rattle.split_field.proofs.Choosing.{Found, is-path, Choosing, choosing-start, choosing-end, choosing-falls, choosing-on, choosing-full}
