@@ -2,8 +2,8 @@
  *
  * The functions are proved to answer as docs/01-scope.md says, for any bytes in any buffers: they call nothing but memcpy and memset, keep nothing
  * between calls, use no heap, always return, and may run in several threads at once on buffers of their own. How soon they return is not proved: a removal
- * tries its pattern at each place of the value, so that a long pattern that does not match a long value can take minutes. Who takes patterns or lines from
- * strangers should bound the call's time from outside.
+ * tries its pattern at each place of the value, so that a long pattern that does not match a long value can take minutes, and one of many brackets that are
+ * not closed hours. Who takes patterns or lines from strangers should bound the call's time from outside.
  * Link target/staticlib/libdrunquill_c.a, which `rt staticlib drunquill_c` builds (x86-64 Linux).
  *
  * BUFFERS. Each is a pointer and a length in bytes.
@@ -40,8 +40,8 @@ extern "C" {
 #define DRUNQUILL_DEPTH_MAX 8      /* expansions open at once, "${" and "$((" together */
 #define DRUNQUILL_OPEN_MAX 32      /* parentheses and unary signs open at once in arithmetic, together */
 
-/* What a call may need of the stack, in bytes: well above what tests/c measures on the deepest lines known, 64,256. It is measured and not proved. Most lines
- * take below 32,768; each open parenthesis of arithmetic takes up to 1,250 more. */
+/* What a call may need of the stack, in bytes: well above what tests/built/c measures on the deepest lines known (docs/TRUST.md). It is measured and not
+ * proved. */
 #define DRUNQUILL_STACK 524288
 
 /* The numbers. 0 is the acceptance, each other one a refusal. */
@@ -96,7 +96,7 @@ struct drunquill_quote_answer {
  *  work         at least DRUNQUILL_WORK_LEAST bytes, whatever they hold. After every call, whatever the number, all `work_len` bytes are zero.
  *  out          the fields' image. One of DRUNQUILL_IMAGE_MAX bytes is always long enough for what can be accepted. One byte is needed for no fields.
  *
- * On acceptance the bytes of `vars` and `out` behind the new images are unchanged. On a refusal every byte of both is. Faults are met in this order:
+ * On acceptance the bytes of `vars` and `out` after the new images are unchanged. On a refusal every byte of both is. Faults are met in this order:
  * numbers 1 to 6 as they are numbered; then the whole line is read; then its words are expanded from left to right; the first fault is answered.
  */
 struct drunquill_answer drunquill_expand(const uint8_t *line, size_t line_len, uint8_t *vars, size_t vars_len, size_t vars_used, const uint8_t *homes,
@@ -111,7 +111,7 @@ struct drunquill_answer drunquill_normalise(const uint8_t *line, size_t line_len
                                             size_t out_len);
 
 /* The quoter: an image of fields as a line to `out`. Each field stands in single quotes, each ' in it written '\''; one blank between fields; no fields, no
- * bytes. No zero byte is put behind the line. Above DRUNQUILL_LINE_MAX bytes or `out_len` the number is 21. Bytes of `out` behind the line are unchanged,
+ * bytes. No zero byte is put after the line. Above DRUNQUILL_LINE_MAX bytes or `out_len` the number is 21. Bytes of `out` after the line are unchanged,
  * on a refusal all of them.
  */
 struct drunquill_quote_answer drunquill_quote(const uint8_t *fields, size_t fields_len, uint8_t *out, size_t out_len);

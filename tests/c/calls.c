@@ -32,7 +32,7 @@ static void set(const char *text) {
     want_vars.len = 0;
 }
 
-/* The buffers after the call: new images in front, junk as before behind them, and the work area zero. */
+/* The buffers after the call: new images in front, junk as before after them, and the work area zero. */
 static void compare_buffers(const char *name) {
     memcpy(lent(&vars_before), want_vars.at, want_vars.len);
     memcpy(lent(&out_before), want_out.at, want_out.len);

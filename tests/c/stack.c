@@ -111,7 +111,7 @@ int main(void) {
     repeat(&inside, ")", 32);
     add(&inside, "))", 3);
     within(7, "${u-", (const char *)inside.at, "}");
-    measure("seven ${u- around 32 parentheses behind operators", 0);
+    measure("seven ${u- around 32 parentheses after operators", 0);
     inside.len = 0;
     add_string(&inside, "$((");
     repeat(&inside, "-", 32);

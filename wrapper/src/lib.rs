@@ -46,7 +46,7 @@ pub const OPEN_MAX: usize = 32;
 pub const STACK: usize = 524_288;
 
 /// The variables: an image in the first `used` bytes of a buffer, into which `${name=word}` stores. An accepted call leaves the new image and its length here;
-/// bytes behind it, and on a refusal all of them, are as before.
+/// bytes after it, and on a refusal all of them, are as before.
 #[derive(Debug)]
 pub struct Variables<'a> {
     pub buffer: &'a mut [u8],
