@@ -24,7 +24,7 @@ use Rattle.read_line.specs.Says.{verdictOf}
 use Rattle.read_line.specs.declared.LineRead.{LineRead}
 use Rattle.read_line.proofs.Lines.{Accepted}
 use Rattle.call_check.specs.Calls.{roomOf, worked}
-use Rattle.call_check.specs.Checks.{roomIn, among, Tabled, Passed, Stopped, Checks}
+use Rattle.call_check.specs.Checks.{roomIn, around, Tabled, Passed, Stopped, Checks}
 use Rattle.call_check.specs.declared.Job.{Job}
 use Rattle.call_check.specs.declared.Checked.{Checked}
 use Rattle.call_check.specs.declared.Checked.the-variants.{Fine, Refused}
@@ -104,7 +104,7 @@ module _ (job : Job) (g : Given) (t : Tabled g) where
   abbrev out : ℕ
   out = roomOf job (length (g .out))
 
-  tables-passed : expanded g out ≡ expandLine (among g out) (g .line) v
+  tables-passed : expanded g out ≡ expandLine (around g out) (g .line) v
   unfolding expanded orRefused
   tables-passed =
       rw (
@@ -131,11 +131,11 @@ module _ (job : Job) (g : Given) (t : Tabled g) where
           record { is = tables-passed ∙ rw (le-leb (length (g .line)) lineLimit l, z, h); early = λ p. refused-read h (p .read) }
 
       module _ (ws : List Word) (r : readLine (g .line) ≡ doneAt ws) where
-        line-no-room : outFits (among g out) 1 ≡ false → expanded g out ≡ refusedAt outputRoom 0
+        line-no-room : outFits (around g out) 1 ≡ false → expanded g out ≡ refusedAt outputRoom 0
         unfolding expandLine
         line-no-room h = tables-passed ∙ rw (le-leb (length (g .line)) lineLimit l, z, r, h)
 
-        line-passed : outFits (among g out) 1 ≡ true → expanded g out ≡ expandWords (among g out) ws 1 v
+        line-passed : outFits (around g out) 1 ≡ true → expanded g out ≡ expandWords (around g out) ws 1 v
         unfolding expandLine
         line-passed h = tables-passed ∙ rw (le-leb (length (g .line)) lineLimit l, z, r, h)
 
@@ -150,7 +150,7 @@ capped-by n out false true d e = rw (e, le-leb n out (omega (arith, leb-false ou
 capped-by n out false false d e = and-false (leb n out) ∙ sym (and-false (leb n imageLimit))
 
 module _ (g : Given) (out : ℕ) where
-  fits-capped : (n : ℕ) → outFits (among g out) n ≡ outFits (among g (capped out)) n
+  fits-capped : (n : ℕ) → outFits (around g out) n ≡ outFits (around g (capped out)) n
   unfolding outFits
   fits-capped n = capped-by n out (leb out imageLimit) (leb n imageLimit) refl refl
 
@@ -163,19 +163,19 @@ module _ (g : Given) (out : ℕ) where
   behind w ws n a r = joined (w .place) (r .0) (expandWords a ws (n + recordBytes (r .0)) (r .1)) (outFits a (n + recordBytes (r .0)))
 
   behind-capped : (w : Word) (ws : List Word) (n : ℕ) →
-      ((m : ℕ) (v : Pairs) → expandWords (among g out) ws m v ≡ expandWords (among g (capped out)) ws m v)
+      ((m : ℕ) (v : Pairs) → expandWords (around g out) ws m v ≡ expandWords (around g (capped out)) ws m v)
       → (o : Outcome (Fields × Pairs))
-      → (placedAt (w .place) o then behind w ws n (among g out)) ≡ (placedAt (w .place) o then behind w ws n (among g (capped out)))
+      → (placedAt (w .place) o then behind w ws n (around g out)) ≡ (placedAt (w .place) o then behind w ws n (around g (capped out)))
   behind-capped w ws n ih (refused k) = refl
   behind-capped w ws n ih (done r) =
-      ap (joined (w .place) (r .0) (expandWords (among g out) ws (n + recordBytes (r .0)) (r .1))) (fits-capped (n + recordBytes (r .0)))
-      ∙ ap (λ (o : Placed (Fields × Pairs)). joined (w .place) (r .0) o (outFits (among g (capped out)) (n + recordBytes (r .0))))
+      ap (joined (w .place) (r .0) (expandWords (around g out) ws (n + recordBytes (r .0)) (r .1))) (fits-capped (n + recordBytes (r .0)))
+      ∙ ap (λ (o : Placed (Fields × Pairs)). joined (w .place) (r .0) o (outFits (around g (capped out)) (n + recordBytes (r .0))))
       (ih (n + recordBytes (r .0)) (r .1))
 
-  words-capped : (ws : List Word) (n : ℕ) (v : Pairs) → expandWords (among g out) ws n v ≡ expandWords (among g (capped out)) ws n v
+  words-capped : (ws : List Word) (n : ℕ) (v : Pairs) → expandWords (around g out) ws n v ≡ expandWords (around g (capped out)) ws n v
   unfolding expandWords wordFields
   words-capped [] n v = refl
-  words-capped (w ∷ ws) n v = behind-capped w ws n (words-capped ws) (wordFields (among g out) (w .parts) v)
+  words-capped (w ∷ ws) n v = behind-capped w ws n (words-capped ws) (wordFields (around g out) (w .parts) v)
 
 -- what is left by the job
 

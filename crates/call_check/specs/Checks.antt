@@ -8,11 +8,12 @@ use lib.ListN.{length, take}
 use Rattle.stages.specs.Numbers.{workLeast, lineLimit, imageLimit}
 use Rattle.stages.specs.Bytes.{all, notZero}
 use Rattle.stages.specs.Outcome.{refusedAt, doneAt, pick}
-use Rattle.stages.specs.Images.{isSome, held, heldTexts, variablesOf, homesOf, pathsOf}
+use Rattle.stages.specs.Images.{isSome, held, variablesOf, homesOf, pathsOf}
 use Rattle.stages.specs.Syntax.{Word}
 use Rattle.stages.specs.Read.{readLine}
 use Rattle.stages.specs.Line.{Around, expandWords}
 use Rattle.stages.specs.Call.{Given}
+use Rattle.table.specs.Around.{among}
 use Rattle.call_check.specs.Calls.{roomOf, worked}
 use Rattle.call_check.specs.declared.Job.{Job}
 use Rattle.call_check.specs.declared.Checked.{Checked}
@@ -22,9 +23,9 @@ use Rattle.call_check.specs.declared.Checked.the-variants.{Fine, Refused
 abbrev pub roomIn : Job → ℕ → ℕ
 roomIn job out = pick (leb (roomOf job out) imageLimit) (roomOf job out) imageLimit
 
--- what a line is expanded among
-abbrev pub among : Given → ℕ → Around
-among g out = record { room = length (g .vars); out = out; homes = held (g .homes); paths = heldTexts (g .paths) }
+-- what the call's line is expanded among
+abbrev pub around : Given → ℕ → Around
+around g out = among (length (g .vars)) (g .homes) (g .paths) out
 
 -- 1 to 4 are passed
 pub record Tabled (g : Given) : Type 0 where
@@ -42,7 +43,7 @@ pub record Passed (job : Job) (g : Given) : Type 0 where
   pub words : List Word
   pub read : readLine (g .line) ≡ doneAt words
   pub byte : 1 ≤ roomIn job (length (g .out))
-  pub is : worked job g ≡ expandWords (among g (roomIn job (length (g .out)))) words 1 (held (take (g .varsUsed) (g .vars)))
+  pub is : worked job g ≡ expandWords (around g (roomIn job (length (g .out)))) words 1 (held (take (g .varsUsed) (g .vars)))
 
 -- the call is refused, and by nothing that comes after the checks
 pub record Stopped (job : Job) (g : Given) (n place : ℕ) : Type 0 where

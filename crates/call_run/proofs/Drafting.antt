@@ -21,7 +21,8 @@ use Rattle.quote.specs.Answers.{quotingOf}
 use Rattle.quote.specs.declared.Quoted.{Quoted}
 use Rattle.quote.specs.declared.Quoted.the-variants.{Len, Malformed, NoRoom}
 use Rattle.expand_add.specs.Answers.{Holds}
-use Rattle.expand_line.specs.Answers.{among, lineOutcome, LineReady, IsLine, LineSays}
+use Rattle.table.specs.Around.{among}
+use Rattle.expand_line.specs.Answers.{lineOutcome, LineReady, IsLine, LineSays}
 use Rattle.expand_line.specs.declared.LineExpanded.{LineExpanded}
 use Rattle.expand_line.specs.declared.LineExpanded.the-variants as line
 use Rattle.call_check.specs.Calls.{roomOf, outputOf}

@@ -18,7 +18,7 @@ use Rattle.stages.proofs.Tables.{vars-of, table-canonical, fields-are, fields-i
 use Rattle.stages.proofs.Outcomes.{SafeAt, early, refusesAt, givesAt}
 use Rattle.stages.proofs.Answers.{expanded-safe}
 use Rattle.call_check.specs.Calls.{answerOf, roomOf, worked}
-use Rattle.call_check.specs.Checks.{roomIn, among, Passed}
+use Rattle.call_check.specs.Checks.{roomIn, around, Passed}
 use Rattle.call_check.specs.declared.Job.{Job}
 use Rattle.call_deliver.specs.Hands.{Hands, Accepts, refusedAs}
 use Rattle.call_deliver.specs.declared.Answer.{Answer}
@@ -61,8 +61,8 @@ module _ {job : Job} {g : Given} (p : Passed job g) {room : ℕ} (same : room �
   worked-given : worked job g ≡ given (length (g .vars))
   worked-given =
       p .is
-      ∙ ap (λ (t : Text). expandWords (among g (roomIn job (length (g .out)))) (p .words) 1 (held t)) (sym copied)
-      ∙ ap (λ (w : Placed (List Word)). w then λ ws. expandWords (among g (roomIn job (length (g .out)))) ws 1 (held (take (g .varsUsed) copy₁)))
+      ∙ ap (λ (t : Text). expandWords (around g (roomIn job (length (g .out)))) (p .words) 1 (held t)) (sym copied)
+      ∙ ap (λ (w : Placed (List Word)). w then λ ws. expandWords (around g (roomIn job (length (g .out)))) ws 1 (held (take (g .varsUsed) copy₁)))
       (sym (p .read))
 
   pub drafting : Drafting job room (g .varsUsed) (g .line) copy₁ (g .homes) (g .paths) (g .work) (length (g .out))

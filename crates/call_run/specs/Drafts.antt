@@ -14,7 +14,8 @@ use Rattle.stages.specs.Read.{readLine}
 use Rattle.stages.specs.Line.{Fields}
 use Rattle.stages.specs.Call.{over}
 use Rattle.expand_add.specs.Answers.{Holds}
-use Rattle.expand_line.specs.Answers.{among, lineOutcome}
+use Rattle.table.specs.Around.{among}
+use Rattle.expand_line.specs.Answers.{lineOutcome}
 use Rattle.call_check.specs.Calls.{outputOf}
 use Rattle.call_check.specs.Checks.{roomIn}
 use Rattle.call_check.specs.declared.Job.{Job}

@@ -20,7 +20,8 @@ use Rattle.read_line.specs.Says.{NextAt, NextNone}
 use Rattle.read_line.proofs.Lines.{good-left}
 use Rattle.expand_add.specs.Answers.{Holds}
 use Rattle.table_store.specs.Splice.{placed}
-use Rattle.expand_line.specs.Answers.{among, wordOutcome, lineOutcome, WordReady, IsFields, WordOf, WordSays, LineReady, LineSays}
+use Rattle.table.specs.Around.{among}
+use Rattle.expand_line.specs.Answers.{wordOutcome, lineOutcome, WordReady, IsFields, WordOf, WordSays, LineReady, LineSays}
 use Rattle.expand_line.specs.declared.WordExpanded.{WordExpanded}
 use Rattle.expand_line.specs.declared.WordExpanded.the-variants as word
 use Rattle.expand_line.specs.declared.LineExpanded.the-variants as line

@@ -25,7 +25,8 @@ use Rattle.table_store.specs.Splice.{placed}
 use Rattle.split_field.specs.Answers.{Says, len, class, noRoom, Puts}
 use Rattle.split_field.specs.declared.Written.{Written}
 use Rattle.split_field.specs.declared.Written.the-variants.{Len, Class, NoRoom}
-use Rattle.expand_line.specs.Answers.{among, wordOutcome, WordReady, WordOf, WordSays}
+use Rattle.table.specs.Around.{among}
+use Rattle.expand_line.specs.Answers.{wordOutcome, WordReady, WordOf, WordSays}
 use Rattle.expand_line.specs.declared.WordExpanded.{WordExpanded}
 use Rattle.expand_line.specs.declared.WordExpanded.the-variants as word
 

@@ -7,7 +7,7 @@ use lib.ListN.{length, take}
 use Rattle.stages.specs.Numbers.{depthLimit, workLeast, imageLimit, outputRoom}
 use Rattle.stages.specs.Bytes.{Text, all, notZero}
 use Rattle.stages.specs.Outcome.{Outcome, refused, done, _>>=_, Placed, refusedAt, doneAt, _then_, pick}
-use Rattle.stages.specs.Images.{Pairs, held, heldTexts, isSome, homesOf, pathsOf, written, image, recordBytes}
+use Rattle.stages.specs.Images.{Pairs, held, isSome, homesOf, pathsOf, written, image, recordBytes}
 use Rattle.stages.specs.Syntax.{Parts, Word}
 use Rattle.stages.specs.Read.{Taken, readLine}
 use Rattle.stages.specs.Line.{Around, Fields, wordFields, outFits, expandWords}
@@ -19,10 +19,6 @@ use Rattle.expand_line.specs.declared.WordExpanded.{WordExpanded}
 use Rattle.expand_line.specs.declared.WordExpanded.the-variants as word
 use Rattle.expand_line.specs.declared.LineExpanded.{LineExpanded}
 use Rattle.expand_line.specs.declared.LineExpanded.the-variants as line
-
--- what a line is expanded among
-abbrev pub among : ℕ → Text → Text → ℕ → Around
-among room houses paths out = record { room = room; out = out; homes = held houses; paths = heldTexts paths }
 
 -- a word's fields behind an image of n bytes, and the variables behind its stores: 21 if there is no room for them
 unfoldable pub wordOutcome : Around → Parts → ℕ → Pairs → Outcome (Fields × Pairs)

@@ -10,7 +10,8 @@ ghost use Rattle.stages.specs.Numbers.{depthLimit};
 ghost use Rattle.stages.specs.Images.{held};
 ghost use Rattle.stages.specs.Syntax.{word};
 ghost use Rattle.stages.specs.Read.{parts};
-ghost use Rattle.expand_line.specs.Answers.{among, lineOutcome, WordReady, WordSays, LineReady, LineSays};
+ghost use Rattle.table.specs.Around.{among};
+ghost use Rattle.expand_line.specs.Answers.{lineOutcome, WordReady, WordSays, LineReady, LineSays};
 
 // What a line's words give: the fields' image is the first `used` bytes of the output, and the variables' the first `vars_used` of their buffer; or the
 // number that refuses a word, and that word's place.

@@ -14,7 +14,7 @@ use Rattle.read_mode.specs.Modes.{modeOf, openIn, formOf}
 use Rattle.read_mode.specs.declared.Cursor.{Cursor}
 use Rattle.read_mode.specs.declared.Mode.{Mode}
 use Rattle.read_mode.specs.declared.Form.{Form}
-use Rattle.read_brace.specs.Shows.{Behind}
+use Rattle.text.specs.Places.{Behind}
 use Rattle.read_brace.specs.declared.Item.{Item}
 use Rattle.read_brace.specs.declared.Item.the-variants.{Fault, Stop, Byte, Paren, Quote, Value, Count, Inner, Sum}
 use Rattle.read_item.specs.After.{ItemAt, modeAfter, isStop}

@@ -1,3 +1,4 @@
 pub mod Kinds
 pub mod Pieces
 pub mod Places
+pub mod Around

@@ -7,7 +7,8 @@ use borrow.Author.Needs.{needs}
 use Rattle.stages.specs.Images.{held}
 use Rattle.read_line.specs.Says.{NextAt}
 use Rattle.read_line.proofs.Lines.{next-shown}
-use Rattle.expand_line.specs.Answers.{among, lineOutcome}
+use Rattle.table.specs.Around.{among}
+use Rattle.expand_line.specs.Answers.{lineOutcome}
 use Rattle.expand_line.proofs.Standing.{State, state-start, state-same, state-end, word-ready, state-refused, state-further, state-next}
 use Rattle.expand_line.proofs.expand_line.Statement.{statement}
 use Rattle.expand_line.proofs.expand_line.Tie as tie
