@@ -1,13 +1,10 @@
 -- A parameter with an operand: the operand is expanded or only read, and its plan does the rest.
 use Prim.Native.Nat.{ℕ}
-use mathlib.Core.Path.{_≡_, sym, _∙_}
+use mathlib.Core.Path.{sym, _∙_}
 use lib.ListN.{length}
 use lib.Seq.{length-take-le}
 use Rattle.read_mode.specs.Modes.{formOf}
 use Rattle.row.specs.Marks.{markOf}
-use Rattle.expand_form.specs.Plans.{planOf, missingIn}
-use Rattle.expand_form.specs.declared.Used.{Used}
-use Rattle.expand_form.specs.declared.Plan.the-variants as plan
 use Rattle.expand_add.proofs.Holding.{table-held}
 use Rattle.expand_text.proofs.Inside.{
   reading-known,
