@@ -6,6 +6,10 @@ use borrow.Author.Needs.{needs}
 use Rattle.call_check.proofs.check_line.Statement.{statement}
 use Rattle.call_check.proofs.check_line.Tie as tie
 
+-- the call's entry, where the line has been read
+abbrev entry : tie.After-read-line → tie.Start
+entry c = c .before .before .before .before .before .before .before .before .before .before
+
 refuse-requires : tie.Need-refuse-requires
 refuse-requires c κs = search needs
 
@@ -40,26 +44,23 @@ refuse-requires-3 c κs = search needs
 
 returns-3 : tie.Need-returns-3
 returns-3 c =
+    let r = c .before .before .before .before .before in
     refuses _ _ (c .refuse3 .ensures)
-    (room-none _ _ (c .before .before .before .before .before .before .before .before .before .before .before .before .before .before .before .pre)
-    (c .before .before .before .before .before .before .before .before .if1 .left)
-    (sym (c .before .before .before .before .before .before .before .is-in .ensures) ∙ c .before .before .before .before .before .before .if2 .left)
-    (accepted _ (read-as (c .before .before .before .before .before .read-line .ensures) (c .before .before .before .enum-told .given .1)))
+    (room-none _ _ (entry r .pre) (r .before .before .before .if1 .left) (sym (r .before .before .is-in .ensures) ∙ r .before .if2 .left)
+    (accepted _ (read-as (r .read-line .ensures) (c .before .before .before .enum-told .given .1)))
     (sym (c .before .before .room .ensures) ∙ c .before .if3 .taken))
 
 returns-4 : tie.Need-returns-4
 returns-4 c =
-    line-refused _ _ (c .before .before .before .before .before .before .before .before .before .before .before .before .before .pre)
-    (c .before .before .before .before .before .before .if1 .left)
-    (sym (c .before .before .before .before .before .is-in .ensures) ∙ c .before .before .before .before .if2 .left) _ _
-    (refused-line _ _ _ (read-as (c .before .before .before .read-line .ensures) (c .before .read .given .1)))
+    let r = c .before .before .before in
+    line-refused _ _ (entry r .pre) (r .before .before .before .if1 .left) (sym (r .before .before .is-in .ensures) ∙ r .before .if2 .left) _ _
+    (refused-line _ _ _ (read-as (r .read-line .ensures) (c .before .read .given .1)))
 
 returns-5 : tie.Need-returns-5
 returns-5 c =
-    room-some _ _ (c .before .before .before .before .before .before .before .before .before .before .before .before .before .before .pre)
-    (c .before .before .before .before .before .before .before .if1 .left)
-    (sym (c .before .before .before .before .before .before .is-in .ensures) ∙ c .before .before .before .before .before .if2 .left)
-    (accepted _ (read-as (c .before .before .before .before .read-line .ensures) (c .before .before .enum-told .given .1)))
+    let r = c .before .before .before .before in
+    room-some _ _ (entry r .pre) (r .before .before .before .if1 .left) (sym (r .before .before .is-in .ensures) ∙ r .before .if2 .left)
+    (accepted _ (read-as (r .read-line .ensures) (c .before .before .enum-told .given .1)))
     (λ e. c .if3 .left (c .before .room .ensures ∙ e))
 
 pub check-line-spec : {M : Type 1} → statement M

@@ -10,12 +10,18 @@ use Rattle.recipe_load.proofs.Reading.{loads-inside}
 use Rattle.recipe.proofs.run.Statement.{statement}
 use Rattle.recipe.proofs.run.Tie as tie
 
--- where the third table has been loaded, the second before it, and the entry
+-- where each table has been loaded, and the entry
 abbrev entry : tie.After-load2 → tie.Start
 entry c = c .before .before .before .before .before .before .before .before .before .before .before .before .before .before
 
 abbrev second : tie.After-load3 → tie.After-load2
 second c = c .before .before .before .before .before .before .before .before
+
+abbrev first : tie.After-load2 → tie.After-load
+first c = c .before .before .before .before .before .before .before .before
+
+abbrev homed : tie.After-load3 → tie.After-h
+homed c = c .before .before .before .before
 
 homes-inside : (c : tie.After-h) → (c .h .given .0 .0) ≤ length (entry (c .before .before .before .before) .args .homes .now)
 homes-inside c =
@@ -95,15 +101,14 @@ slice-relend-prefix-answer-with c = search needs
 
 slice-aggregate-answer-with : tie.Need-slice-aggregate-answer-with
 slice-aggregate-answer-with c =
-    sym (length-take-le imageLimit
-    (c .before .before .before .before .before .before .before .before .before .before .before .before .before .before .before .before .before .before .before .before .before .before .load .last .1 .0) (omega arith))
+    let l = first (second (c .before .before .before .before .before .before)) in
+    sym (length-take-le imageLimit (l .load .last .1 .0) (omega arith))
 
 slice-reshare-prefix-answer-with : tie.Need-slice-reshare-prefix-answer-with
-slice-reshare-prefix-answer-with c = omega (arith, homes-inside (c .before .before .before .before .before .before .before .before .before .before))
+slice-reshare-prefix-answer-with c = omega (arith, homes-inside (homed (c .before .before .before .before .before .before)))
 
 slice-aggregate-answer-with-2 : tie.Need-slice-aggregate-answer-with-2
-slice-aggregate-answer-with-2 c =
-    sym (length-take-le _ _ (omega (arith, homes-inside (c .before .before .before .before .before .before .before .before .before .before .before))))
+slice-aggregate-answer-with-2 c = sym (length-take-le _ _ (omega (arith, homes-inside (homed (c .before .before .before .before .before .before .before)))))
 
 slice-reshare-prefix-answer-with-2 : tie.Need-slice-reshare-prefix-answer-with-2
 slice-reshare-prefix-answer-with-2 c = omega (arith, paths-inside (c .before .before .before))

@@ -1,4 +1,4 @@
--- `cutting::is_last_line` meets its contract: bytes make a line unless there are none.
+-- Bytes make a line unless there are none.
 use Rattle.recipe_cut.proofs.Taking.{last-is}
 use Rattle.recipe_cut.proofs.is_last_line.Statement.{statement}
 use Rattle.recipe_cut.proofs.is_last_line.Tie as tie

@@ -1,4 +1,4 @@
--- `cutting::keep` meets its contract: the bytes copied are those that a line so far is cut to.
+-- The bytes copied are those that a line so far is cut to.
 use mathlib.Core.Path.{sym}
 use borrow.Author.Needs.{needs}
 use Rattle.recipe_cut.proofs.Taking.{copied-length, keep-fits, keep-puts}

@@ -1,4 +1,4 @@
--- `cutting::least` meets its contract: by its test.
+-- By its test.
 use native.Mathlib.Omega.{arith}
 use mathlib.Core.Path.{refl}
 use mathlib.Core.Logic.{inl, inr}

@@ -1,4 +1,4 @@
--- `cutting::line_end` meets its contract: no byte passed is a newline.
+-- No byte passed is a newline.
 use Prim.Native.Nat.{_-_}
 use native.Mathlib.Omega.{arith}
 use lib.ListN.{length}

@@ -1,4 +1,4 @@
--- `cutting::put_answer` meets its contract: its test is the stage's.
+-- Its test is the stage's.
 use borrow.Author.Needs.{needs}
 use Rattle.recipe_cut.proofs.Saying.{said-ok, said-no}
 use Rattle.recipe_cut.proofs.put_answer.Statement.{statement}

@@ -1,11 +1,79 @@
--- `cutting::put_no` meets its contract: each piece is written behind the last one.
+-- Each piece is written after the last one.
+use Prim.Native.Nat.{ℕ, _+_, _-_}
 use native.Mathlib.Omega.{arith}
 use mathlib.Core.Path.{refl}
+use mathlib.Core.List.{[], _++_}
+use lib.ListN.{length, set}
 use borrow.Author.Needs.{needs}
-use Rattle.text.proofs.Filling.{fill-room, fill-length, fill-free-length, fill-ends}
+use borrow.Rule.Slice.PartMut.{putMid}
+use Rattle.stages.specs.Bytes.{Text, text}
+use Rattle.stages.specs.Units.{decimal}
+use Rattle.text.proofs.Filling.{Filling, fill-room, fill-length, fill-free-length, fill-ends}
+use Rattle.recipe_cut.specs.Said.{noText}
 use Rattle.recipe_cut.proofs.Saying.{decimal-most, no-number, no-blank, no-place, no-ended}
 use Rattle.recipe_cut.proofs.put_no.Statement.{statement}
 use Rattle.recipe_cut.proofs.put_no.Tie as tie
+
+-- where the number has been written: the call's entry, and the buffer before it
+module _ (c : tie.After-put-decimal) where
+  abbrev entry : tie.Start
+  entry = c .before .before .before .before .before .before .before .before
+
+  abbrev copying : tie.After-copy-in
+  copying = c .before .before .before .before
+
+  abbrev first : Text
+  first = copying .copy-in .last .1 .0
+
+  abbrev second : Text
+  second = putMid 3 (length first - 3) first (c .put-decimal .last .0)
+
+  abbrev at : ℕ
+  at = c .put-decimal .result + 3
+
+  numbered : let a = entry .args in Filling (noText (a .number) (a .place)) (text " " ++ (decimal (a .place) ++ text "\n")) (a .out .now) second at
+  numbered =
+      let a = entry .args in
+      no-number (a .number) (a .place) (a .out .now) first (entry .pre) (copying .copy-in .ensures) (c .put-decimal .last .0) (c .put-decimal .result)
+      (c .put-decimal .ensures)
+
+  -- and the blank after it
+  blanked : let a = entry .args in Filling (noText (a .number) (a .place)) (decimal (a .place) ++ text "\n") (a .out .now) (set second at 32) (at + 1)
+  blanked =
+      let a = entry .args in
+      no-blank (a .number) (a .place) (a .out .now) first (entry .pre) (copying .copy-in .ensures) (c .put-decimal .last .0) (c .put-decimal .result)
+      (c .put-decimal .ensures)
+
+-- where the place has been written
+module _ (c : tie.After-put-decimal2) where
+  abbrev counted : tie.After-put-decimal
+  counted = c .before .before .before .before
+
+  abbrev third : Text
+  third = set (second counted) (at counted) 32
+
+  abbrev fourth : Text
+  fourth = putMid (at counted + 1) (length third - (at counted + 1)) third (c .put-decimal2 .last .0)
+
+  abbrev end : ℕ
+  end = at counted + 1 + c .put-decimal2 .result
+
+  placed : let a = entry counted .args in Filling (noText (a .number) (a .place)) (text "\n") (a .out .now) fourth end
+  placed =
+      let a = entry counted .args in
+      let q = counted .put-decimal in
+      let u = c .put-decimal2 in
+      no-place (a .number) (a .place) (a .out .now) (first counted) (entry counted .pre) (copying counted .copy-in .ensures) (q .last .0) (q .result)
+      (q .ensures) (u .last .0) (u .result) (u .ensures)
+
+  -- and the newline after it
+  ended : let a = entry counted .args in Filling (noText (a .number) (a .place)) [] (a .out .now) (set fourth end 10) (end + 1)
+  ended =
+      let a = entry counted .args in
+      let q = counted .put-decimal in
+      let u = c .put-decimal2 in
+      no-ended (a .number) (a .place) (a .out .now) (first counted) (entry counted .pre) (copying counted .copy-in .ensures) (q .last .0) (q .result)
+      (q .ensures) (u .last .0) (u .result) (u .ensures)
 
 slice-aggregate-copy-in : tie.Need-slice-aggregate-copy-in
 slice-aggregate-copy-in c = search needs
@@ -26,105 +94,42 @@ put-decimal-requires : tie.Need-put-decimal-requires
 put-decimal-requires c κs = search needs
 
 add-blank : tie.Need-add-blank
-add-blank c =
-    let a = c .before .before .before .before .before .before .before .before .before .before in
-    let p = c .before .before .before .before .before .before .copy-in in
-    let q = c .before .before .put-decimal in
-    let f = no-number (a .args .number) (a .args .place) (a .args .out .now) (p .last .1 .0) (a .pre) (p .ensures) (q .last .0) (q .result) (q .ensures) in
-    omega (arith, fill-room f)
+add-blank c = omega (arith, fill-room (numbered (c .before .before)))
 
 slice-write-out : tie.Need-slice-write-out
-slice-write-out c =
-    let a = c .before .before .before .before .before .before .before .before .before .before in
-    let p = c .before .before .before .before .before .before .copy-in in
-    let q = c .before .before .put-decimal in
-    let f = no-number (a .args .number) (a .args .place) (a .args .out .now) (p .last .1 .0) (a .pre) (p .ensures) (q .last .0) (q .result) (q .ensures) in
-    omega (arith, fill-room f, fill-length f)
+slice-write-out c = let f = numbered (c .before .before) in omega (arith, fill-room f, fill-length f)
 
 add-start : tie.Need-add-start
-add-start c =
-    let a = c .before .before .before .before .before .before .before .before .before .before in
-    let p = c .before .before .before .before .before .before .copy-in in
-    let q = c .before .before .put-decimal in
-    let f = no-blank (a .args .number) (a .args .place) (a .args .out .now) (p .last .1 .0) (a .pre) (p .ensures) (q .last .0) (q .result) (q .ensures) in
-    omega (arith, fill-room f)
+add-start c = omega (arith, fill-room (blanked (c .before .before)))
 
 sub-put-decimal-2 : tie.Need-sub-put-decimal-2
-sub-put-decimal-2 c =
-    let a = c .before .before .before .before .before .before .before .before .before .before in
-    let p = c .before .before .before .before .before .before .copy-in in
-    let q = c .before .before .put-decimal in
-    let f = no-blank (a .args .number) (a .args .place) (a .args .out .now) (p .last .1 .0) (a .pre) (p .ensures) (q .last .0) (q .result) (q .ensures) in
-    omega (arith, fill-room f, fill-length f)
+sub-put-decimal-2 c = let f = blanked (c .before .before) in omega (arith, fill-room f, fill-length f)
 
 part-put-decimal-start-2 : tie.Need-part-put-decimal-start-2
-part-put-decimal-start-2 c =
-    let a = c .before .before .before .before .before .before .before .before .before .before in
-    let p = c .before .before .before .before .before .before .copy-in in
-    let q = c .before .before .put-decimal in
-    let f = no-blank (a .args .number) (a .args .place) (a .args .out .now) (p .last .1 .0) (a .pre) (p .ensures) (q .last .0) (q .result) (q .ensures) in
-    omega (arith, fill-room f, fill-length f)
+part-put-decimal-start-2 c = let f = blanked (c .before .before) in omega (arith, fill-room f, fill-length f)
 
 part-put-decimal-end-2 : tie.Need-part-put-decimal-end-2
 part-put-decimal-end-2 c = search needs
 
 put-decimal-requires-2 : tie.Need-put-decimal-requires-2
 put-decimal-requires-2 c κs =
-    let a = c .before .before .before .before .before .before .before .before .before .before .before in
-    let p = c .before .before .before .before .before .before .before .copy-in in
-    let q = c .before .before .before .put-decimal in
-    let f = no-blank (a .args .number) (a .args .place) (a .args .out .now) (p .last .1 .0) (a .pre) (p .ensures) (q .last .0) (q .result) (q .ensures) in
-    omega (arith, fill-free-length f, q .ensures .counts, decimal-most (a .args .number), a .pre)
+    let q = c .before .before .before in
+    omega (arith, fill-free-length (blanked q), q .put-decimal .ensures .counts, decimal-most (entry q .args .number), entry q .pre)
 
 add-end : tie.Need-add-end
-add-end c =
-    let a = c .before .before .before .before .before .before .before .before .before .before .before .before .before .before in
-    let p = c .before .before .before .before .before .before .before .before .before .before .copy-in in
-    let q = c .before .before .before .before .before .before .put-decimal in
-    let u = c .before .before .put-decimal2 in
-    let f = no-place (a .args .number) (a .args .place) (a .args .out .now) (p .last .1 .0) (a .pre) (p .ensures) (q .last .0) (q .result)
-    (q .ensures) (u .last .0) (u .result) (u .ensures) in
-    omega (arith, fill-room f)
+add-end c = omega (arith, fill-room (placed (c .before .before)))
 
 slice-write-out-2 : tie.Need-slice-write-out-2
-slice-write-out-2 c =
-    let a = c .before .before .before .before .before .before .before .before .before .before .before .before .before .before in
-    let p = c .before .before .before .before .before .before .before .before .before .before .copy-in in
-    let q = c .before .before .before .before .before .before .put-decimal in
-    let u = c .before .before .put-decimal2 in
-    let f = no-place (a .args .number) (a .args .place) (a .args .out .now) (p .last .1 .0) (a .pre) (p .ensures) (q .last .0) (q .result)
-    (q .ensures) (u .last .0) (u .result) (u .ensures) in
-    omega (arith, fill-room f, fill-length f)
+slice-write-out-2 c = let f = placed (c .before .before) in omega (arith, fill-room f, fill-length f)
 
 add-result : tie.Need-add-result
-add-result c =
-    let a = c .before .before .before .before .before .before .before .before .before .before .before .before .before .before in
-    let p = c .before .before .before .before .before .before .before .before .before .before .copy-in in
-    let q = c .before .before .before .before .before .before .put-decimal in
-    let u = c .before .before .put-decimal2 in
-    let f = no-ended (a .args .number) (a .args .place) (a .args .out .now) (p .last .1 .0) (a .pre) (p .ensures) (q .last .0) (q .result)
-    (q .ensures) (u .last .0) (u .result) (u .ensures) in
-    omega (arith, fill-room f)
+add-result c = omega (arith, fill-room (ended (c .before .before)))
 
 same-length : tie.Need-same-length
-same-length c =
-    let a = c .before .before .before .before .before .before .before .before .before .before .before .before .before .before in
-    let p = c .before .before .before .before .before .before .before .before .before .before .copy-in in
-    let q = c .before .before .before .before .before .before .put-decimal in
-    let u = c .before .before .put-decimal2 in
-    let f = no-ended (a .args .number) (a .args .place) (a .args .out .now) (p .last .1 .0) (a .pre) (p .ensures) (q .last .0) (q .result)
-    (q .ensures) (u .last .0) (u .result) (u .ensures) in
-    fill-length f
+same-length c = fill-length (ended (c .before .before))
 
 returns : tie.Need-returns
-returns c =
-    let a = c .before .before .before .before .before .before .before .before .before .before .before .before .before .before in
-    let p = c .before .before .before .before .before .before .before .before .before .before .copy-in in
-    let q = c .before .before .before .before .before .before .put-decimal in
-    let u = c .before .before .put-decimal2 in
-    let f = no-ended (a .args .number) (a .args .place) (a .args .out .now) (p .last .1 .0) (a .pre) (p .ensures) (q .last .0) (q .result)
-    (q .ensures) (u .last .0) (u .result) (u .ensures) in
-    fill-ends f refl
+returns c = fill-ends (ended (c .before .before)) refl
 
 pub put-no-spec : {M : Type 1} → statement M
 put-no-spec =

@@ -1,4 +1,4 @@
--- `cutting::put_ok` meets its contract: two copies and a newline behind them.
+-- Two copies and a newline after them.
 use mathlib.Core.Path.{refl}
 use borrow.Author.Needs.{needs}
 use Rattle.text.proofs.Filling.{fill-length, fill-ends}

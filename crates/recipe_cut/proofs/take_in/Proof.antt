@@ -1,4 +1,4 @@
--- `cutting::take_in` meets its contract: what is kept is what stands before the line's end, and the newline is passed.
+-- What is kept is what stands before the line's end, and the newline is passed.
 use borrow.Author.Needs.{needs}
 use Rattle.recipe_cut.proofs.Taking.{taken-ended, taken-open}
 use Rattle.recipe_cut.proofs.take_in.Statement.{statement}

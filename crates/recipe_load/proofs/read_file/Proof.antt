@@ -1,4 +1,4 @@
--- `read_file` meets its contract and ends: each turn of the loop reads a byte or more into what is left of the buffer.
+-- Each turn of the loop reads a byte or more into what is left of the buffer.
 use borrow.Author.Needs.{needs}
 use native.Mathlib.Omega.{arith}
 use Prim.Native.Nat.{_≤_, _-_}

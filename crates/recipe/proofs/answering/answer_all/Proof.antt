@@ -1,4 +1,4 @@
--- `recipe::answering::answer_all` is safe and ends: the turns that are left fall.
+-- The turns that are left fall.
 use borrow.Author.Needs.{needs}
 use mathlib.Core.Path.{_≡_}
 use lib.ListN.{length}

@@ -1,4 +1,4 @@
--- `recipe::answering::answer_last` is safe: what is kept of the last line lies within its buffer.
+-- What is kept of the last line lies within its buffer.
 use mathlib.Core.Path.{sym}
 use lib.Seq.{length-take-le}
 use borrow.Author.Needs.{needs}
