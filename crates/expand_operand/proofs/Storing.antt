@@ -30,94 +30,94 @@ use Rattle.expand_add.proofs.Steps.{placed-refused}
 use Rattle.expand_add.proofs.Holding.{vars-held, adds-finishes, finishes-same}
 use Rattle.expand_form.specs.Plans.{finished}
 use Rattle.expand_form.specs.declared.Used.the-variants as used
-use Rattle.expand_operand.specs.Operands.{Operand, rowAt, capOf, StoresIn}
+use Rattle.expand_operand.specs.Operands.{Operand, rowAt, limitOf, StoresIn}
 
 -- the lesser of the room and 8,192
 
-cap-room : (varsRoom : ℕ) → capOf varsRoom ≤ varsRoom
-cap-room varsRoom = either (leb varsRoom imageLimit) (λ e. rw e (omega arith)) (λ e. rw e (omega (arith, leb-false varsRoom imageLimit e)))
+limit-room : (varsRoom : ℕ) → limitOf varsRoom ≤ varsRoom
+limit-room varsRoom = either (leb varsRoom imageLimit) (λ e. rw e (omega arith)) (λ e. rw e (omega (arith, leb-false varsRoom imageLimit e)))
 
-cap-limit : (varsRoom : ℕ) → capOf varsRoom ≤ imageLimit
-cap-limit varsRoom = either (leb varsRoom imageLimit) (λ e. rw e (leb-true varsRoom imageLimit e)) (λ e. rw e (omega arith))
+limit-image : (varsRoom : ℕ) → limitOf varsRoom ≤ imageLimit
+limit-image varsRoom = either (leb varsRoom imageLimit) (λ e. rw e (leb-true varsRoom imageLimit e)) (λ e. rw e (omega arith))
 
-cap-least : (varsRoom n : ℕ) → n ≤ varsRoom → n ≤ imageLimit → n ≤ capOf varsRoom
-cap-least varsRoom n a b = either (leb varsRoom imageLimit) (λ e. rw e a) (λ e. rw e b)
+limit-least : (varsRoom n : ℕ) → n ≤ varsRoom → n ≤ imageLimit → n ≤ limitOf varsRoom
+limit-least varsRoom n a b = either (leb varsRoom imageLimit) (λ e. rw e a) (λ e. rw e b)
 
-pub cap-above : (varsRoom : ℕ) → imageLimit < varsRoom → imageLimit ≡ capOf varsRoom
-cap-above varsRoom l = rw (lt-leb varsRoom imageLimit l)
+pub limit-above : (varsRoom : ℕ) → imageLimit < varsRoom → imageLimit ≡ limitOf varsRoom
+limit-above varsRoom l = rw (lt-leb varsRoom imageLimit l)
 
-pub cap-below : (varsRoom : ℕ) → varsRoom ≤ imageLimit → varsRoom ≡ capOf varsRoom
-cap-below varsRoom l = rw (le-leb varsRoom imageLimit l)
+pub limit-below : (varsRoom : ℕ) → varsRoom ≤ imageLimit → varsRoom ≡ limitOf varsRoom
+limit-below varsRoom l = rw (le-leb varsRoom imageLimit l)
 
-store-cap : (varsRoom : ℕ) (x t : Text) (v : Pairs) → store (capOf varsRoom) x t v ≡ store varsRoom x t v
-store-cap varsRoom x t v = go (leb n varsRoom && leb n imageLimit) refl
+store-limit : (varsRoom : ℕ) (x t : Text) (v : Pairs) → store (limitOf varsRoom) x t v ≡ store varsRoom x t v
+store-limit varsRoom x t v = go (leb n varsRoom && leb n imageLimit) refl
   where
     n : ℕ
     n = imageLength (flat (stored x t v))
 
-    same : (leb n (capOf varsRoom) && leb n imageLimit) ≡ (leb n varsRoom && leb n imageLimit)
+    same : (leb n (limitOf varsRoom) && leb n imageLimit) ≡ (leb n varsRoom && leb n imageLimit)
     same =
-        same-tests (leb n (capOf varsRoom) && leb n imageLimit) (leb n varsRoom && leb n imageLimit)
-        (λ e. and-both (le-leb n varsRoom (le-trans-cap (leb-true n (capOf varsRoom) (and-left (leb n (capOf varsRoom)) (leb n imageLimit) e))))
-        (and-right (leb n (capOf varsRoom)) (leb n imageLimit) e))
-        (λ e. and-both (le-leb n (capOf varsRoom)
-        (cap-least varsRoom n (leb-true n varsRoom (and-left (leb n varsRoom) (leb n imageLimit) e))
+        same-tests (leb n (limitOf varsRoom) && leb n imageLimit) (leb n varsRoom && leb n imageLimit)
+        (λ e. and-both (le-leb n varsRoom (le-trans-limit (leb-true n (limitOf varsRoom) (and-left (leb n (limitOf varsRoom)) (leb n imageLimit) e))))
+        (and-right (leb n (limitOf varsRoom)) (leb n imageLimit) e))
+        (λ e. and-both (le-leb n (limitOf varsRoom)
+        (limit-least varsRoom n (leb-true n varsRoom (and-left (leb n varsRoom) (leb n imageLimit) e))
         (leb-true n imageLimit (and-right (leb n varsRoom) (leb n imageLimit) e))))
         (and-right (leb n varsRoom) (leb n imageLimit) e))
       where
-        le-trans-cap : n ≤ capOf varsRoom → n ≤ varsRoom
-        le-trans-cap h = omega (arith, cap-room varsRoom)
+        le-trans-limit : n ≤ limitOf varsRoom → n ≤ varsRoom
+        le-trans-limit h = omega (arith, limit-room varsRoom)
 
-    go : (b : Bool) → (leb n varsRoom && leb n imageLimit) ≡ b → store (capOf varsRoom) x t v ≡ store varsRoom x t v
-    go b e = store-by x t v (capOf varsRoom) b (same ∙ e) ∙ sym (store-by x t v varsRoom b e)
+    go : (b : Bool) → (leb n varsRoom && leb n imageLimit) ≡ b → store (limitOf varsRoom) x t v ≡ store varsRoom x t v
+    go b e = store-by x t v (limitOf varsRoom) b (same ∙ e) ∙ sym (store-by x t v varsRoom b e)
 
--- the image within the cap that the code has, which fits into the buffer
+-- the image within the limit that the code has, which fits into the buffer
 
-pub record Capped (cap varsUsed size : ℕ) : Type 0 where
-  pub holds : varsUsed ≤ cap
-  pub inside : cap ≤ size
-  pub least : cap ≤ imageLimit
+pub record Limited (limit varsUsed size : ℕ) : Type 0 where
+  pub holds : varsUsed ≤ limit
+  pub inside : limit ≤ size
+  pub least : limit ≤ imageLimit
 
-pub capped : {varsRoom : ℕ} {vars : Text} {varsUsed : ℕ} → Holds varsRoom vars varsUsed → {cap : ℕ} → cap ≡ capOf varsRoom
-    → Capped cap varsUsed (length vars)
-capped {varsRoom} {vars} {varsUsed} w {cap} e =
+pub limited : {varsRoom : ℕ} {vars : Text} {varsUsed : ℕ} → Holds varsRoom vars varsUsed → {limit : ℕ} → limit ≡ limitOf varsRoom
+    → Limited limit varsUsed (length vars)
+limited {varsRoom} {vars} {varsUsed} w {limit} e =
     let few : varsUsed ≤ imageLimit = omega (arith, vars-held varsRoom vars varsUsed w .small, length-take-le varsUsed vars (w .inside)) in
-    let most = cap-limit varsRoom in
+    let most = limit-image varsRoom in
     let long = w .long in
-    record { holds = omega (arith, cap-least varsRoom varsUsed (w .fits) few); inside = omega arith; least = omega arith }
+    record { holds = omega (arith, limit-least varsRoom varsUsed (w .fits) few); inside = omega arith; least = omega arith }
 
 module _ (varsRoom varsUsed : ℕ) (x t : Text) (vars left : Text) (w : Holds varsRoom vars varsUsed) (n : isName x ≡ true) (c : all notZero t ≡ true)
-    (r : Stored) (s : Writes (imageIn (capOf varsRoom) x t (held (take varsUsed vars))) vars left (storedOutcome r)) where
+    (r : Stored) (s : Writes (imageIn (limitOf varsRoom) x t (held (take varsUsed vars))) vars left (storedOutcome r)) where
   stores-in : length left ≡ length vars → StoresIn varsRoom x t (held (take varsUsed vars)) left r
   unfolding store
   stores-in len = go r refl
     where
       go : (k : Stored) → r ≡ k → StoresIn varsRoom x t (held (take varsUsed vars)) left k
       go stored.Full e =
-          sym (store-cap varsRoom x t (held (take varsUsed vars))) ∙ store-full (capOf varsRoom) x t (held (take varsUsed vars)) vars left r s e .0
+          sym (store-limit varsRoom x t (held (take varsUsed vars))) ∙ store-full (limitOf varsRoom) x t (held (take varsUsed vars)) vars left r s e .0
       go (stored.Used k) e =
-          let g = store-used (capOf varsRoom) x t (held (take varsUsed vars)) vars left r s k e in
+          let g = store-used (limitOf varsRoom) x t (held (take varsUsed vars)) vars left r s k e in
           let u = vars-held varsRoom vars varsUsed w in
           let a = g .small in
           let b = w .long in (
-            sym (store-cap varsRoom x t (held (take varsUsed vars))) ∙ g .gives
-                ∙ ap done (sym (store-held (capOf varsRoom) x t vars left varsUsed k g u n c)),
+            sym (store-limit varsRoom x t (held (take varsUsed vars))) ∙ g .gives
+                ∙ ap done (sym (store-held (limitOf varsRoom) x t vars left varsUsed k g u n c)),
             record {
-              formed = is-some (variables-are (take k left) (store-vars (capOf varsRoom) x t vars left varsUsed k g u n c));
-              inside = omega (arith, cap-limit varsRoom);
-              fits = omega (arith, cap-room varsRoom);
+              formed = is-some (variables-are (take k left) (store-vars (limitOf varsRoom) x t vars left varsUsed k g u n c));
+              inside = omega (arith, limit-image varsRoom);
+              fits = omega (arith, limit-room varsRoom);
               long = omega arith;
             },
           )
 
--- the operand's bytes as the code has them, and its cap
+-- the operand's bytes as the code has them, and its limit
 pub stored-operand : (varsRoom varsUsed : ℕ) (x area : Text) (units : ℕ) (vars left : Text) → Holds varsRoom vars varsUsed → Operand x area units →
-    {cap : ℕ} → cap ≡ capOf varsRoom
-    → {t : Text} → t ≡ bytes (rowAt area units) → (r : Stored) → Writes (imageIn cap x t (held (take varsUsed vars))) vars left (storedOutcome r)
+    {limit : ℕ} → limit ≡ limitOf varsRoom
+    → {t : Text} → t ≡ bytes (rowAt area units) → (r : Stored) → Writes (imageIn limit x t (held (take varsUsed vars))) vars left (storedOutcome r)
     → length left ≡ length vars → StoresIn varsRoom x (bytes (rowAt area units)) (held (take varsUsed vars)) left r
-stored-operand varsRoom varsUsed x area units vars left w p {cap} c {t} e r s len =
+stored-operand varsRoom varsUsed x area units vars left w p {limit} c {t} e r s len =
     stores-in varsRoom varsUsed x (bytes (rowAt area units)) vars left w (p .named) (p .clean) r
-    (subst (λ (u : Text). Writes (imageIn (capOf varsRoom) x u (held (take varsUsed vars))) vars left (storedOutcome r)) e
+    (subst (λ (u : Text). Writes (imageIn (limitOf varsRoom) x u (held (take varsUsed vars))) vars left (storedOutcome r)) e
     (subst (λ (k : ℕ). Writes (imageIn k x t (held (take varsUsed vars))) vars left (storedOutcome r)) c s)) len
 
 -- what a store answers, once its case is known

@@ -41,8 +41,8 @@ unfolding arithmeticOf bytes marked
 sumOf m row v = arithmeticOf v (bytes row) >>= λ s. done (marked (expandedMark m) (s .0))
 
 -- "longer than its buffer or 8,192": the lesser of the two
-abbrev pub capOf : ℕ → ℕ
-capOf varsRoom = pick (leb varsRoom imageLimit) varsRoom imageLimit
+abbrev pub limitOf : ℕ → ℕ
+limitOf varsRoom = pick (leb varsRoom imageLimit) varsRoom imageLimit
 
 -- the value is stored as the stage stores it, or refused
 abbrev pub StoresIn : ℕ → Text → Text → Pairs → Text → Stored → Type 0

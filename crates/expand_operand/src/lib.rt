@@ -12,7 +12,7 @@ ghost use Rattle.table.specs.Places.{Table};
 ghost use Rattle.expand_add.specs.Added.{Adds, admitted};
 ghost use Rattle.expand_form.specs.Plans.{settled, finished};
 ghost use Rattle.expand_add.specs.Steps.{placed};
-ghost use Rattle.expand_operand.specs.Operands.{Operand, rowAt, leftBy, sumOf, capOf, StoresIn};
+ghost use Rattle.expand_operand.specs.Operands.{Operand, rowAt, leftBy, sumOf, limitOf, StoresIn};
 ghost use Rattle.expand_add.specs.Answers.{Holds, Finishes};
 use arith_int::Number;
 use expand_add::answers::Expanded;
@@ -40,8 +40,8 @@ fn admit(units: usize, row: RowEnd, on: Onward) -> Expanded
 }
 
 // What an image of variables may grow to, where the caller has so much room.
-fn cap_of(vars_room: usize) -> usize
-    ensures { λ r. ⌜ r ≡ capOf «vars_room» ⌝ }
+fn limit_of(vars_room: usize) -> usize
+    ensures { λ r. ⌜ r ≡ limitOf «vars_room» ⌝ }
 {
     if vars_room > numbers::IMAGE_LIMIT {
         return numbers::IMAGE_LIMIT;
@@ -68,7 +68,7 @@ fn store_operand(
         extent.vars_used,
         name,
         &work[..n],
-        cap_of(extent.vars_room),
+        limit_of(extent.vars_room),
     )
 }
 

@@ -5,7 +5,7 @@ use borrow.Author.Needs.{needs}
 use lib.Seq.{length-take-le}
 use Rattle.expand_add.proofs.Holding.{table-held}
 use Rattle.expand_operand.proofs.Fronts.{stripped-front, stripped-inside, stripped-length}
-use Rattle.expand_operand.proofs.Storing.{capped, stored-operand}
+use Rattle.expand_operand.proofs.Storing.{limited, stored-operand}
 use Rattle.expand_operand.proofs.store_operand.Statement.{statement}
 use Rattle.expand_operand.proofs.store_operand.Tie as tie
 
@@ -31,14 +31,14 @@ slice-reshare-prefix-store c = stripped-inside _ (c .before .before .before .str
 slice-aggregate-store : tie.Need-slice-aggregate-store
 slice-aggregate-store c = stripped-length _ (c .before .before .before .before .strip-marks .ensures)
 
-cap-of-requires : tie.Need-cap-of-requires
-cap-of-requires c κs = search needs
+limit-of-requires : tie.Need-limit-of-requires
+limit-of-requires c κs = search needs
 
 store-requires : tie.Need-store-requires
 store-requires c κs =
     let s = start (c .before .before .before .before .before) in
     let a = s .args in
-    let k = capped (s .pre .1) (c .cap-of .ensures) in
+    let k = limited (s .pre .1) (c .limit-of .ensures) in
     (omega arith, table-held (a .extent .«vars_room») (a .vars .now) (a .extent .«vars_used») (s .pre .1))
 
 same-length : tie.Need-same-length
@@ -54,7 +54,7 @@ returns c =
     let s = start strip in
     let a = s .args in
     stored-operand (a .extent .«vars_room») (a .extent .«vars_used») (a .name .now) (a .work .now) (a .units) (a .vars .now) _ (s .pre .1) (s .pre .0)
-    (store .before .cap-of .ensures) (stripped-front _ (strip .strip-marks .ensures)) (store .store .result) (store .store .ensures) (search needs)
+    (store .before .limit-of .ensures) (stripped-front _ (strip .strip-marks .ensures)) (store .store .result) (store .store .ensures) (search needs)
 
 pub store-operand-spec : {M : Type 1} → statement M
 store-operand-spec =
@@ -66,7 +66,7 @@ store-operand-spec =
     strip-marks-requires
     slice-reshare-prefix-store
     slice-aggregate-store
-    cap-of-requires
+    limit-of-requires
     store-requires
     same-length
     same-length-2
