@@ -47,11 +47,6 @@ pub record Holding (cur line : Text) (kept : ℕ) : Type 0 where
 pub holding-none : (line : Text) → Holding [] line 0
 holding-none line = record { plain = refl; is = refl; long = refl }
 
-pub take-most : (n : ℕ) (t : Text) → length (take n t) ≤ n
-take-most zero t = omega arith
-take-most (suc n) [] = omega arith
-take-most (suc n) (b ∷ t) = omega (arith, take-most n t)
-
 pub kept-most : (cur line : Text) (kept : ℕ) → Holding cur line kept → kept ≤ lineKept
 kept-most cur line kept h = omega (arith, h .long, take-most lineKept cur)
 
