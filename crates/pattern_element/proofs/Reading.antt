@@ -11,7 +11,28 @@ use borrow.Author.Tests.{eqb-true, ne-eqb}
 use Rattle.stages.proofs.Bools.{and-right}
 use Rattle.stages.specs.Outcome.{pick}
 use Rattle.stages.specs.Bytes.{Text}
-use Rattle.stages.specs.Pattern.{Sign, Signs, isLive, Element, set, Found, class, unclosed, closedAfter, bracket, others, senseOf, skipped, bracketed, bracketLength, element, extra, elements, isClass, hasClass}
+use Rattle.stages.specs.Pattern.{
+  Sign,
+  Signs,
+  isLive,
+  Element,
+  set,
+  Found,
+  class,
+  unclosed,
+  closedAfter,
+  bracket,
+  others,
+  senseOf,
+  skipped,
+  bracketed,
+  bracketLength,
+  element,
+  extra,
+  elements,
+  isClass,
+  hasClass,
+}
 use Rattle.text.specs.Rows.{signsOf}
 use Rattle.pattern_element.specs.Pieces.{setFrom, bracketAt, pieceAt, behindOf, elementOf, isClassPiece, Lies}
 use Rattle.pattern_element.specs.declared.Piece.{Piece}

@@ -10,7 +10,6 @@ use Rattle.stages.proofs.Texts.{take-most}
 use Rattle.recipe_cut.specs.Lines.{lineKept, keptOf, came, keptIn, nextIn, Takes}
 use Rattle.recipe_cut.specs.declared.Taken.{Taken}
 use Rattle.recipe_cut.specs.declared.Taken.the-variants.{Ended, Open}
-use Rattle.stages.proofs.Texts.{take-most}
 use Rattle.recipe_cut.proofs.Callers.{next-turn}
 use Rattle.recipe.specs.Keeps.{Keeps}
 
