@@ -23,7 +23,8 @@ use Rattle.read_mode.specs.Modes.{modeOf, openIn, formOf}
 use Rattle.read_mode.specs.declared.Mode.{Mode}
 use Rattle.read_mode.specs.declared.Mode.the-variants.{Arith}
 use Rattle.read_mode.specs.declared.Form as code-form
-use Rattle.read_brace.specs.Shows.{Shows, Behind, Name}
+use Rattle.text.specs.Places.{Behind}
+use Rattle.read_brace.specs.Shows.{Shows, Name}
 use Rattle.read_brace.specs.declared.Item.{Item}
 use Rattle.read_brace.specs.declared.Item.the-variants.{Fault, Stop, Byte, Paren, Quote, Value, Count, Inner, Sum}
 use Rattle.expand_add.specs.Added.{Adds}

@@ -11,6 +11,7 @@ use Rattle.stages.specs.Syntax.{Side, suffix, prefix}
 use Rattle.stages.specs.Items.{fault, stop, byte, paren, quote, valueOf, count, inner, sum, nameThen, behindLength}
 use Rattle.stages.specs.Items as items
 use Rattle.text.specs.Cases.{escapeOf}
+use Rattle.text.specs.Places.{Behind}
 use Rattle.read_mode.specs.Modes.{modeOf, openIn, formOf}
 use Rattle.read_brace.specs.declared.Item.{Item}
 use Rattle.read_brace.specs.declared.Item.the-variants.{Fault, Stop, Byte, Paren, Quote, Value, Count, Inner, Sum}
@@ -29,11 +30,6 @@ removalSide false = suffix
 unfoldable pub counted : Text → items.Item
 unfolding nameThen behindLength
 counted t = nameThen (λ x u. behindLength x (length x + 3) u) t
-
--- the place behind an item
-pub record Behind (text : Text) (at next : ℕ) : Type 0 where
-  pub onward : at < next
-  pub within : next ≤ length text
 
 -- the place of a name
 pub record Name (text : Text) (from to : ℕ) : Type 0 where
