@@ -9,7 +9,6 @@ use Rattle.stages.specs.Bytes.{Text}
 use Rattle.stages.specs.Outcome.{refused, done}
 use Rattle.stages.specs.Images.{Pairs, held}
 use Rattle.stages.specs.Syntax.{Parts}
-use Rattle.stages.specs.Items.{item}
 use Rattle.stages.specs.Read.{Taken, parts}
 use Rattle.stages.specs.Units.{Mark, Row}
 use Rattle.stages.specs.Expand.{Made, expand, onto}
@@ -19,16 +18,11 @@ use Rattle.row.specs.declared.RowEnd.{RowEnd}
 use Rattle.read_mode.specs.Modes.{modeOf, openIn}
 use Rattle.read_mode.specs.declared.Mode.{Mode}
 use Rattle.read_mode.specs.declared.Cursor.{Cursor}
-use Rattle.read_brace.specs.Shows.{Shows}
 use Rattle.read_brace.specs.declared.Item.{Item}
 use Rattle.read_item.specs.After.{modeAfter, isStop}
 use Rattle.expand_add.specs.Answers.{Holds, Ends}
 use Rattle.expand_add.specs.declared.answers.Expanded.{Expanded}
 use Rattle.expand_add.specs.declared.answers.Expanded.the-variants as expanded
-
--- the item is what stands where the text is read
-abbrev pub ItemAt : Text → Cursor → Item → Type 0
-ItemAt text from i = Shows text (from .at) (from .depth) i (item (modeOf (from .mode)) (from .depth) (drop (from .at) text))
 
 -- one item is expanded: its units stand in the area, and what is after it is to be expanded after them
 pub record Moves (varsRoom : ℕ) (text : Text) (at depth : ℕ) (mode : Mode) (m : Mark) (units : ℕ) (made : Made) (rest area vars : Text)

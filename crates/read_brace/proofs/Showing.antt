@@ -15,10 +15,10 @@ use Rattle.stages.specs.Items.{Item, fault, stop, byte, valueOf, count, inner}
 use Rattle.stages.specs.Items.{wrong}
 use Rattle.text.specs.Cases.{escapeOf, isEscaped}
 use Rattle.text.proofs.Cases.{escape-there}
+use Rattle.text.specs.Places.{Behind}
 use Rattle.read_mode.specs.Modes.{modeOf, openIn, formOf}
 use Rattle.read_mode.specs.declared.Mode as code-mode
 use Rattle.read_mode.specs.declared.Form as code-form
-use Rattle.text.specs.Places.{Behind}
 use Rattle.read_brace.specs.Shows.{Shows, isAt, nameOf}
 use Rattle.read_brace.specs.declared.Item as code-item
 use Rattle.read_brace.specs.declared.Item.the-variants as code

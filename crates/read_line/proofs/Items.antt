@@ -10,11 +10,11 @@ use Rattle.stages.specs.Syntax.{unescaped, Parts, plain, end, lit, quo, par, le
 use Rattle.stages.specs.Read.{Taken, put, nest, parts}
 use Rattle.text.specs.Cases.{escapeOf}
 use Rattle.stages.proofs.Read.{at-fault, at-stop, at-byte, at-paren, at-value, at-count, at-quote, at-inner, at-sum}
+use Rattle.text.specs.Places.{Behind}
 use Rattle.read_mode.specs.Modes.{modeOf, openIn, formOf}
 use Rattle.read_mode.specs.declared.Cursor.{Cursor}
 use Rattle.read_mode.specs.declared.Mode.{Mode}
 use Rattle.read_mode.specs.declared.Form.{Form}
-use Rattle.text.specs.Places.{Behind}
 use Rattle.read_brace.specs.declared.Item.{Item}
 use Rattle.read_brace.specs.declared.Item.the-variants.{Fault, Stop, Byte, Paren, Quote, Value, Count, Inner, Sum}
 use Rattle.read_item.specs.After.{ItemAt, modeAfter, isStop}

@@ -8,10 +8,10 @@ use Rattle.stages.specs.Bytes.{Text, span, isBlank}
 use Rattle.stages.specs.Outcome.{refused, done, Placed, refusedAt, doneAt, _then_}
 use Rattle.stages.specs.Syntax.{Parts, Word}
 use Rattle.stages.specs.Read.{Taken, Words, put, parts, words}
+use Rattle.text.specs.Places.{Behind}
 use Rattle.read_mode.specs.Modes.{modeOf, openIn}
 use Rattle.read_mode.specs.declared.Mode.{Mode}
 use Rattle.read_mode.specs.declared.Cursor.{Cursor}
-use Rattle.text.specs.Places.{Behind}
 use Rattle.read_brace.specs.declared.Item.{Item}
 use Rattle.read_item.specs.After.{ItemAt, modeAfter, isStop}
 use Rattle.read_line.specs.declared.Reading.{Reading}

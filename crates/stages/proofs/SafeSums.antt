@@ -43,7 +43,6 @@ use Rattle.stages.specs.Arith.{
   token,
   level,
 }
-use Rattle.stages.specs.Arith.{
   Tree,
   constantOf,
   nameOf,
