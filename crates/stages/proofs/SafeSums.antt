@@ -43,6 +43,7 @@ use Rattle.stages.specs.Arith.{
   token,
   level,
 }
+use Rattle.stages.specs.Arith.{
   Tree,
   constantOf,
   nameOf,

@@ -27,6 +27,7 @@ use Rattle.arith_eval.proofs.Operands.{
   operand-opens,
   operand-name,
 }
+use Rattle.arith_eval.proofs.Operands.{
   plus-deep,
   minus-deep,
   plus-says,
