@@ -1,5 +1,5 @@
 -- Laws of constants and of the values of names, by what stands first in a text: one for each way through the code.
-use Prim.Native.Nat.{ℕ, zero, _-_, _≤_, _<_, _^_}
+use Prim.Native.Nat.{ℕ, _-_, _≤_, _<_, _^_}
 use native.Mathlib.Omega.{arith}
 use mathlib.Core.Path.{_≡_, refl}
 use mathlib.Core.Bool.{Bool, true, false}

@@ -1,5 +1,4 @@
 -- The contract of `check` determines its answer: a call passes the checks or is stopped by one of them, never both.
-use Prim.Native.Nat.{ℕ}
 use mathlib.Core.Path.{_≡_, refl}
 use Rattle.stages.specs.Call.{Given}
 use Rattle.call_check.specs.Checks.{Checks}

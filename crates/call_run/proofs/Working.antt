@@ -1,7 +1,7 @@
 -- A call on the copy of its variables, once it has passed the checks.
 use Prim.Native.Nat.{ℕ, _≤_}
 use native.Mathlib.Omega.{arith}
-use mathlib.Core.Path.{_≡_, refl, sym, ap, _∙_, subst}
+use mathlib.Core.Path.{_≡_, sym, ap, _∙_, subst}
 use mathlib.Core.List.{List, _++_}
 use mathlib.Core.Option.{some}
 use lib.ListN.{length, take, drop, length-append, length-drop}
@@ -9,7 +9,7 @@ use lib.Seq.{length-take-le, take-at}
 use Rattle.stages.specs.Numbers.{imageLimit}
 use Rattle.stages.specs.Bytes.{Text}
 use Rattle.stages.specs.Outcome.{Placed, doneAt, _then_}
-use Rattle.stages.specs.Images.{Pairs, isName, isSome, held, flat, image, variablesOf}
+use Rattle.stages.specs.Images.{Pairs, isName, isSome, held, image, variablesOf}
 use Rattle.stages.specs.Syntax.{Word}
 use Rattle.stages.specs.Line.{Fields, expandWords}
 use Rattle.stages.specs.Call.{Given, over}

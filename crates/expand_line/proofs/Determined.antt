@@ -1,21 +1,18 @@
 -- The contract of the loop over words determines the answer, and where the line is accepted the whole output and the variables' image. The bytes of the
 -- work area, those behind the variables' image, and after a refusal those of the variables and the output are left open: the jobs lend copies and clear
 -- the area.
-use Prim.Native.Nat.{ℕ, zero, suc}
+use Prim.Native.Nat.{ℕ}
 use native.Mathlib.Omega.{arith}
 use mathlib.Core.Path.{_≡_, sym, ap, _∙_}
-use mathlib.Core.List.{[], _∷_}
 use lib.ListN.{length, take}
-use lib.Seq.{length-take-le}
 use Rattle.stages.specs.Bytes.{Text}
 use Rattle.stages.specs.Outcome.{Placed}
 use Rattle.stages.specs.Images.{Pairs, isName, held, flat, image, imageLength}
 use Rattle.stages.specs.Line.{Fields}
 use Rattle.stages.specs.Call.{over}
 use Rattle.stages.proofs.Images.{Bytes, bytes-take}
-use Rattle.stages.proofs.Tables.{vars-of, table-length, table-canonical}
+use Rattle.stages.proofs.Tables.{vars-of, table-canonical}
 use Rattle.expand_add.proofs.Determined.{vars-used-is}
-use Rattle.expand_add.specs.Answers.{Holds}
 use Rattle.expand_line.specs.Answers.{IsLine, LineSays}
 use Rattle.expand_line.specs.declared.LineExpanded.{LineExpanded}
 use Rattle.expand_line.specs.declared.LineExpanded.the-variants.{Done, Refused}

@@ -1,6 +1,6 @@
 -- Demand 3 over the calls: an accepted line's fields, written as a quoted line, come back from any other call, which changes no variable, and quote to the same
 -- bytes. The calls do nothing but what the stages do, and a well-formed table is the image of what it holds.
-use Prim.Native.Nat.{ℕ, zero, _≤_}
+use Prim.Native.Nat.{ℕ, _≤_}
 use native.Mathlib.Omega.{arith}
 use mathlib.Core.Path.{_≡_, sym, ap, _∙_}
 use mathlib.Core.Bool.{true}

@@ -11,7 +11,6 @@ use borrow.Author.Tests.{leb-true, le-leb}
 use Rattle.stages.specs.Recur.{by-size}
 use Rattle.stages.specs.Numbers.{depthLimit, imageLimit, lineLimit, lineTooLong, zeroByte, outputRoom}
 use Rattle.stages.specs.Bytes.{Text, all, notZero, isIn, isBlank, isOperator}
-use Rattle.stages.specs.Outcome.{placedAt}
 use Rattle.stages.specs.Images.{Pairs, flat, recordBytes, imageLength}
 use Rattle.stages.specs.Syntax.{Parts, Word, word}
 use Rattle.stages.specs.Read.{Taken, parts, wordAt, wordsSize, words, readLine}

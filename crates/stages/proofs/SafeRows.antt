@@ -7,11 +7,11 @@ use mathlib.Core.Bool.{Bool, true, false, _&&_}
 use mathlib.Core.List.{List, [], _∷_, _++_}
 use mathlib.Core.Option.{Option, none, some}
 use lib.Dec.{eqb, leb}
-use lib.ListN.{length, take, drop}
+use lib.ListN.{length}
 use borrow.Author.Tests.{leb-true}
 use Rattle.stages.specs.Numbers.{rowLimit, imageLimit}
 use Rattle.stages.specs.Bytes.{Text, text, all, notZero, isLoginByte}
-use Rattle.stages.specs.Outcome.{done, pick}
+use Rattle.stages.specs.Outcome.{done}
 use Rattle.stages.specs.Images.{Pairs, isName, keys, allTexts, rising, lookup, stored, flat, imageLength, orEmpty}
 use Rattle.stages.specs.Syntax.{Side, suffix, prefix, Reach, Form, plain, minus, equals, query, plus, removal}
 use Rattle.stages.specs.Syntax.{escaped, unescaped, Parts, end, lit, quo, par, len, ari}

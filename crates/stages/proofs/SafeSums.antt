@@ -1,69 +1,28 @@
 -- Arithmetic refuses only with numbers of document 01, since its reader calls itself only on what is shorter; its result is a text without a zero
 -- byte, and it keeps the variables.
-use Prim.Native.Nat.{ℕ, zero, suc, _+_, _-_, _/_, _%_, _≤_, _<_}
+use Prim.Native.Nat.{ℕ, zero, suc, _+_, _-_, _/_, _%_}
 use Prim.Native.Char.{code}
 use native.Mathlib.Omega.{arith}
-use mathlib.Core.Path.{_≡_, refl, ap}
+use mathlib.Core.Path.{_≡_, refl}
 use mathlib.Core.Bool.{Bool, true, false}
-use mathlib.Core.List.{[], _∷_, _++_}
+use mathlib.Core.List.{[], _∷_}
 use mathlib.Core.Option.{Option, none, some}
-use lib.Dec.{eqb, leb, ltb}
-use lib.ListN.{length, length-append}
+use lib.Dec.{ltb}
+use lib.ListN.{length}
 use lib.IntN.{ℤ, pos, negsuc, negℤ, _+ℤ_, _-ℤ_, _*ℤ_}
 use lib.Signed.{quotZ, remZ}
 use borrow.Author.Tests.{le-leb}
 use Rattle.stages.specs.Numbers.{openLimit}
-use Rattle.stages.specs.Bytes.{Text, all, notZero, span, isDigit, isNameStart, isNameByte}
-use Rattle.stages.specs.Outcome.{Outcome, refused, done}
+use Rattle.stages.specs.Bytes.{Text, all, notZero}
+use Rattle.stages.specs.Outcome.{Outcome, done}
 use Rattle.stages.specs.Images.{Pairs, lookup}
 use Rattle.stages.specs.Units.{digits, decimal}
-use Rattle.stages.specs.Constants.{fits, ranged, number, constant, minusOf, valued, nameNumber, signed}
-use Rattle.stages.specs.Arith.{
-  Op,
-  mul,
-  div,
-  rem,
-  add,
-  sub,
-  lt,
-  le,
-  gt,
-  ge,
-  eq,
-  ne,
-  Token,
-  textEnd,
-  num,
-  name,
-  op,
-  opens,
-  shuts,
-  Lexed,
-  paired,
-  token,
-  level,
-}
-use Rattle.stages.specs.Arith.{
-  Tree,
-  constantOf,
-  nameOf,
-  negated,
-  binary,
-  Grown,
-  operand,
-  further,
-  Grow,
-  Task,
-  expression,
-  shut,
-  enclosed,
-  sign,
-  operandAt,
-  furtherAt,
-}
-use Rattle.stages.specs.Arith.{growStep, growSize, grow, whole, tree, isZero, divided, apply, withVariables, evaluate, arithmeticOf}
-use Rattle.stages.proofs.Bools.{or-right, and-both}
-use Rattle.stages.proofs.Texts.{all-append, span-join, span-more, start-name-byte}
+use Rattle.stages.specs.Constants.{fits, constant, minusOf, valued, nameNumber, signed}
+use Rattle.stages.specs.Arith.{Op, mul, div, rem, add, sub, lt, le, gt, ge, eq, ne, Token, textEnd, num, name, op, opens, shuts, Lexed}
+use Rattle.stages.specs.Arith.{Tree, constantOf, nameOf, negated, binary, Grown}
+use Rattle.stages.specs.Arith.{grow, whole, tree, isZero, divided, apply, withVariables, evaluate, arithmeticOf}
+use Rattle.stages.proofs.Bools.{and-both}
+use Rattle.stages.proofs.Texts.{all-append}
 use Rattle.stages.proofs.Outcomes.{Safe, refuses, gives, safe-bind, safe-choose}
 use Rattle.stages.proofs.Arith.{Numbered, ranged-safe, number-safe, Lexes, lex-refused, lex-end, lex-more, token-left}
 use Rattle.stages.proofs.Arith.{Leaves, none-left, some-left, expression-left, grow-left}

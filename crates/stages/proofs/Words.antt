@@ -11,7 +11,7 @@ use lib.Seq.{drop-cons}
 use Rattle.stages.specs.Recur.{below, below-ok, fix-eq, by-size}
 use Rattle.stages.specs.Numbers.{depthLimit, bareOperator}
 use Rattle.stages.specs.Bytes.{Text, between, isBlank, isOperator}
-use Rattle.stages.specs.Outcome.{refused, done, Placed, refusedAt, doneAt, placedAt, _then_, choose}
+use Rattle.stages.specs.Outcome.{refused, done, refusedAt, doneAt, placedAt, _then_, choose}
 use Rattle.stages.specs.Syntax.{Parts, Word, word}
 use Rattle.stages.specs.Read.{Taken, parts, Words, wordAt, wordsStep, wordsSize, words}
 use Rattle.stages.proofs.Read.{Good, stays, leaves, parts-good, word-good}

@@ -1,7 +1,7 @@
 -- Document 01, "What a call gives back": the three jobs, from all that is given to all that comes back.
-use Prim.Native.Nat.{ℕ, zero, suc, _+_}
-use mathlib.Core.Bool.{Bool, true, false, _&&_}
-use mathlib.Core.List.{List, [], _∷_, _++_}
+use Prim.Native.Nat.{ℕ, _+_}
+use mathlib.Core.Bool.{_&&_}
+use mathlib.Core.List.{_++_}
 use mathlib.Core.Option.{Option, none, some}
 use lib.Dec.{leb}
 use lib.ListN.{length, take, drop, replicate}
@@ -9,7 +9,7 @@ use Rattle.stages.specs.Numbers.{accepted, workTooSmall, badVariables, b
 use Rattle.stages.specs.Bytes.{Text}
 use Rattle.stages.specs.Outcome.{Placed, refusedAt, doneAt, _then_, require}
 use Rattle.stages.specs.Images.{Pairs, flat, image, variablesOf, homesOf, pathsOf, fieldsOf}
-use Rattle.stages.specs.Line.{Around, Fields, expandLine}
+use Rattle.stages.specs.Line.{Fields, expandLine}
 use Rattle.stages.specs.Quote.{quotedLine}
 
 -- what an expander or normaliser is handed: the buffers with the bytes in them, and the variables' used length

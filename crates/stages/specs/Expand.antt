@@ -1,8 +1,8 @@
 -- Document 01, "Units and expansion": parts to rows, the tilde, the forms of a parameter.
-use Prim.Native.Nat.{ℕ, zero, suc, _+_}
+use Prim.Native.Nat.{ℕ, _+_}
 use Prim.Native.Char.{code}
 use mathlib.Core.Bool.{Bool, true, false, _&&_}
-use mathlib.Core.List.{List, [], _∷_, _++_}
+use mathlib.Core.List.{[], _∷_, _++_}
 use mathlib.Core.Option.{Option, none, some}
 use lib.Dec.{eqb, leb}
 use lib.ListN.{length}
@@ -12,7 +12,7 @@ use Rattle.stages.specs.Outcome.{Outcome, refused, done, _>>=_}
 use Rattle.stages.specs.Images.{Pairs, lookup, stored, flat, imageLength, orEmpty}
 use Rattle.stages.specs.Syntax.{Colon, withColon, noColon, Side, Reach, Form, plain, minus, equals, query, plus, removal}
 use Rattle.stages.specs.Syntax.{escaped, unescaped, Parts, end, lit, quo, par, len, ari}
-use Rattle.stages.specs.Units.{Mark, L, E, Q, Cell, cell, N, Row, marked, bytes, expandedMark, litMark, fit, decimal}
+use Rattle.stages.specs.Units.{Mark, L, Q, cell, N, Row, marked, bytes, expandedMark, litMark, fit, decimal}
 use Rattle.stages.specs.Arith.{arithmeticOf}
 use Rattle.stages.specs.Pattern.{pattern, forRemoval}
 use Rattle.stages.specs.Removal.{removed}

@@ -1,9 +1,9 @@
 -- Document 01, "Reading a line": what stands at the head of a text. Every rule of reading is here, and nothing here recurs.
 use Prim.Native.Nat.{ℕ, zero, suc, _+_, _-_}
 use Prim.Native.Char.{code}
-use mathlib.Core.Bool.{Bool, true, false, _&&_, _||_, not}
-use mathlib.Core.List.{List, [], _∷_}
-use lib.Dec.{eqb, leb, ltb}
+use mathlib.Core.Bool.{Bool, true, false, _||_}
+use mathlib.Core.List.{[], _∷_}
+use lib.Dec.{eqb}
 use lib.ListN.{length}
 use Rattle.stages.specs.Numbers.{unended, bareOperator, substitution, unserved, badSyntax, tooDeep}
 use Rattle.stages.specs.Bytes.{Text, text, isIn, span, isNameStart, isNameByte, isDigit, isBlank, isOperator}

@@ -1,12 +1,12 @@
 -- Document 01: a whole line to its fields, from its length on.
-use Prim.Native.Nat.{ℕ, zero, suc, _+_}
-use mathlib.Core.Bool.{Bool, true, false, _&&_, not}
+use Prim.Native.Nat.{ℕ, _+_}
+use mathlib.Core.Bool.{Bool, _&&_, not}
 use mathlib.Core.List.{List, [], _∷_, _++_}
 use lib.Dec.{leb}
 use lib.ListN.{length}
 use Rattle.stages.specs.Numbers.{lineTooLong, zeroByte, outputRoom, lineLimit, imageLimit}
 use Rattle.stages.specs.Bytes.{Text, isIn}
-use Rattle.stages.specs.Outcome.{Outcome, refused, done, _>>=_, Placed, refusedAt, doneAt, placedAt, _then_, require}
+use Rattle.stages.specs.Outcome.{Outcome, done, _>>=_, Placed, doneAt, placedAt, _then_, require}
 use Rattle.stages.specs.Images.{Pairs, recordBytes}
 use Rattle.stages.specs.Syntax.{Parts, Word}
 use Rattle.stages.specs.Read.{readLine}

@@ -2,13 +2,13 @@
 use Prim.Native.Nat.{ℕ, zero, suc, _+_}
 use Prim.Native.Char.{code}
 use mathlib.Core.Bool.{Bool, true, false, _&&_, _||_, not}
-use mathlib.Core.List.{List, [], _∷_, _++_}
-use lib.Dec.{eqb, leb, ltb}
-use lib.ListN.{length, take, drop}
+use mathlib.Core.List.{List, [], _∷_}
+use lib.Dec.{eqb}
+use lib.ListN.{take, drop}
 use Rattle.stages.specs.Numbers.{bracketClass}
 use Rattle.stages.specs.Bytes.{Text, text, isIn, between}
 use Rattle.stages.specs.Outcome.{Outcome, refused, done, pick}
-use Rattle.stages.specs.Units.{Mark, L, E, Q, Cell, cell, N, Row}
+use Rattle.stages.specs.Units.{L, E, Q, cell, N, Row}
 
 -- a unit as patterns see it: whether it is active, and its byte
 pub record Sign : Type 0 where

@@ -1,11 +1,11 @@
 -- Document 01, "The program": what it writes for what it reads.
-use Prim.Native.Nat.{ℕ, zero, suc, _+_, _-_}
+use Prim.Native.Nat.{ℕ, _+_, _-_}
 use Prim.Native.Char.{code}
-use mathlib.Core.Bool.{Bool, true, false}
+use mathlib.Core.Bool.{true, false}
 use mathlib.Core.List.{List, [], _∷_, _++_}
 use mathlib.Core.Option.{Option, none, some}
 use lib.Dec.{eqb}
-use lib.ListN.{length, take, drop, replicate}
+use lib.ListN.{length, take, replicate}
 use Rattle.stages.specs.Numbers.{workLeast, imageLimit}
 use Rattle.stages.specs.Bytes.{Text, text}
 use Rattle.stages.specs.Images.{image}

@@ -1,13 +1,12 @@
 -- Document 01, "Splitting": a row to the rows of its fields.
-use Prim.Native.Nat.{ℕ, zero, suc, _+_}
-use mathlib.Core.Bool.{Bool, true, false}
+use mathlib.Core.Bool.{true, false}
 use mathlib.Core.List.{List, [], _∷_}
 use mathlib.Core.Option.{Option, none, some}
 use lib.ListN.{length}
 use Rattle.stages.specs.Recur.{fix}
 use Rattle.stages.specs.Bytes.{Text, text, isIn, isBlank, blanks}
 use Rattle.stages.specs.Images.{Pairs, lookup}
-use Rattle.stages.specs.Units.{Mark, L, E, Q, Cell, cell, N, Row}
+use Rattle.stages.specs.Units.{L, E, Q, Cell, cell, N, Row}
 
 pub data Delimiter : Type 0 where
   white hard other : Delimiter

@@ -1,6 +1,5 @@
 -- Document 01, "Reading a line": what a word is read as.
 use Prim.Native.Nat.{ℕ}
-use mathlib.Core.List.{List}
 use Rattle.stages.specs.Bytes.{Text}
 
 -- whether a colon stands before one of `-=?+`

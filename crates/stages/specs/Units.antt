@@ -1,7 +1,7 @@
 -- Document 01, "Units and expansion": rows of units, and the shortest decimal text.
 use Prim.Native.Nat.{ℕ, zero, suc, _+_, _/_, _%_}
 use Prim.Native.Char.{code}
-use mathlib.Core.Bool.{Bool, true, false}
+use mathlib.Core.Bool.{true, false}
 use mathlib.Core.List.{List, [], _∷_, _++_}
 use lib.Dec.{leb, ltb}
 use Rattle.stages.specs.Numbers.{rowLimit, tooManyUnits}

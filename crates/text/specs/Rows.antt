@@ -1,5 +1,5 @@
 -- How a row of units stands in lent bytes: a unit is two bytes, its byte and behind it its mark; the empty mark is two zeros.
-use Prim.Native.Nat.{ℕ, zero}
+use Prim.Native.Nat.{ℕ}
 use mathlib.Core.Bool.{Bool, true, false, _||_}
 use mathlib.Core.List.{[], _∷_}
 use lib.Dec.{eqb}

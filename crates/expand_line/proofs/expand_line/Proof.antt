@@ -1,5 +1,5 @@
 -- The fields so far stand after the version byte, and the words that are left give the rest. A word has a byte, so what is left of the line falls.
-use Prim.Native.Nat.{_-_, _<_, _≤_}
+use Prim.Native.Nat.{_-_}
 use native.Mathlib.Omega.{arith}
 use mathlib.Core.Path.{_≡_, refl, _∙_}
 use lib.ListN.{length, take}

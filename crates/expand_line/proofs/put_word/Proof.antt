@@ -1,5 +1,4 @@
 -- The row stands at the front of the work area, and its fields or the number that refuses them are the word's.
-use Prim.Native.Nat.{ℕ}
 use native.Mathlib.Omega.{arith}
 use mathlib.Core.Path.{sym}
 use lib.ListN.{take}

@@ -2,7 +2,7 @@
 use Prim.Native.Nat.{ℕ, _+_, _-_, _*_, _≤_}
 use mathlib.Core.Option.{Option}
 use Rattle.expand_add.proofs.Holding.{table-held}
-use Rattle.expand_word.specs.Tildes.{Given, Opens}
+use Rattle.expand_word.specs.Tildes.{Given}
 use Rattle.expand_word.proofs.Wording.{
   ready-size,
   home-known,

@@ -7,7 +7,7 @@ use Rattle.expand_word.proofs.Directories.{directory-wide, directory-gi
 use borrow.Author.Needs.{needs}
 use borrow.Rule.Slice.PartMut.{same-len-mid, mid-len}
 use lib.ListN.{length}
-use mathlib.Core.Path.{_≡_, _∙_}
+use mathlib.Core.Path.{_∙_}
 use native.Mathlib.Omega.{arith}
 use Rattle.expand_word.proofs.homes.give_directory.Statement.{statement}
 use Rattle.expand_word.proofs.homes.give_directory.Tie as tie

@@ -1,6 +1,6 @@
 -- By the two cases of what was found.
 use Prim.Native.Nat.{_≤_}
-use mathlib.Core.Path.{sym, ap}
+use mathlib.Core.Path.{ap}
 use native.Mathlib.Omega.{arith}
 use borrow.Author.Needs.{needs}
 use lib.ListN.{length}

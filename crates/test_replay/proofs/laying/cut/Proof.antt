@@ -2,7 +2,6 @@
 use mathlib.Core.Path.{sym}
 use native.Mathlib.Omega.{arith}
 use lib.Seq.{length-take-le}
-use borrow.Author.Needs.{needs}
 use Rattle.test_replay.proofs.laying.cut.Statement.{statement}
 use Rattle.test_replay.proofs.laying.cut.Tie as tie
 
