@@ -10,7 +10,8 @@ ghost use Rattle.quote.specs.Answers.{quotingOf};
 ghost use Rattle.call_check.specs.Calls.{roomOf};
 ghost use Rattle.call_deliver.specs.Hands.{refusedAs, writingOf, Accepts};
 
-// "The answer is a number, a place, the output length and the variables' used length."
+// "The answer is a number, a place, the output length and the variables' used length." Laid out as C lays it out, so that the jobs for C hand it on.
+#[repr(C)]
 pub struct Answer {
     pub number: u8,
     pub place: usize,

@@ -23,8 +23,8 @@ pub quote-determined : (fields old : Text) (r s : QuoteAnswer) (out out' : Text)
     (stage.quoter fields old) s out'
     → (r ≡ s) × (out ≡ out')
 quote-determined fields old r s out out' g h = (
-  ap (λ (n : ℕ). record { number = n; place = r .place; len = r .len }) (g .number ∙ sym (h .number))
-      ∙ ap (λ (n : ℕ). record { number = s .number; place = n; len = r .len }) (g .place ∙ sym (h .place))
-      ∙ ap (λ (n : ℕ). record { number = s .number; place = s .place; len = n }) (g .outLength ∙ sym (h .outLength)),
+  ap (λ (n : ℕ). record { number = n; place = r .place; «out_len» = r .«out_len» }) (g .number ∙ sym (h .number))
+      ∙ ap (λ (n : ℕ). record { number = s .number; place = n; «out_len» = r .«out_len» }) (g .place ∙ sym (h .place))
+      ∙ ap (λ (n : ℕ). record { number = s .number; place = s .place; «out_len» = n }) (g .outLength ∙ sym (h .outLength)),
   g .output ∙ sym (h .output),
 )

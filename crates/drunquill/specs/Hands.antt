@@ -8,5 +8,5 @@ use Rattle.drunquill.specs.declared.QuoteAnswer.{QuoteAnswer}
 pub record Quotes (q : stage.Quoting) (r : QuoteAnswer) (out : Text) : Type 0 where
   pub number : r .number ≡ q .number
   pub place : r .place ≡ q .place
-  pub outLength : r .len ≡ q .outLength
+  pub outLength : r .«out_len» ≡ q .outLength
   pub output : out ≡ q .out

@@ -9,11 +9,12 @@ ghost use Rattle.call_check.specs.Calls.{given};
 ghost use Rattle.call_deliver.specs.Hands.{Gives};
 ghost use Rattle.drunquill.specs.Hands.{Quotes};
 
-// The quoter's answer: "The quoter has neither variables nor work area."
+// The quoter's answer: "The quoter has neither variables nor work area." Laid out as C lays it out.
+#[repr(C)]
 pub struct QuoteAnswer {
     pub number: u8,
     pub place: usize,
-    pub len: usize,
+    pub out_len: usize,
 }
 
 // The expander: the line's fields, an image, to `out`. The variables are an image in the first `vars_used` bytes of their buffer, and may change. On refusal
@@ -62,17 +63,17 @@ pub fn quote(fields: &[u8], out: &mut [u8]) -> QuoteAnswer
         Quoted::Len(n) => QuoteAnswer {
             number: numbers::ACCEPTED,
             place: 0,
-            len: n,
+            out_len: n,
         },
         Quoted::Malformed => QuoteAnswer {
             number: numbers::REFUSED_FIELDS,
             place: 0,
-            len: 0,
+            out_len: 0,
         },
         Quoted::NoRoom => QuoteAnswer {
             number: numbers::REFUSED_OUTPUT,
             place: 0,
-            len: 0,
+            out_len: 0,
         },
     }
 }

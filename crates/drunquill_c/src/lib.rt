@@ -1,25 +1,11 @@
 // The three jobs under C's calling convention: include/drunquill.h declares them for C. Each lent buffer comes as a pointer and a length, and a job's
-// answer goes out as a struct that C lays out the same way.
+// answer is a struct that C lays out the same way.
 ghost use Rattle.stages.specs.Call.{expander, normaliser, quoter};
 ghost use Rattle.call_check.specs.Calls.{given};
-ghost use Rattle.drunquill_c.specs.Hands.{Gives, Quotes};
-
-// "The answer is a number, a place, the output length and the variables' used length."
-#[repr(C)]
-pub struct Answer {
-    pub number: u8,
-    pub place: usize,
-    pub out_len: usize,
-    pub vars_used: usize,
-}
-
-// The quoter's answer: "The quoter has neither variables nor work area."
-#[repr(C)]
-pub struct QuoteAnswer {
-    pub number: u8,
-    pub place: usize,
-    pub out_len: usize,
-}
+ghost use Rattle.call_deliver.specs.Hands.{Gives};
+ghost use Rattle.drunquill.specs.Hands.{Quotes};
+use call_deliver::Answer;
+use drunquill::QuoteAnswer;
 
 // The expander: the line's fields, an image, to `out`. The variables are an image in the first `vars_used` bytes of their buffer, and may change. On refusal
 // the variables and the output hold their old bytes; the work area is zero throughout after every call.
@@ -37,13 +23,7 @@ pub extern "C" fn drunquill_expand(
         (expander (given (now (line .entry)) (now (vars .entry)) «vars_used» (now (homes .entry)) (now (paths .entry)) (now (work .entry))
         (now (out .entry)))) r (now (vars .exit)) (now (work .exit)) (now (out .exit)) ⌝ }
 {
-    let expanded = drunquill::expand(line, vars, vars_used, homes, paths, work, out);
-    Answer {
-        number: expanded.number,
-        place: expanded.place,
-        out_len: expanded.out_len,
-        vars_used: expanded.vars_used,
-    }
+    drunquill::expand(line, vars, vars_used, homes, paths, work, out)
 }
 
 // The normaliser: the line's fields as a quoted line to `out`, all else as in the expander.
@@ -61,13 +41,7 @@ pub extern "C" fn drunquill_normalise(
         (normaliser (given (now (line .entry)) (now (vars .entry)) «vars_used» (now (homes .entry)) (now (paths .entry)) (now (work .entry))
         (now (out .entry)))) r (now (vars .exit)) (now (work .exit)) (now (out .exit)) ⌝ }
 {
-    let normalised = drunquill::normalise(line, vars, vars_used, homes, paths, work, out);
-    Answer {
-        number: normalised.number,
-        place: normalised.place,
-        out_len: normalised.out_len,
-        vars_used: normalised.vars_used,
-    }
+    drunquill::normalise(line, vars, vars_used, homes, paths, work, out)
 }
 
 // The quoter: an image of fields as a quoted line to `out`, whose bytes after the line stay; on refusal all of them do.
@@ -75,10 +49,5 @@ pub extern "C" fn drunquill_normalise(
 pub extern "C" fn drunquill_quote(fields: &[u8], out: &mut [u8]) -> QuoteAnswer
     ensures { λ r. ⌜ Quotes (quoter (now (fields .entry)) (now (out .entry))) r (now (out .exit)) ⌝ }
 {
-    let quoted = drunquill::quote(fields, out);
-    QuoteAnswer {
-        number: quoted.number,
-        place: quoted.place,
-        out_len: quoted.len,
-    }
+    drunquill::quote(fields, out)
 }

@@ -169,7 +169,7 @@ fn hold_quote(told: Told, case: &[u8], answer: QuoteAnswer, out: &[u8]) -> Told 
     let told = hold_word(
         told,
         b"output length",
-        answer.len,
+        answer.out_len,
         case,
         words::QUOTE_LENGTH,
     );
