@@ -10,9 +10,9 @@ use Rattle.drunquill.specs.Hands.{Quotes}
 use Rattle.drunquill.specs.declared.QuoteAnswer.{QuoteAnswer}
 
 abbrev quoteAs : Quoted → QuoteAnswer
-quoteAs (Len n) = record { number = accepted; place = 0; len = n }
-quoteAs Malformed = record { number = badFields; place = 0; len = 0 }
-quoteAs NoRoom = record { number = outputRoom; place = 0; len = 0 }
+quoteAs (Len n) = record { number = accepted; place = 0; «out_len» = n }
+quoteAs Malformed = record { number = badFields; place = 0; «out_len» = 0 }
+quoteAs NoRoom = record { number = outputRoom; place = 0; «out_len» = 0 }
 
 -- the job's answer has the values of the quoter's
 pub quotes : (q : Quoting) (s : Quoted) (left : Text) → quotingOf s left ≡ q → Quotes q (quoteAs s) left

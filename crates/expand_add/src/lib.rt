@@ -7,6 +7,7 @@ ghost use Rattle.stages.specs.Images.{held};
 ghost use Rattle.stages.specs.Expand.{value};
 ghost use Rattle.stages.specs.Units.{marked, expandedMark};
 ghost use Rattle.stages.specs.Constants.{signed};
+ghost use Rattle.arith_decimal.specs.Digits.{mostDigits};
 ghost use Rattle.row.specs.Marks.{markOf};
 ghost use Rattle.table.specs.Places.{Table};
 ghost use Rattle.expand_add.specs.Added.{Adds, EndsExpanded};
@@ -58,7 +59,7 @@ pub fn give_value(name: &[u8], row: RowEnd, on: Onward, vars: &[u8], area: &mut 
 
 // Adds the decimal text of a number, which is worked out in `digits`.
 fn give_signed(z: i64, row: RowEnd, on: Onward, digits: &mut [u8], area: &mut [u8]) -> Expanded
-    requires { ⌜ (20 ≤ length (now digits)) × (row .units ≤ rowLimit) × (2 * rowLimit ≤ length (now area) + 2 * row .units) ⌝ }
+    requires { ⌜ (mostDigits ≤ length (now digits)) × (row .units ≤ rowLimit) × (2 * rowLimit ≤ length (now area) + 2 * row .units) ⌝ }
     ensures { λ r. ⌜ Adds (row .units) on (done (marked (expandedMark (markOf (row .mark))) (signed z))) (now (area .exit)) r ⌝ }
 {
     let n = arith_decimal::put_signed(digits, z);

@@ -7,6 +7,7 @@ ghost use Rattle.stages.specs.Outcome.{done};
 ghost use Rattle.stages.specs.Images.{held};
 ghost use Rattle.stages.specs.Expand.{value};
 ghost use Rattle.stages.specs.Units.{cell, marked, expandedMark, decimal};
+ghost use Rattle.arith_decimal.specs.Digits.{mostDigits};
 ghost use Rattle.row.specs.Marks.{markOf};
 ghost use Rattle.table.specs.Places.{Table};
 ghost use Rattle.expand_add.specs.Added.{Adds};
@@ -35,7 +36,7 @@ pub fn give_unit(b: u8, row: RowEnd, on: Onward, area: &mut [u8]) -> Expanded
 
 // Adds the decimal text of a count, which is worked out in `digits`.
 fn give_count(n: u64, row: RowEnd, on: Onward, digits: &mut [u8], area: &mut [u8]) -> Expanded
-    requires { ⌜ (20 ≤ length (now digits)) × (row .units ≤ rowLimit) × (2 * rowLimit ≤ length (now area) + 2 * row .units) ⌝ }
+    requires { ⌜ (mostDigits ≤ length (now digits)) × (row .units ≤ rowLimit) × (2 * rowLimit ≤ length (now area) + 2 * row .units) ⌝ }
     ensures { λ r. ⌜ Adds (row .units) on (done (marked (expandedMark (markOf (row .mark))) (decimal n))) (now (area .exit)) r ⌝ }
 {
     let n = arith_decimal::put_decimal(digits, n);
