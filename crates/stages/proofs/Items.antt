@@ -8,19 +8,19 @@ use mathlib.Core.List.{[], _∷_}
 use lib.Dec.{eqb}
 use lib.ListN.{length}
 use Rattle.stages.specs.Numbers.{unended, unserved, badSyntax, tooDeep}
-use Rattle.stages.specs.Bytes.{Text, text, between, isIn, isBlank, isOperator, isNameStart, isNameByte, span}
+use Rattle.stages.specs.Bytes.{Text, text, between, isIn, isBlank, isOperator, isNameStart, isNameByte, isLoginByte, span}
 use Rattle.stages.specs.Outcome.{pick}
 use Rattle.stages.specs.Images.{isName}
-use Rattle.stages.specs.Syntax.{Escape, Side, suffix, prefix, Form, Mode, word, bare, single, double, quotedOperand, arith}
-use Rattle.stages.specs.Items.{Item, fault, stop, byte, paren, quote, valueOf, count, inner, sum, item, ended, itemOf, sort, Sort}
-use Rattle.stages.specs.Items.{backquote, closes, operator, quotes, quotes2, backslash, dollar, bad, opening, closing, literal}
+use Rattle.stages.specs.Syntax.{Escape, Side, suffix, prefix, Form, Start, fresh, begun, Mode, word, bare, single, double, quotedOperand, arith}
+use Rattle.stages.specs.Items.{Item, fault, stop, byte, paren, quote, valueOf, count, inner, sum, homeOf, item, ended, itemOf, sort, Sort}
+use Rattle.stages.specs.Items.{backquote, closes, operator, quotes, quotes2, backslash, dollar, bad, opening, closing, tilde, literal}
 use Rattle.stages.specs.Items.{wrong, quotable, notServed, behindBackslash, behindColon, behindRemoval, behindName, behindLength, nameThen, braced}
-use Rattle.stages.specs.Items.{parenthesis, expansion, outer, opened, closed}
+use Rattle.stages.specs.Items.{parenthesis, expansion, outer, opened, closed, endsLogin, behindTilde, beginsTilde}
 use Rattle.stages.proofs.Bools.{and-both}
-use Rattle.stages.proofs.Texts.{span-all, span-more, start-name-byte}
+use Rattle.stages.proofs.Texts.{span-all, span-more, span-stop, start-name-byte}
 use Rattle.stages.proofs.Outcomes.{Each}
 
--- a fault's number is from 7 to 12, the item ends its text only where `s` allows it, P holds of its byte, and its name is a name
+-- a fault's number is from 7 to 12, the item ends its text only where `s` allows it, P holds of its bytes, and its name is a name
 pub data Fair (P : ℕ → Type 0) : Bool → Item → Type 0 where
   faults : {s : Bool} {n : ℕ} → between unended n tooDeep ≡ true → Fair P s (fault n)
   stops : {k : ℕ} → Fair P true (stop k)
@@ -31,6 +31,7 @@ pub data Fair (P : ℕ → Type 0) : Bool → Item → Type 0 where
   a-count : {s : Bool} {x : Text} {k : ℕ} → isName x ≡ true → Fair P s (count x k)
   an-inner : {s : Bool} {x : Text} {f : Form} {m : Mode} {k : ℕ} → isName x ≡ true → Fair P s (inner x f m k)
   a-sum : {s : Bool} → Fair P s sum
+  a-home : {s : Bool} {x : Text} {k : ℕ} → Each P x → Fair P s (homeOf x k)
 
 pick-where : {P : ℕ → Type 0} {s : Bool} (x : Bool) {i j : Item} → (x ≡ true → Fair P s i) → Fair P s j → Fair P s (pick x i j)
 pick-where true h k = h refl
@@ -100,8 +101,8 @@ module _ (P : ℕ → Type 0) (s : Bool) where
 
   opened-fair : (m : Mode) (b : ℕ) → P b → Fair P s (opened m b)
   unfolding opened
-  opened-fair word b p = a-byte p
-  opened-fair bare b p = a-byte p
+  opened-fair (word s) b p = a-byte p
+  opened-fair (bare s) b p = a-byte p
   opened-fair single b p = a-byte p
   opened-fair double b p = a-byte p
   opened-fair quotedOperand b p = a-byte p
@@ -114,13 +115,27 @@ outer-fair P (b ∷ t) = pick-fair (eqb b (code ")")) stops (pick-fair (eqb b (c
 
 closed-fair : (P : ℕ → Type 0) (m : Mode) (b : ℕ) (t : Text) → P b → Fair P true (closed m b t)
 unfolding closed
-closed-fair P word b t p = a-byte p
-closed-fair P bare b t p = a-byte p
+closed-fair P (word s) b t p = a-byte p
+closed-fair P (bare s) b t p = a-byte p
 closed-fair P single b t p = a-byte p
 closed-fair P double b t p = a-byte p
 closed-fair P quotedOperand b t p = a-byte p
 closed-fair P (arith zero) b t p = outer-fair P t
 closed-fair P (arith (suc n)) b t p = a-paren p
+
+-- a run's bytes are bytes of the text
+run-each : (P : ℕ → Type 0) (f : ℕ → Bool) (t : Text) → Each P t → Each P (span f t .0)
+unfolding span
+run-each P f [] h = tt
+run-each P f (b ∷ t) h = go (f b) refl (run-each P f t (h .1))
+  where
+    go : (x : Bool) → f b ≡ x → Each P (span f t .0) → Each P (span f (b ∷ t) .0)
+    go true e ih = rw (span-more f b t e) (h .0, ih)
+    go false e ih = rw (span-stop f (b ∷ t) e) tt
+
+tilde-fair : (P : ℕ → Type 0) (s : Bool) (m : Mode) (b : ℕ) (t : Text) → Each P (b ∷ t) → Fair P s (behindTilde m b t)
+unfolding behindTilde
+tilde-fair P s m b t h = pick-fair (endsLogin m (span isLoginByte t .1)) (a-home (run-each P isLoginByte t (h .1))) (a-byte (h .0))
 
 -- P holds of the two bytes that may stand for themselves
 module _ (P : ℕ → Type 0) (p : P (code "$")) (q : P (code "\\")) where
@@ -149,6 +164,7 @@ module _ (P : ℕ → Type 0) (p : P (code "$")) (q : P (code "\\")) where
   of-fair bad m d b t h = faults refl
   of-fair opening m d b t h = opened-fair P true m b (h .0)
   of-fair closing m d b t h = closed-fair P m b t (h .0)
+  of-fair tilde m d b t h = tilde-fair P true m b t h
   of-fair literal m d b t h = a-byte (h .0)
 
   pub item-passes : (m : Mode) (d b : ℕ) (t : Text) → Each P (b ∷ t) → Fair P true (item m d (b ∷ t))
@@ -181,6 +197,7 @@ view (a-value e) = on (a-value e)
 view (a-count e) = on (a-count e)
 view (an-inner e) = on (an-inner e)
 view a-sum = on a-sum
+view (a-home h) = on (a-home h)
 
 -- the name of an item is a name
 abbrev pub Named : Item → Type 0
@@ -193,6 +210,7 @@ Named (valueOf x k) = isName x ≡ true
 Named (count x k) = isName x ≡ true
 Named (inner x f m k) = isName x ≡ true
 Named sum = Unit {0}
+Named (homeOf x k) = Unit {0}
 
 fair-named : {P : ℕ → Type 0} {s : Bool} {i : Item} → Fair P s i → Named i
 fair-named (faults h) = tt
@@ -204,11 +222,12 @@ fair-named (a-value e) = e
 fair-named (a-count e) = e
 fair-named (an-inner e) = e
 fair-named a-sum = tt
+fair-named (a-home h) = tt
 
 ended-named : (m : Mode) → Named (ended m)
 unfolding ended
-ended-named word = tt
-ended-named bare = tt
+ended-named (word s) = tt
+ended-named (bare s) = tt
 ended-named single = tt
 ended-named double = tt
 ended-named quotedOperand = tt
@@ -221,34 +240,35 @@ item-named m d (b ∷ t) i e = rw (← e) (fair-named (item-fair m d b t))
 
 -- a word goes on at a byte that is no blank
 data Goes (s : Sort) : Type 0 where
-  goes : ((d b : ℕ) (t : Text) → Fair AnyByte false (itemOf s word d b t)) → Goes s
+  goes : ((u : Start) (d b : ℕ) (t : Text) → Fair AnyByte false (itemOf s (word u) d b t)) → Goes s
 
 pick-goes : (x : Bool) {s u : Sort} → Goes s → Goes u → Goes (pick x s u)
 pick-goes true h k = h
 pick-goes false h k = k
 
-faulty-goes : Goes backquote × Goes operator × Goes quotes × Goes quotes2 × Goes backslash × Goes dollar × Goes literal
+faulty-goes : Goes backquote × Goes operator × Goes quotes × Goes quotes2 × Goes backslash × Goes dollar × Goes literal × Goes tilde
 unfolding itemOf
 faulty-goes = (
-  goes (λ d b t. faults refl),
-  goes (λ d b t. faults refl),
-  goes (λ d b t. a-quote),
-  goes (λ d b t. a-quote),
-  goes (λ d b t. escaped-fair AnyByte tt tt false word t (any-bytes t)),
-  goes (λ d b t. expansion-fair AnyByte tt tt false word d t),
-  goes (λ d b t. a-byte tt),
+  goes (λ u d b t. faults refl),
+  goes (λ u d b t. faults refl),
+  goes (λ u d b t. a-quote),
+  goes (λ u d b t. a-quote),
+  goes (λ u d b t. escaped-fair AnyByte tt tt false (word u) t (any-bytes t)),
+  goes (λ u d b t. expansion-fair AnyByte tt tt false (word u) d t),
+  goes (λ u d b t. a-byte tt),
+  goes (λ u d b t. tilde-fair AnyByte false (word u) b t (any-bytes (b ∷ t))),
 )
 
-word-sort : (b : ℕ) → isBlank b ≡ false → Goes (sort word b)
+word-sort : (s : Start) (b : ℕ) → isBlank b ≡ false → Goes (sort (word s) b)
 unfolding sort
-word-sort b e =
+word-sort s b e =
     let g = faulty-goes in
-    rw e (pick-goes (eqb b (code "`")) (g .0) (pick-goes (isOperator b) (g .1) (pick-goes (eqb b (code "'")) (g .2) (pick-goes (eqb b (code "\"")) (g .3)
-    (pick-goes (eqb b (code "\\")) (g .4) (pick-goes (eqb b (code "$")) (g .5) (g .6)))))))
+    rw e (pick-goes (beginsTilde s b) (g .7) (pick-goes (eqb b (code "`")) (g .0) (pick-goes (isOperator b) (g .1) (pick-goes (eqb b (code "'")) (g .2) (pick-goes (eqb b (code "\"")) (g .3)
+    (pick-goes (eqb b (code "\\")) (g .4) (pick-goes (eqb b (code "$")) (g .5) (g .6))))))))
 
-pub word-goes : (d b : ℕ) (t : Text) → isBlank b ≡ false → Fair AnyByte false (item word d (b ∷ t))
+pub word-goes : (s : Start) (d b : ℕ) (t : Text) → isBlank b ≡ false → Fair AnyByte false (item (word s) d (b ∷ t))
 unfolding item
-word-goes d b t e = go (word-sort b e)
+word-goes s d b t e = go (word-sort s b e)
   where
-    go : {s : Sort} → Goes s → Fair AnyByte false (itemOf s word d b t)
-    go (goes h) = h d b t
+    go : {r : Sort} → Goes r → Fair AnyByte false (itemOf r (word s) d b t)
+    go (goes h) = h s d b t

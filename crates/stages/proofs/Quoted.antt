@@ -11,7 +11,7 @@ use lib.ListN.{length, length-append}
 use Rattle.stages.specs.Numbers.{depthLimit}
 use Rattle.stages.specs.Bytes.{Text, text, isBlank, isOperator}
 use Rattle.stages.specs.Outcome.{done, doneAt, pick}
-use Rattle.stages.specs.Syntax.{escaped, unescaped, Parts, Word, end, lit, quo, par, len, ari, word, single}
+use Rattle.stages.specs.Syntax.{escaped, unescaped, Parts, Word, end, lit, quo, par, len, ari, til, Start, fresh, begun, word, single}
 use Rattle.stages.specs.Items.{item, byte}
 use Rattle.stages.specs.Read.{parts, put, nest, readItem, words, wordAt, readLine}
 use Rattle.stages.specs.Quote.{quotedBytes, quotedField, quotedLine, blanked}
@@ -56,24 +56,25 @@ unfolding item readItem
 run-end t d = parts-item single d (39 ∷ t) refl
 
 -- the quote that opens one
-run-opens : (t : Text) (d : ℕ) → parts word d (39 ∷ t) ≡ nest quo (parts single d t) (parts word d)
+run-opens : (s : Start) (t : Text) (d : ℕ) → parts (word s) d (39 ∷ t) ≡ nest quo (parts single d t) (parts (word begun) d)
 unfolding item readItem
-run-opens t d = parts-item word d (39 ∷ t) refl
+run-opens fresh t d = parts-item (word fresh) d (39 ∷ t) refl
+run-opens begun t d = parts-item (word begun) d (39 ∷ t) refl
 
 -- a quote behind a backslash
-escaped-quote : (t : Text) (d : ℕ) → parts word d (92 ∷ 39 ∷ t) ≡ put (lit escaped 39) (parts word d t)
+escaped-quote : (t : Text) (d : ℕ) → parts (word begun) d (92 ∷ 39 ∷ t) ≡ put (lit escaped 39) (parts (word begun) d t)
 unfolding item readItem
-escaped-quote t d = parts-item word d (92 ∷ 39 ∷ t) refl
+escaped-quote t d = parts-item (word begun) d (92 ∷ 39 ∷ t) refl
 
 -- what ends a quoted field: the line's end, or a blank
 data EndsField : Text → Type 0 where
   line : EndsField []
   blank : (t : Text) → EndsField (32 ∷ t)
 
-word-end : (t : Text) (d : ℕ) → EndsField t → parts word d t ≡ done (end, t)
+word-end : (t : Text) (d : ℕ) → EndsField t → parts (word begun) d t ≡ done (end, t)
 unfolding item readItem
-word-end t d line = parts-item word d [] refl
-word-end t d (blank u) = parts-item word d (32 ∷ u) refl
+word-end t d line = parts-item (word begun) d [] refl
+word-end t d (blank u) = parts-item (word begun) d (32 ∷ u) refl
 
 -- a quoted field in front of a text
 field-append : (t rest : Text) → quotedField t ++ rest ≡ 39 ∷ quotedBytes t ++ 39 ∷ rest
@@ -88,17 +89,17 @@ behind (b ∷ t) rest = pick (eqb b 39) (text "\\''" ++ quotedBytes t ++ 39 ∷ 
 module _ (rest : Text) (d : ℕ) (ends : EndsField rest) where
   record Run (t : Text) : Type 0 where
     first : parts single d (quotedBytes t ++ 39 ∷ rest) ≡ done (runs t .0, behind t rest)
-    others : parts word d (behind t rest) ≡ done (runs t .1, rest)
+    others : parts (word begun) d (behind t rest) ≡ done (runs t .1, rest)
 
   -- a field whose runs are read is read
-  whole : (t : Text) → Run t → parts word d (39 ∷ quotedBytes t ++ 39 ∷ rest) ≡ done (fieldParts t, rest)
-  whole t r = run-opens (quotedBytes t ++ 39 ∷ rest) d ∙ rw (r .first, r .others)
+  whole : (s : Start) (t : Text) → Run t → parts (word s) d (39 ∷ quotedBytes t ++ 39 ∷ rest) ≡ done (fieldParts t, rest)
+  whole s t r = run-opens s (quotedBytes t ++ 39 ∷ rest) d ∙ rw (r .first, r .others)
 
   run-quote : (t : Text) → Run t → Run (39 ∷ t)
   unfolding quotedBytes
   run-quote t r = record {
     first = run-end (text "\\''" ++ quotedBytes t ++ 39 ∷ rest) d;
-    others = escaped-quote (39 ∷ quotedBytes t ++ 39 ∷ rest) d ∙ rw (whole t r);
+    others = escaped-quote (39 ∷ quotedBytes t ++ 39 ∷ rest) d ∙ rw (whole begun t r);
   }
 
   run-other : (b : ℕ) (t : Text) → eqb b 39 ≡ false → Run t → Run (b ∷ t)
@@ -106,11 +107,11 @@ module _ (rest : Text) (d : ℕ) (ends : EndsField rest) where
   run-other b t e r = record { first = rw (e, quotedBytes, run-byte b (quotedBytes t ++ 39 ∷ rest) d e, r .first); others = rw (e, r .others) }
 
   -- a quoted field is one word
-  field-reads : (t : Text) → parts word d (quotedField t ++ rest) ≡ done (fieldParts t, rest)
+  field-reads : (t : Text) → parts (word fresh) d (quotedField t ++ rest) ≡ done (fieldParts t, rest)
   unfolding quotedBytes
   field-reads t =
-      ap (parts word d) (field-append t rest)
-      ∙ whole t (by-quotes Run (record { first = run-end rest d; others = word-end rest d ends }) run-quote run-other t)
+      ap (parts (word fresh) d) (field-append t rest)
+      ∙ whole fresh t (by-quotes Run (record { first = run-end rest d; others = word-end rest d ends }) run-quote run-other t)
 
 -- READING THE LINE
 
@@ -152,6 +153,7 @@ plainBytes (quo q p) = plainBytes q ++ plainBytes p
 plainBytes (par x f q p) = []
 plainBytes (len x p) = []
 plainBytes (ari q p) = []
+plainBytes (til x p) = []
 
 abbrev wordTexts : List Word → List Text
 wordTexts [] = []

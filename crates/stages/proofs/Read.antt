@@ -11,9 +11,9 @@ use lib.Seq.{drop-drop}
 use Rattle.stages.specs.Recur.{below, below-ok, fix-eq, by-size}
 use Rattle.stages.specs.Bytes.{Text, between, isBlank}
 use Rattle.stages.specs.Outcome.{refused, done}
-use Rattle.stages.specs.Syntax.{Form, plain, Escape, unescaped, Parts, end, lit, quo, par, len, ari}
-use Rattle.stages.specs.Syntax.{Mode, word, bare, single, double, quotedOperand, arith as sums}
-use Rattle.stages.specs.Items.{Item, fault, stop, byte, paren, quote, valueOf, count, inner, sum, item, ended}
+use Rattle.stages.specs.Syntax.{Form, plain, Escape, unescaped, Parts, end, lit, quo, par, len, ari, til}
+use Rattle.stages.specs.Syntax.{Start, Mode, word, bare, single, double, quotedOperand, arith as sums}
+use Rattle.stages.specs.Items.{Item, fault, stop, byte, paren, quote, valueOf, count, inner, sum, homeOf, item, ended, onward}
 use Rattle.stages.specs.Read.{Taken, Reader, put, nest, readItem, Ask, askSize, askStep, parts}
 use Rattle.stages.proofs.Texts.{drop-short}
 use Rattle.stages.proofs.Items.{
@@ -27,6 +27,7 @@ use Rattle.stages.proofs.Items.{
   a-count,
   an-inner,
   a-sum,
+  a-home,
   View,
   ends,
   on,
@@ -57,15 +58,16 @@ module _ (k : ℕ) (rec : Reader) (g : (m : Mode) (d : ℕ) (t : Text) → lengt
   going-good : (m : Mode) (d b : ℕ) (t : Text) {i : Item} → Fair AnyByte false i → length t < k → Good (length t) (readItem rec m d (b ∷ t) i)
   unfolding readItem
   going-good m d b t (faults w) h = stays w
-  going-good m d b t (a-byte {k = n} _) h = let e = drop-short n t in put-good _ (g m d (drop n t) (omega arith)) e
+  going-good m d b t (a-byte {k = n} _) h = let e = drop-short n t in put-good _ (g (onward m) d (drop n t) (omega arith)) e
   going-good m d b t (a-paren {n = n} _) h = put-good _ (g (sums n) d t h) (omega arith)
-  going-good m d b t (a-quote {m = n}) h = nest-good quo m d (length t) (length t) (g n d t h) h (omega arith)
-  going-good m d b t (a-value {k = n} _) h = let e = drop-short n t in put-good _ (g m d (drop n t) (omega arith)) e
-  going-good m d b t (a-count {k = n} _) h = let e = drop-short n t in put-good _ (g m d (drop n t) (omega arith)) e
+  going-good m d b t (a-quote {m = n}) h = nest-good quo (onward m) d (length t) (length t) (g n d t h) h (omega arith)
+  going-good m d b t (a-value {k = n} _) h = let e = drop-short n t in put-good _ (g (onward m) d (drop n t) (omega arith)) e
+  going-good m d b t (a-count {k = n} _) h = let e = drop-short n t in put-good _ (g (onward m) d (drop n t) (omega arith)) e
   going-good m d b t (an-inner {x = x} {f = f} {m = n} {k = j} _) h =
-      let e = drop-short j t in nest-good (par x f) m d (length (drop j t)) (length t) (g n (d - 1) (drop j t) (omega arith)) (omega arith) e
+      let e = drop-short j t in nest-good (par x f) (onward m) d (length (drop j t)) (length t) (g n (d - 1) (drop j t) (omega arith)) (omega arith) e
   going-good m d b t a-sum h =
-      let e = drop-short 2 t in nest-good ari m d (length (drop 2 t)) (length t) (g (sums 0) (d - 1) (drop 2 t) (omega arith)) (omega arith) e
+      let e = drop-short 2 t in nest-good ari (onward m) d (length (drop 2 t)) (length t) (g (sums 0) (d - 1) (drop 2 t) (omega arith)) (omega arith) e
+  going-good m d b t (a-home {k = n} _) h = let e = drop-short n t in put-good _ (g (onward m) d (drop n t) (omega arith)) e
 
   fair-good : (m : Mode) (d b : ℕ) (t : Text) {i : Item} → View AnyByte i → length t < k → Good (suc (length t)) (readItem rec m d (b ∷ t) i)
   unfolding readItem
@@ -74,8 +76,8 @@ module _ (k : ℕ) (rec : Reader) (g : (m : Mode) (d : ℕ) (t : Text) → lengt
 
   item-good : (m : Mode) (d : ℕ) (t : Text) → length t ≤ k → Good (length t) (readItem rec m d t (item m d t))
   unfolding readItem item ended
-  item-good word d [] h = leaves {p = (end, [])} (omega arith)
-  item-good bare d [] h = stays refl
+  item-good (word s) d [] h = leaves {p = (end, [])} (omega arith)
+  item-good (bare s) d [] h = stays refl
   item-good single d [] h = stays refl
   item-good double d [] h = stays refl
   item-good quotedOperand d [] h = stays refl
@@ -104,11 +106,11 @@ parts-good m d t = by-size askSize (λ a. Good (length (a .2)) (parts (a .0) (a 
         (a .2) (omega arith))
 
 -- a word whose first byte is no blank leaves less than the text
-pub word-good : (d b : ℕ) (t : Text) → isBlank b ≡ false → Good (length t) (parts word d (b ∷ t))
-word-good d b t e =
-    rw (parts-eq word d (b ∷ t))
-    (going-good (suc (length t)) (shorter (suc (length t))) (λ n f u l. rw (shorter-ok (suc (length t)) n f u l) (parts-good n f u)) word d b t
-    (word-goes d b t e) (omega arith))
+pub word-good : (s : Start) (d b : ℕ) (t : Text) → isBlank b ≡ false → Good (length t) (parts (word s) d (b ∷ t))
+word-good s d b t e =
+    rw (parts-eq (word s) d (b ∷ t))
+    (going-good (suc (length t)) (shorter (suc (length t))) (λ n f u l. rw (shorter-ok (suc (length t)) n f u l) (parts-good n f u)) (word s) d b t
+    (word-goes s d b t e) (omega arith))
 
 -- The law of `parts`: a text is read by its first item, the rest by `parts` itself.
 
@@ -118,15 +120,15 @@ nest-ok k f m d i (stays g) h = refl
 nest-ok k f m d i (leaves {p = p} l) h = ap (put (f (p .0))) (shorter-ok k m d (p .1) (omega arith))
 
 module _ (m : Mode) (d b : ℕ) (t : Text) where
-  put-ok : (f : Parts → Parts) (j : ℕ) → put f (shorter (suc (length t)) m d (drop j t)) ≡ put f (parts m d (drop j t))
-  put-ok f j = let e = drop-short j t in ap (put f) (shorter-ok _ m d (drop j t) (omega arith))
+  put-ok : (f : Parts → Parts) (j : ℕ) → put f (shorter (suc (length t)) (onward m) d (drop j t)) ≡ put f (parts (onward m) d (drop j t))
+  put-ok f j = let e = drop-short j t in ap (put f) (shorter-ok _ (onward m) d (drop j t) (omega arith))
 
   nested-ok : (f : Parts → Parts → Parts) (n : Mode) (c j : ℕ)
-      → nest f (shorter (suc (length t)) n c (drop j t)) (shorter (suc (length t)) m d) ≡ nest f (parts n c (drop j t)) (parts m d)
+      → nest f (shorter (suc (length t)) n c (drop j t)) (shorter (suc (length t)) (onward m) d) ≡ nest f (parts n c (drop j t)) (parts (onward m) d)
   nested-ok f n c j =
       let e = drop-short j t in
-      ap (λ (r : Taken). nest f r (shorter (suc (length t)) m d)) (shorter-ok _ n c (drop j t) (omega arith))
-      ∙ nest-ok _ f m d (length (drop j t)) (parts-good n c (drop j t)) (omega arith)
+      ap (λ (r : Taken). nest f r (shorter (suc (length t)) (onward m) d)) (shorter-ok _ n c (drop j t) (omega arith))
+      ∙ nest-ok _ f (onward m) d (length (drop j t)) (parts-good n c (drop j t)) (omega arith)
 
   by-item : (i : Item) → readItem (shorter (suc (length t))) m d (b ∷ t) i ≡ readItem parts m d (b ∷ t) i
   unfolding readItem
@@ -139,11 +141,12 @@ module _ (m : Mode) (d b : ℕ) (t : Text) where
   by-item (count x n) = put-ok (len x) n
   by-item (inner x f n j) = nested-ok (par x f) n (d - 1) j
   by-item sum = nested-ok ari (sums 0) (d - 1) 2
+  by-item (homeOf x n) = put-ok (til x) n
 
 by-ended : (m : Mode) (d : ℕ) → readItem (shorter 0) m d [] (item m d []) ≡ readItem parts m d [] (item m d [])
 unfolding readItem item ended
-by-ended word d = refl
-by-ended bare d = refl
+by-ended (word s) d = refl
+by-ended (bare s) d = refl
 by-ended single d = refl
 by-ended double d = refl
 by-ended quotedOperand d = refl
@@ -178,36 +181,41 @@ module _ (text : Text) (at : ℕ) where
     at-stop next h l = parts-item m d (drop at text) h ∙ ap (λ (t : Text). done (end, t)) (stopped next l)
 
     pub at-byte : (q : Escape) (b next : ℕ) → item m d (drop at text) ≡ byte q b (next - suc at) → at < next → here
-        (put (lit q b) (parts m d (drop next text)))
+        (put (lit q b) (parts (onward m) d (drop next text)))
     unfolding readItem
-    at-byte q b next h l = parts-item m d (drop at text) h ∙ ap (λ (t : Text). put (lit q b) (parts m d t)) (place next l)
+    at-byte q b next h l = parts-item m d (drop at text) h ∙ ap (λ (t : Text). put (lit q b) (parts (onward m) d t)) (place next l)
 
     pub at-paren : (b n : ℕ) → item m d (drop at text) ≡ paren b n → here (put (lit unescaped b) (parts (sums n) d (drop (at + 1) text)))
     unfolding readItem
     at-paren b n h = parts-item m d (drop at text) h ∙ ap (λ (t : Text). put (lit unescaped b) (parts (sums n) d t)) (drop-drop 1 at text)
 
     pub at-value : (x : Text) (next : ℕ) → item m d (drop at text) ≡ valueOf x (next - suc at) → at < next → here
-        (put (par x plain end) (parts m d (drop next text)))
+        (put (par x plain end) (parts (onward m) d (drop next text)))
     unfolding readItem
-    at-value x next h l = parts-item m d (drop at text) h ∙ ap (λ (t : Text). put (par x plain end) (parts m d t)) (place next l)
+    at-value x next h l = parts-item m d (drop at text) h ∙ ap (λ (t : Text). put (par x plain end) (parts (onward m) d t)) (place next l)
 
     pub at-count : (x : Text) (next : ℕ) → item m d (drop at text) ≡ count x (next - suc at) → at < next → here
-        (put (len x) (parts m d (drop next text)))
+        (put (len x) (parts (onward m) d (drop next text)))
     unfolding readItem
-    at-count x next h l = parts-item m d (drop at text) h ∙ ap (λ (t : Text). put (len x) (parts m d t)) (place next l)
+    at-count x next h l = parts-item m d (drop at text) h ∙ ap (λ (t : Text). put (len x) (parts (onward m) d t)) (place next l)
 
-    pub at-quote : (n : Mode) → item m d (drop at text) ≡ quote n → here (nest quo (parts n d (drop (at + 1) text)) (parts m d))
+    pub at-home : (x : Text) (next : ℕ) → item m d (drop at text) ≡ homeOf x (next - suc at) → at < next → here
+        (put (til x) (parts (onward m) d (drop next text)))
     unfolding readItem
-    at-quote n h = parts-item m d (drop at text) h ∙ ap (λ (t : Text). nest quo (parts n d t) (parts m d)) (drop-drop 1 at text)
+    at-home x next h l = parts-item m d (drop at text) h ∙ ap (λ (t : Text). put (til x) (parts (onward m) d t)) (place next l)
+
+    pub at-quote : (n : Mode) → item m d (drop at text) ≡ quote n → here (nest quo (parts n d (drop (at + 1) text)) (parts (onward m) d))
+    unfolding readItem
+    at-quote n h = parts-item m d (drop at text) h ∙ ap (λ (t : Text). nest quo (parts n d t) (parts (onward m) d)) (drop-drop 1 at text)
 
     pub at-inner : (x : Text) (f : Form) (n : Mode) (next : ℕ) → item m d (drop at text) ≡ inner x f n (next - suc at) → at < next
-        → here (nest (par x f) (parts n (d - 1) (drop next text)) (parts m d))
+        → here (nest (par x f) (parts n (d - 1) (drop next text)) (parts (onward m) d))
     unfolding readItem
-    at-inner x f n next h l = parts-item m d (drop at text) h ∙ ap (λ (t : Text). nest (par x f) (parts n (d - 1) t) (parts m d)) (place next l)
+    at-inner x f n next h l = parts-item m d (drop at text) h ∙ ap (λ (t : Text). nest (par x f) (parts n (d - 1) t) (parts (onward m) d)) (place next l)
 
-    pub at-sum : item m d (drop at text) ≡ sum → here (nest ari (parts (sums 0) (d - 1) (drop (at + 3) text)) (parts m d))
+    pub at-sum : item m d (drop at text) ≡ sum → here (nest ari (parts (sums 0) (d - 1) (drop (at + 3) text)) (parts (onward m) d))
     unfolding readItem
-    at-sum h = parts-item m d (drop at text) h ∙ ap (λ (t : Text). nest ari (parts (sums 0) (d - 1) t) (parts m d)) (drop-drop 3 at text)
+    at-sum h = parts-item m d (drop at text) h ∙ ap (λ (t : Text). nest ari (parts (sums 0) (d - 1) t) (parts (onward m) d)) (drop-drop 3 at text)
 
 -- What a `put` that is done was made of, and a `nest`.
 

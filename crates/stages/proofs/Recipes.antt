@@ -51,7 +51,7 @@ same (doneAt a) (refusedAt m p) = false
 same (doneAt a) (doneAt b) = eqTexts (a .0) (textsOf (b .0)) && eqPairs (a .1) (pairsOf (b .1))
 
 around : Case → Around
-around c = record { room = 8192; out = 8192; homes = pairsOf (c .homes); paths = textsOf (c .paths) }
+around c = record { lent = record { room = 8192; homes = pairsOf (c .homes) }; out = 8192; paths = textsOf (c .paths) }
 
 passes : Case → Bool
 unfolding same around expandLine choose
@@ -146,7 +146,7 @@ verdict (doneAt r) = 100 + length (r .0)
 
 alone : Text → Pairs → ℕ
 unfolding expandLine verdict choose
-alone t v = verdict (expandLine (record { room = 8192; out = 8192; homes = []; paths = [] }) t v)
+alone t v = verdict (expandLine (record { lent = record { room = 8192; homes = [] }; out = 8192; paths = [] }) t v)
 
 record Edge : Type 0 where
   line : Text

@@ -15,7 +15,7 @@ use Rattle.stages.specs.Images.{Pairs, lookup, recordBytes, imageLength}
 use Rattle.stages.specs.Syntax.{Parts, Word}
 use Rattle.stages.specs.Read.{readLine}
 use Rattle.stages.specs.Units.{L, Q, cell, N, Row, bytes}
-use Rattle.stages.specs.Expand.{expand, tilde, tildeRow, wordRow}
+use Rattle.stages.specs.Expand.{Lent, expand}
 use Rattle.stages.specs.Split.{dropWhite, dropHard, otherRun, fieldsStep, fieldsFrom, split, ifsOr, fieldsOfRow}
 use Rattle.stages.specs.Pattern.{signs, elements, hasClass, pattern}
 use Rattle.stages.specs.Paths.{active, pathsFor, textsOfFields}
@@ -39,12 +39,12 @@ abbrev fieldRow : Text → Row
 fieldRow t = N ∷ rows t .0 ++ rows t .1
 
 -- a field's parts expand to its row, behind n units
-module _ (room : ℕ) (v : Pairs) where
+module _ (a : Lent) (v : Pairs) where
   record Gives (t : Text) : Type 0 where
-    first : (n : ℕ) → n + length (rows t .0) ≤ rowLimit → expand room (runs t .0) Q n v ≡ done (rows t .0, v)
-    others : (n : ℕ) → n + length (rows t .1) ≤ rowLimit → expand room (runs t .1) L n v ≡ done (rows t .1, v)
+    first : (n : ℕ) → n + length (rows t .0) ≤ rowLimit → expand a (runs t .0) Q n v ≡ done (rows t .0, v)
+    others : (n : ℕ) → n + length (rows t .1) ≤ rowLimit → expand a (runs t .1) L n v ≡ done (rows t .1, v)
 
-  whole : (t : Text) → Gives t → (n : ℕ) → n + length (fieldRow t) ≤ rowLimit → expand room (fieldParts t) L n v ≡ done (fieldRow t, v)
+  whole : (t : Text) → Gives t → (n : ℕ) → n + length (fieldRow t) ≤ rowLimit → expand a (fieldParts t) L n v ≡ done (fieldRow t, v)
   unfolding expand
   whole t g n h =
       let e : length (rows t .0 ++ rows t .1) ≡ length (rows t .0) + length (rows t .1) = length-append (rows t .0) (rows t .1) in
@@ -68,7 +68,7 @@ module _ (room : ℕ) (v : Pairs) where
     others = rw e (g .others);
   }
 
-  field-expands : (t : Text) → length (fieldRow t) ≤ rowLimit → expand room (fieldParts t) L 0 v ≡ done (fieldRow t, v)
+  field-expands : (t : Text) → length (fieldRow t) ≤ rowLimit → expand a (fieldParts t) L 0 v ≡ done (fieldRow t, v)
   unfolding expand
   field-expands t h = whole t (by-quotes Gives (record { first = λ n h. refl; others = λ n h. refl }) gives-quote gives-other t) 0 (omega arith)
 
@@ -147,16 +147,15 @@ quiet-named paths q = rw (quiet-class q, pattern, quiet-active q, pathsFor)
 -- THE LINE
 
 -- a word's row and its fields make the word
-word-steps : (a : Around) (p : Parts) (v w : Pairs) (r : Row) (l : Fields) → wordRow (a .room) (a .homes) p v ≡ done (r, w)
+word-steps : (a : Around) (p : Parts) (v w : Pairs) (r : Row) (l : Fields) → expand (a .lent) p L 0 v ≡ done (r, w)
     → textsOfFields (a .paths) (fieldsOfRow w r) ≡ done l → wordFields a p v ≡ done (l, w)
 unfolding wordFields
 word-steps a p v w r l e f = rw (e, f)
 
 -- one word: a quoted field becomes that field, and nothing is stored
-field-row : (a : Around) (t : Text) (v : Pairs) → length (quotedField t) ≤ lineLimit → wordRow (a .room) (a .homes) (fieldParts t) v ≡ done
+field-row : (a : Around) (t : Text) (v : Pairs) → length (quotedField t) ≤ lineLimit → expand (a .lent) (fieldParts t) L 0 v ≡ done
     (fieldRow t, v)
-unfolding wordRow tildeRow tilde
-field-row a t v h = field-expands (a .room) v t (omega (arith, row-fits-field t))
+field-row a t v h = field-expands (a .lent) v t (omega (arith, row-fits-field t))
 
 field-named : (a : Around) (t : Text) (v : Pairs) → textsOfFields (a .paths) (fieldsOfRow v (fieldRow t)) ≡ done (t ∷ [])
 unfolding bytes

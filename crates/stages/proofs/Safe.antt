@@ -9,12 +9,12 @@ use Rattle.stages.specs.Numbers.{unended, tooDeep, outputRoom}
 use Rattle.stages.specs.Bytes.{between, Text, all, notZero}
 use Rattle.stages.specs.Outcome.{refused, done}
 use Rattle.stages.specs.Images.{isName}
-use Rattle.stages.specs.Syntax.{plain, unescaped, Parts, Mode, end, lit, quo, par, len, ari, word, bare, single, double, quotedOperand, arith as sums}
-use Rattle.stages.specs.Items.{Item, item, ended}
+use Rattle.stages.specs.Syntax.{plain, unescaped, Parts, Mode, end, lit, quo, par, len, ari, til, word, bare, single, double, quotedOperand, arith as sums}
+use Rattle.stages.specs.Items.{Item, item, ended, onward}
 use Rattle.stages.specs.Read.{Taken, Reader, put, nest, readItem, Ask, askSize, askStep, parts}
 use Rattle.stages.proofs.Bools.{and-left, and-right, and-both, between-bounds, between-true}
 use Rattle.stages.proofs.Texts.{drop-short, all-drop}
-use Rattle.stages.proofs.Items.{Fair, faults, stops, a-byte, a-paren, a-quote, a-value, a-count, an-inner, a-sum, item-passes}
+use Rattle.stages.proofs.Items.{Fair, faults, stops, a-byte, a-paren, a-quote, a-value, a-count, an-inner, a-sum, a-home, item-passes}
 use Rattle.stages.proofs.Outcomes.{Each, isFault, Safe, refuses, gives, safe-bind, by-fix}
 
 abbrev pub NoZero : Text → Type 0
@@ -26,6 +26,10 @@ NotZero b = notZero b ≡ true
 each-byte : (t : Text) → NoZero t → Each NotZero t
 each-byte [] z = tt
 each-byte (b ∷ t) z = (and-left (notZero b) (all notZero t) z, each-byte t (and-right (notZero b) (all notZero t) z))
+
+all-bytes : (t : Text) → Each NotZero t → NoZero t
+all-bytes [] h = refl
+all-bytes (b ∷ t) h = and-both (h .0) (all-bytes t (h .1))
 
 reading-fault : (n : ℕ) → between unended n tooDeep ≡ true → isFault n ≡ true
 reading-fault n e =
@@ -40,6 +44,7 @@ SafeParts (quo q p) = SafeParts q × SafeParts p
 SafeParts (par x f q p) = (isName x ≡ true) × SafeParts q × SafeParts p
 SafeParts (len x p) = (isName x ≡ true) × SafeParts p
 SafeParts (ari q p) = SafeParts q × SafeParts p
+SafeParts (til x p) = NoZero x × SafeParts p
 
 -- such parts of t, and what is behind them, which is no longer
 pub record SafeTaken (t : Text) (p : Parts × Text) : Type 0 where
@@ -75,18 +80,19 @@ module _ (b : ℕ) (u : Text) (rec : Ask → Taken)
   unfolding readItem
   read-safe m d y (faults {n = n} e) = refuses (reading-fault n e)
   read-safe m d y (stops {k = k}) = gives (record { clean = tt; behind = all-drop notZero k (b ∷ u) (and-both y z); short = drop-short k (b ∷ u) })
-  read-safe m d y (a-byte {q = q} {b = c} {k = k} e) = next-safe (lit q c) m d k (λ p s. (e, s))
+  read-safe m d y (a-byte {q = q} {b = c} {k = k} e) = next-safe (lit q c) (onward m) d k (λ p s. (e, s))
   read-safe m d y (a-paren {b = c} {n = n} e) = next-safe (lit unescaped c) (sums n) d 0 (λ p s. (e, s))
-  read-safe m d y (a-quote {m = n}) = nest-safe quo n d 0 m d (λ q p r s. (r, s))
-  read-safe m d y (a-value {x = x} {k = k} e) = next-safe (par x plain end) m d k (λ p s. (e, tt, s))
-  read-safe m d y (a-count {x = x} {k = k} e) = next-safe (len x) m d k (λ p s. (e, s))
-  read-safe m d y (an-inner {x = x} {f = f} {m = n} {k = k} e) = nest-safe (par x f) n (d - 1) k m d (λ q p r s. (e, r, s))
-  read-safe m d y a-sum = nest-safe ari (sums 0) (d - 1) 2 m d (λ q p r s. (r, s))
+  read-safe m d y (a-quote {m = n}) = nest-safe quo n d 0 (onward m) d (λ q p r s. (r, s))
+  read-safe m d y (a-value {x = x} {k = k} e) = next-safe (par x plain end) (onward m) d k (λ p s. (e, tt, s))
+  read-safe m d y (a-count {x = x} {k = k} e) = next-safe (len x) (onward m) d k (λ p s. (e, s))
+  read-safe m d y (an-inner {x = x} {f = f} {m = n} {k = k} e) = nest-safe (par x f) n (d - 1) k (onward m) d (λ q p r s. (e, r, s))
+  read-safe m d y a-sum = nest-safe ari (sums 0) (d - 1) 2 (onward m) d (λ q p r s. (r, s))
+  read-safe m d y (a-home {x = x} {k = k} e) = next-safe (til x) (onward m) d k (λ p s. (all-bytes x e, s))
 
 ended-read : (rec : Reader) (m : Mode) (d : ℕ) → Safe (SafeTaken []) (readItem rec m d [] (ended m))
 unfolding readItem ended
-ended-read rec word d = gives {a = (end, [])} (record { clean = tt; behind = refl; short = omega arith })
-ended-read rec bare d = refuses refl
+ended-read rec (word s) d = gives {a = (end, [])} (record { clean = tt; behind = refl; short = omega arith })
+ended-read rec (bare s) d = refuses refl
 ended-read rec single d = refuses refl
 ended-read rec double d = refuses refl
 ended-read rec quotedOperand d = refuses refl

@@ -12,8 +12,9 @@ use Rattle.stages.specs.Recur.{by-size}
 use Rattle.stages.specs.Numbers.{depthLimit, imageLimit, lineLimit, lineTooLong, zeroByte, outputRoom}
 use Rattle.stages.specs.Bytes.{Text, all, notZero, isIn, isBlank, isOperator}
 use Rattle.stages.specs.Images.{Pairs, flat, recordBytes, imageLength}
-use Rattle.stages.specs.Syntax.{Parts, Word, word}
+use Rattle.stages.specs.Syntax.{Parts, Word, fresh, word}
 use Rattle.stages.specs.Read.{Taken, parts, wordAt, wordsSize, words, readLine}
+use Rattle.stages.specs.Units.{L}
 use Rattle.stages.specs.Split.{fieldsOfRow}
 use Rattle.stages.specs.Line.{Around, Fields, wordFields, outFits, expandWords, expandLine}
 use Rattle.stages.proofs.Bools.{no, and-left, and-right, and-both}
@@ -37,7 +38,7 @@ use Rattle.stages.proofs.Outcomes.{
 }
 use Rattle.stages.proofs.Split.{fields-each}
 use Rattle.stages.proofs.Safe.{NoZero, SafeParts, parts-safe}
-use Rattle.stages.proofs.SafeRows.{SafeCell, Kept, row-safe, named-safe}
+use Rattle.stages.proofs.SafeRows.{SafeCell, Kept, expand-safe, named-safe}
 
 -- words
 
@@ -58,7 +59,7 @@ module _ (size : ℕ) where
       → ((q : ℕ × Text) → length (q .1) < suc (length t) → Reads q) → SafeAt size (Each (WordIn size)) (wordAt words place (b ∷ t))
   unfolding wordAt
   word-safe place b t e z l ih =
-      safe-then _ (safe-at place (omega arith) (both-safe (word-good depthLimit b t e) (parts-safe word depthLimit (b ∷ t) z)))
+      safe-then _ (safe-at place (omega arith) (both-safe (word-good fresh depthLimit b t e) (parts-safe (word fresh) depthLimit (b ∷ t) z)))
       (λ p s. safe-then _ (ih (place + (suc (length t) - length (p .1)), p .1) (omega (arith, s .1)) (s .0 .behind) (omega (arith, s .1)))
       (λ ws h. givesAt (record { inside = omega arith; clean = s .0 .clean }, h)))
 
@@ -91,11 +92,11 @@ pub record Ready (room out : ℕ) (r : Fields × Pairs) : Type 0 where
   pub fits : imageLength (r .0) ≤ out
   pub small : imageLength (r .0) ≤ imageLimit
 
-module _ (a : Around) (f : Fine (flat (a .homes))) (g : Fine (a .paths)) where
-  fields-safe : (p : Parts) (v : Pairs) → SafeParts p → Kept (a .room) v → Safe (λ r. Fine (r .0) × Kept (a .room) (r .1)) (wordFields a p v)
+module _ (a : Around) (f : Fine (flat (a .lent .homes))) (g : Fine (a .paths)) where
+  fields-safe : (p : Parts) (v : Pairs) → SafeParts p → Kept (a .lent .room) v → Safe (λ r. Fine (r .0) × Kept (a .lent .room) (r .1)) (wordFields a p v)
   unfolding wordFields
   fields-safe p v s k =
-      safe-bind _ (row-safe (a .room) (a .homes) p v f s k)
+      safe-bind _ (expand-safe (a .lent) f p s L 0 v k)
       (λ r h. safe-bind _ (named-safe (a .paths) (fieldsOfRow (r .1) (r .0)) g (fields-each SafeCell (r .1) (r .0) (h .0))) (λ l i. gives (i, h .1)))
 
   out-fits : (n : ℕ) → outFits a n ≡ true → (n ≤ a .out) × (n ≤ imageLimit)
@@ -105,7 +106,7 @@ module _ (a : Around) (f : Fine (flat (a .homes))) (g : Fine (a .paths)) where
   -- fields behind an image of n bytes
   record Behind (n : ℕ) (r : Fields × Pairs) : Type 0 where
     fine : Fine (r .0)
-    kept : Kept (a .room) (r .1)
+    kept : Kept (a .lent .room) (r .1)
     fits : n + recordBytes (r .0) ≤ a .out
     small : n + recordBytes (r .0) ≤ imageLimit
 
@@ -115,7 +116,7 @@ module _ (a : Around) (f : Fine (flat (a .homes))) (g : Fine (a .paths)) where
       let e : recordBytes (l ++ s .0) ≡ recordBytes l + recordBytes (s .0) = recordBytes-append l (s .0) in
       record { fine = fine-append l (s .0) h (b .fine); kept = b .kept; fits = omega (arith, b .fits); small = omega (arith, b .small) }
 
-  words-fit : (size : ℕ) (ws : List Word) (n : ℕ) (v : Pairs) → Each (WordIn size) ws → n ≤ a .out → n ≤ imageLimit → Kept (a .room) v
+  words-fit : (size : ℕ) (ws : List Word) (n : ℕ) (v : Pairs) → Each (WordIn size) ws → n ≤ a .out → n ≤ imageLimit → Kept (a .lent .room) v
       → SafeAt size (Behind n) (expandWords a ws n v)
   unfolding expandWords recordBytes
   words-fit size [] n v h l m k = givesAt {a = ([], v)} (record { fine = tt; kept = k; fits = omega arith; small = omega arith })
@@ -126,11 +127,11 @@ module _ (a : Around) (f : Fine (flat (a .homes))) (g : Fine (a .paths)) where
       (words-fit size ws (n + recordBytes (r .0)) (r .1) (h .1) (out-fits (n + recordBytes (r .0)) e .0) (out-fits (n + recordBytes (r .0)) e .1) (i .1))
       (λ s b. givesAt (joined n (r .0) s (i .0) b))))
 
-  ready : (r : Fields × Pairs) → Behind 1 r → Ready (a .room) (a .out) r
+  ready : (r : Fields × Pairs) → Behind 1 r → Ready (a .lent .room) (a .out) r
   unfolding imageLength
   ready r b = record { fine = b .fine; kept = b .kept; fits = b .fits; small = b .small }
 
-  pub line-safe : (t : Text) (v : Pairs) → Kept (a .room) v → SafeAt (length t) (Ready (a .room) (a .out)) (expandLine a t v)
+  pub line-safe : (t : Text) (v : Pairs) → Kept (a .lent .room) v → SafeAt (length t) (Ready (a .lent .room) (a .out)) (expandLine a t v)
   unfolding expandLine readLine
   line-safe t v k =
       safe-then _ (safe-require (leb (length t) lineLimit) lineTooLong 0 (early refl))

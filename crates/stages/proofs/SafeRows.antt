@@ -6,15 +6,15 @@ use mathlib.Core.Path.{_≡_, refl}
 use mathlib.Core.Bool.{Bool, true, false, _&&_}
 use mathlib.Core.List.{List, [], _∷_, _++_}
 use mathlib.Core.Option.{Option, none, some}
-use lib.Dec.{eqb, leb}
+use lib.Dec.{leb}
 use lib.ListN.{length}
 use borrow.Author.Tests.{leb-true}
 use Rattle.stages.specs.Numbers.{rowLimit, imageLimit}
-use Rattle.stages.specs.Bytes.{Text, text, all, notZero, isLoginByte}
+use Rattle.stages.specs.Bytes.{Text, text, all, notZero}
 use Rattle.stages.specs.Outcome.{done}
 use Rattle.stages.specs.Images.{Pairs, isName, keys, allTexts, rising, lookup, stored, flat, imageLength, orEmpty}
 use Rattle.stages.specs.Syntax.{Side, suffix, prefix, Reach, Form, plain, minus, equals, query, plus, removal}
-use Rattle.stages.specs.Syntax.{escaped, unescaped, Parts, end, lit, quo, par, len, ari}
+use Rattle.stages.specs.Syntax.{Parts, end, lit, quo, par, len, ari, til}
 use Rattle.stages.specs.Units.{Mark, L, Q, Cell, cell, N, Row, marked, bytes, expandedMark, litMark, fit, decimal}
 use Rattle.stages.specs.Pattern.{Element, signs, hasClass, Purpose, forPaths, forRemoval, isForPaths, pattern, matches}
 use Rattle.stages.specs.Removal.{removed, left, cut}
@@ -27,17 +27,12 @@ use Rattle.stages.specs.Expand.{
   assigned,
   cutBy,
   parameter,
+  directory,
+  tildeRow,
+  Lent,
   onto,
   adding,
   expand,
-  login,
-  longerLogin,
-  directory,
-  housed,
-  homed,
-  tilde,
-  tildeRow,
-  wordRow,
 }
 use Rattle.stages.specs.Paths.{chosen, active, orElse, pathsFor, textsOfFields}
 use Rattle.stages.proofs.Bools.{either, and-left, and-right, and-both}
@@ -149,41 +144,6 @@ module _ (room : ℕ) (x : Text) (n : isName x ≡ true) where
   parameter-safe q h (plus c) m v k = either (missing c x v) (λ e. rw (e, parameter) (gives (tt, k))) (λ e. rw (e, parameter) (h (expandedMark m) v k))
   parameter-safe q h (removal s reach) m v k = safe-bind _ (h L v k) (λ p l. cut-safe s reach m p l)
 
--- parts
-
-fit-safe : (n k : ℕ) → Safe (λ (i : ℕ). Unit {0}) (fit n k)
-unfolding fit
-fit-safe n k = either (leb (n + k) rowLimit) (λ e. rw (e, fit) (gives tt)) (λ e. rw (e, fit) (refuses refl))
-
-onto-safe : (room : ℕ) (r : Row) {o : Made} → Each SafeCell r → Safe (SafeMade room) o → Safe (SafeMade room) (onto r o)
-onto-safe room r h s = safe-bind (λ p. done (r ++ p .0, p .1)) s (λ p k. gives (each-append SafeCell r (p .0) h (k .0), k .1))
-
-adding-safe : (room n : ℕ) (r : Row) (more : ℕ → Made) → Each SafeCell r → ((i : ℕ) → Safe (SafeMade room) (more i)) → Safe
-    (SafeMade room) (adding n r more)
-unfolding fit
-adding-safe room n r more h s = safe-bind (λ i. onto r (more i)) (fit-safe n (length r)) (λ i _. onto-safe room r h (s i))
-
-pub expand-safe : (room : ℕ) (p : Parts) → SafeParts p → (m : Mark) (n : ℕ) (v : Pairs) → Kept room v → Safe (SafeMade room) (expand room p m n v)
-unfolding expand
-expand-safe room end s m n v k = gives (tt, k)
-expand-safe room (lit q b p) s m n v k = adding-safe room n (cell (litMark q m) b ∷ []) _ (s .0, tt) (λ i. expand-safe room p (s .1) m i v k)
-expand-safe room (quo q p) s m n v k =
-    adding-safe room n (N ∷ []) _ (tt, tt)
-    (λ i. safe-bind _ (expand-safe room q (s .0) Q i v k)
-    (λ r h. onto-safe room (r .0) (h .0) (expand-safe room p (s .1) m (i + length (r .0)) (r .1) (h .1))))
-expand-safe room (par x f q p) s m n v k =
-    safe-bind _ (parameter-safe room x (s .0) (λ j w. expand room q j 0 w) (λ j w l. expand-safe room q (s .1) j 0 w l) f m v k)
-    (λ r h. adding-safe room n (r .0) _ (h .0) (λ i. expand-safe room p (s .2) m i (r .1) (h .1)))
-expand-safe room (len x p) s m n v k =
-    adding-safe room n (marked (expandedMark m) (decimal (length (value v x)))) _
-    (marked-safe (expandedMark m) (decimal (length (value v x))) (decimal-safe (length (value v x))))
-    (λ i. expand-safe room p (s .1) m i v k)
-expand-safe room (ari q p) s m n v k =
-    safe-bind _ (expand-safe room q (s .0) Q 0 v k)
-    (λ r h. safe-bind _ (arithmetic-safe (Kept room) (r .1) (bytes (r .0)) (h .1))
-    (λ t l. adding-safe room n (marked (expandedMark m) (t .0)) _ (marked-safe (expandedMark m) (t .0) (l .0))
-    (λ i. expand-safe room p (s .1) m i (t .1) (l .1))))
-
 -- the tilde
 
 -- what holds of an option's element, if it has one
@@ -198,67 +158,55 @@ lookup-safe x v f = go (lookup x v) refl
     go none e = tt
     go (some t) e = lookup-fine x t v f e
 
-longer-safe : (b : ℕ) (o : Option (Text × Parts)) → If (λ r. SafeParts (r .1)) o → If (λ r. SafeParts (r .1)) (longerLogin b o)
-longer-safe b none h = tt
-longer-safe b (some r) h = h
+directory-safe : (v homes : Pairs) → Fine (flat v) → Fine (flat homes) → (t : Text) → If NoZero (directory v homes t)
+unfolding directory
+directory-safe v homes f g [] = lookup-safe (text "HOME") v f
+directory-safe v homes f g (b ∷ t) = lookup-safe (b ∷ t) homes g
 
-login-safe : (p : Parts) → SafeParts p → If (λ r. SafeParts (r .1)) (login p)
-unfolding login
-login-safe end s = tt
-login-safe (lit escaped b p) s = tt
-login-safe (lit unescaped b p) s = go (login-safe p (s .1)) (eqb b (code "/")) refl (isLoginByte b) refl
-  where
-    go : If (λ r. SafeParts (r .1)) (login p) → (x : Bool) → eqb b (code "/") ≡ x → (y : Bool) → isLoginByte b ≡ y → If
-        (λ r. SafeParts (r .1)) (login (lit unescaped b p))
-    go ih true e y d = rw (e, login) s
-    go ih false e true d = rw (e, login, d, login) (longer-safe b (login p) ih)
-    go ih false e false d = rw (e, login, d, login) tt
-login-safe (quo q p) s = tt
-login-safe (par x f q p) s = tt
-login-safe (len x p) s = tt
-login-safe (ari q p) s = tt
-
--- a directory without a zero byte, and safe parts behind the login
-abbrev Housed : Option (Text × Parts) → Type 0
-Housed o = If (λ d. NoZero (d .0) × SafeParts (d .1)) o
-
-housed-safe : (p : Parts) (o : Option Text) → SafeParts p → If NoZero o → Housed (housed p o)
-unfolding housed
-housed-safe p none s z = tt
-housed-safe p (some d) s z = (z, s)
-
-module _ (v homes : Pairs) (f : Fine (flat v)) (g : Fine (flat homes)) where
-  directory-safe : (t : Text) → If NoZero (directory v homes t)
-  unfolding directory
-  directory-safe [] = lookup-safe (text "HOME") v f
-  directory-safe (b ∷ t) = lookup-safe (b ∷ t) homes g
-
-  homed-safe : (o : Option (Text × Parts)) → If (λ r. SafeParts (r .1)) o → Housed (homed v homes o)
-  unfolding homed
-  homed-safe none s = tt
-  homed-safe (some r) s = housed-safe (r .1) (directory v homes (r .0)) s (directory-safe (r .0))
-
-  tilde-safe : (p : Parts) → SafeParts p → Housed (tilde v homes p)
-  unfolding tilde
-  tilde-safe end s = tt
-  tilde-safe (lit escaped b p) s = tt
-  tilde-safe (lit unescaped b p) s = either (eqb b (code "~")) (λ e. rw (e, tilde) (homed-safe (login p) (login-safe p (s .1)))) (λ e. rw (e, tilde) tt)
-  tilde-safe (quo q p) s = tt
-  tilde-safe (par x f q p) s = tt
-  tilde-safe (len x p) s = tt
-  tilde-safe (ari q p) s = tt
-
-row-of-safe : (room : ℕ) (p : Parts) (v : Pairs) (o : Option (Text × Parts)) → SafeParts p → Kept room v → Housed o → Safe (SafeMade room)
-    (tildeRow room p v o)
+tilde-safe : (x : Text) (m : Mark) (o : Option Text) → NoZero x → If NoZero o → Each SafeCell (tildeRow x m o)
 unfolding tildeRow
-row-of-safe room p v none s k h = expand-safe room p s L 0 v k
-row-of-safe room p v (some d) s k h =
-    adding-safe room 0 (N ∷ marked Q (d .0)) _ (tt, marked-safe Q (d .0) (h .0)) (λ i. expand-safe room (d .1) (h .1) L i v k)
+tilde-safe x m none z h = marked-safe m (code "~" ∷ x) (and-both refl z)
+tilde-safe x m (some d) z h = (tt, marked-safe Q d h)
 
-pub row-safe : (room : ℕ) (homes : Pairs) (p : Parts) (v : Pairs) → Fine (flat homes) → SafeParts p → Kept room v → Safe (SafeMade room)
-    (wordRow room homes p v)
-unfolding wordRow
-row-safe room homes p v f s k = row-of-safe room p v (tilde v homes p) s k (tilde-safe v homes (k .fine) f p s)
+-- parts
+
+fit-safe : (n k : ℕ) → Safe (λ (i : ℕ). Unit {0}) (fit n k)
+unfolding fit
+fit-safe n k = either (leb (n + k) rowLimit) (λ e. rw (e, fit) (gives tt)) (λ e. rw (e, fit) (refuses refl))
+
+onto-safe : (room : ℕ) (r : Row) {o : Made} → Each SafeCell r → Safe (SafeMade room) o → Safe (SafeMade room) (onto r o)
+onto-safe room r h s = safe-bind (λ p. done (r ++ p .0, p .1)) s (λ p k. gives (each-append SafeCell r (p .0) h (k .0), k .1))
+
+adding-safe : (room n : ℕ) (r : Row) (more : ℕ → Made) → Each SafeCell r → ((i : ℕ) → Safe (SafeMade room) (more i)) → Safe
+    (SafeMade room) (adding n r more)
+unfolding fit
+adding-safe room n r more h s = safe-bind (λ i. onto r (more i)) (fit-safe n (length r)) (λ i _. onto-safe room r h (s i))
+
+pub expand-safe : (a : Lent) → Fine (flat (a .homes)) → (p : Parts) → SafeParts p → (m : Mark) (n : ℕ) (v : Pairs) → Kept (a .room) v → Safe
+    (SafeMade (a .room)) (expand a p m n v)
+unfolding expand
+expand-safe a f end s m n v k = gives (tt, k)
+expand-safe a f (lit q b p) s m n v k = adding-safe (a .room) n (cell (litMark q m) b ∷ []) _ (s .0, tt) (λ i. expand-safe a f p (s .1) m i v k)
+expand-safe a f (quo q p) s m n v k =
+    adding-safe (a .room) n (N ∷ []) _ (tt, tt)
+    (λ i. safe-bind _ (expand-safe a f q (s .0) Q i v k)
+    (λ r h. onto-safe (a .room) (r .0) (h .0) (expand-safe a f p (s .1) m (i + length (r .0)) (r .1) (h .1))))
+expand-safe a f (par x g q p) s m n v k =
+    safe-bind _ (parameter-safe (a .room) x (s .0) (λ j w. expand a q j 0 w) (λ j w l. expand-safe a f q (s .1) j 0 w l) g m v k)
+    (λ r h. adding-safe (a .room) n (r .0) _ (h .0) (λ i. expand-safe a f p (s .2) m i (r .1) (h .1)))
+expand-safe a f (len x p) s m n v k =
+    adding-safe (a .room) n (marked (expandedMark m) (decimal (length (value v x)))) _
+    (marked-safe (expandedMark m) (decimal (length (value v x))) (decimal-safe (length (value v x))))
+    (λ i. expand-safe a f p (s .1) m i v k)
+expand-safe a f (ari q p) s m n v k =
+    safe-bind _ (expand-safe a f q (s .0) Q 0 v k)
+    (λ r h. safe-bind _ (arithmetic-safe (Kept (a .room)) (r .1) (bytes (r .0)) (h .1))
+    (λ t l. adding-safe (a .room) n (marked (expandedMark m) (t .0)) _ (marked-safe (expandedMark m) (t .0) (l .0))
+    (λ i. expand-safe a f p (s .1) m i (t .1) (l .1))))
+expand-safe a f (til x p) s m n v k =
+    adding-safe (a .room) n (tildeRow x m (directory v (a .homes) x)) _
+    (tilde-safe x m (directory v (a .homes) x) (s .0) (directory-safe v (a .homes) (k .fine) f x))
+    (λ i. expand-safe a f p (s .1) m i v k)
 
 -- fields
 

@@ -12,7 +12,7 @@ use Rattle.stages.specs.Recur.{below, below-ok, fix-eq, by-size}
 use Rattle.stages.specs.Numbers.{depthLimit, bareOperator}
 use Rattle.stages.specs.Bytes.{Text, between, isBlank, isOperator}
 use Rattle.stages.specs.Outcome.{refused, done, refusedAt, doneAt, placedAt, _then_, choose}
-use Rattle.stages.specs.Syntax.{Parts, Word, word}
+use Rattle.stages.specs.Syntax.{Parts, Word, fresh, word}
 use Rattle.stages.specs.Read.{Taken, parts, Words, wordAt, wordsStep, wordsSize, words}
 use Rattle.stages.proofs.Read.{Good, stays, leaves, parts-good, word-good}
 
@@ -59,7 +59,7 @@ module _ (place b : ℕ) (t : Text) where
 
     pub words-word : (isOperator b || eqb b (code "#")) ≡ false → words (place, b ∷ t) ≡ wordAt words place (b ∷ t)
     unfolding wordsStep wordAt
-    words-word f = words-eq (place, b ∷ t) ∙ choose-false e _ _ ∙ choose-false f _ _ ∙ rest-ok (word-good depthLimit b t e)
+    words-word f = words-eq (place, b ∷ t) ∙ choose-false e _ _ ∙ choose-false f _ _ ∙ rest-ok (word-good fresh depthLimit b t e)
 
 -- a number of `words` is from 7 to 12 too
 pub data Sound : Words → Type 0 where
@@ -80,7 +80,7 @@ module _ (place b : ℕ) (t : Text) (h : (q : ℕ × Text) → length (q .1) < s
   unfolding wordAt
   cons-sound true e y f = rw (words-blank place b t e) (h (suc place, t) (omega arith))
   cons-sound false e true f = rw (words-operator place b t e f) (refuses refl)
-  cons-sound false e false f = rw (words-word place b t e f) (rest-sound e (word-good depthLimit b t e))
+  cons-sound false e false f = rw (words-word place b t e f) (rest-sound e (word-good fresh depthLimit b t e))
 
 pub words-sound : (p : ℕ × Text) → Sound (words p)
 words-sound p = by-size wordsSize (λ q. Sound (words q)) one p
@@ -102,7 +102,7 @@ words-skip line from l e = ap (λ (t : Text). words (from, t)) (drop-cons line f
 pub record FirstWord (line : Text) (from : ℕ) (ws : List Word) : Type 0 where
   pub tree : Parts
   pub rest : Text
-  pub read : parts word depthLimit (drop from line) ≡ done (tree, rest)
+  pub read : parts (word fresh) depthLimit (drop from line) ≡ done (tree, rest)
   pub tail : List Word
   pub whole : ws ≡ record { place = from; parts = tree } ∷ tail
   pub more : (next : ℕ) → drop next line ≡ rest → next ≤ length line → words (next, drop next line) ≡ doneAt tail
@@ -129,7 +129,7 @@ module _ (line : Text) (from : ℕ) (l : from < length line) (e : isBlank (getD 
       words (from + (length (drop from line) - length (p .1)), p .1) then λ us.
       doneAt (record { place = from; parts = p .0 } ∷ us)
 
-  first-of : (r : Taken) → Good (length (drop from line)) r → parts word depthLimit (drop from line) ≡ r → around r ≡ doneAt ws →
+  first-of : (r : Taken) → Good (length (drop from line)) r → parts (word fresh) depthLimit (drop from line) ≡ r → around r ≡ doneAt ws →
       FirstWord line from ws
   first-of (refused n) g h w = absurd (let z : _≡_ {A = ℕ} 0 1 = cc in omega arith)
   first-of (done p) (leaves g) h w =
@@ -158,5 +158,5 @@ module _ (line : Text) (from : ℕ) (l : from < length line) (e : isBlank (getD 
   pub first-word : words (from, drop from line) ≡ doneAt ws → FirstWord line from ws
   unfolding wordAt
   first-word w =
-      first-of (parts word depthLimit (drop from line)) (parts-good word depthLimit (drop from line)) refl
+      first-of (parts (word fresh) depthLimit (drop from line)) (parts-good (word fresh) depthLimit (drop from line)) refl
       (sym (starts (isOperator (getD line from 0) || eqb (getD line from 0) (code "#")) refl w) ∙ w)

@@ -49,7 +49,7 @@ expanded g out =
     orRefused badVariables (variablesOf (take (g .varsUsed) (g .vars))) then λ v.
     orRefused badHomes (homesOf (g .homes)) then λ h.
     orRefused badPaths (pathsOf (g .paths)) then λ p.
-    expandLine (record { room = length (g .vars); out = out; homes = h; paths = p }) (g .line) v
+    expandLine (record { lent = record { room = length (g .vars); homes = h }; out = out; paths = p }) (g .line) v
 
 -- "The work area is zero throughout after every call of expander or normaliser, number 1 included."
 unfoldable pub cleared : Text → Text

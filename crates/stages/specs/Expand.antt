@@ -1,17 +1,17 @@
--- Document 01, "Units and expansion": parts to rows, the tilde, the forms of a parameter.
+-- Document 01, "Units and expansion", and document 02, E1: parts to rows, the tilde, the forms of a parameter.
 use Prim.Native.Nat.{ℕ, _+_}
 use Prim.Native.Char.{code}
 use mathlib.Core.Bool.{Bool, true, false, _&&_}
 use mathlib.Core.List.{[], _∷_, _++_}
 use mathlib.Core.Option.{Option, none, some}
-use lib.Dec.{eqb, leb}
+use lib.Dec.{leb}
 use lib.ListN.{length}
 use Rattle.stages.specs.Numbers.{demanded, variableRoom, imageLimit}
-use Rattle.stages.specs.Bytes.{Text, text, isLoginByte}
+use Rattle.stages.specs.Bytes.{Text, text}
 use Rattle.stages.specs.Outcome.{Outcome, refused, done, _>>=_}
 use Rattle.stages.specs.Images.{Pairs, lookup, stored, flat, imageLength, orEmpty}
 use Rattle.stages.specs.Syntax.{Colon, withColon, noColon, Side, Reach, Form, plain, minus, equals, query, plus, removal}
-use Rattle.stages.specs.Syntax.{escaped, unescaped, Parts, end, lit, quo, par, len, ari}
+use Rattle.stages.specs.Syntax.{Parts, end, lit, quo, par, len, ari, til}
 use Rattle.stages.specs.Units.{Mark, L, Q, cell, N, Row, marked, bytes, expandedMark, litMark, fit, decimal}
 use Rattle.stages.specs.Arith.{arithmeticOf}
 use Rattle.stages.specs.Pattern.{pattern, forRemoval}
@@ -82,66 +82,32 @@ abbrev pub adding : ℕ → Row → (ℕ → Made) → Made
 unfolding fit
 adding n r more = fit n (length r) >>= λ i. onto r (more i)
 
--- a text's row behind n units of the same row; m is the mark of its literal bytes. "Each opening quote gives an N, then its bytes as Q".
-unfoldable pub expand : ℕ → Parts → Mark → ℕ → Pairs → Made
-unfolding fit parameter decimal value arithmeticOf bytes marked
-expand room end m n v = done ([], v)
-expand room (lit q b p) m n v = adding n (cell (litMark q m) b ∷ []) λ i. expand room p m i v
-expand room (quo q p) m n v = adding n (N ∷ []) λ i. expand room q Q i v >>= λ r. onto (r .0) (expand room p m (i + length (r .0)) (r .1))
-expand room (par x f q p) m n v = parameter room (λ k w. expand room q k 0 w) x f m v >>= λ r. adding n (r .0) λ i. expand room p m i (r .1)
-expand room (len x p) m n v = adding n (marked (expandedMark m) (decimal (length (value v x)))) λ i. expand room p m i v
-expand room (ari q p) m n v =
-    expand room q Q 0 v >>= λ r. arithmeticOf (r .1) (bytes (r .0)) >>= λ s. adding n (marked (expandedMark m) (s .0)) λ i. expand room p m i (s .1)
-
-abbrev pub longerLogin : ℕ → Option (Text × Parts) → Option (Text × Parts)
-longerLogin b none = none
-longerLogin b (some p) = some (b ∷ p .0, p .1)
-
--- "if the bytes up to the first `/` or the word's end are all login bytes": that login, and the parts behind it
-unfoldable pub login : Parts → Option (Text × Parts)
-unfolding isLoginByte
-login end = some ([], end)
-login (lit escaped b p) = none
-login (lit unescaped b p) =
-    elim (eqb b (code "/")) [ true ↦ some ([], lit unescaped b p) | false ↦ elim (isLoginByte b) [ true ↦ longerLogin b (login p) | false ↦ none ] ]
-login (quo q p) = none
-login (par x f q p) = none
-login (len x p) = none
-login (ari q p) = none
-
--- "Empty login means HOME (even if empty), otherwise the homes table."
+-- 01: "Empty login means HOME (even if empty), otherwise the homes table."
 unfoldable pub directory : Pairs → Pairs → Text → Option Text
 unfolding lookup
 directory v homes [] = lookup (text "HOME") v
 directory v homes (b ∷ t) = lookup (b ∷ t) homes
 
-unfoldable pub housed : Parts → Option Text → Option (Text × Parts)
-housed p none = none
-housed p (some d) = some (d, p)
+-- a tilde and its login, by the login's directory, where literal bytes have the mark m. 01: "Found: an N, then the directory as Q. Not found: literal.";
+-- 02: "where the directory counts as quoted"
+unfoldable pub tildeRow : Text → Mark → Option Text → Row
+unfolding marked
+tildeRow x m none = marked m (code "~" ∷ x)
+tildeRow x m (some d) = N ∷ marked Q d
 
-unfoldable pub homed : Pairs → Pairs → Option (Text × Parts) → Option (Text × Parts)
-unfolding directory housed
-homed v homes none = none
-homed v homes (some p) = housed (p .1) (directory v homes (p .0))
+-- what is lent to the expansion of a line beside its variables
+pub record Lent : Type 0 where
+  pub room : ℕ  -- of the variables' buffer
+  pub homes : Pairs
 
--- "Tilde: a bare `~` starting a word of the line": its directory and the parts behind it, where it is found
-unfoldable pub tilde : Pairs → Pairs → Parts → Option (Text × Parts)
-unfolding login homed
-tilde v homes end = none
-tilde v homes (lit escaped b p) = none
-tilde v homes (lit unescaped b p) = elim (eqb b (code "~")) [ true ↦ homed v homes (login p) | false ↦ none ]
-tilde v homes (quo q p) = none
-tilde v homes (par x f q p) = none
-tilde v homes (len x p) = none
-tilde v homes (ari q p) = none
-
--- "Found: an N, then the directory as Q. Not found: literal."
-unfoldable pub tildeRow : ℕ → Parts → Pairs → Option (Text × Parts) → Made
-unfolding expand fit marked
-tildeRow room p v none = expand room p L 0 v
-tildeRow room p v (some d) = adding 0 (N ∷ marked Q (d .0)) λ i. expand room (d .1) L i v
-
--- the row of a word of the line
-unfoldable pub wordRow : ℕ → Pairs → Parts → Pairs → Made
-unfolding tildeRow tilde
-wordRow room homes p v = tildeRow room p v (tilde v homes p)
+-- a text's row behind n units of the same row; m is the mark of its literal bytes. "Each opening quote gives an N, then its bytes as Q".
+unfoldable pub expand : Lent → Parts → Mark → ℕ → Pairs → Made
+unfolding fit parameter decimal value arithmeticOf bytes marked tildeRow directory
+expand a end m n v = done ([], v)
+expand a (lit q b p) m n v = adding n (cell (litMark q m) b ∷ []) λ i. expand a p m i v
+expand a (quo q p) m n v = adding n (N ∷ []) λ i. expand a q Q i v >>= λ r. onto (r .0) (expand a p m (i + length (r .0)) (r .1))
+expand a (par x f q p) m n v = parameter (a .room) (λ k w. expand a q k 0 w) x f m v >>= λ r. adding n (r .0) λ i. expand a p m i (r .1)
+expand a (len x p) m n v = adding n (marked (expandedMark m) (decimal (length (value v x)))) λ i. expand a p m i v
+expand a (ari q p) m n v =
+    expand a q Q 0 v >>= λ r. arithmeticOf (r .1) (bytes (r .0)) >>= λ s. adding n (marked (expandedMark m) (s .0)) λ i. expand a p m i (s .1)
+expand a (til x p) m n v = adding n (tildeRow x m (directory v (a .homes) x)) λ i. expand a p m i v

@@ -1,4 +1,4 @@
--- Document 01, "Reading a line": what stands at the head of a text. Every rule of reading is here, and nothing here recurs.
+-- Document 01, "Reading a line", and document 02, E1: what stands at the head of a text. Every rule of reading is here, and nothing here recurs.
 use Prim.Native.Nat.{ℕ, zero, suc, _+_, _-_}
 use Prim.Native.Char.{code}
 use mathlib.Core.Bool.{Bool, true, false, _||_}
@@ -6,27 +6,32 @@ use mathlib.Core.List.{[], _∷_}
 use lib.Dec.{eqb}
 use lib.ListN.{length}
 use Rattle.stages.specs.Numbers.{unended, bareOperator, substitution, unserved, badSyntax, tooDeep}
-use Rattle.stages.specs.Bytes.{Text, text, isIn, span, isNameStart, isNameByte, isDigit, isBlank, isOperator}
+use Rattle.stages.specs.Bytes.{Text, text, isIn, span, isNameStart, isNameByte, isDigit, isLoginByte, isBlank, isOperator}
 use Rattle.stages.specs.Outcome.{pick}
-use Rattle.stages.specs.Syntax.{Mode, word, bare, single, double, quotedOperand, arith, Escape, escaped, unescaped}
+use Rattle.stages.specs.Syntax.{Start, fresh, begun, Mode, word, bare, single, double, quotedOperand, arith, Escape, escaped, unescaped}
 use Rattle.stages.specs.Syntax.{Colon, withColon, noColon, Side, suffix, prefix, shortest, longest}
 use Rattle.stages.specs.Syntax.{Form, minus, equals, query, plus, removal}
 
 -- what a byte is where it stands
 pub data Sort : Type 0 where
-  backquote closes operator quotes quotes2 backslash dollar bad opening closing literal : Sort
+  backquote closes operator quotes quotes2 backslash dollar bad opening closing tilde literal : Sort
+
+-- 01: "a bare `~` starting a word of the line"; 02: "a bare `~` that begins an operand read as bare text is looked at too"
+unfoldable pub beginsTilde : Start → ℕ → Bool
+beginsTilde fresh b = eqb b (code "~")
+beginsTilde begun b = false
 
 -- "Bare blank, tab, newline separate words." "A backquote outside single quotes .. is 9 before any other fault there." "`'` runs to the next
 -- `'`." "The operand ends at the first `}` not quoted or in an inner expansion." "a plain `"` is 11"; "a quote or backslash anywhere in the
 -- text outside operands, is 11". "All other bare bytes are literal."
 unfoldable pub sort : Mode → ℕ → Sort
-unfolding isBlank isOperator
-sort word b =
-    pick (eqb b (code "`")) backquote (pick (isBlank b) closes (pick (isOperator b) operator (pick (eqb b (code "'")) quotes
+unfolding beginsTilde isBlank isOperator
+sort (word s) b =
+    pick (beginsTilde s b) tilde (pick (eqb b (code "`")) backquote (pick (isBlank b) closes (pick (isOperator b) operator (pick (eqb b (code "'")) quotes
+    (pick (eqb b (code "\"")) quotes2 (pick (eqb b (code "\\")) backslash (pick (eqb b (code "$")) dollar literal)))))))
+sort (bare s) b =
+    pick (beginsTilde s b) tilde (pick (eqb b (code "`")) backquote (pick (eqb b (code "}")) closes (pick (eqb b (code "'")) quotes
     (pick (eqb b (code "\"")) quotes2 (pick (eqb b (code "\\")) backslash (pick (eqb b (code "$")) dollar literal))))))
-sort bare b =
-    pick (eqb b (code "`")) backquote (pick (eqb b (code "}")) closes (pick (eqb b (code "'")) quotes
-    (pick (eqb b (code "\"")) quotes2 (pick (eqb b (code "\\")) backslash (pick (eqb b (code "$")) dollar literal)))))
 sort single b = pick (eqb b (code "'")) closes literal
 sort double b =
     pick (eqb b (code "`")) backquote (pick (eqb b (code "\"")) closes
@@ -49,6 +54,7 @@ pub data Item : Type 0 where
   count : Text → ℕ → Item  -- ${#name}
   inner : Text → Form → Mode → ℕ → Item  -- ${name FORM, and the operand's mode
   sum : Item  -- $((
+  homeOf : Text → ℕ → Item  -- ~login
 
 -- a byte that does not fit: "line ends inside a .. brace", "A backquote .. is 9 before any other fault there", else the number
 unfoldable pub wrong : ℕ → Text → Item
@@ -58,8 +64,8 @@ wrong n (b ∷ t) = pick (eqb b (code "`")) (fault substitution) (fault n)
 -- "A bare backslash quotes the next byte"; "Within `"..."` a backslash quotes only `$`, backquote, `"`, `\`"; "`\}` gives `}`". Never asked of '...',
 -- where a backslash is literal, nor of arithmetic, where it is 11
 unfoldable pub quotable : Mode → ℕ → Bool
-quotable word b = true
-quotable bare b = true
+quotable (word s) b = true
+quotable (bare s) b = true
 quotable single b = false
 quotable double b = isIn b (text "$`\"\\")
 quotable quotedOperand b = isIn b (text "$`\"\\}")
@@ -73,9 +79,9 @@ behindBackslash m (b ∷ t) = pick (eqb b (code "\n")) (fault badSyntax) (pick (
 
 -- "inside double quotes or arithmetic, the operands of `-=?+` are read as double-quoted text". Never asked of '...', where a `$` is literal
 unfoldable pub operandMode : Mode → Mode
-operandMode word = bare
-operandMode bare = bare
-operandMode single = bare
+operandMode (word s) = bare fresh
+operandMode (bare s) = bare fresh
+operandMode single = bare fresh
 operandMode double = quotedOperand
 operandMode quotedOperand = quotedOperand
 operandMode (arith n) = quotedOperand
@@ -92,8 +98,8 @@ behindColon m x k (b ∷ t) = pick (isIn b (text "-=?+")) (inner x (signForm b w
 
 -- behind `${name%` or `${name#`: "the longer of `%%`, `%`, or of `##`, `#`"; "Operands of the four removals are always read as bare text"
 unfoldable pub behindRemoval : Text → Side → ℕ → ℕ → Text → Item
-behindRemoval x side sign k [] = inner x (removal side shortest) bare k
-behindRemoval x side sign k (b ∷ t) = pick (eqb b sign) (inner x (removal side longest) bare (suc k)) (inner x (removal side shortest) bare k)
+behindRemoval x side sign k [] = inner x (removal side shortest) (bare fresh) k
+behindRemoval x side sign k (b ∷ t) = pick (eqb b sign) (inner x (removal side longest) (bare fresh) (suc k)) (inner x (removal side shortest) (bare fresh) k)
 
 -- behind `${name`, k bytes with the next one: "After `${name` comes `}`, or `:` and one of `-=?+`, or one of these alone, or the longer of
 -- `%%`, `%`, or of `##`, `#`; anything else is 11."
@@ -138,8 +144,8 @@ parenthesis (suc d) (b ∷ t) = pick (eqb b (code "(")) sum (fault substitution)
 -- "`$` before a digit or one of `@*#?-$!` is 10, and so is `$'` in bare text". Never asked of '...', where a `$` is literal
 unfoldable pub notServed : Mode → ℕ → Bool
 unfolding isDigit
-notServed word b = isDigit b || isIn b (text "@*#?-$!'")
-notServed bare b = isDigit b || isIn b (text "@*#?-$!'")
+notServed (word s) b = isDigit b || isIn b (text "@*#?-$!'")
+notServed (bare s) b = isDigit b || isIn b (text "@*#?-$!'")
 notServed single b = false
 notServed double b = isDigit b || isIn b (text "@*#?-$!")
 notServed quotedOperand b = isDigit b || isIn b (text "@*#?-$!")
@@ -162,8 +168,8 @@ outer (b ∷ t) = pick (eqb b (code ")")) (stop 2) (pick (eqb b (code "`")) (fau
 
 -- "Arithmetic text balances its parentheses". Never asked: the first five cases, since only arithmetic has the sort `opening`
 unfoldable pub opened : Mode → ℕ → Item
-opened word b = byte unescaped b 0
-opened bare b = byte unescaped b 0
+opened (word s) b = byte unescaped b 0
+opened (bare s) b = byte unescaped b 0
 opened single b = byte unescaped b 0
 opened double b = byte unescaped b 0
 opened quotedOperand b = byte unescaped b 0
@@ -172,8 +178,8 @@ opened (arith n) b = paren b (suc n)
 -- The same for the sort `closing`. Never asked: the first five cases
 unfoldable pub closed : Mode → ℕ → Text → Item
 unfolding outer
-closed word b t = byte unescaped b 0
-closed bare b t = byte unescaped b 0
+closed (word s) b t = byte unescaped b 0
+closed (bare s) b t = byte unescaped b 0
 closed single b t = byte unescaped b 0
 closed double b t = byte unescaped b 0
 closed quotedOperand b t = byte unescaped b 0
@@ -182,8 +188,8 @@ closed (arith (suc n)) b t = paren b n
 
 -- how many bytes end a text: a word's blank is not part of it. Never asked of arithmetic, where no byte has the sort `closes`
 unfoldable pub closerLength : Mode → ℕ
-closerLength word = 0
-closerLength bare = 1
+closerLength (word s) = 0
+closerLength (bare s) = 1
 closerLength single = 1
 closerLength double = 1
 closerLength quotedOperand = 1
@@ -191,15 +197,46 @@ closerLength (arith n) = 1
 
 -- "line ends inside a quote, brace or arithmetic"
 unfoldable pub ended : Mode → Item
-ended word = stop 0
-ended bare = fault unended
+ended (word s) = stop 0
+ended (bare s) = fault unended
 ended single = fault unended
 ended double = fault unended
 ended quotedOperand = fault unended
 ended (arith n) = fault unended
 
+-- the bytes of the text that end a login
+abbrev pub loginEnds : Mode → Text
+loginEnds m = text "/"
+
+-- the text ends with a byte of this sort
+unfoldable pub isCloser : Sort → Bool
+isCloser backquote = false
+isCloser closes = true
+isCloser operator = false
+isCloser quotes = false
+isCloser quotes2 = false
+isCloser backslash = false
+isCloser dollar = false
+isCloser bad = false
+isCloser opening = false
+isCloser closing = false
+isCloser tilde = false
+isCloser literal = false
+
+-- 01: "if the bytes up to the first `/` or the word's end are all login bytes"; 02: "its login ending at the first `/` or the operand's end"
+unfoldable pub endsLogin : Mode → Text → Bool
+unfolding isCloser sort
+endsLogin m [] = true
+endsLogin m (b ∷ t) = isIn b (loginEnds m) || isCloser (sort m b)
+
+-- behind a tilde b that begins a word or an operand: the longest run of login bytes is the login, if it ends there
+unfoldable pub behindTilde : Mode → ℕ → Text → Item
+unfolding endsLogin span isLoginByte
+behindTilde m b t =
+    pick (endsLogin m (span isLoginByte t .1)) (homeOf (span isLoginByte t .0) (length (span isLoginByte t .0))) (byte unescaped b 0)
+
 unfoldable pub itemOf : Sort → Mode → ℕ → ℕ → Text → Item
-unfolding closerLength behindBackslash expansion opened closed
+unfolding closerLength behindBackslash expansion opened closed behindTilde
 itemOf backquote m d b t = fault substitution
 itemOf closes m d b t = stop (closerLength m)
 itemOf operator m d b t = fault bareOperator
@@ -210,6 +247,7 @@ itemOf dollar m d b t = expansion m d t
 itemOf bad m d b t = fault badSyntax
 itemOf opening m d b t = opened m b
 itemOf closing m d b t = closed m b t
+itemOf tilde m d b t = behindTilde m b t
 itemOf literal m d b t = byte unescaped b 0
 
 -- what stands at the head of a text, where d expansions may still open
@@ -217,3 +255,12 @@ unfoldable pub item : Mode → ℕ → Text → Item
 unfolding ended itemOf sort
 item m d [] = ended m
 item m d (b ∷ t) = itemOf (sort m b) m d b t
+
+-- the mode in which a text goes on behind its first item
+unfoldable pub onward : Mode → Mode
+onward (word s) = word begun
+onward (bare s) = bare begun
+onward single = single
+onward double = double
+onward quotedOperand = quotedOperand
+onward (arith n) = arith n

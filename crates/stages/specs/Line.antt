@@ -10,15 +10,15 @@ use Rattle.stages.specs.Outcome.{Outcome, done, _>>=_, Placed, doneAt, p
 use Rattle.stages.specs.Images.{Pairs, recordBytes}
 use Rattle.stages.specs.Syntax.{Parts, Word}
 use Rattle.stages.specs.Read.{readLine}
-use Rattle.stages.specs.Expand.{wordRow}
+use Rattle.stages.specs.Units.{L}
+use Rattle.stages.specs.Expand.{Lent, expand}
 use Rattle.stages.specs.Split.{fieldsOfRow}
 use Rattle.stages.specs.Paths.{textsOfFields}
 
 -- what a line is expanded among
 pub record Around : Type 0 where
-  pub room : ℕ  -- of the variables' buffer
+  pub lent : Lent
   pub out : ℕ  -- of the output
-  pub homes : Pairs
   pub paths : List Text
 
 abbrev pub Fields : Type 0
@@ -26,8 +26,8 @@ Fields = List Text
 
 -- the fields of one word, and the variables behind its stores
 unfoldable pub wordFields : Around → Parts → Pairs → Outcome (Fields × Pairs)
-unfolding wordRow fieldsOfRow textsOfFields
-wordFields a p v = wordRow (a .room) (a .homes) p v >>= λ r. textsOfFields (a .paths) (fieldsOfRow (r .1) (r .0)) >>= λ l. done (l, r .1)
+unfolding expand fieldsOfRow textsOfFields
+wordFields a p v = expand (a .lent) p L 0 v >>= λ r. textsOfFields (a .paths) (fieldsOfRow (r .1) (r .0)) >>= λ l. done (l, r .1)
 
 -- room in the output for an image of n bytes: "longer than the output or 8,192"
 unfoldable pub outFits : Around → ℕ → Bool

@@ -1,4 +1,4 @@
--- Document 01, "Reading a line": what a word is read as.
+-- Document 01, "Reading a line", and document 02, E1: what a word is read as.
 use Prim.Native.Nat.{ℕ}
 use Rattle.stages.specs.Bytes.{Text}
 
@@ -32,11 +32,17 @@ pub data Parts : Type 0 where
   par : Text → Form → Parts → Parts → Parts  -- $name, ${name}, ${name FORM operand}
   len : Text → Parts → Parts  -- ${#name}
   ari : Parts → Parts → Parts  -- $((...))
+  til : Text → Parts → Parts  -- ~login
+
+-- whether a text is read from its first byte on, where alone a tilde is looked at
+pub data Start : Type 0 where
+  fresh begun : Start
 
 -- where a text stands: a word of the line, an operand read as bare text, '...', "...", an operand read as double-quoted text,
 -- arithmetic with so many open parentheses
 pub data Mode : Type 0 where
-  word bare single double quotedOperand : Mode
+  word bare : Start → Mode
+  single double quotedOperand : Mode
   arith : ℕ → Mode
 
 -- a word of the line, and the offset of its first byte
