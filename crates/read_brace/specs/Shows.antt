@@ -8,13 +8,13 @@ use lib.ListN.{length}
 use Rattle.stages.specs.Bytes.{Text, part}
 use Rattle.stages.specs.Outcome.{pick}
 use Rattle.stages.specs.Syntax.{Side, suffix, prefix}
-use Rattle.stages.specs.Items.{fault, stop, byte, paren, quote, valueOf, count, inner, sum, nameThen, behindLength}
+use Rattle.stages.specs.Items.{fault, stop, byte, paren, quote, valueOf, count, inner, sum, homeOf, nameThen, behindLength}
 use Rattle.stages.specs.Items as items
 use Rattle.text.specs.Cases.{escapeOf}
 use Rattle.text.specs.Places.{Behind}
 use Rattle.read_mode.specs.Modes.{modeOf, openIn, formOf}
 use Rattle.read_brace.specs.declared.Item.{Item}
-use Rattle.read_brace.specs.declared.Item.the-variants.{Fault, Stop, Byte, Paren, Quote, Value, Count, Inner, Sum}
+use Rattle.read_brace.specs.declared.Item.the-variants.{Fault, Stop, Byte, Paren, Quote, Value, Count, Inner, Sum, Home}
 
 -- the text's first byte is b
 abbrev pub isAt : ℕ → Text → Bool
@@ -54,3 +54,4 @@ Shows text at depth (Inner from to f m next) i =
     (i ≡ inner (part text from to) (formOf f) (modeOf m) (next - suc at)) × Behind text at next × Name text from to × (0 < depth) ×
     (openIn m ≡ 0) × (from ≡ at + 2)
 Shows text at depth (Sum next) i = (i ≡ sum) × (next ≡ at + 3) × (next ≤ length text) × (0 < depth)
+Shows text at depth (Home to) i = (i ≡ homeOf (part text (at + 1) to) (to - suc at)) × Behind text at to

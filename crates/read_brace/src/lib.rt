@@ -58,6 +58,8 @@ pub enum Item {
     Sum {
         next: usize,
     },
+    // ~login, which stands behind the tilde and ends at this place
+    Home(usize),
 }
 
 // Does the byte stand at this place?
@@ -117,7 +119,7 @@ fn removal_at(text: &[u8], from: Cursor, to: usize, prefix: bool) -> Item
         from: at + 2,
         to: to,
         form: removal_form(prefix, doubled),
-        mode: Mode::Bare,
+        mode: Mode::Bare(true),
         next: if doubled { to + 2 } else { to + 1 },
     }
 }

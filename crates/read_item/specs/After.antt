@@ -3,29 +3,30 @@ use mathlib.Core.Bool.{Bool, true, false}
 use lib.ListN.{drop}
 use Rattle.stages.specs.Bytes.{Text}
 use Rattle.stages.specs.Items.{item}
-use Rattle.read_mode.specs.Modes.{modeOf}
+use Rattle.read_mode.specs.Modes.{modeOf, modeOnward}
 use Rattle.read_mode.specs.declared.Cursor.{Cursor}
 use Rattle.read_mode.specs.declared.Mode.{Mode}
 use Rattle.read_mode.specs.declared.Mode.the-variants.{Arith}
 use Rattle.read_brace.specs.Shows.{Shows}
 use Rattle.read_brace.specs.declared.Item.{Item}
-use Rattle.read_brace.specs.declared.Item.the-variants.{Fault, Stop, Byte, Paren, Quote, Value, Count, Inner, Sum}
+use Rattle.read_brace.specs.declared.Item.the-variants.{Fault, Stop, Byte, Paren, Quote, Value, Count, Inner, Sum, Home}
 
 -- the item is what stands where the text is read
 abbrev pub ItemAt : Text → Cursor → Item → Type 0
 ItemAt text from i = Shows text (from .at) (from .depth) i (item (modeOf (from .mode)) (from .depth) (drop (from .at) text))
 
--- the mode in which the text goes on: a parenthesis changes it, nothing else does
+-- the mode in which the text goes on: a parenthesis changes it, and behind its first item a text has begun
 abbrev pub modeAfter : Item → Mode → Mode
-modeAfter (Fault e) m = m
-modeAfter (Stop next) m = m
-modeAfter (Byte q b next) m = m
+modeAfter (Fault e) m = modeOnward m
+modeAfter (Stop next) m = modeOnward m
+modeAfter (Byte q b next) m = modeOnward m
 modeAfter (Paren b n) m = Arith n
-modeAfter (Quote inner) m = m
-modeAfter (Value from to next) m = m
-modeAfter (Count from to next) m = m
-modeAfter (Inner from to f inner next) m = m
-modeAfter (Sum next) m = m
+modeAfter (Quote inner) m = modeOnward m
+modeAfter (Value from to next) m = modeOnward m
+modeAfter (Count from to next) m = modeOnward m
+modeAfter (Inner from to f inner next) m = modeOnward m
+modeAfter (Sum next) m = modeOnward m
+modeAfter (Home to) m = modeOnward m
 
 -- the text ends with the item
 abbrev pub isStop : Item → Bool
@@ -38,3 +39,4 @@ isStop (Value from to next) = false
 isStop (Count from to next) = false
 isStop (Inner from to f inner next) = false
 isStop (Sum next) = false
+isStop (Home to) = false

@@ -10,7 +10,7 @@ ghost use mathlib.Core.Path.{_≡_};
 ghost use Prim.Native.Nat.{_+_, _≤_, _<_};
 ghost use lib.ListN.{length, drop, getD};
 ghost use Rattle.stages.specs.Syntax.{arith};
-ghost use Rattle.stages.specs.Items.{item, behindBackslash, expansion, parenthesis, closed};
+ghost use Rattle.stages.specs.Items.{item, behindBackslash, expansion, parenthesis, closed, behindTilde};
 ghost use Rattle.read_mode.specs.Modes.{modeOf, openIn};
 ghost use Rattle.read_brace.specs.Shows.{Shows};
 ghost use Rattle.read_item.specs.After.{modeAfter, isStop};
@@ -123,6 +123,28 @@ fn closed_at(text: &[u8], from: Cursor, parens: usize) -> Item
     Item::Fault(read_mode::wrong_byte(numbers::REFUSED_SYNTAX, b))
 }
 
+// What a tilde is that begins a word or an operand: the longest run of login bytes behind it is its login, if that ends there.
+fn tilde_at(text: &[u8], from: Cursor) -> Item
+    requires { ⌜ from .at < length (now text) ⌝ }
+    ensures { λ r. ⌜ Shows (now (text .entry)) (from .at) (from .depth) r
+        (behindTilde (modeOf (from .mode)) (getD (now (text .entry)) (from .at) 0) (drop (from .at + 1) (now (text .entry)))) ⌝ }
+{
+    let at = from.at;
+    let mode = from.mode;
+    let to = text::run_end(text, at + 1, Class::LoginByte);
+    if to >= text.len() {
+        return Item::Home(to);
+    }
+    if read_mode::ends_login(mode, text[to]) {
+        return Item::Home(to);
+    }
+    Item::Byte {
+        quoted: false,
+        byte: text[at],
+        next: at + 1,
+    }
+}
+
 // What stands where a text is read.
 pub fn item_at(text: &[u8], from: Cursor) -> Item
     requires { ⌜ (from .at ≤ length (now text)) × (openIn (from .mode) ≤ from .at) ⌝ }
@@ -153,6 +175,7 @@ pub fn item_at(text: &[u8], from: Cursor) -> Item
             parens: parens + 1,
         },
         Sort::Closing(parens) => closed_at(text, from, parens),
+        Sort::Tilde => tilde_at(text, from),
         Sort::Literal => Item::Byte {
             quoted: false,
             byte: b,
@@ -161,13 +184,13 @@ pub fn item_at(text: &[u8], from: Cursor) -> Item
     }
 }
 
-// The mode in which a text goes on after an item: a parenthesis changes it, nothing else does.
+// The mode in which a text goes on after an item: a parenthesis changes it, and behind its first item a text has begun.
 pub fn mode_after(item: Item, mode: Mode) -> Mode
     ensures { λ r. ⌜ r ≡ modeAfter item mode ⌝ }
 {
     match item {
         Item::Paren { byte: _, parens } => Mode::Arith(parens),
-        _ => mode,
+        _ => read_mode::onward(mode),
     }
 }
 

@@ -58,6 +58,7 @@ fn read_item(item: Item, text: &[u8], from: Cursor) -> Reading
             to: _,
             next,
         } => Reading::End(next),
+        Item::Home(to) => Reading::End(to),
         Item::Quote(inner) => read_text(
             text,
             Cursor {
@@ -148,7 +149,7 @@ fn read_word(line: &[u8], place: usize) -> Reading
         line,
         Cursor {
             at: place,
-            mode: Mode::Word,
+            mode: Mode::Word(true),
             depth: numbers::DEPTH_LIMIT,
         },
     )

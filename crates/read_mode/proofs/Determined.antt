@@ -7,34 +7,34 @@ use mathlib.Core.Bool.{Bool, true, false}
 use mathlib.Core.List.{[], _∷_}
 use Rattle.stages.specs.Syntax.{word, bare, single, double, quotedOperand, arith as sums, plain, minus, equals, query, plus, removal, suffix, prefix, Colon}
 use Rattle.stages.specs.Syntax as syntax
-use Rattle.stages.specs.Items.{ended, quotable, notServed, wrong, fault, signForm, closerLength}
+use Rattle.stages.specs.Items.{ended, quotable, notServed, wrong, fault, signForm, closerLength, endsLogin}
 use Rattle.stages.specs.Items as items
-use Rattle.text.specs.Cases.{hasColon, isLongest}
-use Rattle.text.proofs.Cases.{colon-back, reach-back}
+use Rattle.text.specs.Cases.{hasColon, isLongest, isFresh}
+use Rattle.text.proofs.Cases.{colon-back, reach-back, start-back}
 use Rattle.text.proofs.Determined.{one-answer}
-use Rattle.read_mode.specs.Modes.{modeOf, formOf, sortOf, Carries, Sorted, Operands, endsLine}
+use Rattle.read_mode.specs.Modes.{modeOf, modeOnward, formOf, sortOf, Carries, Sorted, Operands, endsLine}
 use Rattle.read_mode.specs.declared.Mode.{Mode}
 use Rattle.read_mode.specs.declared.Mode.the-variants.{Word, Bare, Single, Double, Operand, Arith}
 use Rattle.read_mode.specs.declared.Form.{Form}
 use Rattle.read_mode.specs.declared.Form.the-variants.{Minus, Equals, Query, Plus, Suffix, Prefix}
 use Rattle.read_mode.specs.declared.Sort.{Sort}
-use Rattle.read_mode.specs.declared.Sort.the-variants.{Backquote, Closes, Operator, Quotes, Quotes2, Backslash, Dollar, Bad, Opening, Closing, Literal}
+use Rattle.read_mode.specs.declared.Sort.the-variants.{Backquote, Closes, Operator, Quotes, Quotes2, Backslash, Dollar, Bad, Opening, Closing, Tilde, Literal}
 
 -- what a function takes back is determined by what it is taken from
 pub taken-back : {A B : Type 0} (f : A → B) (g : B → A) → ((a : A) → a ≡ g (f a)) → (r s : A) → f r ≡ f s → r ≡ s
 taken-back f g h r s e = h r ∙ ap g e ∙ sym (h s)
 
 abbrev pub modeBack : syntax.Mode → Mode
-modeBack word = Word
-modeBack bare = Bare
+modeBack (word s) = Word (isFresh s)
+modeBack (bare s) = Bare (isFresh s)
 modeBack single = Single
 modeBack double = Double
 modeBack quotedOperand = Operand
 modeBack (sums n) = Arith n
 
 pub mode-back : (m : Mode) → m ≡ modeBack (modeOf m)
-mode-back Word = refl
-mode-back Bare = refl
+mode-back (Word s) = ap Word (start-back s)
+mode-back (Bare s) = ap Bare (start-back s)
 mode-back Single = refl
 mode-back Double = refl
 mode-back Operand = refl
@@ -65,8 +65,8 @@ form-determined r s e = taken-back formOf formBack form-back r s e
 
 -- a sort with what it carries
 abbrev parensOf : syntax.Mode → ℕ
-parensOf word = 0
-parensOf bare = 0
+parensOf (word s) = 0
+parensOf (bare s) = 0
 parensOf single = 0
 parensOf double = 0
 parensOf quotedOperand = 0
@@ -83,6 +83,7 @@ sortBack m items.dollar = Dollar
 sortBack m items.bad = Bad
 sortBack m items.opening = Opening (parensOf m)
 sortBack m items.closing = Closing (parensOf m)
+sortBack m items.tilde = Tilde
 sortBack m items.literal = Literal
 
 sort-back : (m : syntax.Mode) (r : Sort) → Carries r m → r ≡ sortBack m (sortOf r)
@@ -96,6 +97,7 @@ sort-back m Dollar c = refl
 sort-back m Bad c = refl
 sort-back m (Opening n) c = ap (λ (x : syntax.Mode). Opening (parensOf x)) (sym c)
 sort-back m (Closing n) c = ap (λ (x : syntax.Mode). Closing (parensOf x)) (sym c)
+sort-back m Tilde c = refl
 sort-back m Literal c = refl
 
 pub sort-at-determined : (m : syntax.Mode) (b : ℕ) (r s : Sort) → Sorted m b r → Sorted m b s → r ≡ s
@@ -118,6 +120,12 @@ ends-back false false e = refl
 
 pub may-end-determined : (m : syntax.Mode) (r s : Bool) → ended m ≡ endsLine r → ended m ≡ endsLine s → r ≡ s
 may-end-determined m r s p q = ends-back r s (sym p ∙ q)
+
+pub onward-determined : (m r s : Mode) → r ≡ modeOnward m → s ≡ modeOnward m → r ≡ s
+onward-determined m r s = one-answer
+
+pub ends-login-determined : (m : syntax.Mode) (b : ℕ) (r s : Bool) → r ≡ endsLogin m (b ∷ []) → s ≡ endsLogin m (b ∷ []) → r ≡ s
+ends-login-determined m b r s = one-answer
 
 pub wrong-byte-determined : (n b r s : ℕ) → wrong n (b ∷ []) ≡ fault r → wrong n (b ∷ []) ≡ fault s → r ≡ s
 wrong-byte-determined n b r s p q = cc

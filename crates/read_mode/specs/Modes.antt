@@ -10,17 +10,17 @@ use Rattle.stages.specs.Syntax.{word, bare, single, double, quotedOperand, arit
 use Rattle.stages.specs.Syntax as syntax
 use Rattle.stages.specs.Items.{Item, fault, stop, operandMode, closerLength, sort}
 use Rattle.stages.specs.Items as items
-use Rattle.text.specs.Cases.{colonOf, reachOf}
+use Rattle.text.specs.Cases.{colonOf, reachOf, startOf}
 use Rattle.read_mode.specs.declared.Mode.{Mode}
 use Rattle.read_mode.specs.declared.Mode.the-variants.{Word, Bare, Single, Double, Operand, Arith}
 use Rattle.read_mode.specs.declared.Form.{Form}
 use Rattle.read_mode.specs.declared.Form.the-variants.{Minus, Equals, Query, Plus, Suffix, Prefix}
 use Rattle.read_mode.specs.declared.Sort.{Sort}
-use Rattle.read_mode.specs.declared.Sort.the-variants.{Backquote, Closes, Operator, Quotes, Quotes2, Backslash, Dollar, Bad, Opening, Closing, Literal}
+use Rattle.read_mode.specs.declared.Sort.the-variants.{Backquote, Closes, Operator, Quotes, Quotes2, Backslash, Dollar, Bad, Opening, Closing, Tilde, Literal}
 
 abbrev pub modeOf : Mode → syntax.Mode
-modeOf Word = word
-modeOf Bare = bare
+modeOf (Word fresh) = word (startOf fresh)
+modeOf (Bare fresh) = bare (startOf fresh)
 modeOf Single = single
 modeOf Double = double
 modeOf Operand = quotedOperand
@@ -28,12 +28,21 @@ modeOf (Arith n) = arith n
 
 -- the open parentheses of a mode
 abbrev pub openIn : Mode → ℕ
-openIn Word = 0
-openIn Bare = 0
+openIn (Word fresh) = 0
+openIn (Bare fresh) = 0
 openIn Single = 0
 openIn Double = 0
 openIn Operand = 0
 openIn (Arith n) = n
+
+-- the mode in which a text goes on after its first item
+abbrev pub modeOnward : Mode → Mode
+modeOnward (Word fresh) = Word false
+modeOnward (Bare fresh) = Bare false
+modeOnward Single = Single
+modeOnward Double = Double
+modeOnward Operand = Operand
+modeOnward (Arith n) = Arith n
 
 abbrev pub formOf : Form → syntax.Form
 formOf (Minus colon) = syntax.minus (colonOf colon)
@@ -54,6 +63,7 @@ sortOf Dollar = items.dollar
 sortOf Bad = items.bad
 sortOf (Opening n) = items.opening
 sortOf (Closing n) = items.closing
+sortOf Tilde = items.tilde
 sortOf Literal = items.literal
 
 -- what a sort carries is the mode's: how many bytes close its text, how many parentheses are open in it
@@ -68,6 +78,7 @@ Carries Dollar m = Unit {0}
 Carries Bad m = Unit {0}
 Carries (Opening n) m = m ≡ arith n
 Carries (Closing n) m = m ≡ arith n
+Carries Tilde m = Unit {0}
 Carries Literal m = Unit {0}
 
 -- the code's sort of a byte is the stage's

@@ -5,17 +5,17 @@ ghost use mathlib.Core.Bool.{_||_};
 ghost use mathlib.Core.List.{[], _∷_};
 ghost use Rattle.stages.specs.Bytes.{isDigit, isIn, text};
 ghost use Rattle.stages.specs.Syntax.{word, bare, single, double, quotedOperand, arith};
-ghost use Rattle.text.specs.Cases.{colonOf};
-ghost use Rattle.stages.specs.Items.{quotable, notServed, operandMode, ended, wrong, fault, signForm};
-ghost use Rattle.read_mode.specs.Modes.{modeOf, formOf, Operands, Sorted, Shared, quotesSort, plainSort, endsLine};
+ghost use Rattle.text.specs.Cases.{colonOf, startOf};
+ghost use Rattle.stages.specs.Items.{quotable, notServed, operandMode, ended, wrong, fault, signForm, beginsTilde, endsLogin};
+ghost use Rattle.read_mode.specs.Modes.{modeOf, formOf, modeOnward, Operands, Sorted, Shared, quotesSort, plainSort, endsLine};
 use text::numbers;
 
 // Where a text stands.
 pub enum Mode {
-    // a word of the line
-    Word,
-    // an operand read as bare text
-    Bare,
+    // a word of the line; whether it is read from its first byte on, where alone a tilde is looked at
+    Word(bool),
+    // an operand read as bare text; whether it is read from its first byte on
+    Bare(bool),
     // '...'
     Single,
     // "..."
@@ -57,6 +57,8 @@ pub enum Sort {
     // a parenthesis of an arithmetic text, and how many are open before it
     Opening(usize),
     Closing(usize),
+    // a tilde that begins a word or an operand
+    Tilde,
     Literal,
 }
 
@@ -86,9 +88,22 @@ fn sort_quotes(b: u8) -> Sort
     sort_plain(b)
 }
 
-fn sort_word(b: u8) -> Sort
-    ensures { λ r. ⌜ Sorted word b r ⌝ }
+// Is the byte a tilde that is looked at?
+fn begins_tilde(fresh: bool, b: u8) -> bool
+    ensures { λ r. ⌜ r ≡ beginsTilde (startOf fresh) b ⌝ }
 {
+    if fresh {
+        return b == b'~';
+    }
+    false
+}
+
+fn sort_word(fresh: bool, b: u8) -> Sort
+    ensures { λ r. ⌜ Sorted (word (startOf fresh)) b r ⌝ }
+{
+    if begins_tilde(fresh, b) {
+        return Sort::Tilde;
+    }
     if b == b'`' {
         return Sort::Backquote;
     }
@@ -101,9 +116,12 @@ fn sort_word(b: u8) -> Sort
     sort_quotes(b)
 }
 
-fn sort_bare(b: u8) -> Sort
-    ensures { λ r. ⌜ Sorted bare b r ⌝ }
+fn sort_bare(fresh: bool, b: u8) -> Sort
+    ensures { λ r. ⌜ Sorted (bare (startOf fresh)) b r ⌝ }
 {
+    if begins_tilde(fresh, b) {
+        return Sort::Tilde;
+    }
     if b == b'`' {
         return Sort::Backquote;
     }
@@ -175,8 +193,8 @@ pub fn sort_at(mode: Mode, b: u8) -> Sort
     ensures { λ r. ⌜ Sorted (modeOf mode) b r ⌝ }
 {
     match mode {
-        Mode::Word => sort_word(b),
-        Mode::Bare => sort_bare(b),
+        Mode::Word(fresh) => sort_word(fresh, b),
+        Mode::Bare(fresh) => sort_bare(fresh, b),
         Mode::Single => sort_single(b),
         Mode::Double => sort_double(b),
         Mode::Operand => sort_operand(b),
@@ -189,8 +207,8 @@ pub fn is_quotable(mode: Mode, b: u8) -> bool
     ensures { λ r. ⌜ r ≡ quotable (modeOf mode) b ⌝ }
 {
     match mode {
-        Mode::Word => true,
-        Mode::Bare => true,
+        Mode::Word(_) => true,
+        Mode::Bare(_) => true,
         Mode::Single => false,
         Mode::Double => text::is_in(b, b"$`\"\\"),
         Mode::Operand => text::is_in(b, b"$`\"\\}"),
@@ -221,8 +239,8 @@ pub fn is_not_served(mode: Mode, b: u8) -> bool
     ensures { λ r. ⌜ r ≡ notServed (modeOf mode) b ⌝ }
 {
     match mode {
-        Mode::Word => is_unserved_bare(b),
-        Mode::Bare => is_unserved_bare(b),
+        Mode::Word(_) => is_unserved_bare(b),
+        Mode::Bare(_) => is_unserved_bare(b),
         Mode::Single => false,
         Mode::Double => is_unserved(b),
         Mode::Operand => is_unserved(b),
@@ -235,9 +253,9 @@ pub fn operand_mode(mode: Mode) -> Mode
     ensures { λ r. ⌜ Operands (modeOf mode) r ⌝ }
 {
     match mode {
-        Mode::Word => Mode::Bare,
-        Mode::Bare => Mode::Bare,
-        Mode::Single => Mode::Bare,
+        Mode::Word(_) => Mode::Bare(true),
+        Mode::Bare(_) => Mode::Bare(true),
+        Mode::Single => Mode::Bare(true),
         Mode::Double => Mode::Operand,
         Mode::Operand => Mode::Operand,
         Mode::Arith(_) => Mode::Operand,
@@ -249,12 +267,40 @@ pub fn may_end(mode: Mode) -> bool
     ensures { λ r. ⌜ ended (modeOf mode) ≡ endsLine r ⌝ }
 {
     match mode {
-        Mode::Word => true,
-        Mode::Bare => false,
+        Mode::Word(_) => true,
+        Mode::Bare(_) => false,
         Mode::Single => false,
         Mode::Double => false,
         Mode::Operand => false,
         Mode::Arith(_) => false,
+    }
+}
+
+// The mode in which a text goes on after its first item.
+pub fn onward(mode: Mode) -> Mode
+    ensures { λ r. ⌜ r ≡ modeOnward mode ⌝ }
+{
+    match mode {
+        Mode::Word(_) => Mode::Word(false),
+        Mode::Bare(_) => Mode::Bare(false),
+        Mode::Single => Mode::Single,
+        Mode::Double => Mode::Double,
+        Mode::Operand => Mode::Operand,
+        Mode::Arith(parens) => Mode::Arith(parens),
+    }
+}
+
+// Does a login end before the byte? At a `/`, and where the text ends.
+pub fn ends_login(mode: Mode, b: u8) -> bool
+    ensures { λ r. ⌜ r ≡ endsLogin (modeOf mode) (b ∷ []) ⌝ }
+{
+    if b == b'/' {
+        return true;
+    }
+    let sort = sort_at(mode, b);
+    match sort {
+        Sort::Closes(_) => true,
+        _ => false,
     }
 }
 

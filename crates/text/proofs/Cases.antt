@@ -3,7 +3,7 @@ use mathlib.Core.Path.{_≡_, refl}
 use mathlib.Core.Bool.{Bool, true, false}
 use Rattle.stages.specs.Syntax.{Escape, escaped, unescaped}
 use Rattle.stages.specs.Pattern.{isForPaths}
-use Rattle.text.specs.Cases.{escapeOf, isEscaped, colonOf, hasColon, reachOf, isLongest, purposeOf}
+use Rattle.text.specs.Cases.{escapeOf, isEscaped, colonOf, hasColon, reachOf, isLongest, purposeOf, startOf, isFresh}
 
 pub escape-back : (b : Bool) → b ≡ isEscaped (escapeOf b)
 escape-back true = refl
@@ -24,3 +24,7 @@ reach-back false = refl
 pub purpose-back : (b : Bool) → b ≡ isForPaths (purposeOf b)
 purpose-back true = refl
 purpose-back false = refl
+
+pub start-back : (b : Bool) → b ≡ isFresh (startOf b)
+start-back true = refl
+start-back false = refl

@@ -1,6 +1,6 @@
 -- The two-case types of the stages by the Booleans of the code, and back.
 use mathlib.Core.Bool.{Bool, true, false}
-use Rattle.stages.specs.Syntax.{Escape, escaped, unescaped, Colon, withColon, noColon, Side, suffix, prefix, Reach, shortest, longest}
+use Rattle.stages.specs.Syntax.{Escape, escaped, unescaped, Colon, withColon, noColon, Side, suffix, prefix, Reach, shortest, longest, Start, fresh, begun}
 use Rattle.stages.specs.Pattern.{Purpose, forPaths, forRemoval}
 
 -- whether a backslash quotes a byte
@@ -43,3 +43,12 @@ isLongest shortest = false
 abbrev pub purposeOf : Bool → Purpose
 purposeOf true = forPaths
 purposeOf false = forRemoval
+
+-- whether a text is read from its first byte on
+abbrev pub startOf : Bool → Start
+startOf true = fresh
+startOf false = begun
+
+abbrev pub isFresh : Start → Bool
+isFresh fresh = true
+isFresh begun = false

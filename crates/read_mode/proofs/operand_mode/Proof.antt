@@ -1,4 +1,5 @@
 -- The stage goes by the same cases.
+use mathlib.Core.Path.{refl}
 use Rattle.stages.specs.Items.{operandMode}
 use borrow.Author.Needs.{needs}
 use Rattle.read_mode.proofs.operand_mode.Statement.{statement}
@@ -24,15 +25,15 @@ enum-told-6 c = search needs
 
 returns : tie.Need-returns
 unfolding operandMode
-returns c = search needs
+returns c = record { is = rw (c .enum-told .given .1); closed = refl }
 
 returns-2 : tie.Need-returns-2
 unfolding operandMode
-returns-2 c = search needs
+returns-2 c = record { is = rw (c .enum-told2 .given .1); closed = refl }
 
 returns-3 : tie.Need-returns-3
 unfolding operandMode
-returns-3 c = search needs
+returns-3 c = record { is = rw (c .enum-told3 .given .1); closed = refl }
 
 returns-4 : tie.Need-returns-4
 unfolding operandMode

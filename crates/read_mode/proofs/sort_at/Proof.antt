@@ -3,75 +3,75 @@ use borrow.Author.Needs.{needs}
 use Rattle.read_mode.proofs.sort_at.Statement.{statement}
 use Rattle.read_mode.proofs.sort_at.Tie as tie
 
-enum-told : tie.Need-enum-told
-enum-told c = search needs
+enum-known-mode : tie.Need-enum-known-mode
+enum-known-mode c = search needs
 
 sort-word-requires : tie.Need-sort-word-requires
 sort-word-requires c κs = search needs
 
-enum-told-2 : tie.Need-enum-told-2
-enum-told-2 c = search needs
+enum-known-mode-2 : tie.Need-enum-known-mode-2
+enum-known-mode-2 c = search needs
 
 sort-bare-requires : tie.Need-sort-bare-requires
 sort-bare-requires c κs = search needs
 
-enum-told-3 : tie.Need-enum-told-3
-enum-told-3 c = search needs
+enum-told : tie.Need-enum-told
+enum-told c = search needs
 
 sort-single-requires : tie.Need-sort-single-requires
 sort-single-requires c κs = search needs
 
-enum-told-4 : tie.Need-enum-told-4
-enum-told-4 c = search needs
+enum-told-2 : tie.Need-enum-told-2
+enum-told-2 c = search needs
 
 sort-double-requires : tie.Need-sort-double-requires
 sort-double-requires c κs = search needs
 
-enum-told-5 : tie.Need-enum-told-5
-enum-told-5 c = search needs
+enum-told-3 : tie.Need-enum-told-3
+enum-told-3 c = search needs
 
 sort-operand-requires : tie.Need-sort-operand-requires
 sort-operand-requires c κs = search needs
 
-enum-known-mode : tie.Need-enum-known-mode
-enum-known-mode c = search needs
+enum-known-mode-3 : tie.Need-enum-known-mode-3
+enum-known-mode-3 c = search needs
 
 sort-arith-requires : tie.Need-sort-arith-requires
 sort-arith-requires c κs = search needs
 
 returns : tie.Need-returns
-returns c = rw (c .before .enum-told .given .1) (c .sort-word .ensures)
+returns c = rw (c .before .before .mode .given .1) (c .sort-word .ensures)
 
 returns-2 : tie.Need-returns-2
-returns-2 c = rw (c .before .enum-told2 .given .1) (c .sort-bare .ensures)
+returns-2 c = rw (c .before .before .mode2 .given .1) (c .sort-bare .ensures)
 
 returns-3 : tie.Need-returns-3
-returns-3 c = rw (c .before .enum-told3 .given .1) (c .sort-single .ensures)
+returns-3 c = rw (c .before .enum-told .given .1) (c .sort-single .ensures)
 
 returns-4 : tie.Need-returns-4
-returns-4 c = rw (c .before .enum-told4 .given .1) (c .sort-double .ensures)
+returns-4 c = rw (c .before .enum-told2 .given .1) (c .sort-double .ensures)
 
 returns-5 : tie.Need-returns-5
-returns-5 c = rw (c .before .enum-told5 .given .1) (c .sort-operand .ensures)
+returns-5 c = rw (c .before .enum-told3 .given .1) (c .sort-operand .ensures)
 
 returns-6 : tie.Need-returns-6
-returns-6 c = rw (c .before .before .mode .given .1) (c .sort-arith .ensures)
+returns-6 c = rw (c .before .before .mode3 .given .1) (c .sort-arith .ensures)
 
 pub sort-at-spec : {M : Type 1} → statement M
 sort-at-spec =
     tie.close
     (tie.spec
-    enum-told
-    sort-word-requires
-    enum-told-2
-    sort-bare-requires
-    enum-told-3
-    sort-single-requires
-    enum-told-4
-    sort-double-requires
-    enum-told-5
-    sort-operand-requires
     enum-known-mode
+    sort-word-requires
+    enum-known-mode-2
+    sort-bare-requires
+    enum-told
+    sort-single-requires
+    enum-told-2
+    sort-double-requires
+    enum-told-3
+    sort-operand-requires
+    enum-known-mode-3
     sort-arith-requires
     returns
     returns-2
