@@ -6,13 +6,13 @@ use mathlib.Core.Path.{_≡_, sym, ap, _∙_}
 use mathlib.Core.Bool.{Bool}
 use lib.ListN.{length}
 use Rattle.stages.specs.Bytes.{Text, part}
-use Rattle.stages.specs.Items.{fault, stop, byte, paren, quote, valueOf, count, inner, sum}
+use Rattle.stages.specs.Items.{fault, stop, byte, paren, quote, valueOf, count, inner, sum, homeOf}
 use Rattle.stages.specs.Items as items
 use Rattle.read_mode.proofs.Determined.{modeBack, mode-back, formBack, form-back}
 use Rattle.read_mode.specs.Modes.{modeOf, formOf}
 use Rattle.read_brace.specs.Shows.{Shows, Name, nameOf}
 use Rattle.read_brace.specs.declared.Item.{Item}
-use Rattle.read_brace.specs.declared.Item.the-variants.{Fault, Stop, Byte, Paren, Quote, Value, Count, Inner, Sum}
+use Rattle.read_brace.specs.declared.Item.the-variants.{Fault, Stop, Byte, Paren, Quote, Value, Count, Inner, Sum, Home}
 use Rattle.text.specs.Cases.{isEscaped}
 use Rattle.text.proofs.Cases.{escape-back}
 use Rattle.text.proofs.Parts.{part-length}
@@ -27,6 +27,7 @@ itemBack at (valueOf x k) = Value (nameOf at (length x) k) (nameOf at (length x)
 itemBack at (count x k) = Count (at + 3) (at + 3 + length x) (at + suc k)
 itemBack at (inner x f m k) = Inner (at + 2) (at + 2 + length x) (formBack f) (modeBack m) (at + suc k)
 itemBack at sum = Sum (at + 3)
+itemBack at (homeOf x k) = Home (at + suc k)
 
 -- a name's place by where it begins and how long it is
 name-back : (text : Text) (from to n : ℕ) → Name text from to → from ≡ n → to ≡ n + length (part text from to)
@@ -72,6 +73,7 @@ item-back text at d (Inner from to f m next) i h =
     (at + suc (next - suc at)) = cc in
     w ∙ sym (ap (itemBack at) (h .0))
 item-back text at d (Sum next) i h = ap Sum (h .1) ∙ sym (ap (itemBack at) (h .0))
+item-back text at d (Home to) i h = ap Home (next-back at to (h .1 .onward)) ∙ sym (ap (itemBack at) (h .0))
 
 pub braced-at-determined : (text : Text) (at d : ℕ) (i : items.Item) (r s : Item) → Shows text at d r i → Shows text at d s i → r ≡ s
 braced-at-determined text at d i r s p q = item-back text at d r i p ∙ sym (item-back text at d s i q)

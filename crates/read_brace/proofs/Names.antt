@@ -11,7 +11,7 @@ use lib.Seq.{drop-cons}
 use Rattle.stages.specs.Numbers.{unended, unserved, badSyntax, tooDeep}
 use Rattle.stages.specs.Bytes.{Text, text, part, isIn, isNameStart}
 use Rattle.stages.specs.Outcome.{pick}
-use Rattle.stages.specs.Syntax.{Side, suffix, prefix, shortest, longest, removal, withColon, noColon, Mode, bare}
+use Rattle.stages.specs.Syntax.{Side, suffix, prefix, shortest, longest, removal, withColon, noColon, Mode, fresh, bare}
 use Rattle.stages.specs.Items.{Item, fault, inner}
 use Rattle.stages.specs.Items.{wrong, braced, nameThen, behindName, behindColon, behindLength, behindRemoval, signForm}
 use Rattle.text.specs.Classes.{Runs}
@@ -72,27 +72,27 @@ Removes s from to p r =
     Shows s (from .at) (from .depth) r
     (behindRemoval (part s (from .at + 2) to) (removalSide p) (getD s to 0) (to - from .at) (drop (to + 1) s))
 
-removal-is : (x : Text) (f : Side) (sign k : ℕ) (t : Text) → behindRemoval x f sign k t ≡ pick (isAt sign t) (inner x (removal f longest) bare (suc k))
-    (inner x (removal f shortest) bare k)
+removal-is : (x : Text) (f : Side) (sign k : ℕ) (t : Text) → behindRemoval x f sign k t ≡ pick (isAt sign t) (inner x (removal f longest) (bare fresh) (suc k))
+    (inner x (removal f shortest) (bare fresh) k)
 unfolding behindRemoval
 removal-is x f sign k [] = refl
 removal-is x f sign k (b ∷ t) = refl
 
 module _ {s : Text} {from : Cursor} {to : ℕ} (h : Ended s from to) (p : Bool) where
   pub removal-doubled : isAt (getD s to 0) (drop (to + 1) s) ≡ true → (f : code-form.Form) → formOf f ≡ removal (removalSide p) longest
-      → Removes s from to p (Inner (from .at + 2) to f mode.Bare (to + 2))
+      → Removes s from to p (Inner (from .at + 2) to f (mode.Bare true) (to + 2))
   removal-doubled e f q =
       let w = at-within (getD s to 0) (to + 1) s e in
       shows-inner s (from .at) (from .depth) (to + 2) (suc (to - from .at)) (omega (arith, h .name)) (omega arith) (from .at + 2) to (h .name)
-      (omega (arith, h .there)) refl f mode.Bare (h .deep) refl
+      (omega (arith, h .there)) refl f (mode.Bare true) (h .deep) refl
       (removal-is (part s (from .at + 2) to) (removalSide p) (getD s to 0) (to - from .at) (drop (to + 1) s) ∙ rw e
       (inner-same (part s (from .at + 2) to) (suc (to - from .at)) (sym q) refl))
 
   pub removal-once : isAt (getD s to 0) (drop (to + 1) s) ≡ false → (f : code-form.Form) → formOf f ≡ removal (removalSide p) shortest
-      → Removes s from to p (Inner (from .at + 2) to f mode.Bare (to + 1))
+      → Removes s from to p (Inner (from .at + 2) to f (mode.Bare true) (to + 1))
   removal-once e f q =
       shows-inner s (from .at) (from .depth) (to + 1) (to - from .at) (omega (arith, h .name)) (omega (arith, h .there)) (from .at + 2) to (h .name)
-      (omega (arith, h .there)) refl f mode.Bare (h .deep) refl
+      (omega (arith, h .there)) refl f (mode.Bare true) (h .deep) refl
       (removal-is (part s (from .at + 2) to) (removalSide p) (getD s to 0) (to - from .at) (drop (to + 1) s) ∙ rw e
       (inner-same (part s (from .at + 2) to) (to - from .at) (sym q) refl))
 

@@ -11,7 +11,7 @@ use lib.Seq.{drop-cons}
 use Rattle.stages.specs.Bytes.{Text, part}
 use Rattle.stages.specs.Outcome.{pick}
 use Rattle.stages.specs.Syntax.{Escape, Form, Mode}
-use Rattle.stages.specs.Items.{Item, fault, stop, byte, valueOf, count, inner}
+use Rattle.stages.specs.Items.{Item, fault, stop, byte, valueOf, count, inner, homeOf}
 use Rattle.stages.specs.Items.{wrong}
 use Rattle.text.specs.Cases.{escapeOf, isEscaped}
 use Rattle.text.proofs.Cases.{escape-there}
@@ -35,6 +35,9 @@ module _ (s : Text) (at d next k : ℕ) (e : next ≡ at + suc k) (w : next ≤ 
 
   pub shows-byte : (q : Escape) (b : ℕ) {i : Item} → i ≡ byte q b k → Shows s at d (code.Byte (isEscaped q) b next) i
   shows-byte q b h = (h ∙ ap (λ (e : Escape). byte e b k) (escape-there q) ∙ ap (byte (escapeOf (isEscaped q)) b) took, past)
+
+  pub shows-home : {i : Item} → i ≡ homeOf (part s (at + 1) next) k → Shows s at d (code.Home next) i
+  shows-home h = (h ∙ ap (homeOf (part s (at + 1) next)) took, past)
 
   module _ (from to : ℕ) (f : from ≤ to) (t : to ≤ length s) where
     pub shows-value : from ≡ nameOf at (to - from) (next - suc at) → {i : Item} → i ≡ valueOf (part s from to) k → Shows s at d

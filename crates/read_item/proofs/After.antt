@@ -4,26 +4,28 @@ use mathlib.Core.Bool.{false}
 use mathlib.Core.List.{[], _∷_}
 use denote.Enum.Declared.{tagOf}
 use types.Run.{OneOf, miss}
+use Rattle.read_mode.specs.Modes.{modeOnward}
 use Rattle.read_mode.specs.declared.Mode.{Mode}
 use Rattle.read_brace.proofs.Item as item-type
 use Rattle.read_brace.specs.declared.Item.{Item}
-use Rattle.read_brace.specs.declared.Item.the-variants.{Fault, Stop, Byte, Paren, Quote, Value, Count, Inner, Sum}
+use Rattle.read_brace.specs.declared.Item.the-variants.{Fault, Stop, Byte, Paren, Quote, Value, Count, Inner, Sum, Home}
 use Rattle.read_item.specs.After.{modeAfter, isStop}
 
-pub mode-stays : (i : Item) (m : Mode) → OneOf (0 ∷ 1 ∷ 2 ∷ 4 ∷ 5 ∷ 6 ∷ 7 ∷ 8 ∷ []) (tagOf item-type.the-type i) → m ≡ modeAfter i m
-mode-stays (Fault e) m k = refl
-mode-stays (Stop next) m k = refl
-mode-stays (Byte q b next) m k = refl
-mode-stays (Paren b n) m k = absurd (miss (0 ∷ 1 ∷ 2 ∷ 4 ∷ 5 ∷ 6 ∷ 7 ∷ 8 ∷ []) 3 tt k)
-mode-stays (Quote inner) m k = refl
-mode-stays (Value from to next) m k = refl
-mode-stays (Count from to next) m k = refl
-mode-stays (Inner from to f inner next) m k = refl
-mode-stays (Sum next) m k = refl
+pub mode-goes-on : (i : Item) (m : Mode) → OneOf (0 ∷ 1 ∷ 2 ∷ 4 ∷ 5 ∷ 6 ∷ 7 ∷ 8 ∷ 9 ∷ []) (tagOf item-type.the-type i) → modeOnward m ≡ modeAfter i m
+mode-goes-on (Fault e) m k = refl
+mode-goes-on (Stop next) m k = refl
+mode-goes-on (Byte q b next) m k = refl
+mode-goes-on (Paren b n) m k = absurd (miss (0 ∷ 1 ∷ 2 ∷ 4 ∷ 5 ∷ 6 ∷ 7 ∷ 8 ∷ 9 ∷ []) 3 tt k)
+mode-goes-on (Quote inner) m k = refl
+mode-goes-on (Value from to next) m k = refl
+mode-goes-on (Count from to next) m k = refl
+mode-goes-on (Inner from to f inner next) m k = refl
+mode-goes-on (Sum next) m k = refl
+mode-goes-on (Home to) m k = refl
 
-pub no-stop : (i : Item) → OneOf (0 ∷ 2 ∷ 3 ∷ 4 ∷ 5 ∷ 6 ∷ 7 ∷ 8 ∷ []) (tagOf item-type.the-type i) → false ≡ isStop i
+pub no-stop : (i : Item) → OneOf (0 ∷ 2 ∷ 3 ∷ 4 ∷ 5 ∷ 6 ∷ 7 ∷ 8 ∷ 9 ∷ []) (tagOf item-type.the-type i) → false ≡ isStop i
 no-stop (Fault e) k = refl
-no-stop (Stop next) k = absurd (miss (0 ∷ 2 ∷ 3 ∷ 4 ∷ 5 ∷ 6 ∷ 7 ∷ 8 ∷ []) 1 tt k)
+no-stop (Stop next) k = absurd (miss (0 ∷ 2 ∷ 3 ∷ 4 ∷ 5 ∷ 6 ∷ 7 ∷ 8 ∷ 9 ∷ []) 1 tt k)
 no-stop (Byte q b next) k = refl
 no-stop (Paren b n) k = refl
 no-stop (Quote inner) k = refl
@@ -31,3 +33,4 @@ no-stop (Value from to next) k = refl
 no-stop (Count from to next) k = refl
 no-stop (Inner from to f inner next) k = refl
 no-stop (Sum next) k = refl
+no-stop (Home to) k = refl

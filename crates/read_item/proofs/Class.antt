@@ -27,6 +27,7 @@ use Rattle.read_brace.specs.declared.Item as code-item
 use Rattle.read_brace.specs.declared.Item.the-variants.{Fault, Stop, Byte, Paren, Quote, Value, Sum}
 use Rattle.read_brace.proofs.Showing.{same-item, shows-byte, shows-value, shows-stop, plain-name, at-within}
 use Rattle.read_item.specs.After.{ItemAt}
+use Rattle.read_item.proofs.Tildes.{Looks}
 
 -- a byte stands after the first
 pub record Second (s : Text) (from : Cursor) : Type 0 where
@@ -199,8 +200,8 @@ unfolding item
 item-end s from l e = ap (item (modeOf (from .mode)) (from .depth)) (drop-of-length-le s l) ∙ e
 
 open-is : (m : code-mode.Mode) (n : ℕ) → modeOf m ≡ sums n → openIn m ≡ n
-open-is mode.Word n e = absurd (let z : _≡_ {A = ℕ} 0 1 = cc in omega arith)
-open-is mode.Bare n e = absurd (let z : _≡_ {A = ℕ} 0 1 = cc in omega arith)
+open-is (mode.Word f) n e = absurd (let z : _≡_ {A = ℕ} 0 1 = cc in omega arith)
+open-is (mode.Bare f) n e = absurd (let z : _≡_ {A = ℕ} 0 1 = cc in omega arith)
 open-is mode.Single n e = absurd (let z : _≡_ {A = ℕ} 0 1 = cc in omega arith)
 open-is mode.Double n e = absurd (let z : _≡_ {A = ℕ} 0 1 = cc in omega arith)
 open-is mode.Operand n e = absurd (let z : _≡_ {A = ℕ} 0 1 = cc in omega arith)
@@ -254,6 +255,10 @@ module _ {s : Text} {from : Cursor} {r : Sort} (h : Sees s from r) where
   pub item-dollar : r ≡ sort-of.Dollar → (i : code-item.Item) → Expands s from i → ItemAt s from i
   unfolding itemOf
   item-dollar e i q = same-item s (from .at) (from .depth) i (by-sort e) q
+
+  pub item-tilde : r ≡ sort-of.Tilde → (i : code-item.Item) → Looks s from i → ItemAt s from i
+  unfolding itemOf
+  item-tilde e i q = same-item s (from .at) (from .depth) i (by-sort e) q
 
   pub item-bad : r ≡ sort-of.Bad → ItemAt s from (Fault badSyntax)
   unfolding itemOf

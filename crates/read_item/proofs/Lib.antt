@@ -1,3 +1,4 @@
 pub mod After
+pub mod Tildes
 pub mod Class
 pub mod Determined

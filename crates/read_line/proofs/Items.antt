@@ -6,17 +6,20 @@ use mathlib.Core.Bool.{Bool, true, false}
 use lib.ListN.{length, drop}
 use Rattle.stages.specs.Bytes.{Text, part}
 use Rattle.stages.specs.Outcome.{refused, done}
-use Rattle.stages.specs.Syntax.{unescaped, Parts, plain, end, lit, quo, par, len, ari, arith as sums}
+use Rattle.stages.specs.Syntax.{unescaped, Parts, plain, end, lit, quo, par, len, ari, til, arith as sums}
+use Rattle.stages.specs.Syntax as syntax
+use Rattle.stages.specs.Items.{onward}
 use Rattle.stages.specs.Read.{Taken, put, nest, parts}
 use Rattle.text.specs.Cases.{escapeOf}
-use Rattle.stages.proofs.Read.{at-fault, at-stop, at-byte, at-paren, at-value, at-count, at-quote, at-inner, at-sum}
+use Rattle.stages.proofs.Read.{at-fault, at-stop, at-byte, at-paren, at-value, at-count, at-quote, at-inner, at-sum, at-home}
 use Rattle.text.specs.Places.{Behind}
-use Rattle.read_mode.specs.Modes.{modeOf, openIn, formOf}
+use Rattle.read_mode.specs.Modes.{modeOf, openIn, modeOnward, formOf}
 use Rattle.read_mode.specs.declared.Cursor.{Cursor}
 use Rattle.read_mode.specs.declared.Mode.{Mode}
 use Rattle.read_mode.specs.declared.Form.{Form}
+use Rattle.read_mode.proofs.GoingOn.{onward-mode, onward-open}
 use Rattle.read_brace.specs.declared.Item.{Item}
-use Rattle.read_brace.specs.declared.Item.the-variants.{Fault, Stop, Byte, Paren, Quote, Value, Count, Inner, Sum}
+use Rattle.read_brace.specs.declared.Item.the-variants.{Fault, Stop, Byte, Paren, Quote, Value, Count, Inner, Sum, Home}
 use Rattle.read_item.specs.After.{ItemAt, modeAfter, isStop}
 use Rattle.read_line.specs.Says.{ReadTo, ReadSays, readFrom, Here, ReadMore, ItemSays}
 use Rattle.read_line.specs.declared.Reading.{Reading}
@@ -34,19 +37,26 @@ read-shown i text from h e = subst (λ (x : Reading). ItemSays i text from x) e 
 
 module _ (text : Text) (from : Cursor) (few : openIn (from .mode) ≤ from .at) where
   -- the text goes on as it was read
-  on : (before : Parts → Parts) (next : ℕ) → readFrom text from ≡ put before (parts (modeOf (from .mode)) (from .depth) (drop next text))
-      → Behind text (from .at) next → ReadMore text from next (from .mode)
-  on before next e b = let k = b .onward in record { before = before; is = e; place = b; few = omega arith }
+  on : (before : Parts → Parts) (next : ℕ) → readFrom text from ≡ put before (parts (onward (modeOf (from .mode))) (from .depth) (drop next text))
+      → Behind text (from .at) next → ReadMore text from next (modeOnward (from .mode))
+  on before next e b =
+      let k = b .onward in
+      record {
+        before = before;
+        is = e ∙ ap (λ (m : syntax.Mode). put before (parts m (from .depth) (drop next text))) (onward-mode (from .mode));
+        place = b;
+        few = omega (arith, onward-open (from .mode));
+      }
 
   -- after an inner text, which is read from `start` on
-  inside : (s : Item) → isStop s ≡ false → modeAfter s (from .mode) ≡ from .mode → (f : Parts → Parts → Parts) (start : ℕ) (r : Taken)
-      → from .at < start → readFrom text from ≡ nest f r (parts (modeOf (from .mode)) (from .depth)) → (got : Reading) → ReadSays text start r got
+  inside : (s : Item) → isStop s ≡ false → modeAfter s (from .mode) ≡ modeOnward (from .mode) → (f : Parts → Parts → Parts) (start : ℕ) (r : Taken)
+      → from .at < start → readFrom text from ≡ nest f r (parts (onward (modeOf (from .mode))) (from .depth)) → (got : Reading) → ReadSays text start r got
       → ItemSays s text from got
-  inside s stays same f start r k e (reading.Fault n) q = e ∙ ap (λ (x : Taken). nest f x (parts (modeOf (from .mode)) (from .depth))) q
+  inside s stays same f start r k e (reading.Fault n) q = e ∙ ap (λ (x : Taken). nest f x (parts (onward (modeOf (from .mode))) (from .depth))) q
   inside s stays same f start r k e (reading.End next) q =
       let a = q .onward in
       rw (stays, same)
-      (on (f (q .tree)) next (e ∙ ap (λ (x : Taken). nest f x (parts (modeOf (from .mode)) (from .depth))) (q .is))
+      (on (f (q .tree)) next (e ∙ ap (λ (x : Taken). nest f x (parts (onward (modeOf (from .mode))) (from .depth))) (q .is))
       (record { onward = omega arith; within = q .within }))
 
 module _ {text : Text} {from : Cursor} {i : Item} (h : Here text from i) where
@@ -97,6 +107,13 @@ module _ {text : Text} {from : Cursor} {i : Item} (h : Here text from i) where
       (on text from (h .few) (len (part text x y)) next
       (at-count text (from .at) (modeOf (from .mode)) (from .depth) (part text x y) next (s .0) (s .1 .onward)) (s .1))
 
+  pub item-home : {to : ℕ} → i ≡ Home to → ItemSays i text from (reading.End to)
+  item-home {to = to} e =
+      let s = known e in
+      told e (reading.End to)
+      (on text from (h .few) (til (part text (from .at + 1) to)) to
+      (at-home text (from .at) (modeOf (from .mode)) (from .depth) (part text (from .at + 1) to) to (s .0) (s .1 .onward)) (s .1))
+
   pub item-quote : {n : Mode} → i ≡ Quote n → (got : Reading)
       → ReadSays text (from .at + 1) (parts (modeOf n) (from .depth) (drop (from .at + 1) text)) got → ItemSays i text from got
   item-quote {n = n} e got g =
@@ -120,7 +137,7 @@ module _ {text : Text} {from : Cursor} {i : Item} (h : Here text from i) where
       told e got
       (inside text from (h .few) (Sum start) refl refl ari start _ k
       (at-sum text (from .at) (modeOf (from .mode)) (from .depth) (s .0)
-      ∙ ap (λ (n : ℕ). nest ari (parts (sums 0) (from .depth - 1) (drop n text)) (parts (modeOf (from .mode)) (from .depth))) (sym (s .1))) got g)
+      ∙ ap (λ (n : ℕ). nest ari (parts (sums 0) (from .depth - 1) (drop n text)) (parts (onward (modeOf (from .mode))) (from .depth))) (sym (s .1))) got g)
 
 -- After an item: the text ends with it, or goes on.
 

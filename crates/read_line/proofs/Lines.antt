@@ -10,7 +10,7 @@ use lib.Seq.{drop-cons}
 use Rattle.stages.specs.Numbers.{depthLimit, bareOperator}
 use Rattle.stages.specs.Bytes.{Text, part, span, isBlank, isOperator}
 use Rattle.stages.specs.Outcome.{done, refusedAt, doneAt, placedAt, _then_}
-use Rattle.stages.specs.Syntax.{Parts, Word, word}
+use Rattle.stages.specs.Syntax.{Parts, Word, fresh, word}
 use Rattle.stages.specs.Read.{Taken, Words, parts, words, wordAt, readLine}
 use Rattle.stages.proofs.Read.{Good, stays, leaves, word-good}
 use Rattle.stages.proofs.Texts.{span-more, span-stop}
@@ -108,10 +108,10 @@ module _ (line : Text) (place : ℕ) (l : place < length line) (e : isBlank (get
       whole : words (place, drop place line) ≡ wordAt words place (drop place line)
       whole = top ∙ words-word place b (drop (suc place) line) e (rw (f, ne-eqb _ _ h)) ∙ ap (wordAt words place) (sym (drop-cons line place 0 l))
 
-      later : (next : ℕ) (tree : Parts) → next ≤ length line → parts word depthLimit (drop place line) ≡ done (tree, drop next line) → place < next
+      later : (next : ℕ) (tree : Parts) → next ≤ length line → parts (word fresh) depthLimit (drop place line) ≡ done (tree, drop next line) → place < next
       later next tree k q =
-          let g = good-left (word-good depthLimit b (drop (suc place) line) e) (tree, drop next line)
-          (ap (parts word depthLimit) (sym (drop-cons line place 0 l)) ∙ q) in
+          let g = good-left (word-good fresh depthLimit b (drop (suc place) line) e) (tree, drop next line)
+          (ap (parts (word fresh) depthLimit) (sym (drop-cons line place 0 l)) ∙ q) in
           omega (arith, g, length-drop next line, length-drop (suc place) line)
 
       abbrev around : Taken → Words
@@ -120,11 +120,11 @@ module _ (line : Text) (place : ℕ) (l : place < length line) (e : isBlank (get
           words (place + (length (drop place line) - length (p .1)), p .1) then λ ws.
           doneAt (record { place = place; parts = p .0 } ∷ ws)
 
-      opens : words (place, drop place line) ≡ around (parts word depthLimit (drop place line))
+      opens : words (place, drop place line) ≡ around (parts (word fresh) depthLimit (drop place line))
       unfolding wordAt
       opens = whole
 
-      pub word-read : (got : Reading) → ReadSays line place (parts word depthLimit (drop place line)) got → WordSays line place got
+      pub word-read : (got : Reading) → ReadSays line place (parts (word fresh) depthLimit (drop place line)) got → WordSays line place got
       word-read (reading.Fault n) q = opens ∙ ap around q
       word-read (reading.End next) q =
           let w = later next (q .tree) (q .within) (q .is) in

@@ -58,7 +58,6 @@ fn read_item(item: Item, text: &[u8], from: Cursor) -> Reading
             to: _,
             next,
         } => Reading::End(next),
-        Item::Home(to) => Reading::End(to),
         Item::Quote(inner) => read_text(
             text,
             Cursor {
@@ -89,6 +88,7 @@ fn read_item(item: Item, text: &[u8], from: Cursor) -> Reading
                 depth: depth - 1,
             },
         ),
+        Item::Home(to) => Reading::End(to),
     }
 }
 

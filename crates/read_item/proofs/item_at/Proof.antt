@@ -14,6 +14,7 @@ use Rattle.read_item.proofs.Class.{
   item-quotes2,
   item-backslash,
   item-dollar,
+  item-tilde,
   item-bad,
   item-literal,
   opening-few,
@@ -102,6 +103,12 @@ closed-at-requires c κs =
 enum-told-8 : tie.Need-enum-told-8
 enum-told-8 c = search needs
 
+tilde-at-requires : tie.Need-tilde-at-requires
+tilde-at-requires c κs = search needs
+
+enum-told-9 : tie.Need-enum-told-9
+enum-told-9 c = search needs
+
 add-t20 : tie.Need-add-t20
 add-t20 c = search needs
 
@@ -138,7 +145,10 @@ returns-12 c =
     item-closing (seen (c .before .before .before .before)) (c .before .before .sort3 .given .1) (c .closed-at .result) (c .closed-at .ensures)
 
 returns-13 : tie.Need-returns-13
-returns-13 c = item-literal (seen (c .before .before)) (c .enum-told8 .given .1)
+returns-13 c = item-tilde (seen (c .before .before .before)) (c .before .enum-told8 .given .1) (c .tilde-at .result) (c .tilde-at .ensures)
+
+returns-14 : tie.Need-returns-14
+returns-14 c = item-literal (seen (c .before .before)) (c .enum-told9 .given .1)
 
 pub item-at-spec : {M : Type 1} → statement M
 item-at-spec =
@@ -165,6 +175,8 @@ item-at-spec =
     enum-known-sort-3
     closed-at-requires
     enum-told-8
+    tilde-at-requires
+    enum-told-9
     add-t20
     returns-3
     returns-4
@@ -176,4 +188,5 @@ item-at-spec =
     returns-10
     returns-11
     returns-12
-    returns-13)
+    returns-13
+    returns-14)

@@ -1,5 +1,6 @@
 -- By the cases of the item, a parenthesis or another.
-use Rattle.read_item.proofs.After.{mode-stays}
+use mathlib.Core.Path.{_∙_}
+use Rattle.read_item.proofs.After.{mode-goes-on}
 use borrow.Author.Needs.{needs}
 use Rattle.read_item.proofs.mode_after.Statement.{statement}
 use Rattle.read_item.proofs.mode_after.Tie as tie
@@ -7,11 +8,16 @@ use Rattle.read_item.proofs.mode_after.Tie as tie
 enum-known-item : tie.Need-enum-known-item
 enum-known-item c = search needs
 
+onward-requires : tie.Need-onward-requires
+onward-requires c κs = search needs
+
 returns : tie.Need-returns
 returns c = rw (c .before .item .given .1)
 
 returns-2 : tie.Need-returns-2
-returns-2 c = mode-stays (c .before .args .item) (c .before .args .mode) (c .match .keys2)
+returns-2 c =
+    let a = c .before .before .args in
+    c .onward .ensures ∙ mode-goes-on (a .item) (a .mode) (c .before .match .keys2)
 
 pub mode-after-spec : {M : Type 1} → statement M
-mode-after-spec = tie.close (tie.spec enum-known-item returns returns-2)
+mode-after-spec = tie.close (tie.spec enum-known-item onward-requires returns returns-2)
