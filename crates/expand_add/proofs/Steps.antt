@@ -7,10 +7,10 @@ use lib.ListN.{length}
 use Rattle.stages.specs.Bytes.{Text}
 use Rattle.stages.specs.Outcome.{Outcome, refused, done, _>>=_}
 use Rattle.stages.specs.Images.{Pairs}
-use Rattle.stages.specs.Syntax.{Escape, Form, Parts, lit, quo, par, len, ari}
+use Rattle.stages.specs.Syntax.{Escape, Form, Parts, lit, quo, par, len, ari, til}
 use Rattle.stages.specs.Units.{Mark, Q, cell, N, Row, marked, bytes, expandedMark, litMark, decimal}
 use Rattle.stages.specs.Arith.{arithmeticOf}
-use Rattle.stages.specs.Expand.{Made, value, parameter, onto, adding, expand}
+use Rattle.stages.specs.Expand.{Made, Lent, value, parameter, directory, tildeRow, onto, adding, expand}
 use Rattle.expand_add.specs.Steps.{beside, placed, quoted, summed, followed}
 use Rattle.expand_add.specs.Added.{measured}
 use Rattle.expand_add.proofs.Fitting.{by-fit}
@@ -25,76 +25,81 @@ pub onto-onto : (r s : Row) (o : Made) → onto r (onto s o) ≡ onto (r ++ s) o
 onto-onto r s (refused e) = refl
 onto-onto r s (done p) = ap (λ (t : Row). done (t, p .1)) (sym (append-assoc r s (p .0)))
 
-module _ (room : ℕ) (p : Parts) (m : Mark) (n : ℕ) where
-  placed-followed : (made : Made) → (made >>= λ r. adding n (r .0) λ i. expand room p m i (r .1)) ≡ followed room p m n (placed n made)
+module _ (a : Lent) (p : Parts) (m : Mark) (n : ℕ) where
+  placed-followed : (made : Made) → (made >>= λ r. adding n (r .0) λ i. expand a p m i (r .1)) ≡ followed a p m n (placed n made)
   unfolding followed placed
   placed-followed (refused e) = refl
   placed-followed (done r) =
       by-fit
-      (λ (o : Outcome ℕ). (o >>= λ i. onto (r .0) (expand room p m i (r .1))) ≡
-      ((o >>= λ i. done r) >>= λ s. onto (s .0) (expand room p m (n + length (s .0)) (s .1))))
+      (λ (o : Outcome ℕ). (o >>= λ i. onto (r .0) (expand a p m i (r .1))) ≡
+      ((o >>= λ i. done r) >>= λ s. onto (s .0) (expand a p m (n + length (s .0)) (s .1))))
       n (length (r .0)) refl refl
 
   pub expand-lit : (q : Escape) (b : ℕ) (v : Pairs)
-      → expand room (lit q b p) m n v ≡ followed room p m n (placed n (done (cell (litMark q m) b ∷ [], v)))
+      → expand a (lit q b p) m n v ≡ followed a p m n (placed n (done (cell (litMark q m) b ∷ [], v)))
   unfolding expand
   expand-lit q b v = placed-followed (done (cell (litMark q m) b ∷ [], v))
 
   pub expand-par : (x : Text) (f : Form) (q : Parts) (v : Pairs)
-      → expand room (par x f q p) m n v ≡ followed room p m n (placed n (parameter room (λ k w. expand room q k 0 w) x f m v))
+      → expand a (par x f q p) m n v ≡ followed a p m n (placed n (parameter (a .room) (λ k w. expand a q k 0 w) x f m v))
   unfolding expand
-  expand-par x f q v = placed-followed (parameter room (λ k w. expand room q k 0 w) x f m v)
+  expand-par x f q v = placed-followed (parameter (a .room) (λ k w. expand a q k 0 w) x f m v)
 
-  pub expand-len : (x : Text) (v : Pairs) → expand room (len x p) m n v ≡ followed room p m n
+  pub expand-len : (x : Text) (v : Pairs) → expand a (len x p) m n v ≡ followed a p m n
       (placed n (done (marked (expandedMark m) (decimal (length (value v x))), v)))
   unfolding expand
   expand-len x v = placed-followed (done (marked (expandedMark m) (decimal (length (value v x))), v))
 
+  pub expand-til : (x : Text) (v : Pairs) → expand a (til x p) m n v ≡ followed a p m n
+      (placed n (done (tildeRow x m (directory v (a .homes) x), v)))
+  unfolding expand
+  expand-til x v = placed-followed (done (tildeRow x m (directory v (a .homes) x), v))
+
   quote-inside : (o : Made)
-      → onto (N ∷ []) (o >>= λ r. onto (r .0) (expand room p m (n + 1 + length (r .0)) (r .1)))
-      ≡ (onto (N ∷ []) o >>= λ r. onto (r .0) (expand room p m (n + length (r .0)) (r .1)))
+      → onto (N ∷ []) (o >>= λ r. onto (r .0) (expand a p m (n + 1 + length (r .0)) (r .1)))
+      ≡ (onto (N ∷ []) o >>= λ r. onto (r .0) (expand a p m (n + length (r .0)) (r .1)))
   quote-inside (refused e) = refl
   quote-inside (done r) =
       let e : n + 1 + length (r .0) ≡ n + suc (length (r .0)) = omega arith in
-      onto-onto (N ∷ []) (r .0) (expand room p m (n + 1 + length (r .0)) (r .1)) ∙ ap (λ (k : ℕ). onto (N ∷ r .0) (expand room p m k (r .1))) e
+      onto-onto (N ∷ []) (r .0) (expand a p m (n + 1 + length (r .0)) (r .1)) ∙ ap (λ (k : ℕ). onto (N ∷ r .0) (expand a p m k (r .1))) e
 
-  pub expand-quo : (q : Parts) (v : Pairs) → expand room (quo q p) m n v ≡ followed room p m n (quoted room q n v)
+  pub expand-quo : (q : Parts) (v : Pairs) → expand a (quo q p) m n v ≡ followed a p m n (quoted a q n v)
   unfolding expand followed quoted
   expand-quo q v =
       by-fit
       (λ (o : Outcome ℕ).
-      (o >>= λ i. onto (N ∷ []) (expand room q Q i v >>= λ r. onto (r .0) (expand room p m (i + length (r .0)) (r .1))))
-      ≡ ((o >>= λ i. onto (N ∷ []) (expand room q Q i v)) >>= λ r. onto (r .0) (expand room p m (n + length (r .0)) (r .1))))
-      n 1 (quote-inside (expand room q Q (n + 1) v)) refl
+      (o >>= λ i. onto (N ∷ []) (expand a q Q i v >>= λ r. onto (r .0) (expand a p m (i + length (r .0)) (r .1))))
+      ≡ ((o >>= λ i. onto (N ∷ []) (expand a q Q i v)) >>= λ r. onto (r .0) (expand a p m (n + length (r .0)) (r .1))))
+      n 1 (quote-inside (expand a q Q (n + 1) v)) refl
 
   abbrev numbered : Text × Pairs → Row × Pairs
   unfolding marked
   numbered s = (marked (expandedMark m) (s .0), s .1)
 
   number-bind : (o : Outcome (Text × Pairs))
-      → (o >>= λ s. adding n (marked (expandedMark m) (s .0)) λ i. expand room p m i (s .1))
-      ≡ ((o >>= λ s. done (numbered s)) >>= λ r. adding n (r .0) λ i. expand room p m i (r .1))
+      → (o >>= λ s. adding n (marked (expandedMark m) (s .0)) λ i. expand a p m i (s .1))
+      ≡ ((o >>= λ s. done (numbered s)) >>= λ r. adding n (r .0) λ i. expand a p m i (r .1))
   unfolding marked
   number-bind (refused e) = refl
   number-bind (done s) = refl
 
   sum-bind : (o : Made)
-      → (o >>= λ r. arithmeticOf (r .1) (bytes (r .0)) >>= λ s. adding n (marked (expandedMark m) (s .0)) λ i. expand room p m i (s .1))
-      ≡ ((o >>= λ r. summed m r) >>= λ r. adding n (r .0) λ i. expand room p m i (r .1))
+      → (o >>= λ r. arithmeticOf (r .1) (bytes (r .0)) >>= λ s. adding n (marked (expandedMark m) (s .0)) λ i. expand a p m i (s .1))
+      ≡ ((o >>= λ r. summed m r) >>= λ r. adding n (r .0) λ i. expand a p m i (r .1))
   unfolding summed marked
   sum-bind (refused e) = refl
   sum-bind (done r) = number-bind (arithmeticOf (r .1) (bytes (r .0)))
 
-  pub expand-ari : (q : Parts) (v : Pairs) → expand room (ari q p) m n v ≡ followed room p m n (placed n (expand room q Q 0 v >>= λ r. summed m r))
+  pub expand-ari : (q : Parts) (v : Pairs) → expand a (ari q p) m n v ≡ followed a p m n (placed n (expand a q Q 0 v >>= λ r. summed m r))
   unfolding expand
-  expand-ari q v = sum-bind (expand room q Q 0 v) ∙ placed-followed (expand room q Q 0 v >>= λ r. summed m r)
+  expand-ari q v = sum-bind (expand a q Q 0 v) ∙ placed-followed (expand a q Q 0 v >>= λ r. summed m r)
 
-  pub followed-refused : (own : Made) (e : ℕ) → own ≡ refused e → followed room p m n own ≡ refused e
+  pub followed-refused : (own : Made) (e : ℕ) → own ≡ refused e → followed a p m n own ≡ refused e
   unfolding followed
   followed-refused own e h = rw h
 
-  pub followed-row : (own : Made) (row : Row) (v : Pairs) (count : ℕ) → own ≡ done (row, v) → length row ≡ count → followed room p m n own
-      ≡ onto row (expand room p m (n + count) v)
+  pub followed-row : (own : Made) (row : Row) (v : Pairs) (count : ℕ) → own ≡ done (row, v) → length row ≡ count → followed a p m n own
+      ≡ onto row (expand a p m (n + count) v)
   unfolding followed
   followed-row own row v count h c = rw (h, c)
 

@@ -1,20 +1,24 @@
-// What is added at once beside texts and values: a unit, and the length of a value.
+// What is added at once beside texts and values: a unit, the length of a value, a tilde's directory.
+ghost use mathlib.Core.Option.{none};
 ghost use mathlib.Core.List.{_∷_, []};
 ghost use Prim.Native.Nat.{_+_, _*_, _≤_};
 ghost use lib.ListN.{length};
 ghost use Rattle.stages.specs.Numbers.{rowLimit};
 ghost use Rattle.stages.specs.Outcome.{done};
 ghost use Rattle.stages.specs.Images.{held};
-ghost use Rattle.stages.specs.Expand.{value};
-ghost use Rattle.stages.specs.Units.{cell, marked, expandedMark, decimal};
+ghost use Rattle.stages.specs.Expand.{value, directory, tildeRow};
+ghost use Rattle.stages.specs.Units.{Q, cell, N, marked, expandedMark, decimal};
 ghost use Rattle.arith_decimal.specs.Digits.{mostDigits};
 ghost use Rattle.row.specs.Marks.{markOf};
 ghost use Rattle.table.specs.Places.{Table};
 ghost use Rattle.expand_add.specs.Added.{Adds};
+ghost use Rattle.expand_item.specs.Homes.{Inside, textAt};
 use expand_add::answers::Expanded;
 use expand_add::answers::Onward;
 use expand_add::expanded_end;
+use row::Mark;
 use row::RowEnd;
+use table::Found;
 use text::numbers;
 
 // Adds one unit, with the row's mark.
@@ -53,4 +57,83 @@ pub fn give_length(name: &[u8], row: RowEnd, on: Onward, vars: &[u8], area: &mut
     let value = table_find::value_of(vars, name);
     let mut digits = [0u8; numbers::MOST_DIGITS];
     give_count(value.len() as u64, row, on, &mut digits, area)
+}
+
+// Adds a directory: an N, then its bytes as Q.
+fn give_directory(directory: &[u8], row: RowEnd, on: Onward, area: &mut [u8]) -> Expanded
+    requires { ⌜ (row .units ≤ rowLimit) × (2 * rowLimit ≤ length (now area) + 2 * row .units) ⌝ }
+    ensures { λ r. ⌜ Adds (row .units) on (done (N ∷ marked Q (now (directory .entry)))) (now (area .exit)) r ⌝ }
+{
+    let room = numbers::ROW_LIMIT - row.units;
+    if directory.len() >= room {
+        return Expanded::Refused(numbers::REFUSED_UNITS);
+    }
+    row::put_empty(area);
+    row::put_marked(directory, Mark::Q, &mut area[2..]);
+    Expanded::Row {
+        units: directory.len() + 1,
+        next: on.next,
+        vars_used: on.vars_used,
+    }
+}
+
+// Adds a tilde and its login as they stand, each byte with the row's mark.
+fn give_literal(login: &[u8], row: RowEnd, on: Onward, area: &mut [u8]) -> Expanded
+    requires { ⌜ (row .units ≤ rowLimit) × (2 * rowLimit ≤ length (now area) + 2 * row .units) ⌝ }
+    ensures { λ r. ⌜ Adds (row .units) on (done (tildeRow (now (login .entry)) (markOf (row .mark)) none)) (now (area .exit)) r ⌝ }
+{
+    let room = numbers::ROW_LIMIT - row.units;
+    if login.len() >= room {
+        return Expanded::Refused(numbers::REFUSED_UNITS);
+    }
+    let mark = row.mark;
+    row::put_unit(area, b'~', mark);
+    row::put_marked(login, mark, &mut area[2..]);
+    Expanded::Row {
+        units: login.len() + 1,
+        next: on.next,
+        vars_used: on.vars_used,
+    }
+}
+
+// Adds what a login's look-up in an image found: the directory, or the tilde and the login.
+fn give_found(
+    login: &[u8],
+    image: &[u8],
+    found: Found,
+    row: RowEnd,
+    on: Onward,
+    area: &mut [u8],
+) -> Expanded
+    requires { ⌜ Inside (now image) found × (row .units ≤ rowLimit) × (2 * rowLimit ≤ length (now area) + 2 * row .units) ⌝ }
+    ensures { λ r. ⌜ Adds (row .units) on (done (tildeRow (now (login .entry)) (markOf (row .mark)) (textAt (now (image .entry)) found)))
+        (now (area .exit)) r ⌝ }
+{
+    match found {
+        Found::Missing => give_literal(login, row, on, area),
+        Found::At { from, to } => give_directory(&image[from..to], row, on, area),
+    }
+}
+
+// Adds a tilde with its login. "Empty login means HOME (even if empty), otherwise the homes table."
+pub fn give_home(
+    login: &[u8],
+    row: RowEnd,
+    on: Onward,
+    vars: &[u8],
+    homes: &[u8],
+    area: &mut [u8],
+) -> Expanded
+    requires { ⌜ Table (now vars) × Table (now homes) × (row .units ≤ rowLimit) × (2 * rowLimit ≤ length (now area) + 2 * row .units) ⌝ }
+    ensures { λ r. ⌜ Adds (row .units) on
+        (done (tildeRow (now (login .entry)) (markOf (row .mark))
+        (directory (held (now (vars .entry))) (held (now (homes .entry))) (now (login .entry)))))
+        (now (area .exit)) r ⌝ }
+{
+    if login.len() == 0 {
+        let found = table_find::look_up_home(vars);
+        return give_found(login, vars, found, row, on, area);
+    }
+    let found = table_find::look_up(homes, login);
+    give_found(login, homes, found, row, on, area)
 }
