@@ -10,7 +10,7 @@ use Rattle.stages.specs.Numbers.{depthLimit, workLeast}
 use Rattle.stages.specs.Bytes.{Text, isBlank}
 use Rattle.stages.specs.Outcome.{done, Placed}
 use Rattle.stages.specs.Images.{Pairs, held, image}
-use Rattle.stages.specs.Syntax.{Parts, word as words}
+use Rattle.stages.specs.Syntax.{Parts, fresh, word as words}
 use Rattle.stages.specs.Read.{parts}
 use Rattle.stages.specs.Line.{Around, Fields}
 use Rattle.stages.specs.Call.{over}
@@ -29,11 +29,11 @@ use Rattle.expand_line.proofs.Going.{Goes, goes-start, goes-end, first,
 
 -- a word has a byte, so the line goes on behind its place
 word-longer : (line : Text) (place next : ℕ) (tree : Parts) (rest : Text) → place < length line → isBlank (getD line place 0) ≡ false
-    → parts words depthLimit (drop place line) ≡ done (tree, rest) → drop next line ≡ rest → next ≤ length line → place < next
+    → parts (words fresh) depthLimit (drop place line) ≡ done (tree, rest) → drop next line ≡ rest → next ≤ length line → place < next
 word-longer line place next tree rest l e q d n =
     let g =
-    good-left (word-good depthLimit (getD line place 0) (drop (suc place) line) e) (tree, rest)
-    (ap (parts words depthLimit) (sym (drop-cons line place 0 l)) ∙ q) in
+    good-left (word-good fresh depthLimit (getD line place 0) (drop (suc place) line) e) (tree, rest)
+    (ap (parts (words fresh) depthLimit) (sym (drop-cons line place 0 l)) ∙ q) in
     omega (arith, g, ap length d, length-drop next line, length-drop (suc place) line)
 
 pub record State (text houses paths : Text) (room : ℕ) (o : Placed (Fields × Pairs)) (old : Text) (at len left : ℕ) (vars work out : Text) : Type 0 where
@@ -114,7 +114,7 @@ module _ {text vars : Text} {varsUsed room : ℕ} {houses paths work out : Text}
 
       -- the word's answer, by its parts and for the output as it was where the loop began
       module _ {vars₂ out₂ : Text} {got : WordExpanded}
-          (h : WordSays (among room houses paths (length out')) (parts words depthLimit (drop place text)) text place len (held (take left vars'))
+          (h : WordSays (among room houses paths (length out')) (parts (words fresh) depthLimit (drop place text)) text place len (held (take left vars'))
           vars₂ out' out₂ got) where
         abbrev a : Around
         a = among room houses paths (length first-out)
@@ -124,7 +124,7 @@ module _ {text vars : Text} {varsUsed room : ℕ} {houses paths work out : Text}
         word-of e =
             subst (λ (y : WordExpanded). WordOf a (wordOutcome a (own .tree) len (held (take left vars'))) (own .rest) text place len vars₂ out' out₂ y) e
             (subst
-            (λ (n : ℕ). WordSays (among room houses paths n) (parts words depthLimit (drop place text)) text place len (held (take left vars'))
+            (λ (n : ℕ). WordSays (among room houses paths n) (parts (words fresh) depthLimit (drop place text)) text place len (held (take left vars'))
             vars₂ out' out₂ got)
             (s .same) h .says (own .tree, own .rest) (own .read))
 

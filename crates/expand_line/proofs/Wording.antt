@@ -9,10 +9,10 @@ use Rattle.stages.specs.Numbers.{depthLimit, imageLimit, bracketClass, outputRo
 use Rattle.stages.specs.Bytes.{Text}
 use Rattle.stages.specs.Outcome.{Outcome, refused, done}
 use Rattle.stages.specs.Images.{Pairs, held, heldTexts, recordBytes, written}
-use Rattle.stages.specs.Syntax.{Parts, word as words}
+use Rattle.stages.specs.Syntax.{Parts, fresh, word as words}
 use Rattle.stages.specs.Read.{Taken, parts}
-use Rattle.stages.specs.Units.{Row}
-use Rattle.stages.specs.Expand.{Made, wordRow}
+use Rattle.stages.specs.Units.{L, Row}
+use Rattle.stages.specs.Expand.{Made, expand}
 use Rattle.stages.specs.Split.{fieldsOfRow}
 use Rattle.stages.specs.Paths.{textsOfFields}
 use Rattle.stages.specs.Line.{Around, Fields, wordFields, outFits}
@@ -25,7 +25,7 @@ use Rattle.table_store.specs.Splice.{placed}
 use Rattle.split_field.specs.Answers.{Says, len, class, noRoom, Puts}
 use Rattle.split_field.specs.declared.Written.{Written}
 use Rattle.split_field.specs.declared.Written.the-variants.{Len, Class, NoRoom}
-use Rattle.table.specs.Around.{among}
+use Rattle.table.specs.Around.{among, lentOf}
 use Rattle.expand_line.specs.Answers.{wordOutcome, WordReady, WordOf, WordSays}
 use Rattle.expand_line.specs.declared.WordExpanded.{WordExpanded}
 use Rattle.expand_line.specs.declared.WordExpanded.the-variants as word
@@ -76,11 +76,11 @@ module _ {room used : ℕ} {made : Made} {area vars : Text} {count varsUsed : �
 -- a word's outcome by its row and its fields
 
 module _ (a : Around) (tree : Parts) (n : ℕ) (v : Pairs) where
-  outcome-refused : {e : ℕ} → wordRow (a .room) (a .homes) tree v ≡ refused e → wordOutcome a tree n v ≡ refused e
+  outcome-refused : {e : ℕ} → expand (a .lent) tree L 0 v ≡ refused e → wordOutcome a tree n v ≡ refused e
   unfolding wordOutcome wordFields
   outcome-refused h = rw h
 
-  module _ {row : Row} {u : Pairs} (h : wordRow (a .room) (a .homes) tree v ≡ done (row, u)) where
+  module _ {row : Row} {u : Pairs} (h : expand (a .lent) tree L 0 v ≡ done (row, u)) where
     outcome-class : {e : ℕ} → textsOfFields (a .paths) (fieldsOfRow u row) ≡ refused e → wordOutcome a tree n v ≡ refused e
     unfolding wordOutcome wordFields
     outcome-class k = rw (h, k)
@@ -111,7 +111,7 @@ module _ {line : Text} {at : ℕ} {vars : Text} {varsUsed room : ℕ} {houses pa
   rest = w .ready .rest
 
   said : (vars' out : Text) (r : WordExpanded) → WordOf a (wordOutcome a tree used v) rest line at used vars' old out r
-      → WordSays a (parts words depthLimit (drop at line)) line at used v vars' old out r
+      → WordSays a (parts (words fresh) depthLimit (drop at line)) line at used v vars' old out r
   said vars' out r h =
       record {
         says = λ p e.
@@ -121,18 +121,18 @@ module _ {line : Text} {at : ℕ} {vars : Text} {varsUsed room : ℕ} {houses pa
       }
 
   module _ (area vars' : Text) (got : Expanded)
-      (h : Expands room line at 0 (λ t. wordRow room (held houses) t v) (parts words depthLimit (drop at line)) area vars' got) where
-    pub row-of : {s : Expanded} → got ≡ s → RowOf room line at 0 (wordRow room (held houses) tree v) rest area vars' s
+      (h : Expands room line at 0 (λ t. expand (lentOf room houses) t L 0 v) (parts (words fresh) depthLimit (drop at line)) area vars' got) where
+    pub row-of : {s : Expanded} → got ≡ s → RowOf room line at 0 (expand (lentOf room houses) tree L 0 v) rest area vars' s
     row-of e =
-        subst (λ (x : Expanded). RowOf room line at 0 (wordRow room (held houses) tree v) rest area vars' x) e
-        (subst (λ (o : Taken). Expands room line at 0 (λ t. wordRow room (held houses) t v) o area vars' got) (w .ready .is) h)
+        subst (λ (x : Expanded). RowOf room line at 0 (expand (lentOf room houses) tree L 0 v) rest area vars' x) e
+        (subst (λ (o : Taken). Expands room line at 0 (λ t. expand (lentOf room houses) t L 0 v) o area vars' got) (w .ready .is) h)
 
-    pub word-refused : {e : ℕ} {out : Text} → got ≡ expanded.Refused e → WordSays a (parts words depthLimit (drop at line)) line at used v
+    pub word-refused : {e : ℕ} {out : Text} → got ≡ expanded.Refused e → WordSays a (parts (words fresh) depthLimit (drop at line)) line at used v
         vars' old out (word.Refused e)
     word-refused {e = e} {out = out} g = said vars' out (word.Refused e) (outcome-refused a tree used v (row-of g))
 
     module _ {units next left : ℕ} (g : got ≡ expanded.Row units next left) where
-      pub there : IsRow room 0 (wordRow room (held houses) tree v) area vars' units left
+      pub there : IsRow room 0 (expand (lentOf room houses) tree L 0 v) area vars' units left
       there = row-of g .0
 
       module _ {out : Text} {r : Written}
@@ -140,15 +140,15 @@ module _ {line : Text} {at : ℕ} {vars : Text} {varsUsed room : ℕ} {houses pa
         split : Says (textsOfFields (heldTexts paths) (fieldsOfRow (held (take left vars')) (there .row))) used old out r
         split = subst (λ (x : Row). Says (textsOfFields (heldTexts paths) (fieldsOfRow (held (take left vars')) x)) used old out r) (row-there there) (p .says)
 
-        pub word-class : r ≡ Class → WordSays a (parts words depthLimit (drop at line)) line at used v vars' old out (word.Refused bracketClass)
+        pub word-class : r ≡ Class → WordSays a (parts (words fresh) depthLimit (drop at line)) line at used v vars' old out (word.Refused bracketClass)
         word-class c = said vars' out (word.Refused bracketClass) (outcome-class a tree used v (there .is) (class-of split c))
 
-        pub word-full : r ≡ NoRoom → WordSays a (parts words depthLimit (drop at line)) line at used v vars' old out (word.Refused outputRoom)
+        pub word-full : r ≡ NoRoom → WordSays a (parts (words fresh) depthLimit (drop at line)) line at used v vars' old out (word.Refused outputRoom)
         word-full c =
             let f = full-of split c in
             said vars' out (word.Refused outputRoom) (outcome-full a tree used v (there .is) (f .is) (f .full))
 
-        pub word-written : {n : ℕ} → r ≡ Len n → WordSays a (parts words depthLimit (drop at line)) line at used v vars' old out
+        pub word-written : {n : ℕ} → r ≡ Len n → WordSays a (parts (words fresh) depthLimit (drop at line)) line at used v vars' old out
             (word.Fields n next left)
         word-written {n = n} c =
             let f = len-of split c in

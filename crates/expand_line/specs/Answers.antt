@@ -30,7 +30,7 @@ lineOutcome a t v = readLine t then λ ws. expandWords a ws 1 v
 
 -- the word at a place is read, and there is room for its row; the tables are well formed, and `used` bytes of the output are
 pub record WordReady (text : Text) (at : ℕ) (vars : Text) (varsUsed room : ℕ) (houses paths work out : Text) (used : ℕ) : Type 0 where
-  pub ready : Ready text at mode.Word depthLimit 0 (length work)
+  pub ready : Ready text at (mode.Word true) depthLimit 0 (length work)
   pub holds : Holds room vars varsUsed
   pub housed : isSome (homesOf houses) ≡ true
   pub listed : isSome (pathsOf paths) ≡ true
@@ -45,7 +45,7 @@ pub record IsFields (a : Around) (made : Outcome (Fields × Pairs)) (rest text :
   pub long : len ≡ used + recordBytes fields
   pub fits : len ≤ length old
   pub stands : out ≡ placed used (written fields) old
-  pub holds : Holds (a .room) vars varsUsed
+  pub holds : Holds (a .lent .room) vars varsUsed
   pub ends : Ends text at next rest
 
 abbrev pub WordOf : Around → Outcome (Fields × Pairs) → Text → Text → ℕ → ℕ → Text → Text → Text → WordExpanded → Type 0

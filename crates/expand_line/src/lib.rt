@@ -3,12 +3,16 @@
 use expand_add::answers::Expanded;
 use expand_add::answers::Extent;
 use read_line::NextWord;
+use read_mode::Cursor;
+use read_mode::Mode;
+use row::Mark;
+use row::RowEnd;
 use split_field::Written;
 use text::numbers;
 ghost use lib.ListN.{length, take, drop};
 ghost use Rattle.stages.specs.Numbers.{depthLimit};
 ghost use Rattle.stages.specs.Images.{held};
-ghost use Rattle.stages.specs.Syntax.{word};
+ghost use Rattle.stages.specs.Syntax.{fresh, word};
 ghost use Rattle.stages.specs.Read.{parts};
 ghost use Rattle.table.specs.Around.{among};
 ghost use Rattle.expand_line.specs.Answers.{lineOutcome, WordReady, WordSays, LineReady, LineSays};
@@ -51,10 +55,19 @@ fn put_word(
     requires { ⌜ WordReady (now line) (from .at) (now vars) (extent .«vars_used») (extent .«vars_room») (now homes) (now paths) (now work) (now out)
         (from .used) ⌝ }
     ensures { λ r. ⌜ WordSays (among (extent .«vars_room») (now (homes .entry)) (now (paths .entry)) (length (now (out .entry))))
-        (parts word depthLimit (drop (from .at) (now (line .entry)))) (now (line .entry)) (from .at) (from .used)
+        (parts (word fresh) depthLimit (drop (from .at) (now (line .entry)))) (now (line .entry)) (from .at) (from .used)
         (held (take (extent .«vars_used») (now (vars .entry)))) (now (vars .exit)) (now (out .entry)) (now (out .exit)) r ⌝ }
 {
-    let got = expand_word::expand_word(line, from.at, vars, extent, homes, work);
+    let word = Cursor {
+        at: from.at,
+        mode: Mode::Word(true),
+        depth: numbers::DEPTH_LIMIT,
+    };
+    let start = RowEnd {
+        mark: Mark::L,
+        units: 0,
+    };
+    let got = expand_text::expand_text(line, word, start, vars, extent, homes, work);
     match got {
         Expanded::Refused(e) => WordExpanded::Refused(e),
         Expanded::Row {

@@ -9,13 +9,14 @@ use lib.Seq.{length-take-le}
 use Rattle.stages.specs.Numbers.{rowLimit, tooManyUnits}
 use Rattle.stages.specs.Bytes.{Text, all, notZero}
 use Rattle.stages.specs.Outcome.{Outcome, refused, done, _>>=_}
-use Rattle.stages.specs.Images.{Pairs, isName, held}
+use Rattle.stages.specs.Images.{Pairs, texts, isName, flat, held}
 use Rattle.stages.specs.Syntax.{Form, Parts, arith as sums}
 use Rattle.stages.specs.Read.{Taken, parts}
 use Rattle.stages.specs.Units.{Mark, Q, N, Row, marked, bytes, expandedMark}
 use Rattle.stages.specs.Arith.{arithmeticOf}
-use Rattle.stages.specs.Expand.{Made, parameter, expand, onto}
+use Rattle.stages.specs.Expand.{Made, Lent, parameter, expand, onto}
 use Rattle.stages.proofs.Texts.{all-drop}
+use Rattle.stages.proofs.Images.{Fine, image-fine, pairsOf-some}
 use Rattle.stages.proofs.Tables.{table-fine, table-length}
 use Rattle.stages.proofs.Outcomes.{Safe, gives, safe-done}
 use Rattle.stages.proofs.SafeSums.{arithmetic-safe}
@@ -31,6 +32,7 @@ use Rattle.read_mode.specs.declared.Mode.the-variants.{Arith}
 use Rattle.read_line.specs.Says.{ReadTo, ReadSays}
 use Rattle.read_line.specs.declared.Reading.{Reading}
 use Rattle.table.specs.Places as places
+use Rattle.table.specs.Around.{lentOf}
 use Rattle.table.specs.declared.Found.{Found}
 use Rattle.expand_add.specs.Added.{Adds}
 use Rattle.expand_form.specs.Plans.{planOf, missingIn, operandMark, settled, finished}
@@ -58,15 +60,24 @@ kept-held varsRoom vars varsUsed w =
     let s = t .small in
     record { fine = table-fine isName (take varsUsed vars) t; passes = t .passes; rises = t .rises; fits = omega arith; small = omega arith }
 
+-- what is lent to a text: its variables stand in their bytes, and no directory holds a zero byte
+pub record Lends (lent : Lent) (vars : Text) (varsUsed : ℕ) : Type 0 where
+  pub holds : Holds (lent .room) vars varsUsed
+  pub houses : Fine (flat (lent .homes))
+
+pub lending : {varsRoom : ℕ} {vars : Text} {varsUsed : ℕ} {homes : Text} → Holds varsRoom vars varsUsed → places.Table homes
+    → Lends (lentOf varsRoom homes) vars varsUsed
+lending {homes = homes} w h = record { holds = w; houses = image-fine homes (flat (held homes)) (pairsOf-some (texts homes) (held homes) (h .pairs)) }
+
 -- An operand's row: the bytes at the front, none of them zero.
-module _ {varsRoom : ℕ} {text : Text} {at : ℕ} {mode : Mode} {d units size : ℕ} {vars₀ : Text} {varsUsed : ℕ} (y : Ready text at mode d units size)
-    (w : Holds varsRoom vars₀ varsUsed) where
+module _ {lent : Lent} {text : Text} {at : ℕ} {mode : Mode} {d units size : ℕ} {vars₀ : Text} {varsUsed : ℕ} (y : Ready text at mode d units size)
+    (w : Lends lent vars₀ varsUsed) where
   tree-safe : SafeParts (y .tree)
   tree-safe = safe-done (parts-safe (modeOf mode) d (drop at text) (all-drop notZero at text (y .clean))) (y .is) .clean
 
-  row-clean : (k : Mark) (row : Row) (u : Pairs) → expand varsRoom (y .tree) k 0 (held (take varsUsed vars₀)) ≡ done (row, u) → NoZero (bytes row)
+  row-clean : (k : Mark) (row : Row) (u : Pairs) → expand lent (y .tree) k 0 (held (take varsUsed vars₀)) ≡ done (row, u) → NoZero (bytes row)
   row-clean k row u e =
-      bytes-safe row (safe-done (expand-safe varsRoom (y .tree) tree-safe k 0 (held (take varsUsed vars₀)) (kept-held varsRoom vars₀ varsUsed w)) e .0)
+      bytes-safe row (safe-done (expand-safe lent (w .houses) (y .tree) tree-safe k 0 (held (take varsUsed vars₀)) (kept-held (lent .room) vars₀ varsUsed (w .holds))) e .0)
 
 pub row-at : (row : Row) (area : Text) (n : ℕ) → Stands row area → length row ≡ n → rowOf (take (2 * n) area) ≡ row
 row-at row area n s e = ap rowOf (front row area n s e) ∙ rowOf-rowBytes row
@@ -77,11 +88,11 @@ reading-known text at o h e = subst (λ (k : Reading). ReadSays text at o k) e h
 
 -- A quote.
 
-module _ {varsRoom : ℕ} {text : Text} {at : ℕ} {mode : Mode} {d units size : ℕ} {vars₀ : Text} {varsUsed : ℕ} (y : Ready text at mode d units size)
-    (w : Holds varsRoom vars₀ varsUsed) where
+module _ {lent : Lent} {text : Text} {at : ℕ} {mode : Mode} {d units size : ℕ} {vars₀ : Text} {varsUsed : ℕ} (y : Ready text at mode d units size)
+    (w : Lends lent vars₀ varsUsed) where
   abbrev Quoted : Text → Text → Expanded → Type 0
   Quoted area vars g =
-      Says varsRoom text at units (λ q. quoted varsRoom q units (held (take varsUsed vars₀))) (parts (modeOf mode) d (drop at text)) area vars g
+      Says (lent .room) text at units (λ q. quoted lent q units (held (take varsUsed vars₀))) (parts (modeOf mode) d (drop at text)) area vars g
 
   pub quote-full : (area vars : Text) → rowLimit ≤ units → Quoted area vars (answer.Refused tooManyUnits)
   unfolding quoted
@@ -93,37 +104,37 @@ module _ {varsRoom : ℕ} {text : Text} {at : ℕ} {mode : Mode} {d units size :
       record { start = y .start; opens = y .opens; few = omega arith; area = omega arith; clean = y .clean; tree = y .tree; rest = y .rest; is = y .is }
 
 -- its text, expanded in what is lent after the N
-pub record QuoteExpanded (varsRoom : ℕ) (text : Text) (at : ℕ) (mode : Mode) (d units size : ℕ) (vars₀ : Text) (varsUsed : ℕ) (ys us : Text)
+pub record QuoteExpanded (lent : Lent) (text : Text) (at : ℕ) (mode : Mode) (d units size : ℕ) (vars₀ : Text) (varsUsed : ℕ) (ys us : Text)
     (g : Expanded) : Type 0 where
   pub ready : Ready text at mode d units size
-  pub holds : Holds varsRoom vars₀ varsUsed
+  pub lends : Lends lent vars₀ varsUsed
   pub room : units < rowLimit
-  pub says : Says varsRoom text at (units + 1) (λ t. expand varsRoom t Q (units + 1) (held (take varsUsed vars₀)))
+  pub says : Says (lent .room) text at (units + 1) (λ t. expand lent t Q (units + 1) (held (take varsUsed vars₀)))
       (parts (modeOf mode) d (drop at text)) ys us g
 
-module _ {varsRoom : ℕ} {text : Text} {at : ℕ} {mode : Mode} {d units size : ℕ} {vars₀ : Text} {varsUsed : ℕ} {ys us : Text} {g : Expanded}
-    (x : QuoteExpanded varsRoom text at mode d units size vars₀ varsUsed ys us g) where
+module _ {lent : Lent} {text : Text} {at : ℕ} {mode : Mode} {d units size : ℕ} {vars₀ : Text} {varsUsed : ℕ} {ys us : Text} {g : Expanded}
+    (x : QuoteExpanded lent text at mode d units size vars₀ varsUsed ys us g) where
   abbrev QuotedIn : Text → Text → Expanded → Type 0
-  QuotedIn area vars r = Quoted (x .ready) (x .holds) area vars r
+  QuotedIn area vars r = Quoted (x .ready) (x .lends) area vars r
 
-  inside : Answers varsRoom text at (units + 1) (expand varsRoom (x .ready .tree) Q (units + 1) (held (take varsUsed vars₀))) (x .ready .rest) ys us g
-  inside = says-known varsRoom text at (units + 1) (λ t. expand varsRoom t Q (units + 1) (held (take varsUsed vars₀))) ys us g (x .says) (x .ready .is)
+  inside : Answers (lent .room) text at (units + 1) (expand lent (x .ready .tree) Q (units + 1) (held (take varsUsed vars₀))) (x .ready .rest) ys us g
+  inside = says-known (lent .room) text at (units + 1) (λ t. expand lent t Q (units + 1) (held (take varsUsed vars₀))) ys us g (x .says) (x .ready .is)
 
-  quote-made : (o : Made) → expand varsRoom (x .ready .tree) Q (units + 1) (held (take varsUsed vars₀)) ≡ o → quoted varsRoom (x .ready .tree) units
+  quote-made : (o : Made) → expand lent (x .ready .tree) Q (units + 1) (held (take varsUsed vars₀)) ≡ o → quoted lent (x .ready .tree) units
       (held (take varsUsed vars₀)) ≡ onto (N ∷ []) o
   unfolding quoted
   quote-made o e = let l = x .room in rw (fit-ok units 1 (omega arith), e)
 
   pub quote-refused : (area : Text) {e : ℕ} → g ≡ answer.Refused e → QuotedIn area us (answer.Refused e)
   quote-refused area {e} q =
-      let b : expand varsRoom (x .ready .tree) Q (units + 1) (held (take varsUsed vars₀)) ≡ refused e =
-      answers-known varsRoom text at (units + 1) _ (x .ready .rest) ys us inside q in
+      let b : expand lent (x .ready .tree) Q (units + 1) (held (take varsUsed vars₀)) ≡ refused e =
+      answers-known (lent .room) text at (units + 1) _ (x .ready .rest) ys us inside q in
       rw (x .ready .is) (quote-made (refused e) b)
 
   module _ {count next left : ℕ} (q : g ≡ answer.Row count next left) where
-    row-inside : IsRow varsRoom (units + 1) (expand varsRoom (x .ready .tree) Q (units + 1) (held (take varsUsed vars₀))) ys us count left
+    row-inside : IsRow (lent .room) (units + 1) (expand lent (x .ready .tree) Q (units + 1) (held (take varsUsed vars₀))) ys us count left
         × Ends text at next (x .ready .rest)
-    row-inside = answers-known varsRoom text at (units + 1) _ (x .ready .rest) ys us inside q
+    row-inside = answers-known (lent .room) text at (units + 1) _ (x .ready .rest) ys us inside q
 
     pub quote-fits : units + 1 + count ≤ rowLimit
     quote-fits = row-inside .0 .fits
@@ -151,25 +162,25 @@ module _ {varsRoom : ℕ} {text : Text} {at : ℕ} {mode : Mode} {d units size :
 
 -- An operand.
 
-module _ {varsRoom : ℕ} {text : Text} {at : ℕ} {mode : Mode} {d size : ℕ} {vars₀ : Text} {varsUsed : ℕ} {name : Text} {found : Found}
-    (units : ℕ) (form : Form) (m : Mark) (y : Ready text at mode d 0 size) (w : Holds varsRoom vars₀ varsUsed)
+module _ {lent : Lent} {text : Text} {at : ℕ} {mode : Mode} {d size : ℕ} {vars₀ : Text} {varsUsed : ℕ} {name : Text} {found : Found}
+    (units : ℕ) (form : Form) (m : Mark) (y : Ready text at mode d 0 size) (w : Lends lent vars₀ varsUsed)
     (s : places.Shown (take varsUsed vars₀) name found) {own : Plan} (e : own ≡ planOf form (missingIn found)) where
   abbrev v : Pairs
   v = held (take varsUsed vars₀)
 
   abbrev given : Made
-  given = placed units (parameter varsRoom (λ k u. expand varsRoom (y .tree) k 0 u) name form m v)
+  given = placed units (parameter (lent .room) (λ k u. expand lent (y .tree) k 0 u) name form m v)
 
   abbrev Given : Text → Text → Expanded → Type 0
   Given area vars g =
-      Says varsRoom text at units (λ q. placed units (parameter varsRoom (λ k u. expand varsRoom q k 0 u) name form m v))
+      Says (lent .room) text at units (λ q. placed units (parameter (lent .room) (λ k u. expand lent q k 0 u) name form m v))
       (parts (modeOf mode) d (drop at text)) area vars g
 
   -- what the leaf finishes, where the operand ends at `next`
   finished-given : (next : ℕ) → Ends text at next (y .rest) → {made : Made} → given ≡ made → (area vars : Text) (f : Expanded)
-      → Finishes varsRoom units made next area vars f → Given area vars f
+      → Finishes (lent .room) units made next area vars f → Given area vars f
   finished-given next t q area vars f h =
-      rw (y .is) (finishes-answers varsRoom text at units given next (y .rest) area vars f (finishes-same varsRoom units next area vars f (sym q) h) t)
+      rw (y .is) (finishes-answers (lent .room) text at units given next (y .rest) area vars f (finishes-same (lent .room) units next area vars f (sym q) h) t)
 
   pub unused-fault : (area vars : Text) {b : ℕ} → parts (modeOf mode) d (drop at text) ≡ refused b → (g : Expanded) → Given area vars g
   unused-fault area vars {b} q g =
@@ -183,54 +194,54 @@ module _ {varsRoom : ℕ} {text : Text} {at : ℕ} {mode : Mode} {d size : ℕ} 
       let u : _≡_ {A = Taken} (done (r .tree, drop next text)) (done (y .tree, y .rest)) = sym (r .is) ∙ y .is in
       let x : _≡_ {A = Parts × Text} (r .tree, drop next text) (y .tree, y .rest) = cc in
       finished-given next (record { ends = ap (λ (p : Parts × Text). p .1) x; onward = r .onward; within = r .within })
-      (ap (placed units) (unused-operand varsRoom (λ k u. expand varsRoom (y .tree) k 0 u) name m (take varsUsed vars₀) form found s e n))
+      (ap (placed units) (unused-operand (lent .room) (λ k u. expand lent (y .tree) k 0 u) name m (take varsUsed vars₀) form found s e n))
       area vars₀ g
-      (adds-finishes varsRoom units (record { next = next; «vars_used» = varsUsed }) (settled what name m v) area vars₀ g h w)
+      (adds-finishes (lent .room) units (record { next = next; «vars_used» = varsUsed }) (settled what name m v) area vars₀ g h (w .holds))
 
 -- an operand that was expanded for a plan that uses it
-pub record OperandExpanded (varsRoom : ℕ) (text : Text) (at : ℕ) (mode : Mode) (d size : ℕ) (vars₀ : Text) (varsUsed : ℕ) (name : Text) (units : ℕ)
+pub record OperandExpanded (lent : Lent) (text : Text) (at : ℕ) (mode : Mode) (d size : ℕ) (vars₀ : Text) (varsUsed : ℕ) (name : Text) (units : ℕ)
     (form : Form) (m : Mark) (what : Used) (ys us : Text) (g : Expanded) : Type 0 where
   pub ready : Ready text at mode d 0 size
-  pub holds : Holds varsRoom vars₀ varsUsed
+  pub lends : Lends lent vars₀ varsUsed
   pub found : Found
   pub shows : places.Shown (take varsUsed vars₀) name found
   pub planned : plan.Used what ≡ planOf form (missingIn found)
   pub mark : Mark
   pub is : mark ≡ operandMark what m
-  pub says : Says varsRoom text at 0 (λ p. expand varsRoom p mark 0 (held (take varsUsed vars₀))) (parts (modeOf mode) d (drop at text)) ys us g
+  pub says : Says (lent .room) text at 0 (λ p. expand lent p mark 0 (held (take varsUsed vars₀))) (parts (modeOf mode) d (drop at text)) ys us g
 
-module _ {varsRoom : ℕ} {text : Text} {at : ℕ} {mode : Mode} {d size : ℕ} {vars₀ : Text} {varsUsed : ℕ} {name : Text}
+module _ {lent : Lent} {text : Text} {at : ℕ} {mode : Mode} {d size : ℕ} {vars₀ : Text} {varsUsed : ℕ} {name : Text}
     {units : ℕ} {form : Form} {m : Mark} {what : Used} {ys us : Text} {g : Expanded}
-    (x : OperandExpanded varsRoom text at mode d size vars₀ varsUsed name units form m what ys us g) where
+    (x : OperandExpanded lent text at mode d size vars₀ varsUsed name units form m what ys us g) where
   abbrev GivenIn : Text → Text → Expanded → Type 0
-  GivenIn area vars r = Given units form m (x .ready) (x .holds) (x .shows) (x .planned) area vars r
+  GivenIn area vars r = Given units form m (x .ready) (x .lends) (x .shows) (x .planned) area vars r
 
   abbrev givenIn : Made
-  givenIn = given units form m (x .ready) (x .holds) (x .shows) (x .planned)
+  givenIn = given units form m (x .ready) (x .lends) (x .shows) (x .planned)
 
-  operand-answer : Answers varsRoom text at 0 (expand varsRoom (x .ready .tree) (x .mark) 0 (held (take varsUsed vars₀))) (x .ready .rest) ys us g
-  operand-answer = says-known varsRoom text at 0 (λ p. expand varsRoom p (x .mark) 0 (held (take varsUsed vars₀))) ys us g (x .says) (x .ready .is)
+  operand-answer : Answers (lent .room) text at 0 (expand lent (x .ready .tree) (x .mark) 0 (held (take varsUsed vars₀))) (x .ready .rest) ys us g
+  operand-answer = says-known (lent .room) text at 0 (λ p. expand lent p (x .mark) 0 (held (take varsUsed vars₀))) ys us g (x .says) (x .ready .is)
 
-  withal : (o : Made) → expand varsRoom (x .ready .tree) (x .mark) 0 (held (take varsUsed vars₀)) ≡ o
-      → givenIn ≡ placed units (o >>= λ r. finished what varsRoom name m r)
+  withal : (o : Made) → expand lent (x .ready .tree) (x .mark) 0 (held (take varsUsed vars₀)) ≡ o
+      → givenIn ≡ placed units (o >>= λ r. finished what (lent .room) name m r)
   withal o h =
       ap (placed units)
-      (used-operand varsRoom (λ k u. expand varsRoom (x .ready .tree) k 0 u) name m (take varsUsed vars₀) form (x .found) (x .shows) (x .planned) refl
-      ∙ ap (λ (j : Mark). expand varsRoom (x .ready .tree) j 0 (held (take varsUsed vars₀)) >>= λ r. finished what varsRoom name m r) (sym (x .is))
-      ∙ ap (λ (x : Made). x >>= λ r. finished what varsRoom name m r) h)
+      (used-operand (lent .room) (λ k u. expand lent (x .ready .tree) k 0 u) name m (take varsUsed vars₀) form (x .found) (x .shows) (x .planned) refl
+      ∙ ap (λ (j : Mark). expand lent (x .ready .tree) j 0 (held (take varsUsed vars₀)) >>= λ r. finished what (lent .room) name m r) (sym (x .is))
+      ∙ ap (λ (x : Made). x >>= λ r. finished what (lent .room) name m r) h)
 
   pub used-refused : (area : Text) {b : ℕ} → g ≡ answer.Refused b → GivenIn area us (answer.Refused b)
   used-refused area {b} q =
-      let h : expand varsRoom (x .ready .tree) (x .mark) 0 (held (take varsUsed vars₀)) ≡ refused b =
-      answers-known varsRoom text at 0 _ (x .ready .rest) ys us operand-answer q in
+      let h : expand lent (x .ready .tree) (x .mark) 0 (held (take varsUsed vars₀)) ≡ refused b =
+      answers-known (lent .room) text at 0 _ (x .ready .rest) ys us operand-answer q in
       rw (x .ready .is) (withal (refused b) h ∙ placed-refused units (refused b) b refl)
 
   module _ {count next left : ℕ} (q : g ≡ answer.Row count next left) where
-    operand-row : IsRow varsRoom 0 (expand varsRoom (x .ready .tree) (x .mark) 0 (held (take varsUsed vars₀))) ys us count left
+    operand-row : IsRow (lent .room) 0 (expand lent (x .ready .tree) (x .mark) 0 (held (take varsUsed vars₀))) ys us count left
         × Ends text at next (x .ready .rest)
-    operand-row = answers-known varsRoom text at 0 _ (x .ready .rest) ys us operand-answer q
+    operand-row = answers-known (lent .room) text at 0 _ (x .ready .rest) ys us operand-answer q
 
-    pub used-holds : Holds varsRoom us left
+    pub used-holds : Holds (lent .room) us left
     used-holds = operand-row .0 .holds
 
     at-front : rowOf (take (2 * count) ys) ≡ operand-row .0 .row
@@ -242,18 +253,18 @@ module _ {varsRoom : ℕ} {text : Text} {at : ℕ} {mode : Mode} {d size : ℕ} 
         record {
           inside = stands-inside (o .row) ys count (o .stands) (o .counts);
           is = ap rowBytes at-front ∙ sym (front (o .row) ys count (o .stands) (o .counts));
-          clean = ap (λ (r : Row). all notZero (bytes r)) at-front ∙ row-clean (x .ready) (x .holds) (x .mark) (o .row)
+          clean = ap (λ (r : Row). all notZero (bytes r)) at-front ∙ row-clean (x .ready) (x .lends) (x .mark) (o .row)
               (held (take left us)) (o .is);
           named = i;
         }
 
-    pub used-given : (area vars : Text) (f : Expanded) → Finishes varsRoom units
-        (placed units (finished what varsRoom name m (rowOf (take (2 * count) ys), held (take left us)))) next area vars f
+    pub used-given : (area vars : Text) (f : Expanded) → Finishes (lent .room) units
+        (placed units (finished what (lent .room) name m (rowOf (take (2 * count) ys), held (take left us)))) next area vars f
         → GivenIn area vars f
     used-given area vars f h =
-        finished-given units form m (x .ready) (x .holds) (x .shows) (x .planned) next (operand-row .1)
+        finished-given units form m (x .ready) (x .lends) (x .shows) (x .planned) next (operand-row .1)
         (withal (done (operand-row .0 .row, held (take left us))) (operand-row .0 .is)
-        ∙ ap (λ (r : Row). placed units (finished what varsRoom name m (r, held (take left us)))) (sym at-front))
+        ∙ ap (λ (r : Row). placed units (finished what (lent .room) name m (r, held (take left us)))) (sym at-front))
         area vars f h
 
 -- An arithmetic text.
@@ -269,32 +280,32 @@ summed-beside m row v = go (arithmeticOf v (bytes row)) (arithmetic-safe (λ (u 
     go (done p) (gives s) = ap (λ (u : Pairs). _>>=_ {A = Row × Pairs} {B = Row × Pairs} (done (marked (expandedMark m) (p .0), u)) (λ r. done r)) (s .1)
 
 -- its text, expanded
-pub record SumExpanded (varsRoom : ℕ) (text : Text) (at d size : ℕ) (vars₀ : Text) (varsUsed units : ℕ) (m : Mark) (ys us : Text) (g : Expanded)
+pub record SumExpanded (lent : Lent) (text : Text) (at d size : ℕ) (vars₀ : Text) (varsUsed units : ℕ) (m : Mark) (ys us : Text) (g : Expanded)
     : Type 0 where
   pub ready : Ready text at (Arith 0) d 0 size
-  pub says : Says varsRoom text at 0 (λ p. expand varsRoom p Q 0 (held (take varsUsed vars₀))) (parts (sums 0) d (drop at text)) ys us g
+  pub says : Says (lent .room) text at 0 (λ p. expand lent p Q 0 (held (take varsUsed vars₀))) (parts (sums 0) d (drop at text)) ys us g
 
-module _ {varsRoom : ℕ} {text : Text} {at d size : ℕ} {vars₀ : Text} {varsUsed units : ℕ} {m : Mark} {ys us : Text} {g : Expanded}
-    (x : SumExpanded varsRoom text at d size vars₀ varsUsed units m ys us g) where
+module _ {lent : Lent} {text : Text} {at d size : ℕ} {vars₀ : Text} {varsUsed units : ℕ} {m : Mark} {ys us : Text} {g : Expanded}
+    (x : SumExpanded lent text at d size vars₀ varsUsed units m ys us g) where
   abbrev Summed : Text → Text → Expanded → Type 0
   Summed area vars f =
-      Says varsRoom text at units (λ q. placed units (summing varsRoom q m (held (take varsUsed vars₀)))) (parts (sums 0) d (drop at text)) area vars f
+      Says (lent .room) text at units (λ q. placed units (summing lent q m (held (take varsUsed vars₀)))) (parts (sums 0) d (drop at text)) area vars f
 
-  sum-answer : Answers varsRoom text at 0 (expand varsRoom (x .ready .tree) Q 0 (held (take varsUsed vars₀))) (x .ready .rest) ys us g
-  sum-answer = says-known varsRoom text at 0 (λ p. expand varsRoom p Q 0 (held (take varsUsed vars₀))) ys us g (x .says) (x .ready .is)
+  sum-answer : Answers (lent .room) text at 0 (expand lent (x .ready .tree) Q 0 (held (take varsUsed vars₀))) (x .ready .rest) ys us g
+  sum-answer = says-known (lent .room) text at 0 (λ p. expand lent p Q 0 (held (take varsUsed vars₀))) ys us g (x .says) (x .ready .is)
 
   pub sum-refused : (area : Text) {b : ℕ} → g ≡ answer.Refused b → Summed area us (answer.Refused b)
   unfolding summing
   sum-refused area {b} q =
-      let h : expand varsRoom (x .ready .tree) Q 0 (held (take varsUsed vars₀)) ≡ refused b =
-      answers-known varsRoom text at 0 _ (x .ready .rest) ys us sum-answer q in
+      let h : expand lent (x .ready .tree) Q 0 (held (take varsUsed vars₀)) ≡ refused b =
+      answers-known (lent .room) text at 0 _ (x .ready .rest) ys us sum-answer q in
       rw (x .ready .is) (placed-refused units _ b (ap (λ (o : Made). o >>= λ u. summed m u) h))
 
   module _ {count next left : ℕ} (q : g ≡ answer.Row count next left) where
-    sum-row : IsRow varsRoom 0 (expand varsRoom (x .ready .tree) Q 0 (held (take varsUsed vars₀))) ys us count left × Ends text at next (x .ready .rest)
-    sum-row = answers-known varsRoom text at 0 _ (x .ready .rest) ys us sum-answer q
+    sum-row : IsRow (lent .room) 0 (expand lent (x .ready .tree) Q 0 (held (take varsUsed vars₀))) ys us count left × Ends text at next (x .ready .rest)
+    sum-row = answers-known (lent .room) text at 0 _ (x .ready .rest) ys us sum-answer q
 
-    pub sum-holds : Holds varsRoom us left
+    pub sum-holds : Holds (lent .room) us left
     sum-holds = sum-row .0 .holds
 
     pub sum-inside : 2 * count ≤ length ys
@@ -306,16 +317,16 @@ module _ {varsRoom : ℕ} {text : Text} {at d size : ℕ} {vars₀ : Text} {vars
     unfolding summing
     sum-given area f h =
         rw (x .ready .is)
-        (finishes-answers varsRoom text at units (placed units (summing varsRoom (x .ready .tree) m (held (take varsUsed vars₀)))) next
+        (finishes-answers (lent .room) text at units (placed units (summing lent (x .ready .tree) m (held (take varsUsed vars₀)))) next
         (x .ready .rest) area us f
-        (finishes-same varsRoom units next area us f (sym (ap (placed units) same))
-        (adds-finishes varsRoom units (record { next = next; «vars_used» = left }) (sumOf m row (held (take left us))) area us f h (sum-row .0 .holds)))
+        (finishes-same (lent .room) units next area us f (sym (ap (placed units) same))
+        (adds-finishes (lent .room) units (record { next = next; «vars_used» = left }) (sumOf m row (held (take left us))) area us f h (sum-row .0 .holds)))
         (sum-row .1))
       where
         row : Row
         row = rowOf (take (2 * count) ys)
 
-        same : (summing varsRoom (x .ready .tree) m (held (take varsUsed vars₀))) ≡ beside (held (take left us)) (sumOf m row (held (take left us)))
+        same : (summing lent (x .ready .tree) m (held (take varsUsed vars₀))) ≡ beside (held (take left us)) (sumOf m row (held (take left us)))
         same =
             ap (λ (o : Made). o >>= λ u. summed m u) (sum-row .0 .is)
             ∙ ap (λ (r : Row). summed m (r, held (take left us))) (sym (row-at (sum-row .0 .row) ys count (sum-row .0 .stands) (sum-row .0 .counts)))

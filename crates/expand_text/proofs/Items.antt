@@ -9,60 +9,70 @@ use lib.ListN.{length, take, drop}
 use Rattle.stages.specs.Bytes.{Text, part, notZero}
 use Rattle.stages.specs.Outcome.{Outcome, refused, done}
 use Rattle.stages.specs.Images.{Pairs, isName, held}
-use Rattle.stages.specs.Syntax.{unescaped, Form, Parts, plain, end, lit, quo, par, len, ari, arith as sums}
-use Rattle.stages.specs.Items.{item}
+use Rattle.stages.specs.Syntax.{unescaped, Form, Parts, plain, end, lit, quo, par, len, ari, til, arith as sums}
+use Rattle.stages.specs.Syntax as syntax
+use Rattle.stages.specs.Items.{item, onward}
 use Rattle.stages.specs.Read.{Taken, parts, nest}
 use Rattle.stages.specs.Units.{Mark, cell, Row, marked, expandedMark, litMark, decimal}
-use Rattle.stages.specs.Expand.{Made, value, parameter, expand}
+use Rattle.stages.specs.Expand.{Made, Lent, value, parameter, directory, tildeRow, expand}
 use Rattle.text.specs.Cases.{escapeOf}
 use Rattle.stages.proofs.Texts.{all-drop}
 use Rattle.stages.proofs.Outcomes.{safe-done}
 use Rattle.stages.proofs.Safe.{SafeParts, parts-safe}
-use Rattle.stages.proofs.Read.{at-fault, at-stop, at-byte, at-paren, at-value, at-count, at-quote, at-inner, at-sum, behind, Within, within}
-use Rattle.read_mode.specs.Modes.{modeOf, openIn, formOf}
+use Rattle.stages.proofs.Read.{at-fault, at-stop, at-byte, at-paren, at-value, at-count, at-quote, at-inner, at-sum, at-home, behind, Within, within}
+use Rattle.read_mode.specs.Modes.{modeOf, openIn, modeOnward, formOf}
+use Rattle.read_mode.proofs.GoingOn.{onward-mode, onward-open}
 use Rattle.read_mode.specs.declared.Mode.{Mode}
 use Rattle.read_mode.specs.declared.Mode.the-variants.{Arith}
 use Rattle.read_mode.specs.declared.Form as code-form
 use Rattle.text.specs.Places.{Behind}
 use Rattle.read_brace.specs.Shows.{Shows, Name}
 use Rattle.read_brace.specs.declared.Item.{Item}
-use Rattle.read_brace.specs.declared.Item.the-variants.{Fault, Stop, Byte, Paren, Quote, Value, Count, Inner, Sum}
+use Rattle.read_brace.specs.declared.Item.the-variants.{Fault, Stop, Byte, Paren, Quote, Value, Count, Inner, Sum, Home}
 use Rattle.expand_add.specs.Added.{Adds}
 use Rattle.expand_add.specs.Steps.{beside, placed, quoted, summing, followed}
 use Rattle.read_item.specs.After.{modeAfter, isStop}
 use Rattle.expand_text.specs.Items.{ItemAnswers, ItemRead}
-use Rattle.expand_add.specs.Answers.{Holds, Ready, IsRow, Answers, Says, Finishes}
+use Rattle.expand_add.specs.Answers.{Ready, IsRow, Answers, Says, Finishes}
 use Rattle.expand_add.specs.declared.answers.Expanded.{Expanded}
 use Rattle.expand_add.specs.declared.answers.Expanded.the-variants as answer
-use Rattle.expand_add.proofs.Steps.{expand-lit, expand-par, expand-len, expand-quo, expand-ari, followed-refused, followed-row}
+use Rattle.expand_add.proofs.Steps.{expand-lit, expand-par, expand-len, expand-quo, expand-ari, expand-til, followed-refused, followed-row}
 use Rattle.expand_add.proofs.Fitting.{adds-same}
 use Rattle.expand_add.proofs.Holding.{says-known, adds-finishes}
+use Rattle.expand_text.proofs.Inside.{Lends}
 
 -- an enum's answer, once its case is known
 pub shown : (text : Text) (at d : ℕ) {r s : Item} (i : _) → Shows text at d r i → r ≡ s → Shows text at d s i
 shown text at d i h e = subst (λ (x : Item). Shows text at d x i) e h
 
--- The text from `at` on is read (`y`), the variables stand in their bytes (`w`).
+-- The text from `at` on is read (`y`), and this is lent to it (`w`).
 
-module _ {varsRoom : ℕ} {text : Text} {at : ℕ} {mode : Mode} {d : ℕ} (m : Mark) {units size : ℕ} {vars₀ : Text} {varsUsed : ℕ}
-    (y : Ready text at mode d units size) (w : Holds varsRoom vars₀ varsUsed) where
+module _ {lent : Lent} {text : Text} {at : ℕ} {mode : Mode} {d : ℕ} (m : Mark) {units size : ℕ} {vars₀ : Text} {varsUsed : ℕ}
+    (y : Ready text at mode d units size) (w : Lends lent vars₀ varsUsed) where
   abbrev v : Pairs
   v = held (take varsUsed vars₀)
 
   abbrev Passed : Bool → Mode → Text → Text → Expanded → Type 0
   Passed stops after area vars g =
-      ItemRead stops after varsRoom text at d m units (λ t. expand varsRoom t m units v) (parts (modeOf mode) d (drop at text)) area vars g
+      ItemRead stops after lent text at d m units (λ t. expand lent t m units v) (parts (modeOf mode) d (drop at text)) area vars g
+
+  -- the text goes on behind its first item
+  going : (t : Text) {p : Parts} → parts (onward (modeOf mode)) d t ≡ done (p, y .rest) → parts (modeOf (modeOnward mode)) d t ≡ done (p, y .rest)
+  going t e = ap (λ (k : syntax.Mode). parts k d t) (sym (onward-mode mode)) ∙ e
+
+  going-open : (next : ℕ) → at < next → openIn (modeOnward mode) ≤ next
+  going-open next l = omega (arith, onward-open mode, y .opens)
 
   so : (stops : Bool) (after : Mode) (area vars : Text) (g : Expanded)
-      → ItemAnswers stops after varsRoom text at d m units (expand varsRoom (y .tree) m units v) (y .rest) area vars g → Passed stops after area vars g
+      → ItemAnswers stops after lent text at d m units (expand lent (y .tree) m units v) (y .rest) area vars g → Passed stops after area vars g
   so stops after area vars g h = rw (y .is) h
 
   -- an item whose own row is `own`, and after it the parts p
-  module _ (p : Parts) (own : Made) (is : expand varsRoom (y .tree) m units v ≡ followed varsRoom p m units own) where
+  module _ (p : Parts) (own : Made) (is : expand lent (y .tree) m units v ≡ followed lent p m units own) where
     own-refused : (after : Mode) (area vars : Text) {e : ℕ} → own ≡ refused e → Passed false after area vars (answer.Refused e)
-    own-refused after area vars {e} h = so false after area vars (answer.Refused e) (is ∙ followed-refused varsRoom p m units own e h)
+    own-refused after area vars {e} h = so false after area vars (answer.Refused e) (is ∙ followed-refused lent p m units own e h)
 
-    own-row : (after : Mode) (area vars : Text) (count next left : ℕ) → IsRow varsRoom units own area vars count left
+    own-row : (after : Mode) (area vars : Text) (count next left : ℕ) → IsRow (lent .room) units own area vars count left
         → parts (modeOf after) d (drop next text) ≡ done (p, y .rest) → openIn after ≤ next → at < next → next ≤ length text
         → Passed false after area vars (answer.Row count next left)
     own-row after area vars count next left i read o l k =
@@ -72,7 +82,7 @@ module _ {varsRoom : ℕ} {text : Text} {at : ℕ} {mode : Mode} {d : ℕ} (m : 
           read = read;
           opens = o;
           row = i .row;
-          is = is ∙ followed-row varsRoom p m units own (i .row) (held (take left vars)) count (i .is) (i .counts);
+          is = is ∙ followed-row lent p m units own (i .row) (held (take left vars)) count (i .is) (i .counts);
           counts = i .counts;
           stands = i .stands;
           fits = i .fits;
@@ -83,28 +93,34 @@ module _ {varsRoom : ℕ} {text : Text} {at : ℕ} {mode : Mode} {d : ℕ} (m : 
 
     -- what a leaf finishes, after which the text goes on at `next`
     own-finished : (next : ℕ) (after : Mode) → parts (modeOf after) d (drop next text) ≡ done (p, y .rest) → openIn after ≤ next → at < next
-        → next ≤ length text → (area vars : Text) (g : Expanded) → Finishes varsRoom units own next area vars g → Passed false after area vars g
+        → next ≤ length text → (area vars : Text) (g : Expanded) → Finishes (lent .room) units own next area vars g → Passed false after area vars g
     own-finished next after read o l k area vars (answer.Refused e) h = own-refused after area vars h
     own-finished next after read o l k area vars (answer.Row count next′ left) h =
         rw (h .0) (own-row after area vars count next left (h .1) read o l k)
 
     -- what holds a text from `from` on, with `mid` after it
-    own-text : (from : ℕ) (mid : Text) → parts (modeOf mode) d mid ≡ done (p, y .rest) → at < from → (area vars : Text) (g : Expanded)
-        → Answers varsRoom text from units own mid area vars g → Passed false mode area vars g
-    own-text from mid read l area vars (answer.Refused e) h = own-refused mode area vars h
+    own-text : (from : ℕ) (mid : Text) → parts (onward (modeOf mode)) d mid ≡ done (p, y .rest) → at < from → (area vars : Text) (g : Expanded)
+        → Answers (lent .room) text from units own mid area vars g → Passed false (modeOnward mode) area vars g
+    own-text from mid read l area vars (answer.Refused e) h = own-refused (modeOnward mode) area vars h
     own-text from mid read l area vars (answer.Row count next left) h =
-        let o = y .opens in
-        let k = h .1 .onward in
-        own-row mode area vars count next left (h .0) (ap (parts (modeOf mode) d) (h .1 .ends) ∙ read) (omega arith) (omega arith) (h .1 .within)
+        let k : at < next = omega (arith, h .1 .onward) in
+        own-row (modeOnward mode) area vars count next left (h .0) (going (drop next text) (ap (parts (onward (modeOf mode)) d) (h .1 .ends) ∙ read)) (going-open next k) k
+        (h .1 .within)
 
   -- a row that is added at once
-  own-added : (p : Parts) (o : Outcome Row) → expand varsRoom (y .tree) m units v ≡ followed varsRoom p m units (placed units (beside v o))
+  own-added : (p : Parts) (o : Outcome Row) → expand lent (y .tree) m units v ≡ followed lent p m units (placed units (beside v o))
       → (next : ℕ) (after : Mode) → parts (modeOf after) d (drop next text) ≡ done (p, y .rest) → openIn after ≤ next → at < next
       → next ≤ length text → (area : Text) (g : Expanded) → Adds units (record { next = next; «vars_used» = varsUsed }) o area g
       → Passed false after area vars₀ g
   own-added p o is next after read i l k area g h =
       own-finished p (placed units (beside v o)) is next after read i l k area vars₀ g
-      (adds-finishes varsRoom units (record { next = next; «vars_used» = varsUsed }) o area vars₀ g h w)
+      (adds-finishes (lent .room) units (record { next = next; «vars_used» = varsUsed }) o area vars₀ g h (w .holds))
+
+  -- the same, where the text goes on behind its first item
+  own-on : (p : Parts) (o : Outcome Row) → expand lent (y .tree) m units v ≡ followed lent p m units (placed units (beside v o))
+      → (next : ℕ) → parts (onward (modeOf mode)) d (drop next text) ≡ done (p, y .rest) → at < next → next ≤ length text
+      → (area : Text) (g : Expanded) → Adds units (record { next = next; «vars_used» = varsUsed }) o area g → Passed false (modeOnward mode) area vars₀ g
+  own-on p o is next read l k area g h = own-added p o is next (modeOnward mode) (going (drop next text) read) (going-open next l) l k area g h
 
   abbrev Turned : Item → Text → Text → Expanded → Type 0
   Turned r area vars g = Passed (isStop r) (modeAfter r mode) area vars g
@@ -113,19 +129,19 @@ module _ {varsRoom : ℕ} {text : Text} {at : ℕ} {mode : Mode} {d : ℕ} (m : 
   known c area vars g t = subst (λ (s : Item). Turned s area vars g) (sym c) t
 
 -- The item r stands there.
-pub record Here (varsRoom : ℕ) (text : Text) (at : ℕ) (mode : Mode) (d : ℕ) (m : Mark) (units size : ℕ) (vars₀ : Text) (varsUsed : ℕ) (r : Item)
+pub record Here (lent : Lent) (text : Text) (at : ℕ) (mode : Mode) (d : ℕ) (m : Mark) (units size : ℕ) (vars₀ : Text) (varsUsed : ℕ) (r : Item)
     : Type 0 where
   pub ready : Ready text at mode d units size
-  pub holds : Holds varsRoom vars₀ varsUsed
+  pub lends : Lends lent vars₀ varsUsed
   pub shows : Shows text at d r (item (modeOf mode) d (drop at text))
 
-module _ {varsRoom : ℕ} {text : Text} {at : ℕ} {mode : Mode} {d : ℕ} {m : Mark} {units size : ℕ} {vars₀ : Text} {varsUsed : ℕ} {r : Item}
-    (x : Here varsRoom text at mode d m units size vars₀ varsUsed r) where
+module _ {lent : Lent} {text : Text} {at : ℕ} {mode : Mode} {d : ℕ} {m : Mark} {units size : ℕ} {vars₀ : Text} {varsUsed : ℕ} {r : Item}
+    (x : Here lent text at mode d m units size vars₀ varsUsed r) where
   abbrev u : Pairs
   u = held (take varsUsed vars₀)
 
   abbrev Said : Text → Text → Expanded → Type 0
-  Said area vars g = Turned m (x .ready) (x .holds) r area vars g
+  Said area vars g = Turned m (x .ready) (x .lends) r area vars g
 
   pub item-fault : (area vars : Text) {e : ℕ} → r ≡ Fault e → Said area vars (answer.Refused e)
   item-fault area vars {e} c =
@@ -139,21 +155,19 @@ module _ {varsRoom : ℕ} {text : Text} {at : ℕ} {mode : Mode} {d : ℕ} {m : 
   item-stop area {next} c =
       let s = shown text at d _ (x .shows) c in
       let n : parts (modeOf mode) d (drop at text) ≡ done (end, drop next text) = at-stop text at (modeOf mode) d next (s .0) (s .1) in
-      known m (x .ready) (x .holds) c area vars₀ (answer.Row 0 next varsUsed)
-      (rw n (record { is = refl; none = refl; holds = x .holds; ends = record { ends = refl; onward = s .1; within = s .2 } }))
+      known m (x .ready) (x .lends) c area vars₀ (answer.Row 0 next varsUsed)
+      (rw n (record { is = refl; none = refl; holds = x .lends .holds; ends = record { ends = refl; onward = s .1; within = s .2 } }))
 
   pub item-byte : {q : Bool} {b next : ℕ} → r ≡ Byte q b next → {k : Mark} → k ≡ litMark (escapeOf q) m → (area : Text) (g : Expanded)
       → Adds units (record { next = next; «vars_used» = varsUsed }) (done (cell k b ∷ [])) area g → Said area vars₀ g
   item-byte {q} {b} {next} c {k} e area g f =
       let s = shown text at d _ (x .shows) c in
-      let o = x .ready .opens in
-      let i = s .1 .onward in
-      let t = behind (lit (escapeOf q) b) (parts (modeOf mode) d (drop next text)) (x .ready .tree) (x .ready .rest)
+      let t = behind (lit (escapeOf q) b) (parts (onward (modeOf mode)) d (drop next text)) (x .ready .tree) (x .ready .rest)
       (sym (at-byte text at (modeOf mode) d (escapeOf q) b next (s .0) (s .1 .onward)) ∙ x .ready .is) in
-      known m (x .ready) (x .holds) c area vars₀ g
-      (own-added m (x .ready) (x .holds) (t .next) (done (cell (litMark (escapeOf q) m) b ∷ []))
-      (ap (λ (x : Parts). expand varsRoom x m units u) (t .whole) ∙ expand-lit varsRoom (t .next) m units (escapeOf q) b u)
-      next mode (t .read) (omega arith) i (s .1 .within) area g
+      known m (x .ready) (x .lends) c area vars₀ g
+      (own-on m (x .ready) (x .lends) (t .next) (done (cell (litMark (escapeOf q) m) b ∷ []))
+      (ap (λ (x : Parts). expand lent x m units u) (t .whole) ∙ expand-lit lent (t .next) m units (escapeOf q) b u)
+      next (t .read) (s .1 .onward) (s .1 .within) area g
       (adds-same units (record { next = next; «vars_used» = varsUsed }) area g (ap (λ (j : Mark). done (cell j b ∷ [])) e) f))
 
   pub paren-place : {b n : ℕ} → r ≡ Paren b n → at < length text
@@ -166,9 +180,9 @@ module _ {varsRoom : ℕ} {text : Text} {at : ℕ} {mode : Mode} {d : ℕ} {m : 
       let i = s .1 in
       let t = behind (lit unescaped b) (parts (sums n) d (drop (at + 1) text)) (x .ready .tree) (x .ready .rest)
       (sym (at-paren text at (modeOf mode) d b n (s .0)) ∙ x .ready .is) in
-      known m (x .ready) (x .holds) c area vars₀ g
-      (own-added m (x .ready) (x .holds) (t .next) (done (cell m b ∷ []))
-      (ap (λ (x : Parts). expand varsRoom x m units u) (t .whole) ∙ expand-lit varsRoom (t .next) m units unescaped b u)
+      known m (x .ready) (x .lends) c area vars₀ g
+      (own-added m (x .ready) (x .lends) (t .next) (done (cell m b ∷ []))
+      (ap (λ (x : Parts). expand lent x m units u) (t .whole) ∙ expand-lit lent (t .next) m units unescaped b u)
       (at + 1) (Arith n) (t .read) (s .2) (omega arith) (omega arith) area g f)
 
   module _ {from to next : ℕ} (c : r ≡ Value from to next) where
@@ -181,14 +195,12 @@ module _ {varsRoom : ℕ} {text : Text} {at : ℕ} {mode : Mode} {d : ℕ} {m : 
     unfolding parameter
     item-value area g f =
         let s = shown text at d _ (x .shows) c in
-        let o = x .ready .opens in
-        let i = s .1 .onward in
-        let t = behind (par (part text from to) plain end) (parts (modeOf mode) d (drop next text)) (x .ready .tree) (x .ready .rest)
+        let t = behind (par (part text from to) plain end) (parts (onward (modeOf mode)) d (drop next text)) (x .ready .tree) (x .ready .rest)
         (sym (at-value text at (modeOf mode) d (part text from to) next (s .0) (s .1 .onward)) ∙ x .ready .is) in
-        known m (x .ready) (x .holds) c area vars₀ g
-        (own-added m (x .ready) (x .holds) (t .next) (done (marked (expandedMark m) (value u (part text from to))))
-        (ap (λ (x : Parts). expand varsRoom x m units u) (t .whole) ∙ expand-par varsRoom (t .next) m units (part text from to) plain end u)
-        next mode (t .read) (omega arith) i (s .1 .within) area g f)
+        known m (x .ready) (x .lends) c area vars₀ g
+        (own-on m (x .ready) (x .lends) (t .next) (done (marked (expandedMark m) (value u (part text from to))))
+        (ap (λ (x : Parts). expand lent x m units u) (t .whole) ∙ expand-par lent (t .next) m units (part text from to) plain end u)
+        next (t .read) (s .1 .onward) (s .1 .within) area g f)
 
   module _ {from to next : ℕ} (c : r ≡ Count from to next) where
     pub count-name : Name text from to
@@ -200,18 +212,33 @@ module _ {varsRoom : ℕ} {text : Text} {at : ℕ} {mode : Mode} {d : ℕ} {m : 
         → Said area vars₀ g
     item-count area g f =
         let s = shown text at d _ (x .shows) c in
-        let o = x .ready .opens in
-        let i = s .1 .onward in
-        let t = behind (len (part text from to)) (parts (modeOf mode) d (drop next text)) (x .ready .tree) (x .ready .rest)
+        let t = behind (len (part text from to)) (parts (onward (modeOf mode)) d (drop next text)) (x .ready .tree) (x .ready .rest)
         (sym (at-count text at (modeOf mode) d (part text from to) next (s .0) (s .1 .onward)) ∙ x .ready .is) in
-        known m (x .ready) (x .holds) c area vars₀ g
-        (own-added m (x .ready) (x .holds) (t .next) (done (marked (expandedMark m) (decimal (length (value u (part text from to))))))
-        (ap (λ (x : Parts). expand varsRoom x m units u) (t .whole) ∙ expand-len varsRoom (t .next) m units (part text from to) u)
-        next mode (t .read) (omega arith) i (s .1 .within) area g f)
+        known m (x .ready) (x .lends) c area vars₀ g
+        (own-on m (x .ready) (x .lends) (t .next) (done (marked (expandedMark m) (decimal (length (value u (part text from to))))))
+        (ap (λ (x : Parts). expand lent x m units u) (t .whole) ∙ expand-len lent (t .next) m units (part text from to) u)
+        next (t .read) (s .1 .onward) (s .1 .within) area g f)
+
+  module _ {to : ℕ} (c : r ≡ Home to) where
+    pub home-place : Behind text at to
+    home-place = shown text at d _ (x .shows) c .1
+
+    pub item-home : (area : Text) (g : Expanded)
+        → Adds units (record { next = to; «vars_used» = varsUsed })
+        (done (tildeRow (part text (at + 1) to) m (directory u (lent .homes) (part text (at + 1) to)))) area g
+        → Said area vars₀ g
+    item-home area g f =
+        let s = shown text at d _ (x .shows) c in
+        let t = behind (til (part text (at + 1) to)) (parts (onward (modeOf mode)) d (drop to text)) (x .ready .tree) (x .ready .rest)
+        (sym (at-home text at (modeOf mode) d (part text (at + 1) to) to (s .0) (s .1 .onward)) ∙ x .ready .is) in
+        known m (x .ready) (x .lends) c area vars₀ g
+        (own-on m (x .ready) (x .lends) (t .next) (done (tildeRow (part text (at + 1) to) m (directory u (lent .homes) (part text (at + 1) to))))
+        (ap (λ (x : Parts). expand lent x m units u) (t .whole) ∙ expand-til lent (t .next) m units (part text (at + 1) to) u)
+        to (t .read) (s .1 .onward) (s .1 .within) area g f)
 
   module _ {n : Mode} (c : r ≡ Quote n) where
-    quote-parts : Within quo (parts (modeOf n) d (drop (at + 1) text)) (parts (modeOf mode) d) (x .ready .tree) (x .ready .rest)
-    quote-parts = within quo _ (parts (modeOf mode) d) (x .ready .tree) (x .ready .rest)
+    quote-parts : Within quo (parts (modeOf n) d (drop (at + 1) text)) (parts (onward (modeOf mode)) d) (x .ready .tree) (x .ready .rest)
+    quote-parts = within quo _ (parts (onward (modeOf mode)) d) (x .ready .tree) (x .ready .rest)
         (sym (at-quote text at (modeOf mode) d (modeOf n) (shown text at d _ (x .shows) c .0)) ∙ x .ready .is)
 
     pub quote-place : at < length text
@@ -233,23 +260,23 @@ module _ {varsRoom : ℕ} {text : Text} {at : ℕ} {mode : Mode} {d : ℕ} {m : 
           is = quote-parts .first;
         }
 
-    pub item-quote : (area vars : Text) (g : Expanded) → Says varsRoom text (at + 1) units (λ q. quoted varsRoom q units u)
+    pub item-quote : (area vars : Text) (g : Expanded) → Says (lent .room) text (at + 1) units (λ q. quoted lent q units u)
         (parts (modeOf n) d (drop (at + 1) text)) area vars g
         → Said area vars g
     item-quote area vars g s =
         let t = quote-parts in
-        known m (x .ready) (x .holds) c area vars g
-        (own-text m (x .ready) (x .holds) (t .next) (quoted varsRoom (t .inside) units u)
-        (ap (λ (x : Parts). expand varsRoom x m units u) (t .whole) ∙ expand-quo varsRoom (t .next) m units (t .inside) u)
+        known m (x .ready) (x .lends) c area vars g
+        (own-text m (x .ready) (x .lends) (t .next) (quoted lent (t .inside) units u)
+        (ap (λ (x : Parts). expand lent x m units u) (t .whole) ∙ expand-quo lent (t .next) m units (t .inside) u)
         (at + 1) (t .mid) (t .read) (omega arith) area vars g
-        (says-known varsRoom text (at + 1) units (λ q. quoted varsRoom q units u) area vars g s (t .first)))
+        (says-known (lent .room) text (at + 1) units (λ q. quoted lent q units u) area vars g s (t .first)))
 
   module _ {from to : ℕ} {f : code-form.Form} {n : Mode} {next : ℕ} (c : r ≡ Inner from to f n next) where
-    inner-parts : Within (par (part text from to) (formOf f)) (parts (modeOf n) (d - 1) (drop next text)) (parts (modeOf mode) d)
+    inner-parts : Within (par (part text from to) (formOf f)) (parts (modeOf n) (d - 1) (drop next text)) (parts (onward (modeOf mode)) d)
         (x .ready .tree) (x .ready .rest)
     inner-parts =
         let s = shown text at d _ (x .shows) c in
-        within (par (part text from to) (formOf f)) _ (parts (modeOf mode) d) (x .ready .tree) (x .ready .rest)
+        within (par (part text from to) (formOf f)) _ (parts (onward (modeOf mode)) d) (x .ready .tree) (x .ready .rest)
         (sym (at-inner text at (modeOf mode) d (part text from to) (formOf f) (modeOf n) next (s .0) (s .1 .onward)) ∙ x .ready .is)
 
     pub inner-place : Behind text at next
@@ -284,27 +311,27 @@ module _ {varsRoom : ℕ} {text : Text} {at : ℕ} {mode : Mode} {d : ℕ} {m : 
         }
 
     pub item-inner : (area vars : Text) (g : Expanded)
-        → Says varsRoom text next units
-        (λ q. placed units (parameter varsRoom (λ k u. expand varsRoom q k 0 u) (part text from to) (formOf f) m u))
+        → Says (lent .room) text next units
+        (λ q. placed units (parameter (lent .room) (λ k u. expand lent q k 0 u) (part text from to) (formOf f) m u))
         (parts (modeOf n) (d - 1) (drop next text)) area vars g
         → Said area vars g
     item-inner area vars g s =
         let t = inner-parts in
-        known m (x .ready) (x .holds) c area vars g
-        (own-text m (x .ready) (x .holds) (t .next)
-        (placed units (parameter varsRoom (λ k u. expand varsRoom (t .inside) k 0 u) (part text from to) (formOf f) m u))
-        (ap (λ (x : Parts). expand varsRoom x m units u) (t .whole)
-        ∙ expand-par varsRoom (t .next) m units (part text from to) (formOf f) (t .inside) u)
+        known m (x .ready) (x .lends) c area vars g
+        (own-text m (x .ready) (x .lends) (t .next)
+        (placed units (parameter (lent .room) (λ k u. expand lent (t .inside) k 0 u) (part text from to) (formOf f) m u))
+        (ap (λ (x : Parts). expand lent x m units u) (t .whole)
+        ∙ expand-par lent (t .next) m units (part text from to) (formOf f) (t .inside) u)
         next (t .mid) (t .read) (shown text at d _ (x .shows) c .1 .onward) area vars g
-        (says-known varsRoom text next units
-        (λ q. placed units (parameter varsRoom (λ k u. expand varsRoom q k 0 u) (part text from to) (formOf f) m u)) area vars g s (t .first)))
+        (says-known (lent .room) text next units
+        (λ q. placed units (parameter (lent .room) (λ k u. expand lent q k 0 u) (part text from to) (formOf f) m u)) area vars g s (t .first)))
 
   module _ {next : ℕ} (c : r ≡ Sum next) where
-    sum-parts : Within ari (parts (sums 0) (d - 1) (drop next text)) (parts (modeOf mode) d) (x .ready .tree) (x .ready .rest)
+    sum-parts : Within ari (parts (sums 0) (d - 1) (drop next text)) (parts (onward (modeOf mode)) d) (x .ready .tree) (x .ready .rest)
     sum-parts =
         let s = shown text at d _ (x .shows) c in
-        within ari _ (parts (modeOf mode) d) (x .ready .tree) (x .ready .rest)
-        (sym (at-sum text at (modeOf mode) d (s .0) ∙ ap (λ (k : ℕ). nest ari (parts (sums 0) (d - 1) (drop k text)) (parts (modeOf mode) d))
+        within ari _ (parts (onward (modeOf mode)) d) (x .ready .tree) (x .ready .rest)
+        (sym (at-sum text at (modeOf mode) d (s .0) ∙ ap (λ (k : ℕ). nest ari (parts (sums 0) (d - 1) (drop k text)) (parts (onward (modeOf mode)) d))
         (sym (s .1))) ∙ x .ready .is)
 
     pub sum-place : next ≡ at + 3
@@ -331,14 +358,14 @@ module _ {varsRoom : ℕ} {text : Text} {at : ℕ} {mode : Mode} {d : ℕ} {m : 
         }
 
     pub item-sum : (area vars : Text) (g : Expanded)
-        → Says varsRoom text next units (λ q. placed units (summing varsRoom q m u)) (parts (sums 0) (d - 1) (drop next text)) area vars g
+        → Says (lent .room) text next units (λ q. placed units (summing lent q m u)) (parts (sums 0) (d - 1) (drop next text)) area vars g
         → Said area vars g
     unfolding summing
     item-sum area vars g s =
         let t = sum-parts in
         let e = shown text at d _ (x .shows) c .1 in
-        known m (x .ready) (x .holds) c area vars g
-        (own-text m (x .ready) (x .holds) (t .next) (placed units (summing varsRoom (t .inside) m u))
-        (ap (λ (x : Parts). expand varsRoom x m units u) (t .whole) ∙ expand-ari varsRoom (t .next) m units (t .inside) u)
+        known m (x .ready) (x .lends) c area vars g
+        (own-text m (x .ready) (x .lends) (t .next) (placed units (summing lent (t .inside) m u))
+        (ap (λ (x : Parts). expand lent x m units u) (t .whole) ∙ expand-ari lent (t .next) m units (t .inside) u)
         next (t .mid) (t .read) (omega arith) area vars g
-        (says-known varsRoom text next units (λ q. placed units (summing varsRoom q m u)) area vars g s (t .first)))
+        (says-known (lent .room) text next units (λ q. placed units (summing lent q m u)) area vars g s (t .first)))

@@ -13,7 +13,7 @@ use Rattle.stages.specs.Images.{Pairs, held}
 use Rattle.stages.specs.Syntax.{Parts}
 use Rattle.stages.specs.Read.{Taken, parts}
 use Rattle.stages.specs.Units.{Mark, Row}
-use Rattle.stages.specs.Expand.{Made, expand, onto}
+use Rattle.stages.specs.Expand.{Made, Lent, expand, onto}
 use Rattle.text.specs.Rows.{rowBytes}
 use Rattle.row.specs.Stands.{Stands}
 use Rattle.read_mode.specs.Modes.{modeOf, openIn}
@@ -25,24 +25,24 @@ use Rattle.expand_add.specs.declared.answers.Expanded.the-variants as answer
 use Rattle.expand_add.proofs.Steps.{onto-none, onto-onto}
 use Rattle.expand_add.proofs.Standing.{stands-inside, stands-nest, stands-kept}
 
-pub read-known : (stops : Bool) (after : Mode) (varsRoom : ℕ) (text : Text) (at depth : ℕ) (m : Mark) (units : ℕ) (own : Parts → Made)
+pub read-known : (stops : Bool) (after : Mode) (lent : Lent) (text : Text) (at depth : ℕ) (m : Mark) (units : ℕ) (own : Parts → Made)
     {o : Taken} {p : Parts × Text} (area vars : Text) {r s : Expanded}
-    → ItemRead stops after varsRoom text at depth m units own o area vars r → o ≡ done p → r ≡ s
-    → ItemAnswers stops after varsRoom text at depth m units (own (p .0)) (p .1) area vars s
-read-known stops after varsRoom text at depth m units own {o} {p} area vars {r} {s} h e q =
-    subst (λ (x : Expanded). ItemAnswers stops after varsRoom text at depth m units (own (p .0)) (p .1) area vars x) q
-    (subst (λ (x : Taken). ItemRead stops after varsRoom text at depth m units own x area vars r) e h)
+    → ItemRead stops after lent text at depth m units own o area vars r → o ≡ done p → r ≡ s
+    → ItemAnswers stops after lent text at depth m units (own (p .0)) (p .1) area vars s
+read-known stops after lent text at depth m units own {o} {p} area vars {r} {s} h e q =
+    subst (λ (x : Expanded). ItemAnswers stops after lent text at depth m units (own (p .0)) (p .1) area vars x) q
+    (subst (λ (x : Taken). ItemRead stops after lent text at depth m units own x area vars r) e h)
 
 -- a row that was passed fits, whether the text stops there or not
-passed-fits : (stops : Bool) (after : Mode) (varsRoom : ℕ) (text : Text) (at depth : ℕ) (m : Mark) (units : ℕ) (made : Made)
+passed-fits : (stops : Bool) (after : Mode) (lent : Lent) (text : Text) (at depth : ℕ) (m : Mark) (units : ℕ) (made : Made)
     (rest area vars : Text) (count next left : ℕ) → units ≤ rowLimit
-    → Passes stops after varsRoom text at depth m units made rest area vars count next left → units + count ≤ rowLimit
-passed-fits true after varsRoom text at depth m units made rest area vars count next left l h = let n = h .none in omega arith
-passed-fits false after varsRoom text at depth m units made rest area vars count next left l h = h .fits
+    → Passes stops after lent text at depth m units made rest area vars count next left → units + count ≤ rowLimit
+passed-fits true after lent text at depth m units made rest area vars count next left l h = let n = h .none in omega arith
+passed-fits false after lent text at depth m units made rest area vars count next left l h = h .fits
 
 -- The loop.
 
-pub record Going (varsRoom : ℕ) (text : Text) (at : ℕ) (mode₀ : Mode) (depth : ℕ) (k : Mark) (units : ℕ) (v : Pairs)
+pub record Going (lent : Lent) (text : Text) (at : ℕ) (mode₀ : Mode) (depth : ℕ) (k : Mark) (units : ℕ) (v : Pairs)
     (area₀ vars₀ area vars : Text) (n i : ℕ) (mode : Mode) (varsUsed : ℕ) : Type 0 where
   pub tree : Parts
   pub rest : Text
@@ -58,12 +58,12 @@ pub record Going (varsRoom : ℕ) (text : Text) (at : ℕ) (mode₀ : Mode) (dep
   pub row : Row
   pub counts : length row ≡ n
   pub stands : Stands row area
-  pub holds : Holds varsRoom vars varsUsed
-  pub is : expand varsRoom tree k units v ≡ onto row (expand varsRoom left k (units + n) (held (take varsUsed vars)))
+  pub holds : Holds (lent .room) vars varsUsed
+  pub is : expand lent tree k units v ≡ onto row (expand lent left k (units + n) (held (take varsUsed vars)))
 
-module _ {varsRoom : ℕ} {text : Text} {at : ℕ} {mode₀ : Mode} {d : ℕ} (k : Mark) {units : ℕ} (area : Text) {vars : Text} {varsUsed : ℕ} where
-  pub going-start : Ready text at mode₀ d units (length area) → Holds varsRoom vars varsUsed
-      → Going varsRoom text at mode₀ d k units (held (take varsUsed vars)) area vars area vars 0 at mode₀ varsUsed
+module _ {lent : Lent} {text : Text} {at : ℕ} {mode₀ : Mode} {d : ℕ} (k : Mark) {units : ℕ} (area : Text) {vars : Text} {varsUsed : ℕ} where
+  pub going-start : Ready text at mode₀ d units (length area) → Holds (lent .room) vars varsUsed
+      → Going lent text at mode₀ d k units (held (take varsUsed vars)) area vars area vars 0 at mode₀ varsUsed
   unfolding rowBytes
   going-start y w =
       let f = y .few in
@@ -83,19 +83,19 @@ module _ {varsRoom : ℕ} {text : Text} {at : ℕ} {mode₀ : Mode} {d : ℕ} (k
         counts = refl;
         stands = record { rest = area; is = refl };
         holds = w;
-        is = onto-none _ ∙ ap (λ (j : ℕ). onto [] (expand varsRoom (y .tree) k j (held (take varsUsed vars)))) (sym (add-zero units));
+        is = onto-none _ ∙ ap (λ (j : ℕ). onto [] (expand lent (y .tree) k j (held (take varsUsed vars)))) (sym (add-zero units));
       }
 
 -- What stands so far, and an item that was expanded in what is lent after the row.
-pub record Expanding (varsRoom : ℕ) (text : Text) (at : ℕ) (mode₀ : Mode) (depth : ℕ) (k : Mark) (units : ℕ) (v : Pairs)
+pub record Expanding (lent : Lent) (text : Text) (at : ℕ) (mode₀ : Mode) (depth : ℕ) (k : Mark) (units : ℕ) (v : Pairs)
     (area₀ vars₀ area vars : Text) (n i : ℕ) (mode : Mode) (varsUsed : ℕ) (stops : Bool) (after : Mode) (ys us : Text) (r : Expanded) : Type 0 where
-  pub going : Going varsRoom text at mode₀ depth k units v area₀ vars₀ area vars n i mode varsUsed
-  pub says : ItemRead stops after varsRoom text i depth k (units + n) (λ p. expand varsRoom p k (units + n) (held (take varsUsed vars)))
+  pub going : Going lent text at mode₀ depth k units v area₀ vars₀ area vars n i mode varsUsed
+  pub says : ItemRead stops after lent text i depth k (units + n) (λ p. expand lent p k (units + n) (held (take varsUsed vars)))
       (parts (modeOf mode) depth (drop i text)) ys us r
 
-module _ {varsRoom : ℕ} {text : Text} {at : ℕ} {mode₀ : Mode} {d : ℕ} {k : Mark} {units : ℕ} {v : Pairs}
+module _ {lent : Lent} {text : Text} {at : ℕ} {mode₀ : Mode} {d : ℕ} {k : Mark} {units : ℕ} {v : Pairs}
     {area₀ vars₀ area vars : Text} {n i : ℕ} {mode : Mode} {varsUsed : ℕ} where
-  module _ (g : Going varsRoom text at mode₀ d k units v area₀ vars₀ area vars n i mode varsUsed) where
+  module _ (g : Going lent text at mode₀ d k units v area₀ vars₀ area vars n i mode varsUsed) where
     pub going-room : 2 * n ≤ length area
     going-room = stands-inside (g .row) area n (g .stands) (g .counts)
 
@@ -106,31 +106,31 @@ module _ {varsRoom : ℕ} {text : Text} {at : ℕ} {mode₀ : Mode} {d : ℕ} {k
         record { start = g .within; opens = g .opens; few = g .fits; area = omega arith; clean = c; tree = g .left; rest = g .rest; is = g .read }
 
   module _ {stops : Bool} {after : Mode} {ys us : Text} {r : Expanded}
-      (x : Expanding varsRoom text at mode₀ d k units v area₀ vars₀ area vars n i mode varsUsed stops after ys us r) where
-    abbrev g : Going varsRoom text at mode₀ d k units v area₀ vars₀ area vars n i mode varsUsed
+      (x : Expanding lent text at mode₀ d k units v area₀ vars₀ area vars n i mode varsUsed stops after ys us r) where
+    abbrev g : Going lent text at mode₀ d k units v area₀ vars₀ area vars n i mode varsUsed
     g = x .going
 
     pub going-refused : (z : Text) {e : ℕ} → r ≡ answer.Refused e
-        → Says varsRoom text at units (λ p. expand varsRoom p k units v) (parts (modeOf mode₀) d (drop at text)) z us (answer.Refused e)
+        → Says (lent .room) text at units (λ p. expand lent p k units v) (parts (modeOf mode₀) d (drop at text)) z us (answer.Refused e)
     going-refused z {e} q =
-        let h : expand varsRoom (g .left) k (units + n) (held (take varsUsed vars)) ≡ refused e =
-        read-known stops after varsRoom text i d k (units + n) _ ys us (x .says) (g .read) q in
+        let h : expand lent (g .left) k (units + n) (held (take varsUsed vars)) ≡ refused e =
+        read-known stops after lent text i d k (units + n) _ ys us (x .says) (g .read) q in
         rw (g .whole) (g .is ∙ ap (onto (g .row)) h)
 
     module _ {count next left : ℕ} (q : r ≡ answer.Row count next left) where
-      passed : Passes stops after varsRoom text i d k (units + n) (expand varsRoom (g .left) k (units + n) (held (take varsUsed vars))) (g .rest) ys us
+      passed : Passes stops after lent text i d k (units + n) (expand lent (g .left) k (units + n) (held (take varsUsed vars))) (g .rest) ys us
           count next left
-      passed = read-known stops after varsRoom text i d k (units + n) _ ys us (x .says) (g .read) q
+      passed = read-known stops after lent text i d k (units + n) _ ys us (x .says) (g .read) q
 
       pub going-fits : units + n + count ≤ rowLimit
-      going-fits = passed-fits stops after varsRoom text i d k (units + n) _ (g .rest) ys us count next left (g .fits) passed
+      going-fits = passed-fits stops after lent text i d k (units + n) _ (g .rest) ys us count next left (g .fits) passed
 
       pub going-end : stops ≡ true → (z : Text)
-          → Says varsRoom text at units (λ p. expand varsRoom p k units v) (parts (modeOf mode₀) d (drop at text)) (take (2 * n) area ++ z) us
+          → Says (lent .room) text at units (λ p. expand lent p k units v) (parts (modeOf mode₀) d (drop at text)) (take (2 * n) area ++ z) us
           (answer.Row (n + count) next left)
       going-end e z =
-          let h : Closes varsRoom text i (expand varsRoom (g .left) k (units + n) (held (take varsUsed vars))) (g .rest) us count next left =
-          subst (λ (b : Bool). Passes b after varsRoom text i d k (units + n) (expand varsRoom (g .left) k (units + n) (held (take varsUsed vars)))
+          let h : Closes lent text i (expand lent (g .left) k (units + n) (held (take varsUsed vars))) (g .rest) us count next left =
+          subst (λ (b : Bool). Passes b after lent text i d k (units + n) (expand lent (g .left) k (units + n) (held (take varsUsed vars)))
           (g .rest) ys us count next left) e passed in
           let a = g .onward in
           let b = h .ends .onward in
@@ -150,14 +150,14 @@ module _ {varsRoom : ℕ} {text : Text} {at : ℕ} {mode₀ : Mode} {d : ℕ} {k
           )
 
       module _ (e : stops ≡ false) where
-        pub moved : Moves varsRoom text i d after k (units + n) (expand varsRoom (g .left) k (units + n) (held (take varsUsed vars))) (g .rest) ys us
+        pub moved : Moves lent text i d after k (units + n) (expand lent (g .left) k (units + n) (held (take varsUsed vars))) (g .rest) ys us
             count next left
-        moved = subst (λ (b : Bool). Passes b after varsRoom text i d k (units + n)
-            (expand varsRoom (g .left) k (units + n) (held (take varsUsed vars))) (g .rest) ys us count next left) e passed
+        moved = subst (λ (b : Bool). Passes b after lent text i d k (units + n)
+            (expand lent (g .left) k (units + n) (held (take varsUsed vars))) (g .rest) ys us count next left) e passed
 
         pub going-row : {next-mode : Mode} → next-mode ≡ after → (z : Text) → length (take (2 * n) area ++ (ys ++ z)) ≡ length area
             → length us ≡ length vars
-            → Going varsRoom text at mode₀ d k units v area₀ vars₀ (take (2 * n) area ++ (ys ++ z)) us (n + count) next next-mode left
+            → Going lent text at mode₀ d k units v area₀ vars₀ (take (2 * n) area ++ (ys ++ z)) us (n + count) next next-mode left
         going-row o z len wide =
             let h = moved in
             let a = g .onward in
@@ -182,6 +182,6 @@ module _ {varsRoom : ℕ} {text : Text} {at : ℕ} {mode₀ : Mode} {d : ℕ} {k
               holds = h .holds;
               is =
                   g .is ∙ ap (onto (g .row)) (h .is)
-                  ∙ onto-onto (g .row) (h .row) (expand varsRoom (h .more) k (units + n + count) (held (take left us)))
-                  ∙ ap (λ (j : ℕ). onto (g .row ++ h .row) (expand varsRoom (h .more) k j (held (take left us)))) s;
+                  ∙ onto-onto (g .row) (h .row) (expand lent (h .more) k (units + n + count) (held (take left us)))
+                  ∙ ap (λ (j : ℕ). onto (g .row ++ h .row) (expand lent (h .more) k j (held (take left us)))) s;
             })

@@ -11,7 +11,7 @@ use Rattle.stages.specs.Images.{Pairs, held}
 use Rattle.stages.specs.Syntax.{Parts}
 use Rattle.stages.specs.Read.{Taken, parts}
 use Rattle.stages.specs.Units.{Mark, Row}
-use Rattle.stages.specs.Expand.{Made, expand, onto}
+use Rattle.stages.specs.Expand.{Made, Lent, expand, onto}
 use Rattle.row.specs.Marks.{markOf}
 use Rattle.row.specs.Stands.{Stands}
 use Rattle.row.specs.declared.RowEnd.{RowEnd}
@@ -25,46 +25,46 @@ use Rattle.expand_add.specs.declared.answers.Expanded.{Expanded}
 use Rattle.expand_add.specs.declared.answers.Expanded.the-variants as expanded
 
 -- one item is expanded: its units stand in the area, and what is after it is to be expanded after them
-pub record Moves (varsRoom : ℕ) (text : Text) (at depth : ℕ) (mode : Mode) (m : Mark) (units : ℕ) (made : Made) (rest area vars : Text)
+pub record Moves (lent : Lent) (text : Text) (at depth : ℕ) (mode : Mode) (m : Mark) (units : ℕ) (made : Made) (rest area vars : Text)
     (count next varsUsed : ℕ) : Type 0 where
   pub more : Parts
   pub read : parts (modeOf mode) depth (drop next text) ≡ done (more, rest)
   pub opens : openIn mode ≤ next
   pub row : Row
-  pub is : made ≡ onto row (expand varsRoom more m (units + count) (held (take varsUsed vars)))
+  pub is : made ≡ onto row (expand lent more m (units + count) (held (take varsUsed vars)))
   pub counts : length row ≡ count
   pub stands : Stands row area
   pub fits : units + count ≤ rowLimit
-  pub holds : Holds varsRoom vars varsUsed
+  pub holds : Holds (lent .room) vars varsUsed
   pub onward : at < next
   pub within : next ≤ length text
 
 -- the text ends: nothing was added, and nothing stored
-pub record Closes (varsRoom : ℕ) (text : Text) (at : ℕ) (made : Made) (rest vars : Text) (count next varsUsed : ℕ) : Type 0 where
+pub record Closes (lent : Lent) (text : Text) (at : ℕ) (made : Made) (rest vars : Text) (count next varsUsed : ℕ) : Type 0 where
   pub is : made ≡ done ([], held (take varsUsed vars))
   pub none : count ≡ 0
-  pub holds : Holds varsRoom vars varsUsed
+  pub holds : Holds (lent .room) vars varsUsed
   pub ends : Ends text at next rest
 
 -- by whether the text stops, and the mode in which it goes on
-abbrev pub Passes : Bool → Mode → ℕ → Text → ℕ → ℕ → Mark → ℕ → Made → Text → Text → Text → ℕ → ℕ → ℕ → Type 0
-Passes true mode varsRoom text at depth m units made rest area vars count next varsUsed = Closes varsRoom text at made rest vars count next varsUsed
-Passes false mode varsRoom text at depth m units made rest area vars count next varsUsed =
-    Moves varsRoom text at depth mode m units made rest area vars count next varsUsed
+abbrev pub Passes : Bool → Mode → Lent → Text → ℕ → ℕ → Mark → ℕ → Made → Text → Text → Text → ℕ → ℕ → ℕ → Type 0
+Passes true mode lent text at depth m units made rest area vars count next varsUsed = Closes lent text at made rest vars count next varsUsed
+Passes false mode lent text at depth m units made rest area vars count next varsUsed =
+    Moves lent text at depth mode m units made rest area vars count next varsUsed
 
-abbrev pub ItemAnswers : Bool → Mode → ℕ → Text → ℕ → ℕ → Mark → ℕ → Made → Text → Text → Text → Expanded → Type 0
-ItemAnswers stops mode varsRoom text at depth m units made rest area vars (expanded.Refused e) = made ≡ refused e
-ItemAnswers stops mode varsRoom text at depth m units made rest area vars (expanded.Row count next varsUsed) =
-    Passes stops mode varsRoom text at depth m units made rest area vars count next varsUsed
+abbrev pub ItemAnswers : Bool → Mode → Lent → Text → ℕ → ℕ → Mark → ℕ → Made → Text → Text → Text → Expanded → Type 0
+ItemAnswers stops mode lent text at depth m units made rest area vars (expanded.Refused e) = made ≡ refused e
+ItemAnswers stops mode lent text at depth m units made rest area vars (expanded.Row count next varsUsed) =
+    Passes stops mode lent text at depth m units made rest area vars count next varsUsed
 
 -- the same by what the text is read as
-abbrev pub ItemRead : Bool → Mode → ℕ → Text → ℕ → ℕ → Mark → ℕ → (Parts → Made) → Taken → Text → Text → Expanded → Type 0
-ItemRead stops mode varsRoom text at depth m units own (refused e) area vars r = Unit {0}
-ItemRead stops mode varsRoom text at depth m units own (done p) area vars r =
-    ItemAnswers stops mode varsRoom text at depth m units (own (p .0)) (p .1) area vars r
+abbrev pub ItemRead : Bool → Mode → Lent → Text → ℕ → ℕ → Mark → ℕ → (Parts → Made) → Taken → Text → Text → Expanded → Type 0
+ItemRead stops mode lent text at depth m units own (refused e) area vars r = Unit {0}
+ItemRead stops mode lent text at depth m units own (done p) area vars r =
+    ItemAnswers stops mode lent text at depth m units (own (p .0)) (p .1) area vars r
 
 -- the answer of the item that stands where the text is read, with the variables v
-abbrev pub ItemSays : ℕ → Text → Cursor → RowEnd → Item → Pairs → Text → Text → Expanded → Type 0
-ItemSays varsRoom text from row i v area vars r =
-    ItemRead (isStop i) (modeAfter i (from .mode)) varsRoom text (from .at) (from .depth) (markOf (row .mark)) (row .units)
-    (λ t. expand varsRoom t (markOf (row .mark)) (row .units) v) (parts (modeOf (from .mode)) (from .depth) (drop (from .at) text)) area vars r
+abbrev pub ItemSays : Lent → Text → Cursor → RowEnd → Item → Pairs → Text → Text → Expanded → Type 0
+ItemSays lent text from row i v area vars r =
+    ItemRead (isStop i) (modeAfter i (from .mode)) lent text (from .at) (from .depth) (markOf (row .mark)) (row .units)
+    (λ t. expand lent t (markOf (row .mark)) (row .units) v) (parts (modeOf (from .mode)) (from .depth) (drop (from .at) text)) area vars r

@@ -2,15 +2,19 @@
 // each operand and arithmetic text, so that there is room for each open row.
 ghost use mathlib.Core.Path.{_≡_};
 ghost use mathlib.Core.Bool.{true};
-ghost use Prim.Native.Nat.{_+_, _*_, _≤_};
+ghost use Prim.Native.Nat.{_≤_};
 ghost use lib.ListN.{length, take, drop};
 ghost use Rattle.stages.specs.Numbers.{rowLimit};
+ghost use Rattle.stages.specs.Bytes.{part};
 ghost use Rattle.stages.specs.Images.{held, isName};
 ghost use Rattle.stages.specs.Syntax.{arith};
 ghost use Rattle.stages.specs.Read.{parts};
 ghost use Rattle.stages.specs.Expand.{expand, parameter};
 ghost use Rattle.row.specs.Marks.{markOf};
+ghost use Rattle.table.specs.Places.{Table};
+ghost use Rattle.table.specs.Around.{lentOf};
 ghost use Rattle.read_mode.specs.Modes.{modeOf, formOf};
+ghost use Rattle.read_brace.specs.Shows.{Name};
 ghost use Rattle.read_item.specs.After.{ItemAt};
 ghost use Rattle.expand_add.specs.Steps.{placed, quoted, summing};
 ghost use Rattle.expand_add.specs.Answers.{Holds, Ready, Says};
@@ -22,6 +26,7 @@ use expand_add::give_value;
 use expand_form::Plan;
 use expand_form::operand_mark;
 use expand_form::plan_of;
+use expand_item::give_home;
 use expand_item::give_length;
 use expand_item::give_unit;
 use expand_operand::finish;
@@ -46,12 +51,13 @@ fn expand_quote(
     units: usize,
     vars: &mut [u8],
     extent: Extent,
+    homes: &[u8],
     work: &mut [u8],
 ) -> Expanded
     requires { ⌜ Ready (now text) (from .at) (from .mode) (from .depth) units (length (now work)) ×
-        Holds (extent .«vars_room») (now vars) (extent .«vars_used») ⌝ }
+        Holds (extent .«vars_room») (now vars) (extent .«vars_used») × Table (now homes) ⌝ }
     ensures { λ r. ⌜ Says (extent .«vars_room») (now (text .entry)) (from .at) units
-        (λ q. quoted (extent .«vars_room») q units (held (take (extent .«vars_used») (now (vars .entry)))))
+        (λ q. quoted (lentOf (extent .«vars_room») (now (homes .entry))) q units (held (take (extent .«vars_used») (now (vars .entry)))))
         (parts (modeOf (from .mode)) (from .depth) (drop (from .at) (now (text .entry)))) (now (work .exit)) (now (vars .exit)) r ⌝ }
 {
     if units >= numbers::ROW_LIMIT {
@@ -62,7 +68,7 @@ fn expand_quote(
         mark: Mark::Q,
         units: units + 1,
     };
-    let got = expand_text(text, from, inside, vars, extent, &mut work[2..]);
+    let got = expand_text(text, from, inside, vars, extent, homes, &mut work[2..]);
     match got {
         Expanded::Refused(e) => Expanded::Refused(e),
         Expanded::Row {
@@ -77,26 +83,37 @@ fn expand_quote(
     }
 }
 
+// A parameter whose name stands from `from` to `to` of a text, and what stands behind the name.
+struct Named {
+    from: usize,
+    to: usize,
+    form: Form,
+}
+
 // A parameter with a form, whose operand is the text.
 fn expand_inner(
-    name: &[u8],
-    form: Form,
     text: &[u8],
+    named: Named,
     from: Cursor,
     row: RowEnd,
     vars: &mut [u8],
     extent: Extent,
+    homes: &[u8],
     work: &mut [u8],
 ) -> Expanded
     requires { ⌜ Ready (now text) (from .at) (from .mode) (from .depth) 0 (length (now work)) ×
-        Holds (extent .«vars_room») (now vars) (extent .«vars_used») × (row .units ≤ rowLimit) × (isName (now name) ≡ true) ⌝ }
+        Holds (extent .«vars_room») (now vars) (extent .«vars_used») × Table (now homes) × (row .units ≤ rowLimit) × Name (now text) (named .from) (named .to)
+        × (isName (part (now text) (named .from) (named .to)) ≡ true) ⌝ }
     ensures { λ r. ⌜ Says (extent .«vars_room») (now (text .entry)) (from .at) (row .units)
-        (λ q. placed (row .units) (parameter (extent .«vars_room») (λ k u. expand (extent .«vars_room») q k 0 u) (now (name .entry)) (formOf form)
+        (λ q. placed (row .units) (parameter (extent .«vars_room») (λ k u. expand (lentOf (extent .«vars_room») (now (homes .entry))) q k 0 u) (part (now (text .entry)) (named .from) (named .to)) (formOf (named .form))
         (markOf (row .mark)) (held (take (extent .«vars_used») (now (vars .entry))))))
         (parts (modeOf (from .mode)) (from .depth) (drop (from .at) (now (text .entry)))) (now (work .exit)) (now (vars .exit)) r ⌝ }
 {
     let vars_used = extent.vars_used;
-    let found = table_find::look_up(&vars[..vars_used], name);
+    let start = named.from;
+    let to = named.to;
+    let form = named.form;
+    let found = table_find::look_up(&vars[..vars_used], &text[start..to]);
     let plan = plan_of(form, found);
     match plan {
         Plan::Unused(what) => {
@@ -108,7 +125,7 @@ fn expand_inner(
                         next: next,
                         vars_used: vars_used,
                     };
-                    settle(what, name, row, on, &vars[..vars_used], work)
+                    settle(what, &text[start..to], row, on, &vars[..vars_used], work)
                 }
             }
         }
@@ -118,7 +135,7 @@ fn expand_inner(
                 mark: operand_mark(what, mark),
                 units: 0,
             };
-            let got = expand_text(text, from, operand, vars, extent, work);
+            let got = expand_text(text, from, operand, vars, extent, homes, work);
             match got {
                 Expanded::Refused(e) => Expanded::Refused(e),
                 Expanded::Row {
@@ -130,7 +147,7 @@ fn expand_inner(
                         vars_used: left,
                         vars_room: extent.vars_room,
                     };
-                    finish(what, name, units, next, row, vars, stored, work)
+                    finish(what, &text[start..to], units, next, row, vars, stored, work)
                 }
             }
         }
@@ -145,12 +162,13 @@ fn expand_sum(
     row: RowEnd,
     vars: &mut [u8],
     extent: Extent,
+    homes: &[u8],
     work: &mut [u8],
 ) -> Expanded
     requires { ⌜ Ready (now text) at (Mode.Arith 0) depth 0 (length (now work)) ×
-        Holds (extent .«vars_room») (now vars) (extent .«vars_used») × (row .units ≤ rowLimit) ⌝ }
+        Holds (extent .«vars_room») (now vars) (extent .«vars_used») × Table (now homes) × (row .units ≤ rowLimit) ⌝ }
     ensures { λ r. ⌜ Says (extent .«vars_room») (now (text .entry)) at (row .units)
-        (λ q. placed (row .units) (summing (extent .«vars_room») q (markOf (row .mark)) (held (take (extent .«vars_used») (now (vars .entry))))))
+        (λ q. placed (row .units) (summing (lentOf (extent .«vars_room») (now (homes .entry))) q (markOf (row .mark)) (held (take (extent .«vars_used») (now (vars .entry))))))
         (parts (arith 0) depth (drop at (now (text .entry)))) (now (work .exit)) (now (vars .exit)) r ⌝ }
 {
     let from = Cursor {
@@ -162,7 +180,7 @@ fn expand_sum(
         mark: Mark::Q,
         units: 0,
     };
-    let got = expand_text(text, from, inside, vars, extent, work);
+    let got = expand_text(text, from, inside, vars, extent, homes, work);
     match got {
         Expanded::Refused(e) => Expanded::Refused(e),
         Expanded::Row {
@@ -187,11 +205,12 @@ fn expand_item(
     row: RowEnd,
     vars: &mut [u8],
     extent: Extent,
+    homes: &[u8],
     work: &mut [u8],
 ) -> Expanded
     requires { ⌜ ItemAt (now text) from item × Ready (now text) (from .at) (from .mode) (from .depth) (row .units) (length (now work)) ×
-        Holds (extent .«vars_room») (now vars) (extent .«vars_used») ⌝ }
-    ensures { λ r. ⌜ ItemSays (extent .«vars_room») (now (text .entry)) from row item (held (take (extent .«vars_used») (now (vars .entry))))
+        Holds (extent .«vars_room») (now vars) (extent .«vars_used») × Table (now homes) ⌝ }
+    ensures { λ r. ⌜ ItemSays (lentOf (extent .«vars_room») (now (homes .entry))) (now (text .entry)) from row item (held (take (extent .«vars_used») (now (vars .entry))))
         (now (work .exit)) (now (vars .exit)) r ⌝ }
 {
     let vars_used = extent.vars_used;
@@ -227,7 +246,7 @@ fn expand_item(
                 mode: mode,
                 depth: from.depth,
             };
-            expand_quote(text, inside, row.units, vars, extent, work)
+            expand_quote(text, inside, row.units, vars, extent, homes, work)
         }
         Item::Value {
             from: start,
@@ -263,18 +282,24 @@ fn expand_item(
                 mode: mode,
                 depth: from.depth - 1,
             };
-            expand_inner(
-                &text[start..to],
-                form,
-                text,
-                operand,
-                row,
-                vars,
-                extent,
-                work,
-            )
+            let named = Named {
+                from: start,
+                to: to,
+                form: form,
+            };
+            expand_inner(text, named, operand, row, vars, extent, homes, work)
         }
-        Item::Sum { next } => expand_sum(text, next, from.depth - 1, row, vars, extent, work),
+        Item::Sum { next } => {
+            expand_sum(text, next, from.depth - 1, row, vars, extent, homes, work)
+        }
+        Item::Home(to) => {
+            let start = from.at + 1;
+            let on = Onward {
+                next: to,
+                vars_used: vars_used,
+            };
+            give_home(&text[start..to], row, on, &vars[..vars_used], homes, work)
+        }
     }
 }
 
@@ -285,12 +310,13 @@ pub fn expand_text(
     row: RowEnd,
     vars: &mut [u8],
     extent: Extent,
+    homes: &[u8],
     work: &mut [u8],
 ) -> Expanded
     requires { ⌜ Ready (now text) (from .at) (from .mode) (from .depth) (row .units) (length (now work)) ×
-        Holds (extent .«vars_room») (now vars) (extent .«vars_used») ⌝ }
+        Holds (extent .«vars_room») (now vars) (extent .«vars_used») × Table (now homes) ⌝ }
     ensures { λ r. ⌜ Says (extent .«vars_room») (now (text .entry)) (from .at) (row .units)
-        (λ t. expand (extent .«vars_room») t (markOf (row .mark)) (row .units) (held (take (extent .«vars_used») (now (vars .entry)))))
+        (λ t. expand (lentOf (extent .«vars_room») (now (homes .entry))) t (markOf (row .mark)) (row .units) (held (take (extent .«vars_used») (now (vars .entry)))))
         (parts (modeOf (from .mode)) (from .depth) (drop (from .at) (now (text .entry)))) (now (work .exit)) (now (vars .exit)) r ⌝ }
 {
     let mark = row.mark;
@@ -314,7 +340,7 @@ pub fn expand_text(
             vars_room: extent.vars_room,
         };
         let start = 2 * n;
-        let got = expand_item(item, text, here, end, vars, held, &mut work[start..]);
+        let got = expand_item(item, text, here, end, vars, held, homes, &mut work[start..]);
         match got {
             Expanded::Refused(e) => {
                 return Expanded::Refused(e);

@@ -5,7 +5,9 @@ use lib.ListN.{take}
 use lib.Seq.{length-take-le}
 use Rattle.stages.specs.Bytes.{Text}
 use Rattle.stages.specs.Images.{held}
-use Rattle.stages.specs.Expand.{wordRow}
+use Rattle.stages.specs.Units.{L}
+use Rattle.stages.specs.Expand.{expand}
+use Rattle.table.specs.Around.{lentOf}
 use Rattle.stages.proofs.Tables.{paths-of}
 use Rattle.table.proofs.Tables.{variables-table, homes-table}
 use Rattle.expand_add.specs.Answers.{IsRow}
@@ -15,21 +17,21 @@ use Rattle.expand_line.proofs.put_word.Statement.{statement}
 use Rattle.expand_line.proofs.put_word.Tie as tie
 
 -- the call's entry, where the word has been expanded; the work area and the variables then
-module _ (c : tie.After-expand-word) where
+module _ (c : tie.After-expand-text) where
   abbrev entry : tie.Start
   entry = c .before .before .before .before .before .before .before .before .before
 
   abbrev area : Text
-  area = c .expand-word .last .1 .1 .1 .1 .1 .0
+  area = c .expand-text .last .1 .1 .1 .1 .1 .1 .0
 
   abbrev vars : Text
-  vars = c .expand-word .last .1 .1 .0
+  vars = c .expand-text .last .1 .1 .1 .0
 
 -- that place, where the word is refused and where it has a row
-abbrev refusing : tie.After-got → tie.After-expand-word
+abbrev refusing : tie.After-got → tie.After-expand-text
 refusing c = c .before .before .before .before .before .before
 
-abbrev giving : tie.After-got2 → tie.After-expand-word
+abbrev giving : tie.After-got2 → tie.After-expand-text
 giving c = c .before .before .before .before .before .before
 
 -- the row, where it stands
@@ -37,18 +39,18 @@ row : (c : tie.After-got2) →
     let s = entry (giving c) in
     let x = s .args .extent in
     IsRow (x .«vars_room») 0
-    (wordRow (x .«vars_room») (held (s .args .homes .now)) (s .pre .ready .tree) (held (take (x .«vars_used») (s .args .vars .now))))
+    (expand (lentOf (x .«vars_room») (s .args .homes .now)) (s .pre .ready .tree) L 0 (held (take (x .«vars_used») (s .args .vars .now))))
     (area (giving c)) (vars (giving c)) (c .got2 .given .0 .0) (c .got2 .given .0 .1 .1 .0)
 row c =
     let e = giving c in
-    there (entry e .pre) (area e) (vars e) (e .expand-word .result) (e .expand-word .ensures) (c .got2 .given .1)
+    there (entry e .pre) (area e) (vars e) (e .expand-text .result) (e .expand-text .ensures) (c .got2 .given .1)
 
 -- the arm of the row, where its fields have been put
 abbrev split : tie.After-put-word-fields → tie.After-got2
 split c = c .before .before .before .before .before
 
-expand-word-requires : tie.Need-expand-word-requires
-expand-word-requires c κs = let p = c .before .before .before .before .before .before .before .before .pre in (p .ready, p .holds, homes-table _ (p .housed))
+expand-text-requires : tie.Need-expand-text-requires
+expand-text-requires c κs = let p = c .before .before .before .before .before .before .before .before .pre in (p .ready, p .holds, homes-table _ (p .housed))
 
 enum-known-got : tie.Need-enum-known-got
 enum-known-got c = search needs
@@ -90,7 +92,7 @@ same-length-2 c = search needs
 returns : tie.Need-returns
 returns c =
     let e = refusing (c .before) in
-    word-refused (entry e .pre) (area e) (vars e) (e .expand-word .result) (e .expand-word .ensures) (c .before .got .given .1)
+    word-refused (entry e .pre) (area e) (vars e) (e .expand-text .result) (e .expand-text .ensures) (c .before .got .given .1)
 
 same-length-3 : tie.Need-same-length-3
 same-length-3 c = search needs
@@ -106,7 +108,7 @@ returns-2 c =
     let f = c .before .before .before .before .before .before in
     let g = split f in
     let e = giving g in
-    word-class (entry e .pre) (area e) (vars e) (e .expand-word .result) (e .expand-word .ensures) (g .got2 .given .1) (f .put-word-fields .ensures)
+    word-class (entry e .pre) (area e) (vars e) (e .expand-text .result) (e .expand-text .ensures) (g .got2 .given .1) (f .put-word-fields .ensures)
     (c .enum-told .given .1)
 
 same-length-6 : tie.Need-same-length-6
@@ -123,7 +125,7 @@ returns-3 c =
     let f = c .before .before .before .before .before .before in
     let g = split f in
     let e = giving g in
-    word-full (entry e .pre) (area e) (vars e) (e .expand-word .result) (e .expand-word .ensures) (g .got2 .given .1) (f .put-word-fields .ensures)
+    word-full (entry e .pre) (area e) (vars e) (e .expand-text .result) (e .expand-text .ensures) (g .got2 .given .1) (f .put-word-fields .ensures)
     (c .enum-told2 .given .1)
 
 same-length-9 : tie.Need-same-length-9
@@ -140,14 +142,14 @@ returns-4 c =
     let f = c .before .before .before .before .before .before .before in
     let g = split f in
     let e = giving g in
-    word-written (entry e .pre) (area e) (vars e) (e .expand-word .result) (e .expand-word .ensures) (g .got2 .given .1) (f .put-word-fields .ensures)
+    word-written (entry e .pre) (area e) (vars e) (e .expand-text .result) (e .expand-text .ensures) (g .got2 .given .1) (f .put-word-fields .ensures)
     (c .before .put .given .1)
 
 pub put-word-spec : {M : Type 1} → statement M
 put-word-spec =
     tie.close
     (tie.spec
-    expand-word-requires
+    expand-text-requires
     enum-known-got
     enum-known-got-2
     mul-end

@@ -4,7 +4,9 @@ use mathlib.Core.Path.{sym}
 use lib.ListN.{length}
 use lib.Seq.{length-take-le}
 use Rattle.row.specs.Marks.{markOf}
+use Rattle.table.specs.Around.{lentOf}
 use Rattle.expand_add.proofs.Holding.{table-held}
+use Rattle.expand_text.proofs.Inside.{lending}
 use Rattle.expand_text.proofs.Items.{
   Here,
   item-fault,
@@ -29,6 +31,8 @@ use Rattle.expand_text.proofs.Items.{
   sum-depth,
   sum-ready,
   item-sum,
+  home-place,
+  item-home,
 }
 use borrow.Author.Needs.{needs}
 use native.Mathlib.Omega.{arith}
@@ -41,6 +45,7 @@ use Rattle.row.proofs.literal_mark.Reads as literal-mark
 use Rattle.expand_item.proofs.give_unit.Reads as give-unit
 use Rattle.expand_add.proofs.give_value.Reads as give-value
 use Rattle.expand_item.proofs.give_length.Reads as give-length
+use Rattle.expand_item.proofs.give_home.Reads as give-home
 use Rattle.expand_text.proofs.+expand_inner+expand_item+expand_quote+expand_sum+expand_text.Proof.Measures.{
   expand-inner-below,
   expand-item-at,
@@ -64,44 +69,50 @@ callees t = (
   expand-inner.Post,
   expand-sum-below t,
   expand-sum.Post,
+  give-home.Asked,
+  give-home.Learnt,
 )
 
 module _ (t : ℕ) where
   -- the item stands where the text is read
   here : (s : lts.Start (callees t) (expand-item-at t) expand-item.Post) →
       let a = s .args in
-      Here (a .extent .«vars_room») (a .text .now) (a .from .at) (a .from .mode) (a .from .depth) (markOf (a .row .mark)) (a .row .units)
+      Here (lentOf (a .extent .«vars_room») (a .homes .now)) (a .text .now) (a .from .at) (a .from .mode) (a .from .depth) (markOf (a .row .mark)) (a .row .units)
       (length (a .work .now)) (a .vars .now) (a .extent .«vars_used») (a .item)
-  here s = record { ready = s .pre .1 .1; holds = s .pre .1 .2; shows = s .pre .1 .0 }
+  here s = record { ready = s .pre .1 .1; lends = lending (s .pre .1 .2) (s .pre .1 .3); shows = s .pre .1 .0 }
 
   -- where it was matched, from each arm that looks back
   abbrev byte : lts.After-item3 (callees t) (expand-item-at t) expand-item.Post
       → lts.Start (callees t) (expand-item-at t) expand-item.Post
-  byte c = c .before .before .before .before .before
+  byte c = c .before .before .before .before .before .before
 
   abbrev paren : lts.After-item4 (callees t) (expand-item-at t) expand-item.Post
       → lts.Start (callees t) (expand-item-at t) expand-item.Post
-  paren c = c .before .before .before .before .before
+  paren c = c .before .before .before .before .before .before
 
   abbrev quote : lts.After-item5 (callees t) (expand-item-at t) expand-item.Post
       → lts.Start (callees t) (expand-item-at t) expand-item.Post
-  quote c = c .before .before .before .before .before
+  quote c = c .before .before .before .before .before .before
 
   abbrev value : lts.After-item6 (callees t) (expand-item-at t) expand-item.Post
       → lts.Start (callees t) (expand-item-at t) expand-item.Post
-  value c = c .before .before .before .before .before
+  value c = c .before .before .before .before .before .before
 
   abbrev count : lts.After-item7 (callees t) (expand-item-at t) expand-item.Post
       → lts.Start (callees t) (expand-item-at t) expand-item.Post
-  count c = c .before .before .before .before .before
+  count c = c .before .before .before .before .before .before
 
   abbrev inner : lts.After-item8 (callees t) (expand-item-at t) expand-item.Post
       → lts.Start (callees t) (expand-item-at t) expand-item.Post
-  inner c = c .before .before .before .before .before
+  inner c = c .before .before .before .before .before .before
 
   abbrev sum : lts.After-item9 (callees t) (expand-item-at t) expand-item.Post
       → lts.Start (callees t) (expand-item-at t) expand-item.Post
-  sum c = c .before .before .before .before .before
+  sum c = c .before .before .before .before .before .before
+
+  abbrev home : lts.After-item10 (callees t) (expand-item-at t) expand-item.Post
+      → lts.Start (callees t) (expand-item-at t) expand-item.Post
+  home c = c .before .before .before .before .before .before
 
   pub enum-known-item : lts.Need-enum-known-item (callees t) (expand-item-at t) expand-item.Post
   enum-known-item c = search needs
@@ -124,8 +135,8 @@ module _ (t : ℕ) where
   pub enum-known-item-4 : lts.Need-enum-known-item-4 (callees t) (expand-item-at t) expand-item.Post
   enum-known-item-4 c = search needs
 
-  pub add-t40 : lts.Need-add-t40 (callees t) (expand-item-at t) expand-item.Post
-  add-t40 c =
+  pub add-t45 : lts.Need-add-t45 (callees t) (expand-item-at t) expand-item.Post
+  add-t45 c =
       let i = c .before .before in
       omega (arith, paren-place (here (paren i)) (i .item4 .given .1))
 
@@ -138,8 +149,8 @@ module _ (t : ℕ) where
   pub enum-known-item-5 : lts.Need-enum-known-item-5 (callees t) (expand-item-at t) expand-item.Post
   enum-known-item-5 c = search needs
 
-  pub add-t43 : lts.Need-add-t43 (callees t) (expand-item-at t) expand-item.Post
-  add-t43 c =
+  pub add-t48 : lts.Need-add-t48 (callees t) (expand-item-at t) expand-item.Post
+  add-t48 c =
       let i = c .before .before in
       omega (arith, quote-place (here (quote i)) (i .item5 .given .1))
 
@@ -147,7 +158,7 @@ module _ (t : ℕ) where
   expand-quote-requires c κs =
       let i = c .before .before .before .before in
       let p = quote i .pre in
-      (omega (arith, p .0, quote-place (here (quote i)) (i .item5 .given .1)), (quote-ready (here (quote i)) (i .item5 .given .1), p .1 .2))
+      (omega (arith, p .0, quote-place (here (quote i)) (i .item5 .given .1)), (quote-ready (here (quote i)) (i .item5 .given .1), p .1 .2, p .1 .3))
 
   pub enum-known-item-6 : lts.Need-enum-known-item-6 (callees t) (expand-item-at t) expand-item.Post
   enum-known-item-6 c = search needs
@@ -224,37 +235,25 @@ module _ (t : ℕ) where
   pub enum-known-item-8 : lts.Need-enum-known-item-8 (callees t) (expand-item-at t) expand-item.Post
   enum-known-item-8 c = search needs
 
-  pub sub-expand-inner : lts.Need-sub-expand-inner (callees t) (expand-item-at t) expand-item.Post
-  sub-expand-inner c =
+  pub sub-t69 : lts.Need-sub-t69 (callees t) (expand-item-at t) expand-item.Post
+  sub-t69 c =
       let i = c .before .before in
-      let n = inner-places (here (inner i)) (i .item8 .given .1) in
-      omega (arith, inner-depth (here (inner i)) (i .item8 .given .1), n .onward, n .within)
-
-  pub sub-expand-inner-2 : lts.Need-sub-expand-inner-2 (callees t) (expand-item-at t) expand-item.Post
-  sub-expand-inner-2 c =
-      let i = c .before .before in
-      let n = inner-places (here (inner i)) (i .item8 .given .1) in
-      omega (arith, inner-depth (here (inner i)) (i .item8 .given .1), n .onward, n .within)
-
-  pub part-expand-inner-start : lts.Need-part-expand-inner-start (callees t) (expand-item-at t) expand-item.Post
-  part-expand-inner-start c =
-      let i = c .before .before in
-      let n = inner-places (here (inner i)) (i .item8 .given .1) in
-      omega (arith, n .onward, n .within)
-
-  pub part-expand-inner-end : lts.Need-part-expand-inner-end (callees t) (expand-item-at t) expand-item.Post
-  part-expand-inner-end c =
-      let i = c .before .before in
-      let n = inner-places (here (inner i)) (i .item8 .given .1) in
-      omega (arith, n .onward, n .within)
+      omega (arith, inner-depth (here (inner i)) (i .item8 .given .1))
 
   pub expand-inner-requires : lts.Need-expand-inner-requires (callees t) (expand-item-at t) expand-item.Post
   expand-inner-requires c κs =
-      let i = c .before .before .before .before .before in
+      let i = c .before .before .before .before in
       let p = inner i .pre in
       let n = inner-place (here (inner i)) (i .item8 .given .1) in (
         omega (arith, p .0, n .onward, n .within),
-        (inner-ready (here (inner i)) (i .item8 .given .1), p .1 .2, p .1 .1 .few, inner-name (here (inner i)) (i .item8 .given .1)),
+        (
+          inner-ready (here (inner i)) (i .item8 .given .1),
+          p .1 .2,
+          p .1 .3,
+          p .1 .1 .few,
+          inner-places (here (inner i)) (i .item8 .given .1),
+          inner-name (here (inner i)) (i .item8 .given .1),
+        ),
       )
 
   pub enum-known-item-9 : lts.Need-enum-known-item-9 (callees t) (expand-item-at t) expand-item.Post
@@ -270,14 +269,42 @@ module _ (t : ℕ) where
       let i = c .before .before .before .before in
       let p = sum i .pre in
       let y = sum-ready (here (sum i)) (i .item9 .given .1) in
-      (omega (arith, p .0, sum-place (here (sum i)) (i .item9 .given .1), y .start), (y, p .1 .2, p .1 .1 .few))
+      (omega (arith, p .0, sum-place (here (sum i)) (i .item9 .given .1), y .start), (y, p .1 .2, p .1 .3, p .1 .1 .few))
+
+  pub enum-known-item-10 : lts.Need-enum-known-item-10 (callees t) (expand-item-at t) expand-item.Post
+  enum-known-item-10 c = search needs
+
+  pub add-start : lts.Need-add-start (callees t) (expand-item-at t) expand-item.Post
+  add-start c = let i = c .before .before in let n = home-place (here (home i)) (i .item10 .given .1) in omega (arith, n .onward, n .within)
+
+  pub sub-give-home : lts.Need-sub-give-home (callees t) (expand-item-at t) expand-item.Post
+  sub-give-home c = let i = c .before .before in let n = home-place (here (home i)) (i .item10 .given .1) in omega (arith, n .onward, n .within)
+
+  pub part-give-home-start : lts.Need-part-give-home-start (callees t) (expand-item-at t) expand-item.Post
+  part-give-home-start c = let i = c .before .before in let n = home-place (here (home i)) (i .item10 .given .1) in omega (arith, n .onward, n .within)
+
+  pub part-give-home-end : lts.Need-part-give-home-end (callees t) (expand-item-at t) expand-item.Post
+  part-give-home-end c = let i = c .before .before in let n = home-place (here (home i)) (i .item10 .given .1) in omega (arith, n .onward, n .within)
+
+  pub slice-reshare-prefix-give-home : lts.Need-slice-reshare-prefix-give-home (callees t) (expand-item-at t) expand-item.Post
+  slice-reshare-prefix-give-home c = home (c .before .before .before) .pre .1 .2 .inside
+
+  pub slice-aggregate-give-home : lts.Need-slice-aggregate-give-home (callees t) (expand-item-at t) expand-item.Post
+  slice-aggregate-give-home c =
+      let s = home (c .before .before .before .before) in
+      sym (length-take-le (s .args .extent .«vars_used») (s .args .vars .now) (s .pre .1 .2 .inside))
+
+  pub give-home-requires : lts.Need-give-home-requires (callees t) (expand-item-at t) expand-item.Post
+  give-home-requires c κs =
+      let p = home (c .before .before .before .before .before) .pre .1 in
+      (table-held _ _ _ (p .2), p .3, p .1 .few, omega (arith, p .1 .area))
 
   pub returns : lts.Need-returns (callees t) (expand-item-at t) expand-item.Post
   returns c =
-      item-fault (here (c .before .before .before .before .before .before)) _ _ (c .before .item .given .1)
+      item-fault (here (c .before .before .before .before .before .before .before)) _ _ (c .before .item .given .1)
 
   pub returns-2 : lts.Need-returns-2 (callees t) (expand-item-at t) expand-item.Post
-  returns-2 c = item-stop (here (c .before .before .before .before .before .before)) _ (c .before .item2 .given .1)
+  returns-2 c = item-stop (here (c .before .before .before .before .before .before .before)) _ (c .before .item2 .given .1)
 
   pub same-length : lts.Need-same-length (callees t) (expand-item-at t) expand-item.Post
   same-length c = search needs
@@ -302,7 +329,7 @@ module _ (t : ℕ) where
   same-length-3 c = omega (arith, c .before .before .before .before .expand-quote .kept .1 .1 .1 .0)
 
   pub same-length-4 : lts.Need-same-length-4 (callees t) (expand-item-at t) expand-item.Post
-  same-length-4 c = omega (arith, c .before .before .before .before .expand-quote .kept .1 .1 .1 .1 .1 .0)
+  same-length-4 c = omega (arith, c .before .before .before .before .expand-quote .kept .1 .1 .1 .1 .1 .1 .0)
 
   pub returns-5 : lts.Need-returns-5 (callees t) (expand-item-at t) expand-item.Post
   returns-5 c =
@@ -335,7 +362,7 @@ module _ (t : ℕ) where
       item-count (here (count i)) (i .item7 .given .1) _ (g .give-length .result) (g .give-length .ensures)
 
   pub same-length-9 : lts.Need-same-length-9 (callees t) (expand-item-at t) expand-item.Post
-  same-length-9 c = omega (arith, c .before .before .before .before .expand-inner .kept .1 .1 .1 .1 .1 .0)
+  same-length-9 c = omega (arith, c .before .before .before .before .expand-inner .kept .1 .1 .1 .1 .0)
 
   pub same-length-10 : lts.Need-same-length-10 (callees t) (expand-item-at t) expand-item.Post
   same-length-10 c = omega (arith, c .before .before .before .before .expand-inner .kept .1 .1 .1 .1 .1 .1 .1 .0)
@@ -343,17 +370,29 @@ module _ (t : ℕ) where
   pub returns-8 : lts.Need-returns-8 (callees t) (expand-item-at t) expand-item.Post
   returns-8 c =
       let g = c .before .before .before .before in
-      let i = g .before .before .before .before .before .before in
+      let i = g .before .before .before .before .before in
       item-inner (here (inner i)) (i .item8 .given .1) _ _ (g .expand-inner .result) (g .expand-inner .ensures)
 
   pub same-length-11 : lts.Need-same-length-11 (callees t) (expand-item-at t) expand-item.Post
   same-length-11 c = omega (arith, c .before .before .before .before .expand-sum .kept .1 .1 .1 .1 .0)
 
   pub same-length-12 : lts.Need-same-length-12 (callees t) (expand-item-at t) expand-item.Post
-  same-length-12 c = omega (arith, c .before .before .before .before .expand-sum .kept .1 .1 .1 .1 .1 .1 .0)
+  same-length-12 c = omega (arith, c .before .before .before .before .expand-sum .kept .1 .1 .1 .1 .1 .1 .1 .0)
 
   pub returns-9 : lts.Need-returns-9 (callees t) (expand-item-at t) expand-item.Post
   returns-9 c =
       let g = c .before .before .before .before in
       let i = g .before .before .before .before .before in
       item-sum (here (sum i)) (i .item9 .given .1) _ _ (g .expand-sum .result) (g .expand-sum .ensures)
+
+  pub same-length-13 : lts.Need-same-length-13 (callees t) (expand-item-at t) expand-item.Post
+  same-length-13 c = search needs
+
+  pub same-length-14 : lts.Need-same-length-14 (callees t) (expand-item-at t) expand-item.Post
+  same-length-14 c = omega (arith, c .before .before .give-home .kept .1 .1 .1 .1 .1 .0)
+
+  pub returns-10 : lts.Need-returns-10 (callees t) (expand-item-at t) expand-item.Post
+  returns-10 c =
+      let g = c .before .before in
+      let i = g .before .before .before .before .before .before in
+      item-home (here (home i)) (i .item10 .given .1) _ (g .give-home .result) (g .give-home .ensures)

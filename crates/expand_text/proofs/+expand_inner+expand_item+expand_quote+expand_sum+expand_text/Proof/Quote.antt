@@ -4,8 +4,9 @@ use mathlib.Core.Path.{_≡_, _∙_}
 use lib.ListN.{length}
 use borrow.Rule.Slice.PartMut.{putMid, same-len-mid, mid-len}
 use Rattle.stages.specs.Numbers.{rowLimit}
+use Rattle.table.specs.Around.{lentOf}
 use Rattle.expand_add.proofs.Standing.{empty-front}
-use Rattle.expand_text.proofs.Inside.{QuoteExpanded, quote-full, quote-inner, quote-refused, quote-fits, quote-row}
+use Rattle.expand_text.proofs.Inside.{lending, QuoteExpanded, quote-full, quote-inner, quote-refused, quote-fits, quote-row}
 use borrow.Author.Needs.{needs}
 use native.Mathlib.Omega.{arith}
 use Rattle.expand_text.proofs.+expand_inner+expand_item+expand_quote+expand_sum+expand_text.Lts-expand_quote as lts
@@ -28,7 +29,7 @@ callees t = (
 module _ (t : ℕ) where
   abbrev began : lts.After-put-empty (callees t) (expand-quote-at t) expand-quote.Post
       → lts.Start (callees t) (expand-quote-at t) expand-quote.Post
-  began c = c .before .before .before .before .before .before
+  began c = c .before .before .before .before .before .before .before
 
   -- where the N was put
   abbrev emptied : lts.After-expand-text (callees t) (expand-quote-at t) expand-quote.Post
@@ -52,30 +53,30 @@ module _ (t : ℕ) where
 
   inside : (c : lts.After-expand-text (callees t) (expand-quote-at t) expand-quote.Post) →
       let a = began (emptied c) .args in
-      QuoteExpanded (a .extent .«vars_room») (a .text .now) (a .from .at) (a .from .mode) (a .from .depth) (a .units) (length (a .work .now)) (a .vars .now)
-      (a .extent .«vars_used») (c .expand-text .last .1 .1 .1 .1 .1 .0) (c .expand-text .last .1 .1 .1 .0) (c .expand-text .result)
+      QuoteExpanded (lentOf (a .extent .«vars_room») (a .homes .now)) (a .text .now) (a .from .at) (a .from .mode) (a .from .depth) (a .units) (length (a .work .now)) (a .vars .now)
+      (a .extent .«vars_used») (c .expand-text .last .1 .1 .1 .1 .1 .1 .0) (c .expand-text .last .1 .1 .1 .0) (c .expand-text .result)
   inside c =
       let s = began (emptied c) in
-      record { ready = s .pre .1 .0; holds = s .pre .1 .1; room = room-left (emptied c); says = c .expand-text .ensures }
+      record { ready = s .pre .1 .0; lends = lending (s .pre .1 .1) (s .pre .1 .2); room = room-left (emptied c); says = c .expand-text .ensures }
 
   -- what was lent came back as long as it was
   same-work : (c : lts.After-expand-text (callees t) (expand-quote-at t) expand-quote.Post) →
       let p = emptied c in
       let w = p .put-empty .last .0 in
-      length (putMid 2 (length w - 2) w (c .expand-text .last .1 .1 .1 .1 .1 .0)) ≡ length (began p .args .work .now)
+      length (putMid 2 (length w - 2) w (c .expand-text .last .1 .1 .1 .1 .1 .1 .0)) ≡ length (began p .args .work .now)
   same-work c =
       let p = emptied c in
       let w = p .put-empty .last .0 in
-      same-len-mid 2 (length w - 2) w (c .expand-text .last .1 .1 .1 .1 .1 .0) (c .expand-text .kept .1 .1 .1 .1 .1 .0) ∙ p .put-empty .kept .0
+      same-len-mid 2 (length w - 2) w (c .expand-text .last .1 .1 .1 .1 .1 .1 .0) (c .expand-text .kept .1 .1 .1 .1 .1 .1 .0) ∙ p .put-empty .kept .0
 
   pub returns : lts.Need-returns (callees t) (expand-quote-at t) expand-quote.Post
   returns c =
-      let s = c .before .before .before .before in
-      quote-full (s .pre .1 .0) (s .pre .1 .1) _ _ (c .if1 .taken)
+      let s = c .before .before .before .before .before in
+      quote-full (s .pre .1 .0) (lending (s .pre .1 .1) (s .pre .1 .2)) _ _ (c .if1 .taken)
 
   pub put-empty-requires : lts.Need-put-empty-requires (callees t) (expand-quote-at t) expand-quote.Post
   put-empty-requires c κs =
-      let y = c .before .before .before .before .before .pre .1 .0 in omega (arith, y .area, y .few, c .before .if1 .left)
+      let y = c .before .before .before .before .before .before .pre .1 .0 in omega (arith, y .area, y .few, c .before .if1 .left)
 
   pub add-expand-text : lts.Need-add-expand-text (callees t) (expand-quote-at t) expand-quote.Post
   add-expand-text c = search needs
@@ -97,8 +98,9 @@ module _ (t : ℕ) where
       let l = long p in (
         omega (arith, s .pre .0),
         (
-          quote-inner (s .pre .1 .0) (s .pre .1 .1) (room-left p) _ (omega (arith, mid-len 2 (length w) w (omega arith), l, p .put-empty .kept .0)),
+          quote-inner (s .pre .1 .0) (lending (s .pre .1 .1) (s .pre .1 .2)) (room-left p) _ (omega (arith, mid-len 2 (length w) w (omega arith), l, p .put-empty .kept .0)),
           s .pre .1 .1,
+          s .pre .1 .2,
         ),
       )
 
@@ -108,8 +110,8 @@ module _ (t : ℕ) where
   pub enum-known-got-2 : lts.Need-enum-known-got-2 (callees t) (expand-quote-at t) expand-quote.Post
   enum-known-got-2 c = search needs
 
-  pub add-t25 : lts.Need-add-t25 (callees t) (expand-quote-at t) expand-quote.Post
-  add-t25 c = omega (arith, quote-fits (inside (given c)) (c .before .got2 .given .1))
+  pub add-t26 : lts.Need-add-t26 (callees t) (expand-quote-at t) expand-quote.Post
+  add-t26 c = omega (arith, quote-fits (inside (given c)) (c .before .got2 .given .1))
 
   pub same-length : lts.Need-same-length (callees t) (expand-quote-at t) expand-quote.Post
   same-length c = omega (arith, refused c .expand-text .kept .1 .1 .1 .0)

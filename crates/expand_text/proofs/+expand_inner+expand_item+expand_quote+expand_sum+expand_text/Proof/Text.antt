@@ -5,6 +5,7 @@ use lib.ListN.{length, take}
 use borrow.Rule.Slice.PartMut.{putMid, same-len-mid, mid-len}
 use Rattle.stages.specs.Images.{held}
 use Rattle.row.specs.Marks.{markOf}
+use Rattle.table.specs.Around.{lentOf}
 use Rattle.read_item.specs.After.{modeAfter, isStop}
 use Rattle.expand_text.proofs.Looping.{
   Going,
@@ -44,12 +45,12 @@ callees t = (
 )
 
 abbrev pub Inv-loop : lts.InvT-loop
-Inv-loop text from row vars₀ extent work₀ mark n₀ i₀ inside₀ left₀ vars work n i inside left =
-    Going (extent .«vars_room») text (from .at) (from .mode) (from .depth) (markOf (row .mark)) (row .units)
+Inv-loop text from row vars₀ extent homes work₀ mark n₀ i₀ inside₀ left₀ vars work n i inside left =
+    Going (lentOf (extent .«vars_room») homes) text (from .at) (from .mode) (from .depth) (markOf (row .mark)) (row .units)
     (held (take (extent .«vars_used») vars₀)) work₀ vars₀ work vars n i inside left
 
 abbrev pub μ-loop : lts.MeasureT-loop
-μ-loop text from row vars₀ extent work₀ mark n₀ i₀ inside₀ left₀ vars work n i inside left = length text - i
+μ-loop text from row vars₀ extent homes work₀ mark n₀ i₀ inside₀ left₀ vars work n i inside left = length text - i
 
 module _ (t : ℕ) where
   -- where the loop stood when the item was expanded, and where the text began
@@ -59,7 +60,7 @@ module _ (t : ℕ) where
 
   abbrev began : lts.After-expand-item (callees t) (expand-text-at t) expand-text.Post Inv-loop μ-loop
       → lts.Start (callees t) (expand-text-at t) expand-text.Post Inv-loop μ-loop
-  began c = looped c .before .before .before .before
+  began c = looped c .before .before .before .before .before
 
   -- an item that was expanded, where it refuses the text and where it has a row
   abbrev refused : lts.After-known-told (callees t) (expand-text-at t) expand-text.Post Inv-loop μ-loop
@@ -74,9 +75,9 @@ module _ (t : ℕ) where
       let l = looped c .loop in
       let a = began c .args in
       let item = c .before .before .before .before .item-at .result in
-      Expanding (a .extent .«vars_room») (a .text .now) (a .from .at) (a .from .mode) (a .from .depth) (markOf (a .row .mark)) (a .row .units)
+      Expanding (lentOf (a .extent .«vars_room») (a .homes .now)) (a .text .now) (a .from .at) (a .from .mode) (a .from .depth) (markOf (a .row .mark)) (a .row .units)
       (held (take (a .extent .«vars_used») (a .vars .now))) (a .work .now) (a .vars .now) (l .work) (l .vars) (l .n) (l .i) (l .inside) (l .left)
-      (isStop item) (modeAfter item (l .inside)) (c .expand-item .last .1 .1 .1 .1 .1 .1 .0) (c .expand-item .last .1 .1 .1 .1 .0) (c .expand-item .result)
+      (isStop item) (modeAfter item (l .inside)) (c .expand-item .last .1 .1 .1 .1 .1 .1 .1 .0) (c .expand-item .last .1 .1 .1 .1 .0) (c .expand-item .result)
   expanding c = record { going = looped c .loop .inv; says = c .expand-item .ensures }
 
   -- what was lent came back as long as it was
@@ -86,15 +87,15 @@ module _ (t : ℕ) where
 
   same-work : (c : lts.After-expand-item (callees t) (expand-text-at t) expand-text.Post Inv-loop μ-loop) →
       let l = looped c .loop in
-      length (putMid (2 * l .n) (length (l .work) - 2 * l .n) (l .work) (c .expand-item .last .1 .1 .1 .1 .1 .1 .0)) ≡ length (l .work)
+      length (putMid (2 * l .n) (length (l .work) - 2 * l .n) (l .work) (c .expand-item .last .1 .1 .1 .1 .1 .1 .1 .0)) ≡ length (l .work)
   same-work c =
       let l = looped c .loop in
-      same-len-mid (2 * l .n) (length (l .work) - 2 * l .n) (l .work) (c .expand-item .last .1 .1 .1 .1 .1 .1 .0)
-      (c .expand-item .kept .1 .1 .1 .1 .1 .1 .0)
+      same-len-mid (2 * l .n) (length (l .work) - 2 * l .n) (l .work) (c .expand-item .last .1 .1 .1 .1 .1 .1 .1 .0)
+      (c .expand-item .kept .1 .1 .1 .1 .1 .1 .1 .0)
 
   pub loop-holds : lts.Need-loop-holds (callees t) (expand-text-at t) expand-text.Post Inv-loop μ-loop
   loop-holds c =
-      let s = c .before .before .before in
+      let s = c .before .before .before .before in
       going-start (markOf (s .args .row .mark)) (s .args .work .now) (s .pre .1 .0) (s .pre .1 .1)
 
   pub item-at-requires : lts.Need-item-at-requires (callees t) (expand-text-at t) expand-text.Post Inv-loop μ-loop
@@ -118,7 +119,7 @@ module _ (t : ℕ) where
   pub expand-item-requires : lts.Need-expand-item-requires (callees t) (expand-text-at t) expand-text.Post Inv-loop μ-loop
   expand-item-requires c κs =
       let l = c .before .before .before .before .loop in
-      let s = c .before .before .before .before .before .before .before .before in
+      let s = c .before .before .before .before .before .before .before .before .before in
       let y = s .pre .1 .0 in
       let g = going-room (l .inv) in (
         omega (arith, s .pre .0, l .inv .onward, l .inv .within),
@@ -126,6 +127,7 @@ module _ (t : ℕ) where
           c .before .before .before .item-at .ensures,
           going-ready (l .inv) (y .clean) _ (y .area) (omega (arith, mid-len (2 * l .n) (length (l .work)) (l .work) (omega arith), g)),
           l .inv .holds,
+          s .pre .1 .2,
         ),
       )
 

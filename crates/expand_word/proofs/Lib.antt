@@ -1,4 +1,0 @@
-pub mod Directories
-pub mod Foreign
-pub mod Logins
-pub mod Wording
