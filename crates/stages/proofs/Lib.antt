@@ -1,4 +1,5 @@
 pub mod Recipes
+pub mod Tildes
 pub mod Bools
 pub mod Rooms
 pub mod Texts

@@ -13,16 +13,16 @@ use Rattle.stages.specs.Line.{Around, Fields, expandLine}
 use Rattle.stages.specs.Quote.{quotedLine}
 
 -- what is set, in order of name
-abbrev Settings : Type 0
+abbrev pub Settings : Type 0
 Settings = List (String × String)
 
 -- a row: the line, the variables, homes and paths that it meets, and the answer, with all variables as they are behind it
-record Case : Type 0 where
-  line : String
-  vars : Settings
-  homes : Settings
-  paths : List String
-  answer : Placed (List String × Settings)
+pub record Case : Type 0 where
+  pub line : String
+  pub vars : Settings
+  pub homes : Settings
+  pub paths : List String
+  pub answer : Placed (List String × Settings)
 
 abbrev textsOf : List String → List Text
 textsOf [] = []
@@ -57,7 +57,7 @@ passes : Case → Bool
 unfolding same around expandLine choose
 passes c = same (expandLine (around c) (text (c .line)) (pairsOf (c .vars))) (c .answer)
 
-allPass : List Case → Bool
+unfoldable pub allPass : List Case → Bool
 unfolding passes
 allPass [] = true
 allPass (c ∷ l) = passes c && allPass l
