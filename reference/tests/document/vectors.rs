@@ -1,4 +1,4 @@
-//! All vectors of the repository: every call of base.txt, every folder of program.
+//! All vectors of the repository: every call of calls.txt and of named.txt, every folder of program.
 
 use std::fs;
 use std::path::{Path, PathBuf};
@@ -10,12 +10,28 @@ fn vectors() -> PathBuf {
     Path::new(env!("CARGO_MANIFEST_DIR")).join("../tests/vectors")
 }
 
+fn lines(file: &str) -> Vec<String> {
+    let text = fs::read_to_string(vectors().join(file)).expect(file);
+    text.lines().map(str::to_string).collect()
+}
+
 #[test]
-fn base() {
-    let cases = fs::read_to_string(vectors().join("base.txt")).expect("base.txt");
-    let differ: Vec<String> = cases.lines().filter_map(|case| replay(case).err()).collect();
-    assert!(cases.lines().count() > 6_000);
+fn calls() {
+    let cases = lines("calls.txt");
+    let differ: Vec<String> = cases.iter().filter_map(|case| replay(case).err()).collect();
+    assert!(cases.len() > 6_000);
     assert!(differ.is_empty(), "{} differ, first:\n{}", differ.len(), differ[0]);
+}
+
+#[test]
+fn named() {
+    let mut cases = 0;
+    for line in lines("named.txt").iter().filter(|line| !line.is_empty() && !line.starts_with('#')) {
+        let (name, case) = line.split_once(' ').expect("a name and a call");
+        assert_eq!(replay(case), Ok(()), "{name}");
+        cases += 1;
+    }
+    assert!(cases >= 29);
 }
 
 #[test]

@@ -1,4 +1,4 @@
-//! The calls of tests/vectors/base.txt through the wrapper.
+//! The calls of tests/vectors/calls.txt through the wrapper.
 
 use std::fs;
 use std::path::Path;
@@ -56,7 +56,7 @@ fn case(line: &str) -> Option<String> {
 
 #[test]
 fn vectors_hold() {
-    let path = Path::new(env!("CARGO_MANIFEST_DIR")).join("../tests/vectors/base.txt");
+    let path = Path::new(env!("CARGO_MANIFEST_DIR")).join("../tests/vectors/calls.txt");
     let text = fs::read_to_string(path).expect("the vectors");
     let mut cases = 0;
     for (number, line) in (1..).zip(text.lines()) {
