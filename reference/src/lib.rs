@@ -1,4 +1,5 @@
-//! The independent program that Drunquill's word expander is held against: document 01 said as simply as Rust can.
+//! The independent program that Drunquill's word expander is held against: documents 01 and 02 said as simply as Rust can,
+//! of document 02 as many requests as have landed.
 
 mod arithmetic;
 mod calls;

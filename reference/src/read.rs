@@ -23,6 +23,16 @@ pub enum BareEnd {
     Operand,
 }
 
+impl BareEnd {
+    /// The bytes that end the login of a tilde that begins the text: a slash, or what ends the text itself.
+    fn login_ends(self) -> &'static [u8] {
+        match self {
+            BareEnd::Word => b"/ \t\n",
+            BareEnd::Operand => b"/}",
+        }
+    }
+}
+
 /// Where a double-quoted text ends.
 #[derive(Clone, Copy, PartialEq, Eq)]
 pub enum DoubleEnd {
@@ -71,26 +81,24 @@ impl Reader<'_> {
         if self.peek(0) == Some(b'#') {
             return Err(Number::Operator);
         }
-        let mut parts: Vec<Part> = self.tilde().into_iter().collect();
-        parts.extend(self.bare(BareEnd::Word)?);
-        Ok(parts)
+        self.bare(BareEnd::Word)
     }
 
-    /// The tilde the word starts with, by the bytes of the line as written.
-    fn tilde(&mut self) -> Option<Part> {
+    /// The tilde that begins here, by the bytes of the line as written, if one of these or the line's end ends its login.
+    fn tilde(&mut self, login_ends: &[u8]) -> Option<Part> {
         let behind = self.line[self.at..].strip_prefix(b"~")?;
         let length = behind.iter().take_while(|&&b| is_login_byte(b)).count();
-        let next = behind.get(length).copied();
-        if !next.is_none_or(|byte| byte == b'/' || is_separator(byte)) {
+        let next = behind.get(length);
+        if !next.is_none_or(|byte| login_ends.contains(byte)) {
             return None;
         }
         self.at += 1 + length;
         Some(Part::Tilde(behind[..length].to_vec()))
     }
 
-    /// Bare text to its end; the `}` of an operand is passed over.
+    /// Bare text to its end, a tilde at its start included; the `}` of an operand is passed over.
     pub(crate) fn bare(&mut self, end: BareEnd) -> Result<Vec<Part>, Number> {
-        let mut parts = Vec::new();
+        let mut parts: Vec<Part> = self.tilde(end.login_ends()).into_iter().collect();
         loop {
             let Some(byte) = self.peek(0) else {
                 return match end {

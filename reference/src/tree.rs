@@ -16,7 +16,7 @@ pub enum Part {
     Quoted(u8),
     /// An opening quote, single or double.
     OpeningQuote,
-    /// A `~` at the start of a word, and the login behind it.
+    /// A `~` at the start of a word or of an operand read as bare text, and the login behind it.
     Tilde(Vec<u8>),
     Parameter {
         name: Vec<u8>,

@@ -32,7 +32,7 @@ def cut(paragraph):
 
 
 def sentences(page=PAGE):
-    """All sentences of the document, in order."""
+    """All sentences of a document, in order."""
     with open(page, encoding="utf-8") as file:
         text = file.read()
     found, paragraph = [], []

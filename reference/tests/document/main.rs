@@ -1,9 +1,10 @@
-//! Document 01, section by section, and the readings its open points were given.
+//! Document 01, section by section, then the requests of document 02 that have landed, and the readings their open points were given.
 
 mod arithmetic;
 mod calls;
 mod expansion;
 mod generator;
+mod operand_tilde;
 mod patterns;
 mod program;
 mod reading;

@@ -5,6 +5,10 @@ use std::collections::{BTreeMap, BTreeSet};
 use reference::image::{self, of_texts};
 use reference::limits;
 use reference::number::{Number, ACCEPTED};
+use reference::Answer;
+
+/// The expander or the normaliser.
+type Job = fn(&[u8], &mut [u8], usize, &[u8], &[u8], &mut [u8], &mut [u8]) -> Answer;
 
 #[derive(Clone)]
 pub struct World {
@@ -69,12 +73,33 @@ impl World {
 
     /// The outcome of the expander, or the number and place of its refusal.
     pub fn expand(&self, line: impl AsRef<[u8]>) -> Result<Outcome, (u8, usize)> {
+        let (answer, out, variables) = self.call(reference::expand, line.as_ref());
+        if answer.number != ACCEPTED {
+            return Err((answer.number, answer.place));
+        }
+        Ok(Outcome {
+            fields: image::fields(&out).expect("a fields image"),
+            variables: image::variables(&variables).expect("a variables image"),
+        })
+    }
+
+    /// The quoted line of one that the normaliser accepts.
+    #[track_caller]
+    pub fn normalise(&self, line: impl AsRef<[u8]>) -> String {
+        let line = line.as_ref();
+        let (answer, out, _) = self.call(reference::normalise, line);
+        assert_eq!((answer.number, answer.place), (ACCEPTED, 0), "{}", shown(line));
+        shown(&out)
+    }
+
+    /// What a job answers, and how it leaves the used parts of the output and of the variables.
+    fn call(&self, job: Job, line: &[u8]) -> (Answer, Vec<u8>, Vec<u8>) {
         let mut variables = self.variables_image();
         let used = variables.len();
         variables.resize(self.variables_buffer, 0);
         let mut out = vec![0; self.out];
-        let answer = reference::expand(
-            line.as_ref(),
+        let answer = job(
+            line,
             &mut variables,
             used,
             &pairs(&self.homes),
@@ -82,13 +107,9 @@ impl World {
             &mut vec![0; limits::WORK_AREA],
             &mut out,
         );
-        if answer.number != ACCEPTED {
-            return Err((answer.number, answer.place));
-        }
-        Ok(Outcome {
-            fields: image::fields(&out[..answer.length]).expect("a fields image"),
-            variables: image::variables(&variables[..answer.used]).expect("a variables image"),
-        })
+        out.truncate(answer.length);
+        variables.truncate(answer.used);
+        (answer, out, variables)
     }
 }
 
