@@ -3,6 +3,7 @@
 use super::expression;
 use super::random::Random;
 use super::tables::NAMES;
+use super::tildes::tilde;
 
 const LITERALS: [&str; 24] = [
     "a", "b", "c", "x", "1", ".", "/", "-", "=", ":", "~", "!", "^", "]", "}", "{", ",", "%", "@", "abc", "a/b",
@@ -20,7 +21,6 @@ const SPICE: [&str; 22] = [
     "$((1)`", "${x`", "${#x`", "${x:`", "`", "$1", "$@", "$'a'", "$(", "$$", "|", "&", "(", "${", "${x.}", "${#x-}",
     "${}", "\\\n", "$((1)", "\"", "'", "${x:",
 ];
-const TILDES: [&str; 10] = ["~", "~/", "~/a", "~crew", "~crew/x", "~nobody", "~a", "~x-y.z/", "~-", "~crew:"];
 const FORMS: [&str; 13] = ["-", ":-", "=", ":=", "?", ":?", "+", ":+", "%", "%%", "#", "##", ":-"];
 
 /// Where pieces stand: which bytes are bare there, and which quotes may open.
@@ -45,7 +45,7 @@ pub fn line(random: &mut Random) -> Vec<u8> {
 pub fn word(random: &mut Random) -> Vec<u8> {
     let mut word = Vec::new();
     if random.once_in(9) {
-        word.extend(random.text(&TILDES));
+        word.extend(tilde(random, false));
     }
     word.extend(pieces(random, 0, Setting::Word));
     word
@@ -139,5 +139,10 @@ pub fn brace(random: &mut Random, depth: usize, quoted: bool) -> Vec<u8> {
     let form = random.text(&FORMS);
     let removal = matches!(form[0], b'%' | b'#');
     let setting = if quoted && !removal { Setting::DoubleOperand } else { Setting::BareOperand };
-    [b"${".to_vec(), name, form, pieces(random, depth, setting), b"}".to_vec()].concat()
+    let operand = match random.below(12) {
+        0 => tilde(random, true),
+        1 => [tilde(random, true), pieces(random, depth, setting)].concat(),
+        _ => pieces(random, depth, setting),
+    };
+    [b"${".to_vec(), name, form, operand, b"}".to_vec()].concat()
 }

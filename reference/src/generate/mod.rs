@@ -4,12 +4,14 @@ mod damage;
 mod expression;
 mod focus;
 pub mod grammar;
+pub mod operands;
 pub mod random;
 pub mod season;
 mod sizes;
 pub mod stars;
 pub mod tables;
 pub mod tally;
+mod tildes;
 mod walk;
 
 use self::random::Random;
@@ -26,12 +28,13 @@ pub const MOST_STARS: usize = 3;
 pub fn call(seed: u64, case: u64) -> Call {
     let random = &mut Random::new(seed, case);
     let call = match random.below(100) {
-        0..=3 => sizes::call(random),
-        4..=8 => quote(random),
-        9..=12 => malformed(random),
-        13..=17 => storing(random),
-        18..=27 => focused(random, focus::patterns),
-        28..=34 => focused(random, focus::splitting),
+        0..=4 => sizes::call(random),
+        5..=9 => quote(random),
+        10..=13 => malformed(random),
+        14..=18 => storing(random),
+        19..=27 => focused(random, focus::patterns),
+        28..=33 => focused(random, focus::splitting),
+        34..=43 => focused(random, tildes::case),
         _ => lines(random),
     };
     match call {

@@ -9,7 +9,7 @@ use crate::limits;
 
 pub fn call(random: &mut Random) -> Call {
     let mut lent = ordinary(random);
-    match random.below(24) {
+    match random.below(28) {
         0..=5 => lent.line = line(random),
         6..=13 => row(random, &mut lent),
         14..=15 => variables(random, &mut lent),
@@ -18,7 +18,8 @@ pub fn call(random: &mut Random) -> Call {
         19..=20 => store(random, &mut lent),
         21 => return quoter(random),
         22 => quoted(random, &mut lent),
-        _ => paths(random, &mut lent),
+        23 => paths(random, &mut lent),
+        _ => directory(random, &mut lent),
     }
     let job = *random.pick(&[Job::Expand, Job::Expand, Job::Normalise]);
     Call::Lines(job, lent)
@@ -57,17 +58,32 @@ fn line(random: &mut Random) -> Vec<u8> {
 fn row(random: &mut Random, lent: &mut Lent) {
     let length = random.between(limits::ROW - 2, limits::ROW + 1);
     let fill = *random.pick(&[b'x', b'x', b'x', b' ', b':', b'1']);
-    let mut table = Table::from([(b"e".to_vec(), vec![]), (b"v".to_vec(), vec![fill; length])]);
+    let table = Table::from([(b"e".to_vec(), vec![]), (b"v".to_vec(), vec![fill; length])]);
     lent.line = random.text(&[
         "$v", "\"$v\"", "a$v", "$v$e", "$v''", "$v\"\"", "$v\\a", "a ${u-$v}", "${u-\"$v\"}", "${u=$v}$u",
         "${u=${v}a}", "${v%x}$e", "$v${v%%x*}", "x$v${v##*}", "$(( 1$v ))", "$((0$v))", "$v$((1/0))", "$v${u?}",
         "${#v}$v", "${v+a$v}", "\"${u:-$v}\"a", "${e:=a}$v", "${v#${v}}a", "${v%%\"$v\"}a",
     ]);
-    if random.once_in(6) {
-        let value = table.remove(b"v".as_slice()).unwrap_or_default();
-        table.insert(b"HOME".to_vec(), value);
-        lent.line = random.text(&["~", "~/", "a ~", "~ b"]);
+    given(lent, image(&table));
+}
+
+/// A directory of a length about the limit, HOME's or a login's, and lines that make rows of it at the start of a word or an operand.
+fn directory(random: &mut Random, lent: &mut Lent) {
+    let length = random.between(limits::ROW - 2, limits::ROW + 1);
+    let directory = vec![*random.pick(b"xxx :1"); length];
+    let mut line = random.text(&[
+        "~", "~/", "a ~", "~ b", "${u-~}", "${u:-~}a", "a ${u-~/}", "${u-~}$e", "${e+~}", "${e+~/}", "a${e+~}",
+        "${u=~}", "b${u=~}", "${u=~/}", "${u-${w-~}''}", "${v#~}", "\"${v##~}\"", "${v%~}a", "${v%%~}", "${v%%~/}",
+        "${v#~/}", "${e?~}", "\"${u-~}\"", "$((1${v#~}))",
+    ]);
+    let mut table = Table::from([(b"e".to_vec(), vec![]), (b"v".to_vec(), directory.clone())]);
+    if random.once_in(4) {
+        line = String::from_utf8(line).expect("a line of ASCII").replace('~', "~crew").into_bytes();
+        lent.homes = image(&Table::from([(b"crew".to_vec(), directory)]));
+    } else {
+        table.insert(b"HOME".to_vec(), directory);
     }
+    lent.line = line;
     given(lent, image(&table));
 }
 

@@ -11,7 +11,7 @@ pub fn most(lent: &Lent) -> usize {
 /// Takes stars away, all of them, if a pattern has more than it may.
 pub fn thin(lent: &mut Lent, allowed: usize) {
     if most(lent) > allowed {
-        let bytes = lent.line.iter_mut().chain(lent.variables.iter_mut());
+        let bytes = lent.line.iter_mut().chain(lent.variables.iter_mut()).chain(lent.homes.iter_mut());
         bytes.filter(|byte| **byte == b'*').for_each(|byte| *byte = b'?');
     }
 }

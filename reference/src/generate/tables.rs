@@ -16,8 +16,8 @@ const VALUES: [&str; 34] = [
     "-9223372036854775808", "9223372036854775808", "-0x8000000000000000", "a\tb\nc",
 ];
 
-const LOGINS: [&str; 7] = ["-", ".", "1", "_", "a", "crew", "x-y.z"];
-const DIRECTORIES: [&str; 6] = ["", "/", "/home/crew", "/a b", "*", "~"];
+pub const LOGINS: [&str; 7] = ["-", ".", "1", "_", "a", "crew", "x-y.z"];
+const DIRECTORIES: [&str; 8] = ["", "/", "/home/crew", "/a b", "*", "~", "/h *", "[a-c]"];
 
 const PATHS: [&str; 34] = [
     ".", "..", ".a", ".hid", ".hid/.x", "/", "/a", "//", "1", "[a]", "[ab", "a", "a b", "a'b", "a*b", "a-c", "a.b",

@@ -5,6 +5,7 @@ use std::fmt;
 use std::ops::RangeInclusive;
 
 use super::call;
+use super::operands::Tildes;
 use super::walk::walk;
 use crate::case::{Call, Job, Lent};
 use crate::limits;
@@ -25,6 +26,7 @@ pub struct Tally {
     pub full_lines: usize,
     /// The rows of one unit less than a row may have, of as many, and of one more, which are refused.
     pub rows: [usize; 3],
+    pub tildes: Tildes,
 }
 
 impl Tally {
@@ -57,6 +59,7 @@ impl Tally {
     fn add_seen(&mut self, lent: &Lent) {
         let seen = walk(lent);
         self.full_lines += usize::from(lent.line.len() == limits::LINE);
+        self.tildes.add(lent);
         self.sums += seen.sums.len();
         self.different_sums.extend(seen.sums);
         for units in seen.rows {
@@ -78,11 +81,12 @@ impl fmt::Display for Tally {
         for (number, count) in self.numbers.iter().enumerate() {
             writeln!(out, "{number:2} {count}")?;
         }
-        let Tally { expand, normalise, quote, bytes, sums, different_sums, full_lines, rows, .. } = self;
+        let Tally { expand, normalise, quote, bytes, sums, different_sums, full_lines, rows, tildes, .. } = self;
         writeln!(out, "expand {expand}, normalise {normalise}, quote {quote}")?;
         writeln!(out, "{bytes} bytes")?;
         writeln!(out, "arithmetic texts {sums}, different ones {}", different_sums.len())?;
         writeln!(out, "lines of 2048 bytes {full_lines}")?;
-        writeln!(out, "rows of 2047 units {}, of 2048 {}, refused at 2049 {}", rows[0], rows[1], rows[2])
+        writeln!(out, "rows of 2047 units {}, of 2048 {}, refused at 2049 {}", rows[0], rows[1], rows[2])?;
+        write!(out, "{tildes}")
     }
 }

@@ -3,7 +3,7 @@
 use std::collections::BTreeSet;
 
 use reference::case::{case, replay, Call};
-use reference::generate::{call, season::Season, stars, tally::Tally, MOST_STARS};
+use reference::generate::{call, operands::SIGNS, season::Season, stars, tally::Tally, MOST_STARS};
 use reference::{image, limits};
 
 const SEED: u64 = 2_001;
@@ -19,6 +19,19 @@ fn every_number_comes_up() {
     assert!(tally.bytes < 2_000 * CASES as usize);
     assert!(tally.sums >= 1_000 && tally.different_sums.len() >= 500);
     assert!(tally.full_lines >= 20 && tally.rows.iter().all(|count| *count >= 20));
+}
+
+/// Operands that begin with a tilde: in a tenth of the cases, in every form and every text, and their directories about the limit.
+#[test]
+fn tildes_come_up() {
+    let tildes = Tally::of(SEED..=SEED, CASES).tildes;
+    assert!(tildes.lines >= CASES as usize / 10, "{tildes}");
+    for sign in SIGNS {
+        let [bare, double, arithmetic] = tildes.forms[sign];
+        assert!(bare >= 100 && double >= 20 && arithmetic >= 10, "{sign}: {tildes}");
+    }
+    assert!(tildes.found >= 500 && tildes.not_found >= 500 && tildes.literal >= 500, "{tildes}");
+    assert!(tildes.long.iter().all(|count| *count >= 10), "{tildes}");
 }
 
 #[test]
