@@ -1,4 +1,4 @@
-//! Compares the reference with dash and bash on lines where document 01 and POSIX agree.
+//! Compares the reference with dash and bash on lines where documents 01 and 02 and POSIX agree.
 
 use std::process::ExitCode;
 

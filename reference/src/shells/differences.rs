@@ -1,11 +1,11 @@
-//! The lines of docs/SHELLS.md: for each rule of document 01 on which a shell parts from it, one that shows it.
+//! The lines of docs/SHELLS.md: for each rule of documents 01 and 02 on which a shell parts from it, one that shows it.
 
 use std::io;
 
 use super::script::is_harmless;
 use super::{reference, Folder, Outcome, Shell, Table};
 
-/// A phrase of document 01, a line, and the variables it is expanded with.
+/// A phrase of document 01 or 02, a line, and the variables it is expanded with.
 type Difference = (&'static str, &'static str, &'static [(&'static str, &'static str)]);
 
 const READING: &[Difference] = &[
@@ -31,12 +31,12 @@ const READING: &[Difference] = &[
 ];
 
 const EXPANDING: &[Difference] = &[
-    ("a bare `~` starting a word of the line", "${u-~} ${u:-~/x}", &[("HOME", "/h")]),
-    ("a bare `~` starting a word of the line", "${x#~}", &[("HOME", "/h"), ("x", "/h/x")]),
+    ("its login ending at the first `/` or the operand's end", "${u-~:a}", &[("HOME", "/h")]),
     ("otherwise the homes table", "~root", &[("HOME", "/h")]),
     ("Empty login means HOME", "~/x", &[]),
     ("Empty login means HOME (even if empty)", "~ ~/x", &[("HOME", "")]),
     ("The operand is always expanded", "${u%${w=a}}", &[]),
+    ("An unused operand is not expanded", "${x-~${u-a}}b", &[("x", "c")]),
     (
         "holds at most 2,048 units",
         "$((0$v$v$v$v$v$v$v$v$v$v$v$v$v$v$v$v$v$v$v$v$v$v$v$v$v$v$v$v$v$v$v$v))",
@@ -115,7 +115,7 @@ fn measure(folder: &Folder, (phrase, line, pairs): &Difference) -> io::Result<(S
         Ok(outcome) => shown(outcome, &before),
         Err(number) => format!("refused with {number}"),
     };
-    text.push_str(&format!("\n      document 01  {given}\n"));
+    text.push_str(&format!("\n      documents    {given}\n"));
     let harmless = is_harmless(line);
     let mut parts = !harmless;
     for shell in Shell::ALL {

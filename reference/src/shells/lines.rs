@@ -1,4 +1,4 @@
-//! Lines on which document 01 and POSIX agree: nested like those of the grammar, without what docs/SHELLS.md lists.
+//! Lines on which documents 01 and 02 and POSIX agree: nested like those of the grammar, without what docs/SHELLS.md lists.
 
 use super::{Outcome, Table};
 use crate::generate::random::Random;
@@ -12,7 +12,7 @@ const NUMBERS: [&str; 2] = ["n", "A1"];
 const IFS: [&str; 9] = ["", " ", ":", " :", " \t\n", "0", "^1", ",", "x:"];
 const VALUES: &[&str] = &[
     "", "a", "a b", " a  b ", ":a::b:", " : a :", "*", "?", "[a-c]", "a*", "d/*", "a/b", "x.y", "'", "\"a\"", "$x",
-    "}", "a\tb\nc", "-1", "a:b c", "a^b^^c", "^",
+    "}", "a\tb\nc", "-1", "a:b c", "a^b^^c", "^", "/home/crew/a b", "a/home/crew", "~/a",
 ];
 const NUMBER_VALUES: [&str; 8] = ["", "0", "-1", "+7", "0x10", "010", "9223372036854775807", "12"];
 
@@ -32,6 +32,9 @@ const CHOICES: [&str; 7] = ["-", ":-", "+", ":+", "?", "=", ":="];
 /// The choices that store nothing stand first; a removal's operand has only these.
 const STORELESS: usize = 5;
 const REMOVALS: [&str; 4] = ["%", "%%", "#", "##"];
+/// Tildes that may begin an operand. More stands only behind a slash: bash ends a login at a `:` too, and dash loses its
+/// way when an unused operand has an expansion there.
+const TILDES: [&str; 12] = ["~", "~", "~", "~/", "~/", "~/a", "~/~", "~ a", "~nologin9", "~nologin9/", "~'a'", "~\\a"];
 const CONSTANTS: [&str; 12] =
     ["0", "1", "2", "3", "7", "10", "010", "0x1F", "2147483648", "9223372036854775807", "0x7fffffffffffffff", "100"];
 const OPERATORS: [&str; 11] = ["*", "/", "%", "+", "-", "<", "<=", ">", ">=", "==", "!="];
@@ -171,12 +174,22 @@ impl Lines<'_> {
             return [name, self.random.text(&["=^", "=\t", "="])].concat();
         }
         let setting = if quoted { Setting::DoubleOperand } else { Setting::Operand };
-        [name, choice, self.pieces(setting)].concat()
+        [name, choice, self.operand_text(setting)].concat()
+    }
+
+    /// The text of an operand, which begins with a tilde now and then.
+    fn operand_text(&mut self, setting: Setting) -> Vec<u8> {
+        if !self.random.once_in(6) {
+            return self.pieces(setting);
+        }
+        let tilde = self.random.text(&TILDES);
+        let behind = if tilde.ends_with(b"/") { self.pieces(setting) } else { Vec::new() };
+        [tilde, behind].concat()
     }
 
     fn removal(&mut self) -> Vec<u8> {
         let outer = std::mem::replace(&mut self.in_removal, true);
-        let removal = [self.random.text(&REMOVALS), self.pieces(Setting::Operand)].concat();
+        let removal = [self.random.text(&REMOVALS), self.operand_text(Setting::Operand)].concat();
         self.in_removal = outer;
         removal
     }
