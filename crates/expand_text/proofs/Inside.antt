@@ -77,7 +77,8 @@ module _ {lent : Lent} {text : Text} {at : ℕ} {mode : Mode} {d units size : �
 
   row-clean : (k : Mark) (row : Row) (u : Pairs) → expand lent (y .tree) k 0 (held (take varsUsed vars₀)) ≡ done (row, u) → NoZero (bytes row)
   row-clean k row u e =
-      bytes-safe row (safe-done (expand-safe lent (w .houses) (y .tree) tree-safe k 0 (held (take varsUsed vars₀)) (kept-held (lent .room) vars₀ varsUsed (w .holds))) e .0)
+      bytes-safe row (safe-done (expand-safe lent (w .houses) (y .tree) tree-safe k 0 (held (take varsUsed vars₀))
+      (kept-held (lent .room) vars₀ varsUsed (w .holds))) e .0)
 
 pub row-at : (row : Row) (area : Text) (n : ℕ) → Stands row area → length row ≡ n → rowOf (take (2 * n) area) ≡ row
 row-at row area n s e = ap rowOf (front row area n s e) ∙ rowOf-rowBytes row

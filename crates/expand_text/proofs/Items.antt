@@ -104,7 +104,8 @@ module _ {lent : Lent} {text : Text} {at : ℕ} {mode : Mode} {d : ℕ} (m : Mar
     own-text from mid read l area vars (answer.Refused e) h = own-refused (modeOnward mode) area vars h
     own-text from mid read l area vars (answer.Row count next left) h =
         let k : at < next = omega (arith, h .1 .onward) in
-        own-row (modeOnward mode) area vars count next left (h .0) (going (drop next text) (ap (parts (onward (modeOf mode)) d) (h .1 .ends) ∙ read)) (going-open next k) k
+        own-row (modeOnward mode) area vars count next left (h .0) (going (drop next text) (ap (parts (onward (modeOf mode)) d) (h .1 .ends) ∙ read))
+        (going-open next k) k
         (h .1 .within)
 
   -- a row that is added at once

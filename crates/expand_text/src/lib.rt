@@ -105,7 +105,8 @@ fn expand_inner(
         Holds (extent .«vars_room») (now vars) (extent .«vars_used») × Table (now homes) × (row .units ≤ rowLimit) × Name (now text) (named .from) (named .to)
         × (isName (part (now text) (named .from) (named .to)) ≡ true) ⌝ }
     ensures { λ r. ⌜ Says (extent .«vars_room») (now (text .entry)) (from .at) (row .units)
-        (λ q. placed (row .units) (parameter (extent .«vars_room») (λ k u. expand (lentOf (extent .«vars_room») (now (homes .entry))) q k 0 u) (part (now (text .entry)) (named .from) (named .to)) (formOf (named .form))
+        (λ q. placed (row .units) (parameter (extent .«vars_room») (λ k u. expand (lentOf (extent .«vars_room») (now (homes .entry))) q k 0 u)
+        (part (now (text .entry)) (named .from) (named .to)) (formOf (named .form))
         (markOf (row .mark)) (held (take (extent .«vars_used») (now (vars .entry))))))
         (parts (modeOf (from .mode)) (from .depth) (drop (from .at) (now (text .entry)))) (now (work .exit)) (now (vars .exit)) r ⌝ }
 {
@@ -168,7 +169,8 @@ fn expand_sum(
     requires { ⌜ Ready (now text) at (Mode.Arith 0) depth 0 (length (now work)) ×
         Holds (extent .«vars_room») (now vars) (extent .«vars_used») × Table (now homes) × (row .units ≤ rowLimit) ⌝ }
     ensures { λ r. ⌜ Says (extent .«vars_room») (now (text .entry)) at (row .units)
-        (λ q. placed (row .units) (summing (lentOf (extent .«vars_room») (now (homes .entry))) q (markOf (row .mark)) (held (take (extent .«vars_used») (now (vars .entry))))))
+        (λ q. placed (row .units) (summing (lentOf (extent .«vars_room») (now (homes .entry))) q (markOf (row .mark))
+        (held (take (extent .«vars_used») (now (vars .entry))))))
         (parts (arith 0) depth (drop at (now (text .entry)))) (now (work .exit)) (now (vars .exit)) r ⌝ }
 {
     let from = Cursor {
@@ -210,7 +212,8 @@ fn expand_item(
 ) -> Expanded
     requires { ⌜ ItemAt (now text) from item × Ready (now text) (from .at) (from .mode) (from .depth) (row .units) (length (now work)) ×
         Holds (extent .«vars_room») (now vars) (extent .«vars_used») × Table (now homes) ⌝ }
-    ensures { λ r. ⌜ ItemSays (lentOf (extent .«vars_room») (now (homes .entry))) (now (text .entry)) from row item (held (take (extent .«vars_used») (now (vars .entry))))
+    ensures { λ r. ⌜ ItemSays (lentOf (extent .«vars_room») (now (homes .entry))) (now (text .entry)) from row item
+        (held (take (extent .«vars_used») (now (vars .entry))))
         (now (work .exit)) (now (vars .exit)) r ⌝ }
 {
     let vars_used = extent.vars_used;
@@ -316,7 +319,8 @@ pub fn expand_text(
     requires { ⌜ Ready (now text) (from .at) (from .mode) (from .depth) (row .units) (length (now work)) ×
         Holds (extent .«vars_room») (now vars) (extent .«vars_used») × Table (now homes) ⌝ }
     ensures { λ r. ⌜ Says (extent .«vars_room») (now (text .entry)) (from .at) (row .units)
-        (λ t. expand (lentOf (extent .«vars_room») (now (homes .entry))) t (markOf (row .mark)) (row .units) (held (take (extent .«vars_used») (now (vars .entry)))))
+        (λ t. expand (lentOf (extent .«vars_room») (now (homes .entry))) t (markOf (row .mark)) (row .units)
+        (held (take (extent .«vars_used») (now (vars .entry)))))
         (parts (modeOf (from .mode)) (from .depth) (drop (from .at) (now (text .entry)))) (now (work .exit)) (now (vars .exit)) r ⌝ }
 {
     let mark = row.mark;

@@ -6,7 +6,7 @@ use mathlib.Core.Bool.{Bool, true, false}
 use mathlib.Core.List.{[], _∷_}
 use lib.ListN.{length, drop, getD, drop-of-length-le}
 use lib.Seq.{drop-cons}
-use Rattle.stages.specs.Bytes.{Text, part, span, isLoginByte}
+use Rattle.stages.specs.Bytes.{Text, part}
 use Rattle.stages.specs.Outcome.{pick}
 use Rattle.stages.specs.Syntax.{unescaped, Mode}
 use Rattle.stages.specs.Items.{Item, byte, homeOf, endsLogin, behindTilde}

@@ -1,7 +1,7 @@
 -- A login ends at a `/` and where the text ends.
 use Prim.Native.Nat.{ℕ}
 use Prim.Native.Char.{code}
-use mathlib.Core.Path.{_≡_, refl, sym, ap, _∙_}
+use mathlib.Core.Path.{_≡_, refl, sym, ap}
 use mathlib.Core.Bool.{true, false}
 use mathlib.Core.List.{[], _∷_}
 use denote.Enum.Declared.{tagOf}
@@ -9,11 +9,11 @@ use types.Run.{OneOf, miss}
 use borrow.Author.Tests.{eq-eqb, ne-eqb}
 use Rattle.stages.specs.Syntax as syntax
 use Rattle.stages.specs.Items.{isCloser, endsLogin}
-use Rattle.stages.specs.Items as items
 use Rattle.read_mode.specs.Modes.{sortOf, Sorted}
 use Rattle.read_mode.proofs.Sort as sort-type
 use Rattle.read_mode.specs.declared.Sort.{Sort}
-use Rattle.read_mode.specs.declared.Sort.the-variants.{Backquote, Closes, Operator, Quotes, Quotes2, Backslash, Dollar, Bad, Opening, Closing, Tilde, Literal}
+use Rattle.read_mode.specs.declared.Sort.the-variants.{Backquote, Closes, Operator, Quotes, Quotes2, Backslash}
+use Rattle.read_mode.specs.declared.Sort.the-variants.{Dollar, Bad, Opening, Closing, Tilde, Literal}
 
 -- the sorts that end no text
 pub no-closer : (s : Sort) → OneOf (0 ∷ 2 ∷ 3 ∷ 4 ∷ 5 ∷ 6 ∷ 7 ∷ 8 ∷ 9 ∷ 10 ∷ 11 ∷ []) (tagOf sort-type.the-type s) → isCloser (sortOf s) ≡ false

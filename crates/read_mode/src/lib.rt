@@ -6,7 +6,7 @@ ghost use mathlib.Core.List.{[], _∷_};
 ghost use Rattle.stages.specs.Bytes.{isDigit, isIn, text};
 ghost use Rattle.stages.specs.Syntax.{word, bare, single, double, quotedOperand, arith};
 ghost use Rattle.text.specs.Cases.{colonOf, startOf};
-ghost use Rattle.stages.specs.Items.{quotable, notServed, operandMode, ended, wrong, fault, signForm, beginsTilde, endsLogin};
+ghost use Rattle.stages.specs.Items.{quotable, notServed, ended, wrong, fault, signForm, beginsTilde, endsLogin};
 ghost use Rattle.read_mode.specs.Modes.{modeOf, formOf, modeOnward, Operands, Sorted, Shared, quotesSort, plainSort, endsLine};
 use text::numbers;
 

@@ -181,7 +181,8 @@ expanded-safe g out =
     (λ _ l. safe-then _ (some-safe (length (g .line)) badVariables (variablesOf (take (g .varsUsed) (g .vars))) refl)
     (λ v e. safe-then _ (some-safe (length (g .line)) badHomes (homesOf (g .homes)) refl)
     (λ h f. safe-then _ (some-safe (length (g .line)) badPaths (pathsOf (g .paths)) refl)
-    (λ p i. line-safe (record { lent = record { room = length (g .vars); homes = h }; out = out; paths = p }) (homes-fine (g .homes) h f) (paths-fine (g .paths) p i) (g .line) v
+    (λ p i. line-safe (record { lent = record { room = length (g .vars); homes = h }; out = out; paths = p }) (homes-fine (g .homes) h f)
+    (paths-fine (g .paths) p i) (g .line) v
     (vars-kept (g .vars) (g .varsUsed) v (leb-true (g .varsUsed) (length (g .vars)) l) e))))))
 
 -- the expander

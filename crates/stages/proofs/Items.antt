@@ -11,7 +11,7 @@ use Rattle.stages.specs.Numbers.{unended, unserved, badSyntax, tooDeep}
 use Rattle.stages.specs.Bytes.{Text, text, between, isIn, isBlank, isOperator, isNameStart, isNameByte, isLoginByte, span}
 use Rattle.stages.specs.Outcome.{pick}
 use Rattle.stages.specs.Images.{isName}
-use Rattle.stages.specs.Syntax.{Escape, Side, suffix, prefix, Form, Start, fresh, begun, Mode, word, bare, single, double, quotedOperand, arith}
+use Rattle.stages.specs.Syntax.{Escape, Side, suffix, prefix, Form, Start, Mode, word, bare, single, double, quotedOperand, arith}
 use Rattle.stages.specs.Items.{Item, fault, stop, byte, paren, quote, valueOf, count, inner, sum, homeOf, item, ended, itemOf, sort, Sort}
 use Rattle.stages.specs.Items.{backquote, closes, operator, quotes, quotes2, backslash, dollar, bad, opening, closing, tilde, literal}
 use Rattle.stages.specs.Items.{wrong, quotable, notServed, behindBackslash, behindColon, behindRemoval, behindName, behindLength, nameThen, braced}
@@ -263,7 +263,8 @@ word-sort : (s : Start) (b : ℕ) → isBlank b ≡ false → Goes (sort (word s
 unfolding sort
 word-sort s b e =
     let g = faulty-goes in
-    rw e (pick-goes (beginsTilde s b) (g .7) (pick-goes (eqb b (code "`")) (g .0) (pick-goes (isOperator b) (g .1) (pick-goes (eqb b (code "'")) (g .2) (pick-goes (eqb b (code "\"")) (g .3)
+    rw e (pick-goes (beginsTilde s b) (g .7) (pick-goes (eqb b (code "`")) (g .0)
+    (pick-goes (isOperator b) (g .1) (pick-goes (eqb b (code "'")) (g .2) (pick-goes (eqb b (code "\"")) (g .3)
     (pick-goes (eqb b (code "\\")) (g .4) (pick-goes (eqb b (code "$")) (g .5) (g .6))))))))
 
 pub word-goes : (s : Start) (d b : ℕ) (t : Text) → isBlank b ≡ false → Fair AnyByte false (item (word s) d (b ∷ t))

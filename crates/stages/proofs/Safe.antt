@@ -9,7 +9,8 @@ use Rattle.stages.specs.Numbers.{unended, tooDeep, outputRoom}
 use Rattle.stages.specs.Bytes.{between, Text, all, notZero}
 use Rattle.stages.specs.Outcome.{refused, done}
 use Rattle.stages.specs.Images.{isName}
-use Rattle.stages.specs.Syntax.{plain, unescaped, Parts, Mode, end, lit, quo, par, len, ari, til, word, bare, single, double, quotedOperand, arith as sums}
+use Rattle.stages.specs.Syntax.{plain, unescaped, Parts, Mode, end, lit, quo, par}
+use Rattle.stages.specs.Syntax.{len, ari, til, word, bare, single, double, quotedOperand, arith as sums}
 use Rattle.stages.specs.Items.{Item, item, ended, onward}
 use Rattle.stages.specs.Read.{Taken, Reader, put, nest, readItem, Ask, askSize, askStep, parts}
 use Rattle.stages.proofs.Bools.{and-left, and-right, and-both, between-bounds, between-true}

@@ -2,7 +2,6 @@
 use Prim.Native.Nat.{_≤_}
 use native.Mathlib.Omega.{arith}
 use mathlib.Core.Path.{ap}
-use mathlib.Core.Option.{none, some}
 use lib.ListN.{length}
 use Rattle.stages.specs.Expand.{tildeRow}
 use Rattle.row.specs.Marks.{markOf}

@@ -37,7 +37,8 @@ returns : tie.Need-returns
 unfolding tildeRow marked
 returns c =
     let s = c .before .before .before .before in
-    headed-full (s .args .row .units) (s .args .on) (cell (markOf (s .args .row .mark)) (code "~")) (markOf (s .args .row .mark)) (s .args .login .now) (omega (arith, c .if1 .taken, s .pre .0))
+    headed-full (s .args .row .units) (s .args .on) (cell (markOf (s .args .row .mark)) (code "~")) (markOf (s .args .row .mark))
+    (s .args .login .now) (omega (arith, c .if1 .taken, s .pre .0))
 
 put-unit-requires : tie.Need-put-unit-requires
 put-unit-requires c κs = search needs
@@ -71,7 +72,8 @@ returns-2 c =
     let m = c .before .before .put-marked in
     let e = c .before .before .before .before .before .before in
     let a = entry e .args in
-    headed-fits (a .row .units) (a .on) (cell (markOf (a .row .mark)) (code "~")) (markOf (a .row .mark)) (a .login .now) (omega (arith, room e)) (a .area .now) (area e) _
+    headed-fits (a .row .units) (a .on) (cell (markOf (a .row .mark)) (code "~")) (markOf (a .row .mark)) (a .login .now) (omega (arith, room e))
+    (a .area .now) (area e) _
     (m .last .1 .1 .0) _ (e .put-unit .ensures) (m .ensures)
 
 pub give-literal-spec : {M : Type 1} → statement M

@@ -1,5 +1,4 @@
 -- The byte behind the login decides.
-use mathlib.Core.Path.{refl}
 use native.Mathlib.Omega.{arith}
 use Rattle.read_item.proofs.Tildes.{login-to-end, login-ends, login-breaks}
 use borrow.Author.Needs.{needs}
@@ -29,7 +28,8 @@ returns-2 c =
     let t = c .before .before .before in
     let r = t .before in
     let a = r .before .before .args in
-    login-ends (a .text .now) (a .from) (r .run-end .result) (r .run-end .ensures) (omega (arith, t .if1 .left)) (c .before .ends-login .ensures) (c .if2 .taken)
+    login-ends (a .text .now) (a .from) (r .run-end .result) (r .run-end .ensures) (omega (arith, t .if1 .left)) (c .before .ends-login .ensures)
+    (c .if2 .taken)
 
 shared-slice-read-t11 : tie.Need-shared-slice-read-t11
 shared-slice-read-t11 c = search needs

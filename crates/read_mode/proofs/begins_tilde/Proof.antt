@@ -1,6 +1,5 @@
 -- By whether the text is read from its first byte on.
 use Rattle.stages.specs.Items.{beginsTilde}
-use Rattle.text.specs.Cases.{startOf}
 use Rattle.read_mode.proofs.begins_tilde.Statement.{statement}
 use Rattle.read_mode.proofs.begins_tilde.Tie as tie
 

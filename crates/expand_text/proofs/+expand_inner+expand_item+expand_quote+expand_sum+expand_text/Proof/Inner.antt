@@ -85,7 +85,8 @@ module _ (t : ℕ) where
 
   inside : (c : lts.After-expand-text (callees t) (expand-inner-at t) expand-inner.Post) →
       let a = began (used c) .args in
-      OperandExpanded (lentOf (a .extent .«vars_room») (a .homes .now)) (a .text .now) (a .from .at) (a .from .mode) (a .from .depth) (length (a .work .now)) (a .vars .now)
+      OperandExpanded (lentOf (a .extent .«vars_room») (a .homes .now)) (a .text .now) (a .from .at) (a .from .mode) (a .from .depth)
+      (length (a .work .now)) (a .vars .now)
       (a .extent .«vars_used») (part (a .text .now) (a .named .from) (a .named .to)) (a .row .units) (formOf (a .named .form)) (markOf (a .row .mark))
       (c .before .before .before .before .before .plan2 .given .0 .0)
       (c .expand-text .last .1 .1 .1 .1 .1 .1 .0) (c .expand-text .last .1 .1 .1 .0) (c .expand-text .result)
@@ -213,7 +214,8 @@ module _ (t : ℕ) where
       let p = unused r in
       let s = began p in
       let a = s .args in
-      unused-fault (a .row .units) (formOf (a .named .form)) (markOf (a .row .mark)) (s .pre .1 .0) (lending (s .pre .1 .1) (s .pre .1 .2)) (p .before .look-up .ensures .shows)
+      unused-fault (a .row .units) (formOf (a .named .form)) (markOf (a .row .mark)) (s .pre .1 .0) (lending (s .pre .1 .1) (s .pre .1 .2))
+      (p .before .look-up .ensures .shows)
       (p .plan-of .ensures) _ _ (reading-known (a .text .now) (a .from .at) _ (r .read-text .ensures) (c .before .got .given .1)) _
 
   pub same-length-2 : lts.Need-same-length-2 (callees t) (expand-inner-at t) expand-inner.Post
@@ -230,7 +232,8 @@ module _ (t : ℕ) where
       let p = unused r in
       let s = began p in
       let a = s .args in
-      unused-given (a .row .units) (formOf (a .named .form)) (markOf (a .row .mark)) (s .pre .1 .0) (lending (s .pre .1 .1) (s .pre .1 .2)) (p .before .look-up .ensures .shows)
+      unused-given (a .row .units) (formOf (a .named .form)) (markOf (a .row .mark)) (s .pre .1 .0) (lending (s .pre .1 .1) (s .pre .1 .2))
+      (p .before .look-up .ensures .shows)
       (p .plan-of .ensures) (r .before .before .plan .given .1)
       (reading-known (a .text .now) (a .from .at) _ (r .read-text .ensures) (q .got2 .given .1)) _ (g .result) (g .ensures)
 

@@ -77,7 +77,8 @@ module _ (t : ℕ) where
   -- the item stands where the text is read
   here : (s : lts.Start (callees t) (expand-item-at t) expand-item.Post) →
       let a = s .args in
-      Here (lentOf (a .extent .«vars_room») (a .homes .now)) (a .text .now) (a .from .at) (a .from .mode) (a .from .depth) (markOf (a .row .mark)) (a .row .units)
+      Here (lentOf (a .extent .«vars_room») (a .homes .now)) (a .text .now) (a .from .at) (a .from .mode) (a .from .depth) (markOf (a .row .mark))
+      (a .row .units)
       (length (a .work .now)) (a .vars .now) (a .extent .«vars_used») (a .item)
   here s = record { ready = s .pre .1 .1; lends = lending (s .pre .1 .2) (s .pre .1 .3); shows = s .pre .1 .0 }
 

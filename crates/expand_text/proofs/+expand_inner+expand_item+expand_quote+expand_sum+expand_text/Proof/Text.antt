@@ -75,7 +75,8 @@ module _ (t : ℕ) where
       let l = looped c .loop in
       let a = began c .args in
       let item = c .before .before .before .before .item-at .result in
-      Expanding (lentOf (a .extent .«vars_room») (a .homes .now)) (a .text .now) (a .from .at) (a .from .mode) (a .from .depth) (markOf (a .row .mark)) (a .row .units)
+      Expanding (lentOf (a .extent .«vars_room») (a .homes .now)) (a .text .now) (a .from .at) (a .from .mode) (a .from .depth)
+      (markOf (a .row .mark)) (a .row .units)
       (held (take (a .extent .«vars_used») (a .vars .now))) (a .work .now) (a .vars .now) (l .work) (l .vars) (l .n) (l .i) (l .inside) (l .left)
       (isStop item) (modeAfter item (l .inside)) (c .expand-item .last .1 .1 .1 .1 .1 .1 .1 .0) (c .expand-item .last .1 .1 .1 .1 .0) (c .expand-item .result)
   expanding c = record { going = looped c .loop .inv; says = c .expand-item .ensures }
