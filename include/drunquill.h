@@ -91,7 +91,8 @@ struct drunquill_quote_answer {
  *
  *  vars         the variables: an image in the first `vars_used` of `vars_len` bytes. ${name=word} stores into it. The buffer may be longer than
  *               DRUNQUILL_IMAGE_MAX, the image may not.
- *  homes        whose directory ~login gives; ~ alone gives the variable HOME
+ *  homes        whose directory ~login gives, at the start of a word or of a bare
+ *               operand; ~ alone gives the variable HOME
  *  paths        what patterns are matched against: the function looks at no file
  *  work         at least DRUNQUILL_WORK_LEAST bytes, whatever they hold. After every call, whatever the number, all `work_len` bytes are zero.
  *  out          the fields' image. One of DRUNQUILL_IMAGE_MAX bytes is always long enough for what can be accepted. One byte is needed for no fields.
