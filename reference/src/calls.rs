@@ -177,7 +177,11 @@ fn quoted(fields: &[u8], out_length: usize) -> Result<Vec<u8>, Refusal> {
     Ok(line)
 }
 
+/// The field as it is if it may stand bare, and else in single quotes.
 fn quoted_field(field: &[u8]) -> Vec<u8> {
+    if stands_bare(field) {
+        return field.to_vec();
+    }
     let mut quoted = vec![b'\''];
     for &byte in field {
         match byte {
@@ -187,4 +191,10 @@ fn quoted_field(field: &[u8]) -> Vec<u8> {
     }
     quoted.push(b'\'');
     quoted
+}
+
+/// Whether a field is not empty and holds only bytes that mean nothing to a reader.
+pub fn stands_bare(field: &[u8]) -> bool {
+    let bare = |byte: &u8| byte.is_ascii_alphanumeric() || b"._-/".contains(byte);
+    !field.is_empty() && field.iter().all(bare)
 }

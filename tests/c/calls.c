@@ -1,5 +1,5 @@
 /* Calls each function of the archive on good and bad input, and compares number, place, lengths and every byte of every buffer, with what stands around it.
- * What is expected is written out here from docs/01-scope.md. */
+ * What is expected is written out here from docs/01-scope.md and docs/02-change-requests.md. */
 #include "buffers.h"
 
 static struct bytes line, vars_image, homes_image, paths_image, want_out, want_vars, fields;
@@ -95,7 +95,7 @@ static void accepted_lines(void) {
     call("C1, output just long enough", drunquill_expand, 0, 0);
     want_out.len = 0;
     out_len = 200;
-    add_string(&want_out, "'cp' 'north field' 'north' 'field'");
+    add_string(&want_out, "cp 'north field' north field");
     call("C1 normalised", drunquill_normalise, 0, 0);
 
     set("${tilt:=\"a b\"}");
@@ -103,7 +103,7 @@ static void accepted_lines(void) {
     image(&want_vars, (const char *const[]){"HOME", "/home/crew", "job", "north field", "note", "", "tilt", "a b", NULL});
     call("C6", drunquill_expand, 0, 0);
     want_out.len = 0;
-    add_string(&want_out, "'a' 'b'");
+    add_string(&want_out, "a b");
     call("C6 normalised", drunquill_normalise, 0, 0);
 
     set("*.raw ~/out $((7/-2))");
@@ -191,7 +191,7 @@ static void edges(void) {
         empty_image(&vars_image);
         add_text(&vars_image, "v");
         value.len = 0;
-        repeat(&value, "x", n);
+        repeat(&value, ",", n);
         add_text_of(&vars_image, value.at, value.len);
         used = vars_image.len;
         vars_len = DRUNQUILL_IMAGE_MAX + 100;
@@ -212,6 +212,7 @@ static void edges(void) {
     set("a ${tilt:=x} bc");
     out_len = 10;
     call("one byte short for the output", drunquill_expand, DRUNQUILL_OUTPUT_ROOM, 13);
+    out_len = 5;
     call("one byte short for the quoted line", drunquill_normalise, DRUNQUILL_OUTPUT_ROOM, 0);
 }
 
@@ -235,6 +236,14 @@ static void quoted_fields(void) {
     quote("no fields, no output", 0);
     fields.at[0] = 2;
     quote("another version", DRUNQUILL_BAD_FIELDS);
+
+    image(&fields, (const char *const[]){"p1.raw", "a b", "-x/_", "", "a:b", NULL});
+    add_string(&want_out, "p1.raw 'a b' -x/_ '' 'a:b'");
+    out_len = want_out.len;
+    quote("bare fields and quoted ones", 0);
+    out_len--;
+    want_out.len = 0;
+    quote("bare fields and quoted ones, one byte short", DRUNQUILL_OUTPUT_ROOM);
 }
 
 int main(void) {

@@ -17,7 +17,7 @@
 //! let mut out = [0; drunquill::LINE_MAX];
 //!
 //! let line = normalise(b"cp \"$job\" $job", &mut variables, Tables::NONE, &mut work, &mut out);
-//! assert_eq!(line, Ok(b"'cp' 'a b' 'a' 'b'".as_slice()));
+//! assert_eq!(line, Ok(b"cp 'a b' a b".as_slice()));
 //!
 //! let refusal = normalise(b"cp 'a", &mut variables, Tables::NONE, &mut work, &mut out).unwrap_err();
 //! assert_eq!((refusal.number, refusal.place), (Number::Unended, 3));

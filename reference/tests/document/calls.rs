@@ -111,7 +111,7 @@ fn a_refusal_undoes_stores() {
     let before = storing(b"", 9).1;
     for (line, out, number, place) in [
         (&b"${a:=longest} ${c:?}"[..], 40, Number::Missing, 14),
-        (b"${a:=longest}", 8, Number::NoRoomForOutput, 0),
+        (b"${a:=longest}", 6, Number::NoRoomForOutput, 0),
         (b"x ${c:=012345678901234567890}", 40, Number::NoRoomForVariable, 2),
     ] {
         let (answer, after) = storing(line, out);
@@ -136,10 +136,10 @@ fn a_store_is_measured_at_once() {
 fn the_normaliser_has_its_own_room() {
     let (answer, _) = storing(b"", 0);
     assert_eq!((answer.number, answer.length), (ACCEPTED, 0));
-    let (answer, _) = storing(b"a", 2);
+    let (answer, _) = storing(b"','", 2);
     assert_eq!((answer.number, answer.place), (Number::NoRoomForOutput as u8, 0));
-    let (answer, _) = storing(b"a b", 7);
-    assert_eq!((answer.number, answer.length), (ACCEPTED, 7));
+    let (answer, _) = storing(b"a ','", 5);
+    assert_eq!((answer.number, answer.length), (ACCEPTED, 5));
 }
 
 #[test]
@@ -167,8 +167,8 @@ fn the_quoter() {
     assert_eq!(call(b"", 0), (Number::Fields as u8, 0, 0));
     assert_eq!(call(&of_texts(&[""]), 1), (Number::NoRoomForOutput as u8, 0, 0));
     assert_eq!(call(&of_texts(&[""]), 3), (ACCEPTED, 0, 2));
-    assert_eq!(call(&of_texts(&["x".repeat(2_046)]), 9_999), (ACCEPTED, 0, 2_048));
-    let long = of_texts(&["x".repeat(2_047)]);
+    assert_eq!(call(&of_texts(&[",".repeat(2_046)]), 9_999), (ACCEPTED, 0, 2_048));
+    let long = of_texts(&[",".repeat(2_047)]);
     assert_eq!(call(&long, 9_999), (Number::NoRoomForOutput as u8, 0, 0));
     assert_eq!(call(&vec![1; 8_193], 0), (Number::Fields as u8, 0, 0));
 }

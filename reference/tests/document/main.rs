@@ -1,6 +1,7 @@
 //! Document 01, section by section, then the requests of document 02 that have landed, and the readings their open points were given.
 
 mod arithmetic;
+mod bare_fields;
 mod calls;
 mod expansion;
 mod generator;

@@ -192,7 +192,7 @@ fn the_row_is_full() {
 #[test]
 fn demand_3() {
     let line = world().normalise("${out:-~/export} ${e+~crew} \"${x#~}\" ${u-~nobody} \"${u-~}\"");
-    assert_eq!(line, r"'/h */export' '/c d' '/out' '~nobody' '~'");
+    assert_eq!(line, r"'/h */export' '/c d' /out '~nobody' '~'");
     for other in [World::empty(), World::empty().set("HOME", "/n").home("nobody", "/m").path("~")] {
         assert_eq!(other.normalise(&line), line);
     }

@@ -42,11 +42,11 @@ fn lines_and_answers() {
     let folder = Folder::new("lines");
     assert_eq!(folder.says(b""), "");
     assert_eq!(folder.says(b"\n"), "ok \n");
-    assert_eq!(folder.says(b"a b\n\n|"), "ok 'a' 'b'\nok \nno 8 0\n");
+    assert_eq!(folder.says(b"a b\n\n|"), "ok a b\nok \nno 8 0\n");
     assert_eq!(folder.says(b"a ${x\r\n"), "no 11 2\n");
     assert_eq!(folder.says(b"\0\n''"), "no 6 0\nok ''\n");
     let long = [&[b'x'; 2_049][..], b"\nx"].concat();
-    assert_eq!(folder.says(&long), "no 5 0\nok 'x'\n");
+    assert_eq!(folder.says(&long), "no 5 0\nok x\n");
 }
 
 #[test]
@@ -54,7 +54,7 @@ fn variables_carry_over_on_acceptance_only() {
     let folder = Folder::new("variables");
     folder.write("vars.tab", &of_texts(&["v", "1"]));
     let lines = b"${u=a}\n${v+$u}\n${w=x}${n?}\n${w-none}\n${v}\n";
-    assert_eq!(folder.says(lines), "ok 'a'\nok 'a'\nno 13 0\nok 'none'\nok '1'\n");
+    assert_eq!(folder.says(lines), "ok a\nok a\nno 13 0\nok none\nok 1\n");
 }
 
 #[test]
@@ -62,7 +62,7 @@ fn tables() {
     let folder = Folder::new("tables");
     folder.write("homes.tab", &of_texts(&["crew", "/c"]));
     folder.write("paths.tab", &of_texts(&["a", "b"]));
-    assert_eq!(folder.says(b"* ~crew"), "ok 'a' 'b' '/c'\n");
+    assert_eq!(folder.says(b"* ~crew 'a b'"), "ok a b /c 'a b'\n");
     folder.write("paths.tab", &[1; 32_769]);
     assert_eq!(folder.says(b"a\nb"), "no 4 0\nno 4 0\n");
     folder.write("homes.tab", b"");

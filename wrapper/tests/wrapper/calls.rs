@@ -1,4 +1,5 @@
-//! Each function on good and bad input. What is expected is written out from docs/01-scope.md.
+//! Each function on good and bad input. What is expected is written out from docs/01-scope.md and
+//! docs/02-change-requests.md.
 
 use std::thread;
 
@@ -55,7 +56,7 @@ fn lines_are_accepted() {
     accepted(Job::Expand, &c1, &fields, &vars);
     accepted(Job::Expand, &Given { out_len: fields.len(), ..c1.clone() }, &fields, &vars);
     accepted(Job::Expand, &Given { work_len: WORK_LEAST + 1_000, ..c1.clone() }, &fields, &vars);
-    accepted(Job::Normalise, &c1, b"'cp' 'north field' 'north' 'field'", &vars);
+    accepted(Job::Normalise, &c1, b"cp 'north field' north field", &vars);
     let c2 = given(b"*.raw ~/out $((7/-2))");
     accepted(Job::Expand, &c2, &image(&[b"a b.raw", b"p1.raw", b"p2.raw", b"/home/crew/out", b"-3"]), &vars);
     let home = Given { homes: image(&[b"kit", b"/k"]), ..given(b"~kit") };
@@ -67,8 +68,8 @@ fn a_store_is_kept() {
     let stored = image(&[VARIABLES.as_slice(), &[b"tilt", b"a b"]].concat());
     let c6 = given(b"${tilt:=\"a b\"}");
     accepted(Job::Expand, &c6, &image(&[b"a", b"b"]), &stored);
-    accepted(Job::Normalise, &c6, b"'a' 'b'", &stored);
-    accepted(Job::Normalise, &Given { vars_len: stored.len(), ..c6.clone() }, b"'a' 'b'", &stored);
+    accepted(Job::Normalise, &c6, b"a b", &stored);
+    accepted(Job::Normalise, &Given { vars_len: stored.len(), ..c6.clone() }, b"a b", &stored);
     refused(&Given { vars_len: stored.len() - 1, ..c6 }, Number::VariableRoom, 0);
 }
 
@@ -126,7 +127,7 @@ fn lines_are_refused() {
 #[test]
 fn edges_are_kept() {
     for (bytes, good) in [(2_047, true), (2_048, false)] {
-        let value = vec![b'x'; bytes];
+        let value = vec![b','; bytes];
         let vars = image(&[b"v", &value]);
         let edge = Given {
             used: vars.len(),
@@ -144,7 +145,7 @@ fn edges_are_kept() {
     }
     let short = Given { out_len: 10, ..given(b"a ${tilt:=x} bc") };
     refused_by(Job::Expand, &short, Number::OutputRoom, 13);
-    refused_by(Job::Normalise, &short, Number::OutputRoom, 0);
+    refused_by(Job::Normalise, &Given { out_len: 5, ..short }, Number::OutputRoom, 0);
 }
 
 #[test]
@@ -160,6 +161,8 @@ fn fields_are_quoted() {
     assert_eq!(quote_differs(&[], 60, fill, &refusal(Number::BadFields)), None);
     assert_eq!(quote_differs(&[2], 60, fill, &refusal(Number::BadFields)), None);
     assert_eq!(quote_differs(&[1], 0, fill, &Ok(Vec::new())), None);
+    let mixed = image(&[b"p1.raw", b"a b", b"-x/_", b"", b"a:b"]);
+    assert_eq!(quote_differs(&mixed, 60, fill, &Ok(b"p1.raw 'a b' -x/_ '' 'a:b'".to_vec())), None);
 }
 
 #[test]
