@@ -19,6 +19,8 @@ pub mod SafeRows
 pub mod SafeLines
 pub mod Answers
 pub mod Program
+pub mod Plain
 pub mod Quoted
+pub mod Quiet
 pub mod RoundTrip
 pub mod Demand

@@ -1,22 +1,24 @@
 -- Demand 3 over the stages, its reading: a quoted line is read as one word for each field, whatever its length, and two lists have one quoted line only if
--- they are the same list. By induction on a field's bytes, its quotes told apart. The byte 39
--- is `'`, 92 a backslash, 32 a blank.
+-- they are the same list. E2: whichever way a field is written, it is one word of that field, and so lines that mix the ways need no law of their own. A
+-- field in single quotes goes by induction on its bytes, its quotes told apart. The byte 39 is `'`, 92 a backslash, 32 a blank, 35 a `#`.
 use Prim.Native.Nat.{ℕ, suc, _+_, _-_}
 use native.Mathlib.Omega.{arith}
 use mathlib.Core.Path.{_≡_, refl, sym, ap, _∙_}
-use mathlib.Core.Bool.{Bool, true, false}
+use mathlib.Core.Bool.{Bool, true, false, _||_}
 use mathlib.Core.List.{List, [], _∷_, _++_, append-assoc}
 use lib.Dec.{eqb, eqb→eq}
 use lib.ListN.{length, length-append}
 use Rattle.stages.specs.Numbers.{depthLimit}
-use Rattle.stages.specs.Bytes.{Text, text, isBlank, isOperator}
+use Rattle.stages.specs.Bytes.{Text, text, all, isBareByte, isBlank, isOperator}
 use Rattle.stages.specs.Outcome.{done, doneAt, pick}
 use Rattle.stages.specs.Syntax.{escaped, unescaped, Parts, Word, end, lit, quo, par, len, ari, til, Start, fresh, begun, word, single}
-use Rattle.stages.specs.Items.{item, byte}
+use Rattle.stages.specs.Items.{item, itemOf, sort, literal, beginsTilde, byte}
 use Rattle.stages.specs.Read.{parts, put, nest, readItem, words, wordAt, readLine}
-use Rattle.stages.specs.Quote.{quotedBytes, quotedField, quotedLine, blanked}
+use Rattle.stages.specs.Quote.{Way, bare, singled, isBare, wayOf, quotedBytes, written, quotedField, quotedLine, blanked}
+use Rattle.stages.proofs.Bools.{apart, either, and-left, and-right}
 use Rattle.stages.proofs.Read.{parts-item}
 use Rattle.stages.proofs.Words.{words-end, words-blank, words-word}
+use Rattle.stages.proofs.Plain.{Plain, bare-plain}
 
 -- induction on a text whose quotes are told apart from its other bytes
 module _ (P : Text → Type 0) (none : P []) (quote : (t : Text) → P t → P (39 ∷ t))
@@ -29,21 +31,41 @@ module _ (P : Text → Type 0) (none : P []) (quote : (t : Text) → P t → P (
       go true e p = rw (eqb→eq b 39 (rw e tt)) (quote t p)
       go false e p = other b t e p
 
--- The parts of a quoted field: its first run up to the quote that closes, and those behind it. Each `'` closes a run, stands quoted by a
+-- The parts of a field in single quotes: its first run up to the quote that closes, and those behind it. Each `'` closes a run, stands quoted by a
 -- backslash and opens the next run.
 abbrev pub runs : Text → Parts × Parts
 runs [] = (end, end)
 runs (b ∷ t) = pick (eqb b 39) (end, lit escaped b (quo (runs t .0) (runs t .1))) (lit unescaped b (runs t .0), runs t .1)
 
+-- the parts of a bare field
+abbrev pub bareParts : Text → Parts
+bareParts [] = end
+bareParts (b ∷ t) = lit unescaped b (bareParts t)
+
+-- the parts of a field, by the way it is written
+abbrev pub wayParts : Way → Text → Parts
+wayParts bare t = bareParts t
+wayParts singled t = quo (runs t .0) (runs t .1)
+
 abbrev pub fieldParts : Text → Parts
-fieldParts t = quo (runs t .0) (runs t .1)
+fieldParts t = wayParts (wayOf t) t
+
+-- a field may be written so: bare only where it is bare, in single quotes whatever it holds
+pub data Allows : Way → Text → Type 0 where
+  as-bare : {t : Text} → isBare t ≡ true → Allows bare t
+  as-singled : {t : Text} → Allows singled t
+
+-- the quoter's way is allowed
+pub allowed : (t : Text) → Allows (wayOf t) t
+unfolding wayOf
+allowed t = either (isBare t) (λ e. rw e (as-bare e)) (λ e. rw e as-singled)
 
 -- the words that a quoted line is read as, the first one's place given: a blank stands between two
 abbrev pub fieldWords : ℕ → List Text → List Word
 fieldWords place [] = []
 fieldWords place (t ∷ l) = record { place = place; parts = fieldParts t } ∷ fieldWords (suc (place + length (quotedField t))) l
 
--- READING A FIELD
+-- READING A FIELD IN SINGLE QUOTES
 
 -- a byte of a run
 run-byte : (b : ℕ) (t : Text) (d : ℕ) → eqb b 39 ≡ false → parts single d (b ∷ t) ≡ put (lit unescaped b) (parts single d t)
@@ -67,7 +89,7 @@ unfolding item readItem
 escaped-quote t d = parts-item (word begun) d (92 ∷ 39 ∷ t) refl
 
 -- what ends a quoted field: the line's end, or a blank
-data EndsField : Text → Type 0 where
+pub data EndsField : Text → Type 0 where
   line : EndsField []
   blank : (t : Text) → EndsField (32 ∷ t)
 
@@ -76,12 +98,12 @@ unfolding item readItem
 word-end t d line = parts-item (word begun) d [] refl
 word-end t d (blank u) = parts-item (word begun) d (32 ∷ u) refl
 
--- a quoted field in front of a text
-field-append : (t rest : Text) → quotedField t ++ rest ≡ 39 ∷ quotedBytes t ++ 39 ∷ rest
-unfolding quotedField
-field-append t rest = ap {B = Text} (λ u. 39 ∷ u) (append-assoc (quotedBytes t) (39 ∷ []) rest)
+-- a field in single quotes in front of a text
+singled-append : (t rest : Text) → written singled t ++ rest ≡ 39 ∷ quotedBytes t ++ 39 ∷ rest
+unfolding written
+singled-append t rest = ap {B = Text} (λ u. 39 ∷ u) (append-assoc (quotedBytes t) (39 ∷ []) rest)
 
--- the text behind the first run of a quoted field
+-- the text behind the first run of a field in single quotes
 abbrev behind : Text → Text → Text
 behind [] rest = rest
 behind (b ∷ t) rest = pick (eqb b 39) (text "\\''" ++ quotedBytes t ++ 39 ∷ rest) (behind t rest)
@@ -92,7 +114,7 @@ module _ (rest : Text) (d : ℕ) (ends : EndsField rest) where
     others : parts (word begun) d (behind t rest) ≡ done (runs t .1, rest)
 
   -- a field whose runs are read is read
-  whole : (s : Start) (t : Text) → Run t → parts (word s) d (39 ∷ quotedBytes t ++ 39 ∷ rest) ≡ done (fieldParts t, rest)
+  whole : (s : Start) (t : Text) → Run t → parts (word s) d (39 ∷ quotedBytes t ++ 39 ∷ rest) ≡ done (wayParts singled t, rest)
   whole s t r = run-opens s (quotedBytes t ++ 39 ∷ rest) d ∙ rw (r .first, r .others)
 
   run-quote : (t : Text) → Run t → Run (39 ∷ t)
@@ -106,22 +128,107 @@ module _ (rest : Text) (d : ℕ) (ends : EndsField rest) where
   unfolding quotedBytes
   run-other b t e r = record { first = rw (e, quotedBytes, run-byte b (quotedBytes t ++ 39 ∷ rest) d e, r .first); others = rw (e, r .others) }
 
-  -- a quoted field is one word
-  field-reads : (t : Text) → parts (word fresh) d (quotedField t ++ rest) ≡ done (fieldParts t, rest)
+  -- a field in single quotes is one word
+  singled-reads : (t : Text) → parts (word fresh) d (written singled t ++ rest) ≡ done (wayParts singled t, rest)
   unfolding quotedBytes
-  field-reads t =
-      ap (parts (word fresh) d) (field-append t rest)
+  singled-reads t =
+      ap (parts (word fresh) d) (singled-append t rest)
       ∙ whole fresh t (by-quotes Run (record { first = run-end rest d; others = word-end rest d ends }) run-quote run-other t)
+
+-- READING A BARE FIELD
+
+bare-byte : (s : Start) (d b : ℕ) (t : Text) → Plain b → parts (word s) d (b ∷ t) ≡ put (lit unescaped b) (parts (word begun) d t)
+unfolding sort beginsTilde item itemOf readItem
+bare-byte fresh d b t p =
+    parts-item (word fresh) d (b ∷ t) {i = byte unescaped b 0}
+    (rw (p .tilde, p .backquote, p .blank, p .operator, p .quote, p .quote2, p .backslash, p .dollar))
+bare-byte begun d b t p =
+    parts-item (word begun) d (b ∷ t) {i = byte unescaped b 0}
+    (rw (p .backquote, p .blank, p .operator, p .quote, p .quote2, p .backslash, p .dollar))
+
+bare-rest : (t rest : Text) (d : ℕ) → EndsField rest → all isBareByte t ≡ true → parts (word begun) d (t ++ rest) ≡ done (bareParts t, rest)
+bare-rest [] rest d ends e = word-end rest d ends
+bare-rest (b ∷ t) rest d ends e =
+    bare-byte begun d b (t ++ rest) (bare-plain b (and-left (isBareByte b) (all isBareByte t) e))
+    ∙ rw (bare-rest t rest d ends (and-right (isBareByte b) (all isBareByte t) e))
+
+bare-reads : (b : ℕ) (t rest : Text) (d : ℕ) → EndsField rest → all isBareByte (b ∷ t) ≡ true → parts (word fresh) d (b ∷ t ++ rest) ≡ done
+    (bareParts (b ∷ t), rest)
+bare-reads b t rest d ends e =
+    bare-byte fresh d b (t ++ rest) (bare-plain b (and-left (isBareByte b) (all isBareByte t) e))
+    ∙ rw (bare-rest t rest d ends (and-right (isBareByte b) (all isBareByte t) e))
+
+-- THE BYTES OF PARTS in which nothing is expanded
+abbrev pub plainBytes : Parts → Text
+plainBytes end = []
+plainBytes (lit q b p) = b ∷ plainBytes p
+plainBytes (quo q p) = plainBytes q ++ plainBytes p
+plainBytes (par x f q p) = []
+plainBytes (len x p) = []
+plainBytes (ari q p) = []
+plainBytes (til x p) = []
+
+bare-bytes : (t : Text) → plainBytes (bareParts t) ≡ t
+bare-bytes [] = refl
+bare-bytes (b ∷ t) = ap {B = Text} (λ s. b ∷ s) (bare-bytes t)
+
+singled-bytes : (t : Text) → plainBytes (wayParts singled t) ≡ t
+singled-bytes t =
+    by-quotes (λ u. plainBytes (wayParts singled u) ≡ u) refl (λ u h. ap {B = Text} (λ s. 39 ∷ s) h)
+    (λ b u e h. rw e (ap {B = Text} (λ s. b ∷ s) h)) t
+
+-- THE WORD: w is one word of the line, which begins no other way; before a blank or the line's end it is read as these parts, and they have the field's bytes
+pub record OneWord (t w : Text) (p : Parts) : Type 0 where
+  pub first : ℕ
+  pub others : Text
+  pub whole : w ≡ first ∷ others
+  pub blank : isBlank first ≡ false
+  pub operator : (isOperator first || eqb first 35) ≡ false
+  pub reads : (rest : Text) (d : ℕ) → EndsField rest → parts (word fresh) d (w ++ rest) ≡ done (p, rest)
+  pub bytes : plainBytes p ≡ t
+
+-- whichever way a field is written, it is one word of that field
+pub one-word : {way : Way} {t : Text} → Allows way t → OneWord t (written way t) (wayParts way t)
+unfolding written isBlank isOperator isBare
+one-word {t = t} as-singled = record {
+  first = 39;
+  others = quotedBytes t ++ 39 ∷ [];
+  whole = refl;
+  blank = refl;
+  operator = refl;
+  reads = λ rest d ends. singled-reads rest d ends t;
+  bytes = singled-bytes t;
+}
+one-word {t = []} (as-bare e) = absurd (apart refl e)
+one-word {t = b ∷ t} (as-bare e) =
+    let p = bare-plain b (and-left (isBareByte b) (all isBareByte t) e) in
+    record {
+      first = b;
+      others = t;
+      whole = refl;
+      blank = p .blank;
+      operator = rw (p .operator, p .hash);
+      reads = λ rest d ends. bare-reads b t rest d ends e;
+      bytes = bare-bytes (b ∷ t);
+    }
+
+field-word : (t : Text) → OneWord t (quotedField t) (fieldParts t)
+unfolding quotedField
+field-word t = one-word (allowed t)
 
 -- READING THE LINE
 
--- a quoted field in front of what is read behind it
-field-words : (place : ℕ) (t rest : Text) (ws : List Word) → EndsField rest → words (place + length (quotedField t), rest) ≡ doneAt ws
-    → words (place, quotedField t ++ rest) ≡ doneAt (record { place = place; parts = fieldParts t } ∷ ws)
-unfolding wordAt quotedField isBlank isOperator
-field-words place t rest ws ends e =
-    let k : length (quotedField t ++ rest) - length rest ≡ length (quotedField t) = simp length-append (omega arith) in
-    words-word place 39 (quotedBytes t ++ 39 ∷ [] ++ rest) refl refl ∙ rw (field-reads rest depthLimit ends t, k, e)
+-- a word in front of what is read behind it
+word-words : {t w : Text} {p : Parts} → OneWord t w p → (place : ℕ) (rest : Text) (ws : List Word) → EndsField rest → words
+    (place + length w, rest) ≡ doneAt ws
+    → words (place, w ++ rest) ≡ doneAt (record { place = place; parts = p } ∷ ws)
+unfolding wordAt
+word-words {w = w} o place rest ws ends e =
+    let k : length (w ++ rest) - length rest ≡ length w = simp length-append (omega arith) in
+    let h : words (place, w ++ rest) ≡ wordAt words place (w ++ rest) =
+    ap (λ u. words (place, u ++ rest)) (o .whole) ∙ words-word place (o .first) (o .others ++ rest) (o .blank) (o .operator)
+    ∙ ap (λ u. wordAt words place (u ++ rest)) (sym (o .whole)) in
+    h ∙ rw (o .reads rest depthLimit ends, k, e)
 
 blanked-ends : (l : List Text) → EndsField (blanked l)
 unfolding blanked
@@ -133,7 +240,7 @@ unfolding blanked isBlank
 blanked-reads place [] = words-end place
 blanked-reads place (t ∷ l) =
     words-blank place 32 (quotedField t ++ blanked l) refl
-    ∙ field-words (suc place) t (blanked l) (fieldWords (suc (suc place + length (quotedField t))) l) (blanked-ends l)
+    ∙ word-words (field-word t) (suc place) (blanked l) (fieldWords (suc (suc place + length (quotedField t))) l) (blanked-ends l)
     (blanked-reads (suc place + length (quotedField t)) l)
 
 -- THE READING: a quoted line is read as its fields' words
@@ -141,32 +248,18 @@ pub quoted-reads : (l : List Text) → readLine (quotedLine l) ≡ doneAt (field
 unfolding readLine quotedLine
 quoted-reads [] = words-end 0
 quoted-reads (t ∷ l) =
-    field-words 0 t (blanked l) (fieldWords (suc (0 + length (quotedField t))) l) (blanked-ends l) (blanked-reads (0 + length (quotedField t)) l)
+    word-words (field-word t) 0 (blanked l) (fieldWords (suc (0 + length (quotedField t))) l) (blanked-ends l)
+    (blanked-reads (0 + length (quotedField t)) l)
 
 -- TWO LISTS, ONE LINE
-
--- the bytes of parts in which nothing is expanded
-abbrev plainBytes : Parts → Text
-plainBytes end = []
-plainBytes (lit q b p) = b ∷ plainBytes p
-plainBytes (quo q p) = plainBytes q ++ plainBytes p
-plainBytes (par x f q p) = []
-plainBytes (len x p) = []
-plainBytes (ari q p) = []
-plainBytes (til x p) = []
 
 abbrev wordTexts : List Word → List Text
 wordTexts [] = []
 wordTexts (w ∷ ws) = plainBytes (w .parts) ∷ wordTexts ws
 
--- a field's parts have its bytes
-parts-bytes : (t : Text) → plainBytes (fieldParts t) ≡ t
-parts-bytes t =
-    by-quotes (λ u. plainBytes (fieldParts u) ≡ u) refl (λ u h. ap {B = Text} (λ s. 39 ∷ s) h) (λ b u e h. rw e (ap {B = Text} (λ s. b ∷ s) h)) t
-
 words-texts : (place : ℕ) (l : List Text) → wordTexts (fieldWords place l) ≡ l
 words-texts place [] = refl
-words-texts place (t ∷ l) = rw (parts-bytes t, words-texts (suc (place + length (quotedField t))) l)
+words-texts place (t ∷ l) = rw (field-word t .bytes, words-texts (suc (place + length (quotedField t))) l)
 
 -- "Two lists of fields have one quoted line only when they are the same list."
 pub quoted-injective : (l m : List Text) → quotedLine l ≡ quotedLine m → l ≡ m

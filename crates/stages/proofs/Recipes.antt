@@ -139,6 +139,13 @@ quoted-example : quotedLine (textsOf ("it's" ∷ "" ∷ "a b" ∷ [])) ≡ text 
 unfolding quotedLine
 quoted-example = refl
 
+-- E2: "write a field bare when it is not empty and holds only letters, digits, `.`, `_`, `-` and `/`; all other fields as before"
+mixed-example :
+    quotedLine (textsOf ("cp" ∷ "-r" ∷ "north field" ∷ "/home/crew/P_09.raw" ∷ "" ∷ "~crew" ∷ "a*" ∷ "x@z" ∷ "[a" ∷ "{a" ∷ "é" ∷ "." ∷ []))
+    ≡ text "cp -r 'north field' /home/crew/P_09.raw '' '~crew' 'a*' 'x@z' '[a' '{a' 'é' ."
+unfolding quotedLine
+mixed-example = refl
+
 -- the number that a line is refused with, or 100 and the count of its fields
 verdict : Placed (Fields × Pairs) → ℕ
 verdict (refusedAt n o) = n

@@ -1,6 +1,6 @@
 -- Demand 3 over the stages, its expansion: a quoted line of at most 2,048 bytes expands under any tables to exactly its fields and changes no variable. Each
--- word's row has only quoted bytes and empty marks: no more units than the field has bytes in the line, nothing to split at, nothing active.
-use Prim.Native.Nat.{ℕ, suc, _+_, _≤_}
+-- word's row is quiet, and has no more units than the field has bytes in the line.
+use Prim.Native.Nat.{ℕ, suc, _+_, _*_, _≤_}
 use native.Mathlib.Omega.{arith}
 use mathlib.Core.Path.{_≡_, refl, ap, _∙_}
 use mathlib.Core.Bool.{true, false}
@@ -9,34 +9,35 @@ use lib.Dec.{eqb}
 use lib.ListN.{length, length-append}
 use borrow.Author.Tests.{le-leb, leb-true, ne-eqb}
 use Rattle.stages.specs.Numbers.{rowLimit, lineLimit, imageLimit}
-use Rattle.stages.specs.Bytes.{Text, text, isIn, all, notZero}
+use Rattle.stages.specs.Bytes.{Text, isIn, all, notZero, isBareByte}
 use Rattle.stages.specs.Outcome.{done, doneAt, pick}
-use Rattle.stages.specs.Images.{Pairs, lookup, recordBytes, imageLength}
+use Rattle.stages.specs.Images.{Pairs, recordBytes, imageLength}
 use Rattle.stages.specs.Syntax.{Parts, Word}
 use Rattle.stages.specs.Read.{readLine}
-use Rattle.stages.specs.Units.{L, Q, cell, N, Row, bytes}
+use Rattle.stages.specs.Units.{L, Q, cell, N, Row, marked, bytes}
 use Rattle.stages.specs.Expand.{Lent, expand}
-use Rattle.stages.specs.Split.{dropWhite, dropHard, otherRun, fieldsStep, fieldsFrom, split, ifsOr, fieldsOfRow}
-use Rattle.stages.specs.Pattern.{signs, elements, hasClass, pattern}
-use Rattle.stages.specs.Paths.{active, pathsFor, textsOfFields}
-use Rattle.stages.specs.Quote.{quotedBytes, quotedField, quotedLine, blanked}
+use Rattle.stages.specs.Split.{fieldsOfRow}
+use Rattle.stages.specs.Paths.{textsOfFields}
+use Rattle.stages.specs.Quote.{Way, singled, isBare, quotedBytes, written, quotedField, quotedLine, blanked}
 use Rattle.stages.specs.Line.{Around, Fields, wordFields, expandWords, expandLine, outFits}
-use Rattle.stages.proofs.Bools.{and-left, and-right, and-both}
+use Rattle.stages.proofs.Bools.{apart, and-left, and-right, and-both}
 use Rattle.stages.proofs.Texts.{all-append}
 use Rattle.stages.proofs.Images.{Fine}
 use Rattle.stages.proofs.Rooms.{fit-ok}
-use Rattle.stages.proofs.Split.{fields-from}
-use Rattle.stages.proofs.Quoted.{by-quotes, runs, fieldParts, fieldWords, quoted-reads}
+use Rattle.stages.proofs.Quoted.{by-quotes, runs, bareParts, wayParts, fieldParts, fieldWords, quoted-reads}
+use Rattle.stages.proofs.Quoted.{Allows, as-bare, as-singled, allowed}
+use Rattle.stages.proofs.Plain.{Plain, bare-plain}
+use Rattle.stages.proofs.Quiet.{Quiet, no-units, a-mark, a-byte, quiet-fields, bare-quiet, marked-bytes}
 
 -- THE ROW OF A FIELD
 
--- the units of a field's first run, and those behind it
+-- the units of the first run of a field in single quotes, and those behind it
 abbrev rows : Text → Row × Row
 rows [] = ([], [])
 rows (b ∷ t) = pick (eqb b 39) ([], cell Q b ∷ N ∷ rows t .0 ++ rows t .1) (cell Q b ∷ rows t .0, rows t .1)
 
-abbrev fieldRow : Text → Row
-fieldRow t = N ∷ rows t .0 ++ rows t .1
+abbrev singledRow : Text → Row
+singledRow t = N ∷ rows t .0 ++ rows t .1
 
 -- a field's parts expand to its row, behind n units
 module _ (a : Lent) (v : Pairs) where
@@ -44,7 +45,8 @@ module _ (a : Lent) (v : Pairs) where
     first : (n : ℕ) → n + length (rows t .0) ≤ rowLimit → expand a (runs t .0) Q n v ≡ done (rows t .0, v)
     others : (n : ℕ) → n + length (rows t .1) ≤ rowLimit → expand a (runs t .1) L n v ≡ done (rows t .1, v)
 
-  whole : (t : Text) → Gives t → (n : ℕ) → n + length (fieldRow t) ≤ rowLimit → expand a (fieldParts t) L n v ≡ done (fieldRow t, v)
+  whole : (t : Text) → Gives t → (n : ℕ) → n + length (singledRow t) ≤ rowLimit → expand a (wayParts singled t) L n v ≡ done
+      (singledRow t, v)
   unfolding expand
   whole t g n h =
       let e : length (rows t .0 ++ rows t .1) ≡ length (rows t .0) + length (rows t .1) = length-append (rows t .0) (rows t .1) in
@@ -68,15 +70,15 @@ module _ (a : Lent) (v : Pairs) where
     others = rw e (g .others);
   }
 
-  field-expands : (t : Text) → length (fieldRow t) ≤ rowLimit → expand a (fieldParts t) L 0 v ≡ done (fieldRow t, v)
+  singled-expands : (t : Text) → length (singledRow t) ≤ rowLimit → expand a (wayParts singled t) L 0 v ≡ done (singledRow t, v)
   unfolding expand
-  field-expands t h = whole t (by-quotes Gives (record { first = λ n h. refl; others = λ n h. refl }) gives-quote gives-other t) 0 (omega arith)
+  singled-expands t h = whole t (by-quotes Gives (record { first = λ n h. refl; others = λ n h. refl }) gives-quote gives-other t) 0 (omega arith)
 
--- only quoted bytes and empty marks
-data Quiet : Row → Type 0 where
-  no-units : Quiet []
-  a-mark : {r : Row} → Quiet r → Quiet (N ∷ r)
-  a-byte : {b : ℕ} {r : Row} → Quiet r → Quiet (cell Q b ∷ r)
+  -- those of a bare field
+  bare-expands : (t : Text) (n : ℕ) → n + length t ≤ rowLimit → expand a (bareParts t) L n v ≡ done (marked L t, v)
+  unfolding expand marked
+  bare-expands [] n h = refl
+  bare-expands (b ∷ t) n h = rw (fit-ok n 1 (omega arith), bare-expands t (n + 1) (omega arith))
 
 rows-quiet : (t : Text) → Quiet (rows t .0 ++ rows t .1)
 rows-quiet t = by-quotes (λ u. Quiet (rows u .0 ++ rows u .1)) no-units (λ u q. a-byte (a-mark q)) (λ b u e q. rw e (a-byte q)) t
@@ -87,7 +89,7 @@ rows-bytes t =
     by-quotes (λ u. bytes (rows u .0 ++ rows u .1) ≡ u) refl (λ u h. ap {B = Text} (λ s. 39 ∷ s) h)
     (λ b u e h. rw e (ap {B = Text} (λ s. b ∷ s) h)) t
 
--- how long a field is in the line: longer than its bytes, and than its row
+-- how long a field is in its quotes: longer than its bytes, and than its row
 record Lengths (t : Text) : Type 0 where
   bytes-fit : length t ≤ length (quotedBytes t)
   row-fits : length (rows t .0 ++ rows t .1) ≤ length (quotedBytes t)
@@ -102,49 +104,11 @@ lengths t =
     by-quotes Lengths (record { bytes-fit = omega arith; row-fits = omega arith })
     (λ u r. record { bytes-fit = omega (arith, r .bytes-fit); row-fits = omega (arith, r .row-fits) }) lengths-other t
 
-field-length : (t : Text) → length (quotedField t) ≡ suc (length (quotedBytes t) + 1)
-unfolding quotedField
-field-length t = simp length-append (omega arith)
+singled-length : (t : Text) → length (written singled t) ≡ suc (length (quotedBytes t) + 1)
+unfolding written
+singled-length t = simp length-append (omega arith)
 
-row-fits-field : (t : Text) → length (fieldRow t) ≤ length (quotedField t)
-row-fits-field t = rw (field-length t) (omega (arith, lengths t .row-fits))
-
--- SPLITTING AND PATTERNS
-
-quiet-run : (ifs : Text) {r : Row} → Quiet r → otherRun ifs r ≡ (r, [])
-unfolding otherRun
-quiet-run ifs no-units = refl
-quiet-run ifs (a-mark q) = rw (quiet-run ifs q)
-quiet-run ifs (a-byte q) = rw (quiet-run ifs q)
-
--- a row that begins with an empty mark is one field
-quiet-split : (ifs : Text) {r : Row} → Quiet r → split ifs (N ∷ r) ≡ (N ∷ r) ∷ []
-unfolding split fieldsFrom fieldsStep otherRun dropWhite dropHard
-quiet-split ifs {r} q = fields-from ifs (N ∷ r) ∙ rw (quiet-run ifs q)
-
-quiet-field : (v : Pairs) {r : Row} → Quiet r → fieldsOfRow v (N ∷ r) ≡ (N ∷ r) ∷ []
-unfolding fieldsOfRow
-quiet-field v q = quiet-split (ifsOr (lookup (text "IFS") v)) q
-
--- no bracket class, nothing active
-quiet-class : {r : Row} → Quiet r → hasClass true 0 (signs r) ≡ false
-unfolding hasClass signs
-quiet-class no-units = refl
-quiet-class (a-mark q) = quiet-class q
-quiet-class (a-byte q) = quiet-class q
-
-quiet-active : {r : Row} → Quiet r → active (elements true 0 (signs r)) ≡ false
-unfolding active elements signs
-quiet-active no-units = refl
-quiet-active (a-mark q) = quiet-active q
-quiet-active (a-byte q) = quiet-active q
-
--- its field is its own bytes
-quiet-named : (paths : List Text) {r : Row} → Quiet r → textsOfFields paths (r ∷ []) ≡ done (bytes r ∷ [])
-unfolding textsOfFields pattern pathsFor
-quiet-named paths q = rw (quiet-class q, pattern, quiet-active q, pathsFor)
-
--- THE LINE
+-- THE FIELD
 
 -- a word's row and its fields make the word
 word-steps : (a : Around) (p : Parts) (v w : Pairs) (r : Row) (l : Fields) → expand (a .lent) p L 0 v ≡ done (r, w)
@@ -152,17 +116,54 @@ word-steps : (a : Around) (p : Parts) (v w : Pairs) (r : Row) (l : Fields) → e
 unfolding wordFields
 word-steps a p v w r l e f = rw (e, f)
 
--- one word: a quoted field becomes that field, and nothing is stored
-field-row : (a : Around) (t : Text) (v : Pairs) → length (quotedField t) ≤ lineLimit → expand (a .lent) (fieldParts t) L 0 v ≡ done
-    (fieldRow t, v)
-field-row a t v h = field-expands (a .lent) v t (omega (arith, row-fits-field t))
+-- no zero byte comes into quotes
+bytes-fine : (t : Text) → all notZero t ≡ true → all notZero (quotedBytes t) ≡ true
+unfolding quotedBytes
+bytes-fine t =
+    by-quotes (λ u. all notZero u ≡ true → all notZero (quotedBytes u) ≡ true) (λ e. refl) (λ u h e. h e)
+    (λ b u n h e. rw (n, quotedBytes) (and-both (and-left (notZero b) (all notZero u) e) (h (and-right (notZero b) (all notZero u) e)))) t
 
-field-named : (a : Around) (t : Text) (v : Pairs) → textsOfFields (a .paths) (fieldsOfRow v (fieldRow t)) ≡ done (t ∷ [])
-unfolding bytes
-field-named a t v = rw (quiet-field v (rows-quiet t), quiet-named (a .paths) (a-mark (rows-quiet t)), rows-bytes t)
+-- A field t that is written as w and read as the parts p becomes that one field under any tables, and nothing is stored. It brings no zero byte into the line,
+-- and its record is at most twice as long as it and a blank: a bare byte has three bytes in an image.
+pub record OneField (t w : Text) (p : Parts) : Type 0 where
+  pub expands : (a : Around) (v : Pairs) → length w ≤ lineLimit → wordFields a p v ≡ done (t ∷ [], v)
+  pub clean : all notZero t ≡ true → all notZero w ≡ true
+  pub long : 2 + length t ≤ 2 * suc (length w)
 
-word-expands : (a : Around) (t : Text) (v : Pairs) → length (quotedField t) ≤ lineLimit → wordFields a (fieldParts t) v ≡ done (t ∷ [], v)
-word-expands a t v h = word-steps a (fieldParts t) v v (fieldRow t) (t ∷ []) (field-row a t v h) (field-named a t v)
+module _ (a : Around) (v : Pairs) where
+  singled-row : (t : Text) → length (written singled t) ≤ lineLimit → expand (a .lent) (wayParts singled t) L 0 v ≡ done (singledRow t, v)
+  singled-row t h = singled-expands (a .lent) v t (omega (arith, singled-length t, lengths t .row-fits))
+
+  singled-becomes : (t : Text) → length (written singled t) ≤ lineLimit → wordFields a (wayParts singled t) v ≡ done (t ∷ [], v)
+  unfolding bytes
+  singled-becomes t h =
+      word-steps a (wayParts singled t) v v (singledRow t) (t ∷ []) (singled-row t h)
+      (quiet-fields (a .paths) v (a-mark (rows-quiet t)) ∙ rw (rows-bytes t))
+
+  bare-becomes : (b : ℕ) (t : Text) → all isBareByte (b ∷ t) ≡ true → length (b ∷ t) ≤ lineLimit → wordFields a (bareParts (b ∷ t)) v ≡ done
+      ((b ∷ t) ∷ [], v)
+  unfolding marked
+  bare-becomes b t e h =
+      word-steps a (bareParts (b ∷ t)) v v (marked L (b ∷ t)) ((b ∷ t) ∷ [])
+      (bare-expands (a .lent) v (b ∷ t) 0 (omega arith))
+      (quiet-fields (a .paths) v (bare-quiet (b ∷ t) e) ∙ rw (marked-bytes L (b ∷ t)))
+
+-- whichever way a field is written, it becomes that field
+pub one-field : {way : Way} {t : Text} → Allows way t → OneField t (written way t) (wayParts way t)
+unfolding written isBare
+one-field {t = t} as-singled = record {
+  expands = λ a v h. singled-becomes a v t h;
+  clean = λ e. all-append notZero (quotedBytes t) (39 ∷ []) (bytes-fine t e) refl;
+  long = omega (arith, singled-length t, lengths t .bytes-fit);
+}
+one-field {t = []} (as-bare e) = absurd (apart refl e)
+one-field {t = b ∷ t} (as-bare e) = record { expands = λ a v h. bare-becomes a v b t e h; clean = λ k. k; long = omega arith }
+
+field-becomes : (t : Text) → OneField t (quotedField t) (fieldParts t)
+unfolding quotedField
+field-becomes t = one-field (allowed t)
+
+-- THE LINE
 
 -- there is room in the output
 out-ok : (a : Around) (n : ℕ) → n ≤ a .out → n ≤ imageLimit → outFits a n ≡ true
@@ -189,7 +190,7 @@ words-expand a (t ∷ l) place n v b h k =
     let i′ : n + (2 + length t + 0) + recordBytes l ≤ a .out = omega arith in
     let j′ : n + (2 + length t + 0) + recordBytes l ≤ imageLimit = omega arith in
     rw (
-      word-expands a t v c,
+      field-becomes t .expands a v c,
       out-ok a (n + (2 + length t + 0)) i j,
       words-expand a l (suc (place + length (quotedField t))) (n + (2 + length t + 0)) v d i′ j′,
     )
@@ -202,15 +203,8 @@ no-zero (b ∷ t) e =
     let h : 1 ≤ b = leb-true 1 b (and-left (notZero b) (all notZero t) e) in
     rw (ne-eqb 0 b (λ z. omega arith)) (no-zero t (and-right (notZero b) (all notZero t) e))
 
-bytes-fine : (t : Text) → all notZero t ≡ true → all notZero (quotedBytes t) ≡ true
-unfolding quotedBytes
-bytes-fine t =
-    by-quotes (λ u. all notZero u ≡ true → all notZero (quotedBytes u) ≡ true) (λ e. refl) (λ u h e. h e)
-    (λ b u n h e. rw (n, quotedBytes) (and-both (and-left (notZero b) (all notZero u) e) (h (and-right (notZero b) (all notZero u) e)))) t
-
 field-fine : (t rest : Text) → all notZero t ≡ true → all notZero rest ≡ true → all notZero (quotedField t ++ rest) ≡ true
-unfolding quotedField
-field-fine t rest e h = all-append notZero (quotedField t) rest (all-append notZero (quotedBytes t) (39 ∷ []) (bytes-fine t e) refl) h
+field-fine t rest e h = all-append notZero (quotedField t) rest (field-becomes t .clean e) h
 
 blanked-fine : (l : List Text) → Fine l → all notZero (blanked l) ≡ true
 unfolding blanked
@@ -222,18 +216,18 @@ unfolding quotedLine
 quoted-fine [] f = refl
 quoted-fine (t ∷ l) f = field-fine t (blanked l) (f .0) (blanked-fine l (f .1))
 
--- the image of the fields is hardly longer than their line
-blanked-image : (l : List Text) → recordBytes l ≤ length (blanked l)
+-- the image of the fields is hardly longer than twice their line
+blanked-image : (l : List Text) → recordBytes l ≤ 2 * length (blanked l)
 unfolding recordBytes blanked
 blanked-image [] = omega arith
-blanked-image (t ∷ l) = rw (blanked-length t l, field-length t) (omega (arith, lengths t .bytes-fit, blanked-image l))
+blanked-image (t ∷ l) = rw (blanked-length t l) (omega (arith, field-becomes t .long, blanked-image l))
 
 blanked-line : (l : List Text) → length (blanked l) ≤ suc (length (quotedLine l))
 unfolding blanked quotedLine
 blanked-line [] = omega arith
 blanked-line (t ∷ l) = omega arith
 
-pub quoted-image : (l : List Text) → imageLength l ≤ 2 + length (quotedLine l)
+pub quoted-image : (l : List Text) → imageLength l ≤ 3 + 2 * length (quotedLine l)
 unfolding imageLength
 quoted-image l = omega (arith, blanked-image l, blanked-line l)
 
