@@ -3,9 +3,9 @@ use Prim.Native.Nat.{ℕ, _≤_}
 use mathlib.Core.Path.{_≡_}
 use mathlib.Core.Bool.{Bool, true, false}
 use lib.ListN.{length, drop}
-use Rattle.stages.specs.Bytes.{Text, part, span, notZero, isDigit, isNameStart, isNameByte, isLoginByte, isBlank, isOperator}
+use Rattle.stages.specs.Bytes.{Text, part, span, notZero, isDigit, isNameStart, isNameByte, isLoginByte, isBareByte, isBlank, isOperator}
 use Rattle.text.specs.declared.Class.{Class}
-use Rattle.text.specs.declared.Class.the-variants.{NotZero, Digit, NameStart, NameByte, LoginByte, Blank, Operator}
+use Rattle.text.specs.declared.Class.the-variants.{NotZero, Digit, NameStart, NameByte, LoginByte, BareByte, Blank, Operator}
 
 -- the test that a class stands for
 abbrev pub inClass : Class → ℕ → Bool
@@ -14,6 +14,7 @@ inClass Digit b = isDigit b
 inClass NameStart b = isNameStart b
 inClass NameByte b = isNameByte b
 inClass LoginByte b = isLoginByte b
+inClass BareByte b = isBareByte b
 inClass Blank b = isBlank b
 inClass Operator b = isOperator b
 
@@ -24,6 +25,7 @@ lowBytes Digit = 287948901175001088
 lowBytes NameStart = 0
 lowBytes NameByte = 287948901175001088
 lowBytes LoginByte = 288054454291267584
+lowBytes BareByte = 288195191779622912
 lowBytes Blank = 4294968832
 lowBytes Operator = 6341071848750448640
 
@@ -33,6 +35,7 @@ highBytes Digit = 0
 highBytes NameStart = 576460745995190270
 highBytes NameByte = 576460745995190270
 highBytes LoginByte = 576460745995190270
+highBytes BareByte = 576460745995190270
 highBytes Blank = 0
 highBytes Operator = 1152921504606846976
 
@@ -43,6 +46,7 @@ upperBytes Digit = false
 upperBytes NameStart = false
 upperBytes NameByte = false
 upperBytes LoginByte = false
+upperBytes BareByte = false
 upperBytes Blank = false
 upperBytes Operator = false
 

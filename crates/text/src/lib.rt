@@ -9,13 +9,14 @@ ghost use Rattle.text.specs.Orders.{orderOf};
 pub mod marks;
 pub mod numbers;
 
-// The classes of bytes that document 01 names.
+// The classes of bytes that documents 01 and 02 name.
 pub enum Class {
     NotZero,
     Digit,
     NameStart,
     NameByte,
     LoginByte,
+    BareByte,
     Blank,
     Operator,
 }
@@ -37,6 +38,7 @@ fn low_bytes(class: Class) -> u64
         Class::NameStart => 0x0000_0000_0000_0000,
         Class::NameByte => 0x03ff_0000_0000_0000,
         Class::LoginByte => 0x03ff_6000_0000_0000,
+        Class::BareByte => 0x03ff_e000_0000_0000,
         Class::Blank => 0x0000_0001_0000_0600,
         Class::Operator => 0x5800_0340_0000_0000,
     }
@@ -52,6 +54,7 @@ fn high_bytes(class: Class) -> u64
         Class::NameStart => 0x07ff_fffe_87ff_fffe,
         Class::NameByte => 0x07ff_fffe_87ff_fffe,
         Class::LoginByte => 0x07ff_fffe_87ff_fffe,
+        Class::BareByte => 0x07ff_fffe_87ff_fffe,
         Class::Blank => 0x0000_0000_0000_0000,
         Class::Operator => 0x1000_0000_0000_0000,
     }
@@ -67,6 +70,7 @@ fn upper_bytes(class: Class) -> bool
         Class::NameStart => false,
         Class::NameByte => false,
         Class::LoginByte => false,
+        Class::BareByte => false,
         Class::Blank => false,
         Class::Operator => false,
     }
