@@ -10,7 +10,7 @@ use lib.Seq.{drop-cons}
 use borrow.Author.Tests.{eq-eqb, ne-eqb}
 use Rattle.stages.specs.Bytes.{Text, text}
 use Rattle.stages.specs.Images.{recordBytes}
-use Rattle.stages.specs.Quote.{quotedBytes, quotedField, blanked}
+use Rattle.stages.specs.Quote.{Way, bare, singled, wayOf, quotedBytes, written, quotedField, blanked}
 use Rattle.stages.proofs.Bools.{either}
 use Rattle.stages.proofs.Images.{texts-length}
 use Rattle.table.proofs.Pieces.{Ahead}
@@ -53,13 +53,24 @@ unfolding quotedBytes
 bytes-small [] = omega arith
 bytes-small (b ∷ t) = rw (bytes-first b t, length-append) (omega (arith, byte-small b, bytes-small t))
 
-pub field-is : (t : Text) → quotedField t ≡ 39 ∷ quotedBytes t ++ (39 ∷ [])
-unfolding quotedField
-field-is t = refl
+-- a field, by its way
 
-pub field-length : (t : Text) → length (quotedField t) ≡ length (quotedBytes t) + 2
+pub singled-is : (t : Text) → written singled t ≡ 39 ∷ quotedBytes t ++ (39 ∷ [])
+unfolding written
+singled-is t = refl
+
+pub singled-length : (t : Text) → length (written singled t) ≡ length (quotedBytes t) + 2
+unfolding written
+singled-length t = simp length-append (omega arith)
+
+written-small : (way : Way) (t : Text) → length (written way t) ≤ 4 * length t + 2
+unfolding written
+written-small bare t = omega arith
+written-small singled t = omega (arith, singled-length t, bytes-small t)
+
+pub field-small : (t : Text) → length (quotedField t) ≤ 4 * length t + 2
 unfolding quotedField
-field-length t = simp length-append (omega arith)
+field-small t = written-small (wayOf t) t
 
 pub blanked-first : (t : Text) (l : List Text) → length (blanked (t ∷ l)) ≡ 1 + length (quotedField t) + length (blanked l)
 unfolding blanked
@@ -68,7 +79,7 @@ blanked-first t l = simp length-append (omega arith)
 blanked-records : (l : List Text) → length (blanked l) ≤ 4 * recordBytes l
 unfolding blanked recordBytes
 blanked-records [] = omega arith
-blanked-records (t ∷ l) = rw (blanked-first t l) (omega (arith, field-length t, bytes-small t, blanked-records l))
+blanked-records (t ∷ l) = rw (blanked-first t l) (omega (arith, field-small t, blanked-records l))
 
 -- the fields from a place of an image on
 pub blanked-small : {t : Text} {at : ℕ} {l : List Text} → Ahead t at l → length (blanked l) ≤ 4 * length t

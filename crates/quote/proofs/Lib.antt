@@ -1,3 +1,4 @@
+pub mod Ways
 pub mod Lengths
 pub mod Writing
 pub mod Walks

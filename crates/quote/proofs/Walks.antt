@@ -21,7 +21,7 @@ use Rattle.text.specs.Putting.{Puts}
 use Rattle.quote.specs.Rests.{Rest}
 use Rattle.text.proofs.Parts.{part-length}
 use Rattle.text.proofs.Filling.{Filling, fill-starts, fill-byte, fill-piece, fill-next, fill-fits, fill-ends}
-use Rattle.quote.proofs.Lengths.{bytes-small, field-length, blanked-small, blanked-first}
+use Rattle.quote.proofs.Lengths.{field-small, blanked-small, blanked-first}
 
 pub rest-ahead : {t : Text} {at : ℕ} → Rest t at → Ahead t at (textsFrom t at)
 rest-ahead r = record { within = r .within; is = r .is }
@@ -39,7 +39,7 @@ pub record Field (t : Text) (start end : ℕ) : Type 0 where
 field-of : (t : Text) (start end : ℕ) → length t ≤ imageLimit → start ≤ end → end ≤ length t → Field t start end
 field-of t start end n h k =
     let s : length (part t start end) ≤ imageLimit = omega (arith, part-length t start end h k) in
-    record { low = h; high = k; short = s; small = omega (arith, field-length (part t start end), bytes-small (part t start end)) }
+    record { low = h; high = k; short = s; small = omega (arith, field-small (part t start end)) }
 
 -- COUNTING: n bytes are counted, and the fields from `at` on are left
 pub record Counts (t : Text) (from at n : ℕ) : Type 0 where

@@ -1,4 +1,4 @@
--- One field in the buffer: a byte of it, and its quotes around its bytes. The byte 39 is `'`, 92 a backslash.
+-- One field in single quotes in the buffer: a byte of it, and its quotes around its bytes. The byte 39 is `'`, 92 a backslash.
 use Prim.Native.Nat.{ℕ, _+_, _-_, _≤_}
 use native.Mathlib.Omega.{arith}
 use mathlib.Core.Path.{_≡_, refl}
@@ -6,11 +6,11 @@ use mathlib.Core.List.{[], _∷_, _++_}
 use lib.ListN.{length, set}
 use borrow.Rule.Slice.PartMut.{putMid, midOf}
 use Rattle.stages.specs.Bytes.{Text, text}
-use Rattle.stages.specs.Quote.{quotedBytes, quotedField}
+use Rattle.stages.specs.Quote.{singled, quotedBytes, written}
 use Rattle.text.specs.Putting.{Puts}
 use Rattle.quote.specs.Rests.{quotedByte}
 use Rattle.text.proofs.Filling.{Filling, fill-starts, fill-byte, fill-piece, fill-ends}
-use Rattle.quote.proofs.Lengths.{byte-quote, byte-other, field-is}
+use Rattle.quote.proofs.Lengths.{byte-quote, byte-other, singled-is}
 
 -- `put_byte`
 
@@ -32,14 +32,14 @@ quote-put b out e h = rw (byte-quote b e) (fill-ends fourth refl)
     fourth : Filling (b ∷ text "\\''") [] out (set (set (set (set out 0 b) 1 92) 2 39) 3 39) 4
     fourth = fill-byte third 39 [] 4 refl refl
 
--- `put_field`: its first quote, its bytes, its last quote
-module _ (t out : Text) (h : length (quotedField t) ≤ length out) where
-  pub field-opened : Filling (quotedField t) (quotedBytes t ++ (39 ∷ [])) out (set out 0 39) 1
-  field-opened = fill-byte (fill-starts (quotedField t) out h) 39 (quotedBytes t ++ (39 ∷ [])) 1 (field-is t) refl
+-- `put_singled`: its first quote, its bytes, its last quote
+module _ (t out : Text) (h : length (written singled t) ≤ length out) where
+  pub field-opened : Filling (written singled t) (quotedBytes t ++ (39 ∷ [])) out (set out 0 39) 1
+  field-opened = fill-byte (fill-starts (written singled t) out h) 39 (quotedBytes t ++ (39 ∷ [])) 1 (singled-is t) refl
 
   module _ (ys : Text) (n : ℕ) (p : Puts (quotedBytes t) (midOf 1 (length (set out 0 39) - 1) (set out 0 39)) ys n) where
-    pub field-inside : Filling (quotedField t) (39 ∷ []) out (putMid 1 (length (set out 0 39) - 1) (set out 0 39) ys) (n + 1)
+    pub field-inside : Filling (written singled t) (39 ∷ []) out (putMid 1 (length (set out 0 39) - 1) (set out 0 39) ys) (n + 1)
     field-inside = fill-piece field-opened (quotedBytes t) (39 ∷ []) ys n (n + 1) refl p (omega arith)
 
-    pub field-closed : Filling (quotedField t) [] out (set (putMid 1 (length (set out 0 39) - 1) (set out 0 39) ys) (n + 1) 39) (n + 2)
+    pub field-closed : Filling (written singled t) [] out (set (putMid 1 (length (set out 0 39) - 1) (set out 0 39) ys) (n + 1) 39) (n + 2)
     field-closed = fill-byte field-inside 39 [] (n + 2) refl (omega arith)

@@ -1,20 +1,22 @@
-// The quoter: a fields image becomes one line, each field in single quotes. The line is counted first, so that nothing is written unless all of it has
-// room; then it is written once. Counting and writing have a function for each stage of the quoted line: a byte, a field's bytes, a field, the fields
-// behind the first, the line. The way of one field is known to `field_length` and `put_field` alone.
+// The quoter: a fields image becomes one line, each field bare or in single quotes. The line is counted first, so that nothing is written unless all of it
+// has room; then it is written once. Counting and writing have a function for each stage of the quoted line: a byte, a field's bytes, a field, the fields
+// behind the first, the line. `way_of` alone chooses the way of a field, and `field_length` and `put_field` alone ask it.
 ghost use mathlib.Core.Path.{_≡_};
 ghost use Prim.Native.Nat.{_≤_};
 ghost use lib.ListN.{length};
 ghost use Rattle.stages.specs.Numbers.{imageLimit};
 ghost use mathlib.Core.Option.{some};
 ghost use Rattle.stages.specs.Images.{fieldsOf, heldTexts};
-ghost use Rattle.stages.specs.Quote.{quotedBytes, quotedField, blanked, quotedLine};
+ghost use Rattle.stages.specs.Quote.{singled, wayOf, quotedBytes, written, quotedField, blanked, quotedLine};
 ghost use Rattle.stages.specs.Call.{quoter};
 ghost use Rattle.text.specs.Putting.{Puts};
 ghost use Rattle.table.specs.Pieces.{textsFrom};
 ghost use Rattle.quote.specs.Answers.{quotingOf};
+ghost use Rattle.quote.specs.Ways.{wayIs};
 ghost use Rattle.quote.specs.Rests.{quotedByte, Rest};
 use table::Kind;
 use table::Piece;
+use text::Class;
 use text::numbers;
 
 // What the quoter answers.
@@ -27,13 +29,35 @@ pub enum Quoted {
     NoRoom,
 }
 
+// The ways of writing a field.
+enum Way {
+    // As it is.
+    Bare,
+    // In single quotes.
+    Singled,
+}
+
 const QUOTE: u8 = b'\'';
 
 const BACKSLASH: u8 = b'\\';
 
 const BLANK: u8 = b' ';
 
-// How many bytes a byte of a field takes.
+// The way in which a field is written: bare if it is not empty and holds only letters, digits, `.`, `_`, `-` and `/`, else in single quotes.
+fn way_of(field: &[u8]) -> Way
+    ensures { λ r. ⌜ wayIs r ≡ wayOf (now (field .entry)) ⌝ }
+{
+    if field.len() == 0 {
+        return Way::Singled;
+    }
+    if text::run_end(field, 0, Class::BareByte) == field.len() {
+        Way::Bare
+    } else {
+        Way::Singled
+    }
+}
+
+// How many bytes a byte of a field takes in single quotes.
 fn byte_length(b: u8) -> usize
     ensures { λ r. ⌜ r ≡ length (quotedByte b) ⌝ }
 {
@@ -59,7 +83,11 @@ fn field_length(field: &[u8]) -> usize
     requires { ⌜ length (now field) ≤ imageLimit ⌝ }
     ensures { λ r. ⌜ r ≡ length (quotedField (now (field .entry))) ⌝ }
 {
-    bytes_length(field) + 2
+    let way = way_of(field);
+    match way {
+        Way::Bare => field.len(),
+        Way::Singled => bytes_length(field) + 2,
+    }
 }
 
 // How many bytes the fields from a place of the image on take, a blank in front of each.
@@ -96,7 +124,7 @@ fn line_length(fields: &[u8]) -> usize
     }
 }
 
-// Writes a byte of a field: `'` as `'\''`, any other as itself.
+// Writes a byte of a field in single quotes: `'` as `'\''`, any other as itself.
 fn put_byte(b: u8, out: &mut [u8]) -> usize
     requires { ⌜ length (quotedByte b) ≤ length (now out) ⌝ }
     ensures { λ r. ⌜ Puts (quotedByte b) (now (out .entry)) (now (out .exit)) r ⌝ }
@@ -126,15 +154,30 @@ fn put_bytes(field: &[u8], out: &mut [u8]) -> usize
     used
 }
 
-// Writes a field.
-fn put_field(field: &[u8], out: &mut [u8]) -> usize
-    requires { ⌜ length (quotedField (now field)) ≤ length (now out) ⌝ }
-    ensures { λ r. ⌜ Puts (quotedField (now (field .entry))) (now (out .entry)) (now (out .exit)) r ⌝ }
+// Writes a field in single quotes.
+fn put_singled(field: &[u8], out: &mut [u8]) -> usize
+    requires { ⌜ length (written singled (now field)) ≤ length (now out) ⌝ }
+    ensures { λ r. ⌜ Puts (written singled (now (field .entry))) (now (out .entry)) (now (out .exit)) r ⌝ }
 {
     out[0] = QUOTE;
     let n = put_bytes(field, &mut out[1..]);
     out[n + 1] = QUOTE;
     n + 2
+}
+
+// Writes a field in its way.
+fn put_field(field: &[u8], out: &mut [u8]) -> usize
+    requires { ⌜ length (quotedField (now field)) ≤ length (now out) ⌝ }
+    ensures { λ r. ⌜ Puts (quotedField (now (field .entry))) (now (out .entry)) (now (out .exit)) r ⌝ }
+{
+    let way = way_of(field);
+    match way {
+        Way::Bare => {
+            text_copy::copy_in(field, out);
+            field.len()
+        }
+        Way::Singled => put_singled(field, out),
+    }
 }
 
 // Writes the fields from a place of the image on, a blank in front of each.

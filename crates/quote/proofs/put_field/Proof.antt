@@ -1,87 +1,62 @@
--- `quote::put_field` meets its contract: a quote, the bytes behind it, and a quote behind those.
+-- `quote::put_field` meets its contract: a bare field is copied, another is written in single quotes.
 use native.Mathlib.Omega.{arith}
-use mathlib.Core.Path.{refl}
-use mathlib.Core.List.{[], _∷_}
+use mathlib.Core.Path.{_≡_, ap}
 use borrow.Author.Needs.{needs}
-use Rattle.stages.specs.Quote.{quotedBytes}
-use Rattle.text.proofs.Filling.{fill-room, fill-length, fill-fits, fill-ends}
-use Rattle.quote.proofs.Writing.{field-opened, field-inside, field-closed}
+use lib.ListN.{length}
+use Rattle.stages.specs.Quote.{singled, written, quotedField}
+use Rattle.quote.proofs.Ways.{field-bare, field-singled, bare-put, singled-put}
 use Rattle.quote.proofs.put_field.Statement.{statement}
 use Rattle.quote.proofs.put_field.Tie as tie
 
-slice-write-out : tie.Need-slice-write-out
-slice-write-out c =
-    let a = c .before .before in
-    let f = field-opened (a .args .field .now) (a .args .out .now) (a .pre) in
-    omega (arith, fill-room f)
+way-of-requires : tie.Need-way-of-requires
+way-of-requires c κs = search needs
 
-sub-put-bytes : tie.Need-sub-put-bytes
-sub-put-bytes c =
-    let a = c .before .before in
-    let f = field-opened (a .args .field .now) (a .args .out .now) (a .pre) in
-    omega (arith, fill-room f, fill-length f)
+enum-told : tie.Need-enum-told
+enum-told c = search needs
 
-part-put-bytes-start : tie.Need-part-put-bytes-start
-part-put-bytes-start c =
-    let a = c .before .before in
-    let f = field-opened (a .args .field .now) (a .args .out .now) (a .pre) in
-    omega (arith, fill-room f, fill-length f)
+-- a bare field
+is-bare : (c : tie.After-enum-told) →
+    let t = c .before .before .before .before .before .args .field .now in
+    quotedField t ≡ t
+is-bare c = field-bare _ (c .before .before .way-of .ensures) (c .enum-told .given .1)
 
-part-put-bytes-end : tie.Need-part-put-bytes-end
-part-put-bytes-end c = search needs
+copy-in-requires : tie.Need-copy-in-requires
+copy-in-requires c κs = omega (arith, ap length (is-bare (c .before)), c .before .before .before .before .before .before .pre)
 
-put-bytes-requires : tie.Need-put-bytes-requires
-put-bytes-requires c κs =
-    let a = c .before .before .before in
-    let f = field-opened (a .args .field .now) (a .args .out .now) (a .pre) in
-    fill-fits f (quotedBytes (a .args .field .now)) (39 ∷ []) refl
+enum-told-2 : tie.Need-enum-told-2
+enum-told-2 c = search needs
 
-add-out : tie.Need-add-out
-add-out c =
-    let a = c .before .before .before .before .before .before in
-    let p = c .before .before .put-bytes in
-    let f = field-inside (a .args .field .now) (a .args .out .now) (a .pre) (p .last .1 .0) (p .result) (p .ensures) in
-    omega (arith, fill-room f)
+-- another
+is-singled : (c : tie.After-enum-told2) →
+    let t = c .before .before .before .before .before .args .field .now in
+    quotedField t ≡ written singled t
+is-singled c = field-singled _ (c .before .before .way-of .ensures) (c .enum-told2 .given .1)
 
-slice-write-out-2 : tie.Need-slice-write-out-2
-slice-write-out-2 c =
-    let a = c .before .before .before .before .before .before in
-    let p = c .before .before .put-bytes in
-    let f = field-inside (a .args .field .now) (a .args .out .now) (a .pre) (p .last .1 .0) (p .result) (p .ensures) in
-    omega (arith, fill-room f, fill-length f)
-
-add-result : tie.Need-add-result
-add-result c =
-    let a = c .before .before .before .before .before .before in
-    let p = c .before .before .put-bytes in
-    let f = field-closed (a .args .field .now) (a .args .out .now) (a .pre) (p .last .1 .0) (p .result) (p .ensures) in
-    omega (arith, fill-room f)
+put-singled-requires : tie.Need-put-singled-requires
+put-singled-requires c κs = omega (arith, ap length (is-singled (c .before)), c .before .before .before .before .before .before .pre)
 
 same-length : tie.Need-same-length
-same-length c =
-    let a = c .before .before .before .before .before .before in
-    let p = c .before .before .put-bytes in
-    let f = field-closed (a .args .field .now) (a .args .out .now) (a .pre) (p .last .1 .0) (p .result) (p .ensures) in
-    fill-length f
+same-length c = search needs
 
 returns : tie.Need-returns
-returns c =
-    let a = c .before .before .before .before .before .before in
-    let p = c .before .before .put-bytes in
-    let f = field-closed (a .args .field .now) (a .args .out .now) (a .pre) (p .last .1 .0) (p .result) (p .ensures) in
-    fill-ends f refl
+returns c = bare-put _ _ _ (is-bare (c .before .before .before .before)) (c .before .before .copy-in .ensures)
+
+same-length-2 : tie.Need-same-length-2
+same-length-2 c = search needs
+
+returns-2 : tie.Need-returns-2
+returns-2 c = singled-put _ _ _ _ (is-singled (c .before .before .before .before)) (c .before .before .put-singled .ensures)
 
 pub put-field-spec : {M : Type 1} → statement M
 put-field-spec =
     tie.close
     (tie.spec
-    slice-write-out
-    sub-put-bytes
-    part-put-bytes-start
-    part-put-bytes-end
-    put-bytes-requires
-    add-out
-    slice-write-out-2
-    add-result
+    way-of-requires
+    enum-told
+    copy-in-requires
+    enum-told-2
+    put-singled-requires
     same-length
-    returns)
+    returns
+    same-length-2
+    returns-2)
