@@ -124,11 +124,11 @@ bytes-fine t =
     (λ b u n h e. rw (n, quotedBytes) (and-both (and-left (notZero b) (all notZero u) e) (h (and-right (notZero b) (all notZero u) e)))) t
 
 -- A field t that is written as w and read as the parts p becomes that one field under any tables, and nothing is stored. It brings no zero byte into the line,
--- and its record is at most twice as long as it and a blank: a bare byte has three bytes in an image.
+-- and has at most three bytes in an image for two in the line, its blank among them: a bare field of one byte has just these.
 pub record OneField (t w : Text) (p : Parts) : Type 0 where
   pub expands : (a : Around) (v : Pairs) → length w ≤ lineLimit → wordFields a p v ≡ done (t ∷ [], v)
   pub clean : all notZero t ≡ true → all notZero w ≡ true
-  pub long : 2 + length t ≤ 2 * suc (length w)
+  pub long : 2 * (2 + length t) ≤ 3 * suc (length w)
 
 module _ (a : Around) (v : Pairs) where
   singled-row : (t : Text) → length (written singled t) ≤ lineLimit → expand (a .lent) (wayParts singled t) L 0 v ≡ done (singledRow t, v)
@@ -216,8 +216,8 @@ unfolding quotedLine
 quoted-fine [] f = refl
 quoted-fine (t ∷ l) f = field-fine t (blanked l) (f .0) (blanked-fine l (f .1))
 
--- the image of the fields is hardly longer than twice their line
-blanked-image : (l : List Text) → recordBytes l ≤ 2 * length (blanked l)
+-- the image of the fields is hardly longer than one and a half times their line
+blanked-image : (l : List Text) → 2 * recordBytes l ≤ 3 * length (blanked l)
 unfolding recordBytes blanked
 blanked-image [] = omega arith
 blanked-image (t ∷ l) = rw (blanked-length t l) (omega (arith, field-becomes t .long, blanked-image l))
@@ -227,7 +227,7 @@ unfolding blanked quotedLine
 blanked-line [] = omega arith
 blanked-line (t ∷ l) = omega arith
 
-pub quoted-image : (l : List Text) → imageLength l ≤ 3 + 2 * length (quotedLine l)
+pub quoted-image : (l : List Text) → 2 * imageLength l ≤ 5 + 3 * length (quotedLine l)
 unfolding imageLength
 quoted-image l = omega (arith, blanked-image l, blanked-line l)
 
