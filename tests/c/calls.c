@@ -201,7 +201,8 @@ static void edges(void) {
             add_text_of(&want_out, value.at, value.len);
             call("2,047 bytes in quotes", drunquill_expand, 0, 0);
             want_out.len = 0;
-            call("2,047 bytes as a quoted line", drunquill_normalise, DRUNQUILL_OUTPUT_ROOM, 0);
+            add(&want_out, value.at, value.len);
+            call("2,047 bytes as a quoted line", drunquill_normalise, 0, 0);
         } else {
             refused("2,048 bytes in quotes", DRUNQUILL_TOO_MANY_UNITS, 0);
         }
@@ -229,6 +230,15 @@ static void quoted_fields(void) {
     quote("the recipe, one byte short", DRUNQUILL_OUTPUT_ROOM);
     fields.len--;
     quote("fields cut short", DRUNQUILL_BAD_FIELDS);
+    out_len = 60;
+    image(&fields, (const char *const[]){"cp", "a b", "/n/P_1-2.raw", "", "~a", "-r", NULL});
+    add_string(&want_out, "cp 'a b' /n/P_1-2.raw '' '~a' -r");
+    quote("bare fields among others", 0);
+    out_len = want_out.len;
+    quote("bare fields among others, output just long enough", 0);
+    out_len--;
+    want_out.len = 0;
+    quote("bare fields among others, one byte short", DRUNQUILL_OUTPUT_ROOM);
     fields.len = 0;
     quote("no bytes", DRUNQUILL_BAD_FIELDS);
     empty_image(&fields);
