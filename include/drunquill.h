@@ -111,9 +111,9 @@ struct drunquill_answer drunquill_normalise(const uint8_t *line, size_t line_len
                                             size_t homes_len, const uint8_t *paths, size_t paths_len, uint8_t *work, size_t work_len, uint8_t *out,
                                             size_t out_len);
 
-/* The quoter: an image of fields as a line to `out`. Each field stands in single quotes, each ' in it written '\''; one blank between fields; no fields, no
- * bytes. No zero byte is put after the line. Above DRUNQUILL_LINE_MAX bytes or `out_len` the number is 21. Bytes of `out` after the line are unchanged,
- * on a refusal all of them.
+/* The quoter: an image of fields as a line to `out`. A field that is not empty and holds only letters, digits, `.`, `_`, `-` and `/` stands there bare; any
+ * other in single quotes, each ' in it written '\''. One blank between fields; no fields, no bytes. No zero byte is put after the line. Above
+ * DRUNQUILL_LINE_MAX bytes or `out_len` the number is 21. Bytes of `out` after the line are unchanged, on a refusal all of them.
  */
 struct drunquill_quote_answer drunquill_quote(const uint8_t *fields, size_t fields_len, uint8_t *out, size_t out_len);
 

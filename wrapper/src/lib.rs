@@ -4,7 +4,7 @@
 //! What the header asks of its callers holds of any slices: none is null, and what is lent for writing overlaps nothing. What is left to the caller is the
 //! stack: a call may need [`STACK`] bytes of it.
 //!
-//! Lines, images and numbers are those of docs/01-scope.md; man/drunquill.3 has them in short.
+//! Lines, images and numbers are those of docs/01-scope.md, and of docs/02-change-requests.md as far as it has landed; man/drunquill.3 has them in short.
 //!
 //! ```
 //! use drunquill::{normalise, Number, Tables, Variables};
@@ -90,7 +90,8 @@ pub fn normalise<'o>(
     given(answer, variables, out)
 }
 
-/// The quoter: an image of fields as a line of at most [`LINE_MAX`] bytes to the front of `out`, which is given back. On a refusal `out` is as before.
+/// The quoter: an image of fields as a line of at most [`LINE_MAX`] bytes to the front of `out`, which is given back. A field that is not empty and holds only
+/// letters, digits, `.`, `_`, `-` and `/` stands there bare, any other in single quotes. On a refusal `out` is as before.
 pub fn quote<'o>(fields: &[u8], out: &'o mut [u8]) -> Result<&'o [u8], Refusal> {
     let answer = archive::quote(fields, out);
     Refusal::unless_accepted(answer.number, answer.place)?;

@@ -138,7 +138,7 @@ fn edges_are_kept() {
         };
         if good {
             accepted(Job::Expand, &edge, &image(&[&value]), &vars);
-            refused_by(Job::Normalise, &edge, Number::OutputRoom, 0);
+            accepted(Job::Normalise, &edge, &value, &vars);
         } else {
             refused(&edge, Number::TooManyUnits, 0);
         }
@@ -161,8 +161,11 @@ fn fields_are_quoted() {
     assert_eq!(quote_differs(&[], 60, fill, &refusal(Number::BadFields)), None);
     assert_eq!(quote_differs(&[2], 60, fill, &refusal(Number::BadFields)), None);
     assert_eq!(quote_differs(&[1], 0, fill, &Ok(Vec::new())), None);
-    let mixed = image(&[b"p1.raw", b"a b", b"-x/_", b"", b"a:b"]);
-    assert_eq!(quote_differs(&mixed, 60, fill, &Ok(b"p1.raw 'a b' -x/_ '' 'a:b'".to_vec())), None);
+    let fields = image(&[b"cp", b"a b", b"/n/P_1-2.raw", b"", b"~a", b"-r"]);
+    let line = b"cp 'a b' /n/P_1-2.raw '' '~a' -r".to_vec();
+    assert_eq!(quote_differs(&fields, 60, fill, &Ok(line.clone())), None);
+    assert_eq!(quote_differs(&fields, line.len(), fill, &Ok(line.clone())), None);
+    assert_eq!(quote_differs(&fields, line.len() - 1, fill, &refusal(Number::OutputRoom)), None);
 }
 
 #[test]
