@@ -12,7 +12,7 @@ use Rattle.stages.specs.Numbers.{depthLimit}
 use Rattle.stages.specs.Bytes.{Text, text, all, isBareByte, isBlank, isOperator}
 use Rattle.stages.specs.Outcome.{done, doneAt, pick}
 use Rattle.stages.specs.Syntax.{escaped, unescaped, Parts, Word, end, lit, quo, par, len, ari, til, Start, fresh, begun, word, single}
-use Rattle.stages.specs.Items.{item, itemOf, sort, literal, beginsTilde, byte}
+use Rattle.stages.specs.Items.{item, itemOf, sort, beginsTilde, byte}
 use Rattle.stages.specs.Read.{parts, put, nest, readItem, words, wordAt, readLine}
 use Rattle.stages.specs.Quote.{Way, bare, singled, isBare, wayOf, quotedBytes, written, quotedField, quotedLine, blanked}
 use Rattle.stages.proofs.Bools.{apart, either, and-left, and-right}
@@ -50,7 +50,7 @@ wayParts singled t = quo (runs t .0) (runs t .1)
 abbrev pub fieldParts : Text → Parts
 fieldParts t = wayParts (wayOf t) t
 
--- a field may be written so: bare only where it is bare, in single quotes whatever it holds
+-- the ways that a field may be written in: bare where `isBare` says so, in single quotes whatever it holds
 pub data Allows : Way → Text → Type 0 where
   as-bare : {t : Text} → isBare t ≡ true → Allows bare t
   as-singled : {t : Text} → Allows singled t
@@ -137,6 +137,7 @@ module _ (rest : Text) (d : ℕ) (ends : EndsField rest) where
 
 -- READING A BARE FIELD
 
+-- a byte of it
 bare-byte : (s : Start) (d b : ℕ) (t : Text) → Plain b → parts (word s) d (b ∷ t) ≡ put (lit unescaped b) (parts (word begun) d t)
 unfolding sort beginsTilde item itemOf readItem
 bare-byte fresh d b t p =
@@ -177,7 +178,8 @@ singled-bytes t =
     by-quotes (λ u. plainBytes (wayParts singled u) ≡ u) refl (λ u h. ap {B = Text} (λ s. 39 ∷ s) h)
     (λ b u e h. rw e (ap {B = Text} (λ s. b ∷ s) h)) t
 
--- THE WORD: w is one word of the line, which begins no other way; before a blank or the line's end it is read as these parts, and they have the field's bytes
+-- THE WORD: the field t is written as w, whose first byte begins a word of the line; before a blank or the line's end w is read as the parts p, whatever
+-- else follows, and these have the field's bytes.
 pub record OneWord (t w : Text) (p : Parts) : Type 0 where
   pub first : ℕ
   pub others : Text

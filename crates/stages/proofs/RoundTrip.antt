@@ -26,7 +26,6 @@ use Rattle.stages.proofs.Images.{Fine}
 use Rattle.stages.proofs.Rooms.{fit-ok}
 use Rattle.stages.proofs.Quoted.{by-quotes, runs, bareParts, wayParts, fieldParts, fieldWords, quoted-reads}
 use Rattle.stages.proofs.Quoted.{Allows, as-bare, as-singled, allowed}
-use Rattle.stages.proofs.Plain.{Plain, bare-plain}
 use Rattle.stages.proofs.Quiet.{Quiet, no-units, a-mark, a-byte, quiet-fields, bare-quiet, marked-bytes}
 
 -- THE ROW OF A FIELD
