@@ -169,12 +169,17 @@ fn found(field: &[Unit], paths: &[Vec<u8>]) -> Result<Vec<Vec<u8>>, Number> {
 /// The quoted line of an image of fields.
 fn quoted(fields: &[u8], out_length: usize) -> Result<Vec<u8>, Refusal> {
     let fields = image::fields(fields).ok_or(Number::Fields.at(0))?;
-    let fields: Vec<Vec<u8>> = fields.iter().map(|field| quoted_field(field)).collect();
-    let line = fields.join(&b' ');
+    let line = quoted_line(&fields);
     if line.len() > out_length.min(limits::LINE) {
         return Err(Number::NoRoomForOutput.at(0));
     }
     Ok(line)
+}
+
+/// The quoted line of these fields, however long.
+pub fn quoted_line(fields: &[Vec<u8>]) -> Vec<u8> {
+    let fields: Vec<Vec<u8>> = fields.iter().map(|field| quoted_field(field)).collect();
+    fields.join(&b' ')
 }
 
 /// The field as it is if it may stand bare, and else in single quotes.

@@ -5,6 +5,7 @@ mod expression;
 mod focus;
 pub mod grammar;
 pub mod operands;
+pub mod quoting;
 pub mod random;
 pub mod season;
 mod sizes;
@@ -29,12 +30,13 @@ pub fn call(seed: u64, case: u64) -> Call {
     let random = &mut Random::new(seed, case);
     let call = match random.below(100) {
         0..=4 => sizes::call(random),
-        5..=9 => quote(random),
+        5..=9 => quoting::call(random),
         10..=13 => malformed(random),
         14..=18 => storing(random),
         19..=27 => focused(random, focus::patterns),
         28..=33 => focused(random, focus::splitting),
         34..=43 => focused(random, tildes::case),
+        44..=46 => focused(random, quoting::fed_again),
         _ => lines(random),
     };
     match call {
@@ -155,16 +157,4 @@ fn about(random: &mut Random, length: usize) -> usize {
 fn answered(job: Job, lent: &Lent) -> Answer {
     let answered = Call::Lines(job, lent.clone()).answer();
     answered.expect("buffers kept as promised").0
-}
-
-fn quote(random: &mut Random) -> Call {
-    let fields = if random.once_in(8) {
-        tables::malformed(random, Kind::Fields)
-    } else {
-        let count = random.below(5);
-        let fields: Vec<Vec<u8>> = (0..count).map(|_| tables::value(random)).collect();
-        of_texts(&fields)
-    };
-    let out = *random.pick(&[0, 1, 2, 5, 9, 20, 40, 100, 2_048, 8_192]);
-    Call::Quote { fields, out }
 }

@@ -9,16 +9,19 @@ use crate::limits;
 
 pub fn call(random: &mut Random) -> Call {
     let mut lent = ordinary(random);
-    match random.below(28) {
+    match random.below(32) {
         0..=5 => lent.line = line(random),
         6..=13 => row(random, &mut lent),
         14..=15 => variables(random, &mut lent),
         16 => lent.homes = filled(Kind::Pairs, about(random, limits::IMAGE)),
         17..=18 => output(random, &mut lent),
         19..=20 => store(random, &mut lent),
-        21 => return quoter(random),
-        22 => quoted(random, &mut lent),
-        23 => paths(random, &mut lent),
+        21..=23 => return quoter(random),
+        24..=26 => {
+            quoted(random, &mut lent);
+            return Call::Lines(Job::Normalise, lent);
+        }
+        27 => paths(random, &mut lent),
         _ => directory(random, &mut lent),
     }
     let job = *random.pick(&[Job::Expand, Job::Expand, Job::Normalise]);
@@ -120,25 +123,38 @@ fn store(random: &mut Random, lent: &mut Lent) {
     lent.line = format!("a ${{u={}}}", "x".repeat(random.between(13, 16))).into_bytes();
 }
 
-/// Fields whose quoted line is about its limit, or an image of fields about its own.
+/// Fields whose quoted line is about its limit, bare ones, quoted ones or both, or an image of fields about its own.
 fn quoter(random: &mut Random) -> Call {
     let out = *random.pick(&[2_047, 2_048, 2_049, 9_000, 0]);
     let length = about(random, limits::LINE);
-    let fields = match random.below(4) {
-        0 => of_texts(&["x".repeat(length - 2)]),
-        1 => of_texts(&["'".to_string(), "x".repeat(length - 9)]),
-        2 => of_texts(&vec![""; length / 3 + 1]),
+    let fields = match random.below(8) {
+        0 => of_texts(&[",".repeat(length - 2)]),
+        1 => of_texts(&["x".repeat(length)]),
+        2 => of_texts(&["'".to_string(), "x".repeat(length - 7)]),
+        3 => of_texts(&vec![""; length / 3 + 1]),
+        4..=6 => list(random, length),
         _ => filled(Kind::Fields, about(random, limits::IMAGE)),
     };
     Call::Quote { fields, out }
 }
 
-/// One field whose quoted line is about the limit.
+/// Many short fields of one kind or two, and a last one that makes their quoted line just this long.
+fn list(random: &mut Random, length: usize) -> Vec<u8> {
+    let (short, bytes) = *random.pick(&[(["a", "-"], 4), (["", "b"], 5), ([" ", ""], 7), (["/", ":"], 6)]);
+    let count = random.between(1, (length - 3) / bytes);
+    let rest = length - count * bytes;
+    let last = if random.once_in(2) { "x".repeat(rest) } else { "~".repeat(rest - 2) };
+    of_texts(&[short.repeat(count), vec![&last]].concat())
+}
+
+/// A field or two whose quoted line is about the limit, in quotes or bare.
 fn quoted(random: &mut Random, lent: &mut Lent) {
-    let length = about(random, limits::LINE) - 2;
-    let table = Table::from([(b"v".to_vec(), vec![b'x'; length - 1])]);
+    let length = about(random, limits::LINE);
+    let table = Table::from([(b"v".to_vec(), vec![b'x'; length - 3])]);
     given(lent, image(&table));
-    lent.line = random.text(&["$v\\y", "${v}z", "\"$v\"y", "${w=}$v\\y"]);
+    lent.line = random.text(&[
+        "$v\\,", "${v}:", "\"$v\"=", "${w=}$v\\ ", "$v ''", "\"\" $v", "$v ab", "ab \"$v\"", "\"${v}a\" b", "${v}ab/",
+    ]);
     lent.out = *random.pick(&[2_047, 2_048, 2_049, 9_000]);
 }
 

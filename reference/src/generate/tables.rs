@@ -2,6 +2,7 @@
 
 use std::collections::BTreeMap;
 
+use super::quoting;
 use super::random::Random;
 use crate::image::of_texts;
 use crate::limits;
@@ -46,6 +47,9 @@ pub fn value(random: &mut Random) -> Vec<u8> {
     if random.once_in(8) {
         let length = random.below(12);
         return (0..length).map(|_| random.byte().max(1)).collect();
+    }
+    if random.once_in(8) {
+        return quoting::field(random);
     }
     random.text(&VALUES)
 }

@@ -6,6 +6,7 @@ use std::ops::RangeInclusive;
 
 use super::call;
 use super::operands::Tildes;
+use super::quoting::Quoting;
 use super::walk::walk;
 use crate::case::{Call, Job, Lent};
 use crate::limits;
@@ -27,6 +28,7 @@ pub struct Tally {
     /// The rows of one unit less than a row may have, of as many, and of one more, which are refused.
     pub rows: [usize; 3],
     pub tildes: Tildes,
+    pub quoting: Quoting,
 }
 
 impl Tally {
@@ -53,6 +55,11 @@ impl Tally {
         match call {
             Call::Lines(_, lent) if is_walked(answer.number) => self.add_seen(lent),
             _ => (),
+        }
+        match call {
+            Call::Lines(Job::Expand, _) => (),
+            Call::Lines(Job::Normalise, lent) => self.quoting.add_line(lent),
+            Call::Quote { fields, .. } => self.quoting.add_image(fields),
         }
     }
 
@@ -81,12 +88,13 @@ impl fmt::Display for Tally {
         for (number, count) in self.numbers.iter().enumerate() {
             writeln!(out, "{number:2} {count}")?;
         }
-        let Tally { expand, normalise, quote, bytes, sums, different_sums, full_lines, rows, tildes, .. } = self;
+        let Tally { expand, normalise, quote, bytes, sums, different_sums, full_lines, rows, tildes, quoting, .. } =
+            self;
         writeln!(out, "expand {expand}, normalise {normalise}, quote {quote}")?;
         writeln!(out, "{bytes} bytes")?;
         writeln!(out, "arithmetic texts {sums}, different ones {}", different_sums.len())?;
         writeln!(out, "lines of 2048 bytes {full_lines}")?;
         writeln!(out, "rows of 2047 units {}, of 2048 {}, refused at 2049 {}", rows[0], rows[1], rows[2])?;
-        write!(out, "{tildes}")
+        write!(out, "{tildes}{quoting}")
     }
 }

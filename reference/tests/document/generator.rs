@@ -1,17 +1,24 @@
 //! The generator: the same cases for the same seed, every number, every limit, and a replay that agrees.
 
 use std::collections::BTreeSet;
+use std::sync::OnceLock;
 
-use reference::case::{case, replay, Call};
-use reference::generate::{call, operands::SIGNS, season::Season, stars, tally::Tally, MOST_STARS};
+use reference::case::{case, replay, Call, Job};
+use reference::generate::random::Random;
+use reference::generate::{call, operands::SIGNS, ordinary, quoting, season::Season, stars, tally::Tally, MOST_STARS};
 use reference::{image, limits};
 
 const SEED: u64 = 2_001;
 const CASES: u64 = 20_000;
 
+fn tally() -> &'static Tally {
+    static TALLY: OnceLock<Tally> = OnceLock::new();
+    TALLY.get_or_init(|| Tally::of(SEED..=SEED, CASES))
+}
+
 #[test]
 fn every_number_comes_up() {
-    let tally = Tally::of(SEED..=SEED, CASES);
+    let tally = tally();
     for (number, count) in tally.numbers.iter().enumerate() {
         assert!(*count >= 20, "{number} comes up {count} times");
     }
@@ -24,7 +31,7 @@ fn every_number_comes_up() {
 /// Operands that begin with a tilde: in a tenth of the cases, in every form and every text, and their directories about the limit.
 #[test]
 fn tildes_come_up() {
-    let tildes = Tally::of(SEED..=SEED, CASES).tildes;
+    let tildes = &tally().tildes;
     assert!(tildes.lines >= CASES as usize / 10, "{tildes}");
     for sign in SIGNS {
         let [bare, double, arithmetic] = tildes.forms[sign];
@@ -32,6 +39,36 @@ fn tildes_come_up() {
     }
     assert!(tildes.found >= 500 && tildes.not_found >= 500 && tildes.literal >= 500, "{tildes}");
     assert!(tildes.long.iter().all(|count| *count >= 10), "{tildes}");
+}
+
+/// Fields about the border of what stands bare, lines of both kinds, and quoted lines about their limit.
+#[test]
+fn quoted_lines_come_up() {
+    let quoting = &tally().quoting;
+    assert!(quoting.bare >= 1_000 && quoting.empty >= 1_000, "{quoting}");
+    assert!(quoting.one_byte >= 1_000 && quoting.other >= 1_000, "{quoting}");
+    assert!(quoting.mixed >= 1_000, "{quoting}");
+    assert!(quoting.lengths.iter().all(|count| *count >= 20), "{quoting}");
+}
+
+/// Demand 3 on made fields: their quoted line gives them again and is its own quoted line, under tables that were not asked for.
+#[test]
+fn quoted_lines_come_back() {
+    for case in 0..3_000 {
+        let random = &mut Random::new(SEED, case);
+        let fields = image::of_texts(&quoting::fields(random));
+        let mut line = vec![0; limits::LINE];
+        let length = reference::quote(&fields, &mut line).length;
+        let mut lent = ordinary(random);
+        lent.line = line[..length].to_vec();
+        for (job, wanted) in [(Job::Expand, &fields), (Job::Normalise, &lent.line)] {
+            let (answer, words) = Call::Lines(job, lent.clone()).answer().expect("buffers kept as promised");
+            assert_eq!((answer.number, answer.length), (0, wanted.len()), "{}", lent.line.escape_ascii());
+            let hexadecimal: String = wanted.iter().map(|byte| format!("{byte:02x}")).collect();
+            let out = words.split(' ').nth(3).map(|word| word.trim_start_matches('-'));
+            assert_eq!(out, Some(hexadecimal.as_str()), "{}", lent.line.escape_ascii());
+        }
+    }
 }
 
 #[test]
