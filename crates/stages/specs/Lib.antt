@@ -10,6 +10,7 @@ pub mod Read  -- "Reading a line": a text's parts item by item, a line's words
 pub mod Units  -- "Units and expansion": rows of marked bytes, and decimal texts
 pub mod Constants  -- "Arithmetic": constants and the values of names
 pub mod Arith  -- "Arithmetic": tokens, the tree of a text, what it comes to
+pub mod Classes  -- E3: the twelve classes that brackets may name
 pub mod Pattern  -- "Patterns": what a pattern's units are, and what it matches
 pub mod Removal  -- the four removals: what remains of a value
 pub mod Expand  -- "Units and expansion": parts to rows, the tilde, the forms
