@@ -24,3 +24,7 @@ pub mod Quoted
 pub mod Quiet
 pub mod RoundTrip
 pub mod Demand
+pub mod Searches
+pub mod Members
+pub mod Classes
+pub mod ClassLines
