@@ -65,7 +65,7 @@ enum {
     DRUNQUILL_ARITHMETIC_SYNTAX = 16, /* arithmetic: bad syntax, or an empty text */
     DRUNQUILL_OVERFLOW = 17,          /* arithmetic: out of the range of 64 signed bits */
     DRUNQUILL_ZERO_DIVISOR = 18,      /* arithmetic: division or remainder by zero */
-    DRUNQUILL_BRACKET_CLASS = 19,     /* a pattern with [: or [. or [= in a bracket */
+    DRUNQUILL_BRACKET_CLASS = 19,     /* in a bracket of a pattern: [: without one of the twelve names of POSIX, [. or [=, or a class in a range */
     DRUNQUILL_VARIABLE_ROOM = 20,     /* a store makes the variables longer than their buffer or DRUNQUILL_IMAGE_MAX */
     DRUNQUILL_OUTPUT_ROOM = 21,       /* the output is longer than its buffer or its limit */
     DRUNQUILL_BAD_FIELDS = 22         /* the quoter's fields malformed or above their limit */
