@@ -47,13 +47,13 @@ unfoldable pub opensClass : Sign → Signs → Bool
 opensClass s [] = false
 opensClass s (u ∷ r) = isLive (code "[") s && (u .live && isIn (u .byte) (text ":.="))
 
--- the units begin with these bytes, "all its bytes active"
+-- E3: the units begin with these bytes, "all its bytes active"
 unfoldable pub begin : Text → Signs → Bool
 begin [] r = true
 begin (b ∷ t) [] = false
 begin (b ∷ t) (s ∷ r) = isLive b s && begin t r
 
--- the class of a table whose name and `:]` stand behind a `[`. No name holds a `:`, so its end is the first active `:]`.
+-- E3, "The name is between active `[:` and `:]`": the class of a table that is written behind a `[`. No name holds a `:`, so it ends at the first active `:]`.
 unfoldable pub classAt : List NamedClass → Signs → Option NamedClass
 unfolding begin
 classAt [] r = none
@@ -70,14 +70,14 @@ ranges path [] = false
 ranges path (d ∷ []) = false
 ranges path (d ∷ n ∷ r) = isLive (code "-") d && not (stops path n)
 
--- a member of a bracket: a byte, a range from a byte to a byte, a class; or what is 19
+-- a member of a bracket: a byte, a range from a byte to a byte, by E3 a class; or what is 19
 pub data Member : Type 0 where
   single : ℕ → Member
   range : ℕ → ℕ → Member
   class : NamedClass → Member
   unserved : Member
 
--- "An unknown name, or `[.` or `[=`, stays 19. A class as an end of a range is 19.": the member of a `[` that opens a class, by the class found behind it ..
+-- E3: "An unknown name, or `[.` or `[=`, stays 19. A class as an end of a range is 19." The member of a `[` that opens a class, by the class behind it ..
 unfoldable pub classMember : Bool → Option NamedClass → Signs → Member
 unfolding ranges
 classMember path none r = unserved
