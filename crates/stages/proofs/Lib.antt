@@ -1,5 +1,6 @@
 pub mod Recipes
 pub mod Tildes
+pub mod ClassLines
 pub mod Bools
 pub mod Rooms
 pub mod Texts
@@ -27,4 +28,3 @@ pub mod Demand
 pub mod Searches
 pub mod Members
 pub mod Classes
-pub mod ClassLines
