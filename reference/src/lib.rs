@@ -2,8 +2,10 @@
 //! of document 02 as many requests as have landed.
 
 mod arithmetic;
+mod bracket;
 mod calls;
 pub mod case;
+mod class;
 mod constant;
 mod dollar;
 mod expand;

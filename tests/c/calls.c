@@ -181,7 +181,7 @@ static void refused_lines(void) {
     refuses("a $(())", DRUNQUILL_ARITHMETIC_SYNTAX, 2);
     refuses("a $((9223372036854775807+1))", DRUNQUILL_OVERFLOW, 2);
     refuses("a $((1/0))", DRUNQUILL_ZERO_DIVISOR, 2);
-    refuses("a [[:alpha:]]", DRUNQUILL_BRACKET_CLASS, 2);
+    refuses("a [[:alph:]]", DRUNQUILL_BRACKET_CLASS, 2);
 }
 
 static void edges(void) {

@@ -3,6 +3,8 @@
 mod arithmetic;
 mod bare_fields;
 mod calls;
+mod class_names;
+mod classes;
 mod expansion;
 mod generator;
 mod operand_tilde;

@@ -52,8 +52,8 @@ impl World {
         self
     }
 
-    pub fn path(mut self, path: &str) -> World {
-        self.paths.insert(path.into());
+    pub fn path(mut self, path: impl AsRef<[u8]>) -> World {
+        self.paths.insert(path.as_ref().to_vec());
         self
     }
 

@@ -115,7 +115,7 @@ fn lines_are_refused() {
         (b"a $(())", Number::ArithmeticSyntax, 2),
         (b"a $((9223372036854775807+1))", Number::Overflow, 2),
         (b"a $((1/0))", Number::ZeroDivisor, 2),
-        (b"a [[:alpha:]]", Number::BracketClass, 2),
+        (b"a [[:alph:]]", Number::BracketClass, 2),
         (b"${tilt=x} $(", Number::Substitution, 10),
         (b"a\\", Number::Unended, 0),
     ];
