@@ -156,8 +156,8 @@ fn expand_word(word: &Word, expander: &mut Expander, paths: &[Vec<u8>]) -> Resul
 fn found(field: &[Unit], paths: &[Vec<u8>]) -> Result<Vec<Vec<u8>>, Number> {
     let pattern = pattern::read(field, Purpose::Paths)?;
     let mut found: Vec<Vec<u8>> = Vec::new();
-    if pattern.iter().any(|element| !matches!(element, Element::Byte(_))) {
-        let matching = paths.iter().filter(|path| matches_path(&pattern, path));
+    if pattern.elements.iter().any(|element| !matches!(element, Element::Byte(_))) {
+        let matching = paths.iter().filter(|path| matches_path(&pattern.elements, path));
         found.extend(matching.cloned());
     }
     if found.is_empty() {

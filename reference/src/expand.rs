@@ -6,7 +6,7 @@ use crate::matching::remaining;
 use crate::number::Number;
 use crate::pattern::{self, Purpose};
 use crate::row::{bytes, marked, Mark, Row, Unit};
-use crate::tree::{Choice, Form, Part};
+use crate::tree::{Choice, End, Form, Part};
 use crate::variables::Variables;
 
 /// What expanding reads and, for the variables, changes.
@@ -19,12 +19,35 @@ pub struct Expander<'a> {
 /// What expanding has come across. It decides nothing here, but lets the generator keep its cases cheap and count them.
 #[derive(Debug, Default)]
 pub struct Seen {
-    /// The most stars a removal's pattern has had.
-    pub most_stars: usize,
+    /// The patterns that were read, a refused one too.
+    pub patterns: Vec<SeenPattern>,
     /// The units of each row; of a refused one, with what would have passed the limit.
     pub rows: Vec<usize>,
     /// The arithmetic texts that were worked out or refused.
     pub sums: Vec<Vec<u8>>,
+}
+
+#[derive(Debug)]
+pub struct SeenPattern {
+    pub units: Vec<Unit>,
+    pub held_to: HeldTo,
+}
+
+/// The texts that a pattern may match.
+#[derive(Debug)]
+pub enum HeldTo {
+    /// The beginnings or the ends of a value.
+    Value(Vec<u8>, End),
+    Paths,
+}
+
+impl SeenPattern {
+    pub fn purpose(&self) -> Purpose {
+        match self.held_to {
+            HeldTo::Value(..) => Purpose::Removal,
+            HeldTo::Paths => Purpose::Paths,
+        }
+    }
 }
 
 impl Expander<'_> {
@@ -94,10 +117,11 @@ impl Expander<'_> {
             }
             Form::Removal { end, extent, operand } => {
                 let operand = self.row(operand)?;
+                let held_to = HeldTo::Value(self.value(name).to_vec(), *end);
+                self.seen.patterns.push(SeenPattern { units: operand.units().to_vec(), held_to });
                 let pattern = pattern::read(operand.units(), Purpose::Removal)?;
-                self.seen.most_stars = self.seen.most_stars.max(pattern::stars(&pattern));
                 let value = self.value(name);
-                Ok(marked(remaining(&pattern, value, *end, *extent), mark))
+                Ok(marked(remaining(&pattern.elements, value, *end, *extent), mark))
             }
         }
     }

@@ -1,7 +1,6 @@
 //! Reading a pattern from units: bytes, `*`, `?` and brackets.
 
-use crate::bracket::search;
-use crate::number::Number;
+use crate::bracket::{search, Bracket, End, Fault};
 use crate::row::{Mark, Unit};
 
 /// What a pattern is read for; in paths a slash ends the search for a bracket's end.
@@ -23,7 +22,7 @@ pub enum Element {
 }
 
 /// A byte of the pattern, N gone.
-#[derive(Clone, Copy)]
+#[derive(Clone, Copy, Debug)]
 pub struct PatternByte {
     pub byte: u8,
     pub active: bool,
@@ -35,34 +34,42 @@ impl PatternByte {
     }
 }
 
+/// A pattern that is served, with all brackets that were searched for their end, closed or not.
+#[derive(Debug, Default)]
+pub struct Pattern {
+    pub elements: Vec<Element>,
+    pub brackets: Vec<Bracket>,
+}
+
 /// The pattern these units are.
-pub fn read(units: &[Unit], purpose: Purpose) -> Result<Vec<Element>, Number> {
+pub fn read(units: &[Unit], purpose: Purpose) -> Result<Pattern, Fault> {
     let bytes: Vec<PatternByte> = units.iter().filter_map(pattern_byte).collect();
-    let mut elements = Vec::new();
+    let mut pattern = Pattern::default();
     let mut rest = bytes.as_slice();
     while let [first, behind @ ..] = rest {
         rest = behind;
+        let mut element = Element::Byte(first.byte);
         if first.is(b'*') {
-            elements.push(Element::Any);
+            element = Element::Any;
         } else if first.is(b'?') {
-            elements.push(Element::One);
-        } else {
-            let bracket = if first.is(b'[') { search(behind, purpose)? } else { None };
-            if let Some((set, length)) = bracket {
-                elements.push(Element::Set(Box::new(set)));
-                rest = &behind[length..];
-            } else {
-                elements.push(Element::Byte(first.byte));
+            element = Element::One;
+        } else if first.is(b'[') {
+            let bracket = search(behind, purpose)?;
+            if bracket.end == End::Closed {
+                element = Element::Set(bracket.set.clone());
+                rest = &behind[bracket.length + 1..];
             }
+            pattern.brackets.push(bracket);
         }
+        pattern.elements.push(element);
     }
-    Ok(elements)
+    Ok(pattern)
 }
 
 /// How many stars the pattern has.
-pub fn stars(pattern: &[Element]) -> usize {
+pub fn stars(pattern: &Pattern) -> usize {
     let star = |element: &&Element| **element == Element::Any;
-    pattern.iter().filter(star).count()
+    pattern.elements.iter().filter(star).count()
 }
 
 fn pattern_byte(unit: &Unit) -> Option<PatternByte> {

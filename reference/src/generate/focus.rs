@@ -7,10 +7,10 @@ use super::tables::{image, Table};
 use crate::case::Lent;
 use crate::image::of_texts;
 
-const PATTERN: [&str; 38] = [
+const PATTERN: [&str; 42] = [
     "*", "?", "[", "[", "]", "]", "!", "-", "-", "a", "b", "c", ".", "/", ":", "=", "^", "''", "'-'", "\\]", "\"!\"",
     "[!", "[a-", "-c]", "[]", "'['", "[.", "[a", "b]", "'.'", "[a'-'c]", "[a\\-c]", "[a'/']", "[\"/\"b]", "*.", "?.",
-    "/.", "[!a].",
+    "/.", "[!a].", "[:alpha:]", "[[:alpha:]", "[[:punct:]", "[![:lower:]]",
 ];
 const MATCHED: &[u8] = b"aaabbbccc.../--][!^:=*";
 const SPLIT: &[u8] = b"  ::\t\n,ab0-\x0b\r";

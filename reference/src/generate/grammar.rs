@@ -13,7 +13,11 @@ const WILD: [&str; 16] = [
     "*", "?", "[a-c]", "[!a]", "[abc]", "[]a]", "[a-]", "[c-a]", "[a", "[!", "*.b", "a?", "[a/b]", "[--a]", "*/*",
     "[a-c-e]",
 ];
-const CLASSES: [&str; 6] = ["[[:a]", "[[:alpha:]]", "[a[.x]", "[[=", "[![:", "[a/[:x]"];
+const CLASSES: [&str; 16] = [
+    "[[:a]", "[[:alpha:]]", "[a[.x]", "[[=", "[![:", "[a/[:x]", "[[:digit:]]", "[![:alnum:]]", "[[:punct:]b]*",
+    "[[:lower:][:digit:]]", "[[:alpha:]", "[[:alpha:]-]", "[a-[:digit:]]", "[[:Alpha:]]", "[[:space:]/]",
+    "*[[:print:]]",
+];
 const OPERAND_ONLY: [&str; 10] = [" ", "  ", "\t", "\n", "|", ";", "(", ")", "#", "<&>"];
 const QUOTED: [&str; 14] = ["", "a", " ", "a b", "*", "?", "[a]", "\\", ":", "|", "#", "\n", "~", "}"];
 const ESCAPES: [&str; 10] = ["\\a", "\\$", "\\`", "\\\"", "\\\\", "\\}", "\\*", "\\ ", "\\'", "\\~"];
@@ -100,7 +104,7 @@ fn piece(random: &mut Random, depth: usize, setting: Setting) -> Vec<u8> {
         17..=23 if depth < 4 => brace(random, depth + 1, quoted),
         24 if depth < 4 => [b"$((".to_vec(), expression::text(random, depth + 1), b"))".to_vec()].concat(),
         25 if random.once_in(5) => random.text(&SPICE),
-        26 if !quoted && random.once_in(3) => random.text(&CLASSES),
+        26 if !quoted && random.once_in(2) => random.text(&CLASSES),
         _ => literal(random, setting),
     }
 }

@@ -1,5 +1,7 @@
 //! Cases made from a seed: lines and tables of every kind, for the reference and what is held against it to answer.
 
+pub mod brackets;
+pub mod classes;
 mod damage;
 mod expression;
 mod focus;
@@ -37,6 +39,7 @@ pub fn call(seed: u64, case: u64) -> Call {
         28..=33 => focused(random, focus::splitting),
         34..=43 => focused(random, tildes::case),
         44..=46 => focused(random, quoting::fed_again),
+        47..=61 => focused(random, classes::case),
         _ => lines(random),
     };
     match call {

@@ -2,10 +2,13 @@
 
 use super::walk::walk;
 use crate::case::Lent;
+use crate::pattern;
 
 /// The most stars in any one pattern that the call comes to read.
 pub fn most(lent: &Lent) -> usize {
-    walk(lent).most_stars
+    let patterns = walk(lent).patterns;
+    let stars = patterns.iter().filter_map(|seen| pattern::read(&seen.units, seen.purpose()).ok());
+    stars.map(|pattern| pattern::stars(&pattern)).max().unwrap_or_default()
 }
 
 /// Takes stars away, all of them, if a pattern has more than it may.

@@ -4,11 +4,13 @@ use std::collections::BTreeSet;
 use std::fmt;
 use std::ops::RangeInclusive;
 
+use super::brackets::Brackets;
 use super::call;
 use super::operands::Tildes;
 use super::quoting::Quoting;
 use super::walk::walk;
 use crate::case::{Call, Job, Lent};
+use crate::image;
 use crate::limits;
 use crate::number::{Number, ACCEPTED, LAST_NUMBER};
 
@@ -29,6 +31,7 @@ pub struct Tally {
     pub rows: [usize; 3],
     pub tildes: Tildes,
     pub quoting: Quoting,
+    pub brackets: Brackets,
 }
 
 impl Tally {
@@ -67,6 +70,7 @@ impl Tally {
         let seen = walk(lent);
         self.full_lines += usize::from(lent.line.len() == limits::LINE);
         self.tildes.add(lent);
+        self.brackets.add(&seen, &image::paths(&lent.paths).unwrap_or_default());
         self.sums += seen.sums.len();
         self.different_sums.extend(seen.sums);
         for units in seen.rows {
@@ -77,10 +81,9 @@ impl Tally {
     }
 }
 
-/// Whether the call came to all that the walk over its line comes to: not where it stopped before reading, and not where a word's fields stopped it.
+/// Whether the call came to all that the walk over its line comes to: not where it stopped before reading, and not where its output had no room.
 fn is_walked(number: u8) -> bool {
-    let stops = [Number::BracketClass, Number::NoRoomForOutput].map(|number| number as u8);
-    number == ACCEPTED || number > Number::ZeroByte as u8 && !stops.contains(&number)
+    number == ACCEPTED || number > Number::ZeroByte as u8 && number != Number::NoRoomForOutput as u8
 }
 
 impl fmt::Display for Tally {
@@ -88,13 +91,13 @@ impl fmt::Display for Tally {
         for (number, count) in self.numbers.iter().enumerate() {
             writeln!(out, "{number:2} {count}")?;
         }
-        let Tally { expand, normalise, quote, bytes, sums, different_sums, full_lines, rows, tildes, quoting, .. } =
-            self;
+        let Tally { expand, normalise, quote, bytes, sums, different_sums, full_lines, rows, .. } = self;
+        let Tally { tildes, quoting, brackets, .. } = self;
         writeln!(out, "expand {expand}, normalise {normalise}, quote {quote}")?;
         writeln!(out, "{bytes} bytes")?;
         writeln!(out, "arithmetic texts {sums}, different ones {}", different_sums.len())?;
         writeln!(out, "lines of 2048 bytes {full_lines}")?;
         writeln!(out, "rows of 2047 units {}, of 2048 {}, refused at 2049 {}", rows[0], rows[1], rows[2])?;
-        write!(out, "{tildes}{quoting}")
+        write!(out, "{tildes}{quoting}{brackets}")
     }
 }

@@ -1,7 +1,7 @@
-//! What a call's line comes across when it is expanded: how many stars its patterns hold, its rows and its arithmetic texts.
+//! What a call's line comes across when it is expanded: its patterns, its rows and its arithmetic texts.
 
 use crate::case::Lent;
-use crate::expand::{Expander, Seen};
+use crate::expand::{Expander, HeldTo, Seen, SeenPattern};
 use crate::image;
 use crate::limits;
 use crate::pattern::{self, Purpose};
@@ -19,16 +19,16 @@ pub fn walk(lent: &Lent) -> Seen {
         homes: &homes,
         seen: Seen::default(),
     };
-    let mut most = 0;
     for word in read(&lent.line).unwrap_or_default() {
         let Ok(row) = expander.row(&word.parts) else {
             break;
         };
         for field in split(row.units(), expander.variables.value(b"IFS")) {
-            let pattern = pattern::read(field, Purpose::Paths).unwrap_or_default();
-            most = most.max(pattern::stars(&pattern));
+            expander.seen.patterns.push(SeenPattern { units: field.to_vec(), held_to: HeldTo::Paths });
+            if pattern::read(field, Purpose::Paths).is_err() {
+                return expander.seen;
+            }
         }
     }
-    expander.seen.most_stars = expander.seen.most_stars.max(most);
     expander.seen
 }

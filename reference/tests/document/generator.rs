@@ -5,7 +5,10 @@ use std::sync::OnceLock;
 
 use reference::case::{case, replay, Call, Job};
 use reference::generate::random::Random;
-use reference::generate::{call, operands::SIGNS, ordinary, quoting, season::Season, stars, tally::Tally, MOST_STARS};
+use reference::generate::{
+    brackets::KINDS, call, classes::BORDERS, operands::SIGNS, ordinary, quoting, season::Season, stars, tally::Tally,
+    MOST_STARS,
+};
 use reference::{image, limits};
 
 const SEED: u64 = 2_001;
@@ -49,6 +52,23 @@ fn quoted_lines_come_up() {
     assert!(quoting.one_byte >= 1_000 && quoting.other >= 1_000, "{quoting}");
     assert!(quoting.mixed >= 1_000, "{quoting}");
     assert!(quoting.lengths.iter().all(|count| *count >= 20), "{quoting}");
+}
+
+/// Classes in patterns: in a tenth of the cases, each of the twelve and each kind of bracket in removals and in paths, and every class decides about every
+/// byte at which one of them begins or ends.
+#[test]
+fn classes_come_up() {
+    let brackets = &tally().brackets;
+    assert!(brackets.lines >= CASES as usize / 10 && brackets.served >= CASES as usize / 12, "{brackets}");
+    assert_eq!(brackets.classes.len(), 12, "{brackets}");
+    assert!(brackets.classes.values().flatten().all(|count| *count >= 100), "{brackets}");
+    for kind in KINDS {
+        let [removals, paths] = brackets.kinds[kind];
+        assert!(paths >= 20 && (removals >= 10 || kind == "ended by a slash"), "{kind}: {brackets}");
+    }
+    for bytes in brackets.decided.values() {
+        assert!(BORDERS.iter().all(|byte| bytes.contains(byte)), "{brackets}");
+    }
 }
 
 /// Demand 3 on made fields: their quoted line gives them again and is its own quoted line, under tables that were not asked for.

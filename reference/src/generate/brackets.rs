@@ -1,0 +1,197 @@
+//! The classes in the patterns that a call comes to read: which there are, in what company, what is refused, and which bytes they decide about.
+
+use std::collections::{BTreeMap, BTreeSet};
+use std::fmt;
+
+use super::classes::BORDERS;
+use crate::bracket::{Bracket, End, Fault, Member};
+use crate::class::{Class, CLASSES};
+use crate::expand::{HeldTo, Seen, SeenPattern};
+use crate::matching::{matches_path, remaining};
+use crate::pattern::{self, Element, Pattern, Purpose};
+use crate::row::{Mark, Unit};
+use crate::tree::{End as ValueEnd, Extent};
+
+/// What may be said of a bracket that a class stands in.
+pub const KINDS: [&str; 16] = [
+    "closed", "several classes", "negated", "a range beside", "`-` behind a class", "`]` first", "unclosed",
+    "ended by a slash", "N inside a class", "unknown name", "name in another case", "slash in a name",
+    "quoted byte in a name", "[.", "[=", "class in a range",
+];
+
+/// In removals, in paths.
+type Counts = BTreeMap<&'static str, [usize; 2]>;
+
+#[derive(Debug, Default)]
+pub struct Brackets {
+    /// The lines with a pattern in which a class stands, and those of them with a served one.
+    pub lines: usize,
+    pub served: usize,
+    /// By the name of the class, the brackets that hold it, closed or not.
+    pub classes: Counts,
+    pub kinds: Counts,
+    /// By the name of the class, the bytes that a bracket of it alone took or did not, when all else of the pattern matched.
+    pub decided: BTreeMap<&'static str, BTreeSet<u8>>,
+}
+
+impl Brackets {
+    /// Counts the patterns of a line.
+    pub fn add(&mut self, seen: &Seen, paths: &[Vec<u8>]) {
+        let (kinds, classes) = (all(&self.kinds), all(&self.classes));
+        for pattern in &seen.patterns {
+            match pattern::read(&pattern.units, pattern.purpose()) {
+                Ok(read) => self.add_pattern(pattern, &read, paths),
+                Err(fault) => count(&mut self.kinds, kind_of(&fault), pattern.purpose()),
+            }
+        }
+        self.lines += usize::from(all(&self.kinds) > kinds);
+        self.served += usize::from(all(&self.classes) > classes);
+    }
+
+    fn add_pattern(&mut self, seen: &SeenPattern, pattern: &Pattern, paths: &[Vec<u8>]) {
+        let purpose = seen.purpose();
+        for bracket in &pattern.brackets {
+            for class in classes(bracket) {
+                count(&mut self.classes, class.name, purpose);
+            }
+            if classes(bracket).next().is_some() {
+                kinds_of(bracket).into_iter().for_each(|kind| count(&mut self.kinds, kind, purpose));
+            }
+        }
+        if marks_inside(&seen.units, purpose, pattern) {
+            count(&mut self.kinds, "N inside a class", purpose);
+        }
+        match &seen.held_to {
+            HeldTo::Paths => paths.iter().for_each(|path| self.decide_path(pattern, path)),
+            HeldTo::Value(value, end) => self.decide_value(pattern, value, *end),
+        }
+    }
+
+    /// What the first element decides about the path's first byte.
+    fn decide_path(&mut self, pattern: &Pattern, path: &[u8]) {
+        if let Some((class, others)) = alone(pattern, ValueEnd::Prefix) {
+            if matches_path(&others, path) {
+                self.decided.entry(class.name).or_default().insert(path[0]);
+            }
+        }
+    }
+
+    /// What the first element decides about the value's first byte, or the last about the last.
+    fn decide_value(&mut self, pattern: &Pattern, value: &[u8], end: ValueEnd) {
+        let byte = match end {
+            ValueEnd::Prefix => value.first(),
+            ValueEnd::Suffix => value.last(),
+        };
+        if let (Some((class, others)), Some(byte)) = (alone(pattern, end), byte) {
+            if remaining(&others, value, end, Extent::Longest) != value {
+                self.decided.entry(class.name).or_default().insert(*byte);
+            }
+        }
+    }
+}
+
+fn all(counts: &Counts) -> usize {
+    counts.values().flatten().sum()
+}
+
+fn count(counts: &mut Counts, name: &'static str, purpose: Purpose) {
+    counts.entry(name).or_default()[purpose as usize] += 1;
+}
+
+fn classes(bracket: &Bracket) -> impl Iterator<Item = &'static Class> + '_ {
+    bracket.members.iter().filter_map(|member| match member {
+        Member::Class(class) => Some(*class),
+        Member::Byte(_) => None,
+    })
+}
+
+fn kinds_of(bracket: &Bracket) -> Vec<&'static str> {
+    let is = |member: &Member, wanted: u8| matches!(member, Member::Byte(byte) if byte.is(wanted));
+    let class = |member: &Member| matches!(member, Member::Class(_));
+    let first = bracket.members.first().is_some_and(|first| is(first, b']'));
+    let range = bracket.members.windows(3).any(|three| is(&three[1], b'-') && !class(&three[0]) && !class(&three[2]));
+    let dash = bracket.members.windows(2).any(|two| class(&two[0]) && is(&two[1], b'-'));
+    let said = [
+        ("closed", bracket.end == End::Closed),
+        ("several classes", classes(bracket).count() > 1),
+        ("negated", bracket.negated),
+        ("a range beside", range),
+        ("`-` behind a class", dash),
+        ("`]` first", first),
+        ("unclosed", bracket.end == End::Unclosed),
+        ("ended by a slash", bracket.end == End::Slash),
+    ];
+    said.into_iter().filter(|(_, holds)| *holds).map(|(kind, _)| kind).collect()
+}
+
+fn kind_of(fault: &Fault) -> &'static str {
+    match fault {
+        Fault::Collating => "[.",
+        Fault::Equivalence => "[=",
+        Fault::RangeEnd => "class in a range",
+        Fault::Name(name) => {
+            let lower: Vec<u8> = name.iter().map(|byte| byte.byte.to_ascii_lowercase()).collect();
+            if name.iter().any(|byte| !byte.active) {
+                "quoted byte in a name"
+            } else if name.iter().any(|byte| byte.byte == b'/') {
+                "slash in a name"
+            } else if Class::named(&lower).is_some() {
+                "name in another case"
+            } else {
+                "unknown name"
+            }
+        }
+    }
+}
+
+/// Whether an N stands inside a class: were it a byte, there would be one less.
+fn marks_inside(units: &[Unit], purpose: Purpose, pattern: &Pattern) -> bool {
+    let as_bytes = |unit: &Unit| match unit {
+        Unit::Empty => Unit::Byte(b'x', Mark::Quoted),
+        byte => *byte,
+    };
+    let served = |pattern: &Pattern| pattern.brackets.iter().flat_map(classes).count();
+    match pattern::read(&units.iter().map(as_bytes).collect::<Vec<_>>(), purpose) {
+        Ok(read) => served(&read) < served(pattern),
+        Err(fault) => matches!(fault, Fault::Name(_)),
+    }
+}
+
+/// The class whose bracket, with nothing else in it, is the pattern's first or last element, and the pattern with a `?` in its place.
+fn alone(pattern: &Pattern, end: ValueEnd) -> Option<(&'static Class, Vec<Element>)> {
+    let mut elements = pattern.elements.clone();
+    let (element, bracket) = match end {
+        ValueEnd::Prefix => (elements.first_mut()?, pattern.brackets.first()?),
+        ValueEnd::Suffix => (elements.last_mut()?, pattern.brackets.last()?),
+    };
+    match (&element, bracket.members.as_slice()) {
+        (Element::Set(_), [Member::Class(class)]) => {
+            *element = Element::One;
+            Some((*class, elements))
+        }
+        _ => None,
+    }
+}
+
+impl fmt::Display for Brackets {
+    fn fmt(&self, out: &mut fmt::Formatter) -> fmt::Result {
+        let of = |counts: &Counts, name| counts.get(name).copied().unwrap_or_default();
+        writeln!(out, "lines with a class in a pattern {}, with a served one {}", self.lines, self.served)?;
+        writeln!(
+            out,
+            "by class: brackets in removals, in paths; bytes that one alone decided about, of them at a border:"
+        )?;
+        for class in &CLASSES {
+            let [removals, paths] = of(&self.classes, class.name);
+            let bytes = self.decided.get(class.name).cloned().unwrap_or_default();
+            let borders = BORDERS.iter().filter(|byte| bytes.contains(byte)).count();
+            writeln!(out, "  {:6} {removals}, {paths}; {}, {borders}", class.name, bytes.len())?;
+        }
+        writeln!(out, "by kind: brackets in removals, in paths:")?;
+        for kind in KINDS {
+            let [removals, paths] = of(&self.kinds, kind);
+            writeln!(out, "  {kind} {removals}, {paths}")?;
+        }
+        Ok(())
+    }
+}
