@@ -45,10 +45,10 @@ fn usage() -> ExitCode {
     ExitCode::FAILURE
 }
 
-/// Compares so many accepted lines and says how many differ, and how many more were made but not compared.
+/// Compares so many accepted lines and says how many have a class and how many differ, and how many more were made but not compared.
 fn compare(seed: u64, count: usize) -> std::io::Result<usize> {
     let folder = Folder::new()?;
-    let (mut compared, mut differ, mut refused, mut left_out) = (0, 0, 0, 0);
+    let (mut compared, mut classes, mut differ, mut refused, mut left_out) = (0, 0, 0, 0, 0);
     for case in 0.. {
         if compared == count {
             break;
@@ -65,6 +65,7 @@ fn compare(seed: u64, count: usize) -> std::io::Result<usize> {
             continue;
         }
         compared += 1;
+        classes += usize::from(lines::has_class(&line));
         for shell in Shell::ALL {
             let given = shell.outcome(&folder, &line, &variables)?;
             if given.as_ref() != Some(&wanted) {
@@ -74,7 +75,7 @@ fn compare(seed: u64, count: usize) -> std::io::Result<usize> {
         }
     }
     println!("not compared: {refused} lines refused by the reference, {left_out} left out");
-    println!("{compared} lines, {differ} differ");
+    println!("{compared} lines, {classes} with a class, {differ} differ");
     Ok(differ)
 }
 

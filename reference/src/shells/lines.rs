@@ -12,7 +12,8 @@ const NUMBERS: [&str; 2] = ["n", "A1"];
 const IFS: [&str; 9] = ["", " ", ":", " :", " \t\n", "0", "^1", ",", "x:"];
 const VALUES: &[&str] = &[
     "", "a", "a b", " a  b ", ":a::b:", " : a :", "*", "?", "[a-c]", "a*", "d/*", "a/b", "x.y", "'", "\"a\"", "$x",
-    "}", "a\tb\nc", "-1", "a:b c", "a^b^^c", "^", "/home/crew/a b", "a/home/crew", "~/a",
+    "}", "a\tb\nc", "-1", "a:b c", "a^b^^c", "^", "/home/crew/a b", "a/home/crew", "~/a", "[[:alpha:]]",
+    "[[:digit:]]*", "Z9_\x0b\x7f-f",
 ];
 const NUMBER_VALUES: [&str; 8] = ["", "0", "-1", "+7", "0x10", "010", "9223372036854775807", "12"];
 
@@ -22,6 +23,14 @@ const WILD: &[&str] = &[
     "*", "?", "[a-c]", "[!a]", "[abc]", "a*", "?b", "d/*", "[a-]", "*b", ".h*", "d/.[e]", "[]a]", "*/?", "[!]a]",
     "[a-c-e]", "[--a]", "['!'a]", "[\"]\"a]", "[a'-'c]", "[c-a]", "[!c-a]", "[", "[]", "[!", "[a", "[\\!a]", "[!!a]",
     "[a-c]*", "[]-a]", "[a\\]]",
+];
+/// Brackets with a class. A name has no quoted byte: both shells take it as if it were bare.
+const CLASSES: &[&str] = &[
+    "[[:alnum:]]", "[[:alpha:]]", "[[:blank:]]", "[[:cntrl:]]", "[[:digit:]]", "[[:graph:]]", "[[:lower:]]",
+    "[[:print:]]", "[[:punct:]]", "[[:space:]]", "[[:upper:]]", "[[:xdigit:]]", "[![:alpha:]]", "[![:punct:]b]*",
+    "[[:digit:][:upper:]_]", "[a-c[:digit:]]", "[[:lower:]-]", "[-[:digit:]]", "[a-c-[:digit:]]", "[][:alpha:]]",
+    "[!][:space:]]", "[[:digit:]", "[a[:alpha:]", "[[:al''pha:]]", "*[[:space:]]*", "[[:alpha:]:]", "[:alpha:]",
+    "['['[:punct:]]", "d/[[:lower:]]", "[[:digit:]'-'z]",
 ];
 const QUOTED: [&str; 12] = ["", "a", " ", "a b", "*", "?", "[a]", ":", "#", "~", "$x", "}"];
 /// The texts without a brace stand first; a removal's operand has only these.
@@ -82,13 +91,20 @@ pub fn stays_in_table(outcome: &Outcome) -> bool {
     !outcome.fields.iter().any(|field| wild(field) && slash(field))
 }
 
-/// Whether no expansion stands directly behind another while IFS has white and hard bytes: dash takes a white
-/// delimiter that ends one and a hard one that begins the next for two.
+/// Whether the shells split the line as the documents do. No expansion stands directly behind another while IFS has white
+/// and hard bytes: dash takes a white delimiter that ends one and a hard one that begins the next for two. No class stands
+/// in it while IFS has a `:`: in a word with an expansion, bash takes a bracket's bytes that are in IFS for quoted ones.
 pub fn splits_alike(line: &[u8], variables: &Table) -> bool {
     let ifs = variables.get(b"IFS".as_slice());
-    let mixed = ifs.is_some_and(|ifs| ifs.contains(&b' ') && ifs.contains(&b':'));
+    let has = |byte: u8| ifs.is_some_and(|ifs| ifs.contains(&byte));
     let ends = |byte: u8| byte.is_ascii_alphanumeric() || b"_})".contains(&byte);
-    !mixed || !line.windows(2).any(|two| ends(two[0]) && two[1] == b'$')
+    let expansions = line.windows(2).any(|two| ends(two[0]) && two[1] == b'$');
+    !(has(b' ') && has(b':') && expansions) && !(has(b':') && has_class(line))
+}
+
+/// Whether the line has `[:`, by which a class begins.
+pub fn has_class(line: &[u8]) -> bool {
+    line.windows(2).any(|two| two == b"[:")
 }
 
 /// How deep the line being made is, and whether inside a removal's operand, where nothing is stored.
@@ -118,6 +134,7 @@ impl Lines<'_> {
     fn piece(&mut self, setting: Setting) -> Vec<u8> {
         let quoted = matches!(setting, Setting::Double | Setting::DoubleOperand);
         match self.random.below(24) {
+            5..=7 if !quoted && self.random.once_in(3) => self.random.text(CLASSES),
             5..=7 if !quoted => self.random.text(WILD),
             8..=10 if !quoted => self.quotes(),
             11 if quoted => self.random.text(&DOUBLE_ESCAPES),

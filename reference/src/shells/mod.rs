@@ -21,9 +21,9 @@ pub type Table = BTreeMap<Vec<u8>, Vec<u8>>;
 pub const NAMES: [&str; 12] = ["A1", "HOME", "IFS", "_a", "e", "n", "name_9", "u", "v", "w", "x", "y"];
 
 /// The files of the folder, directories among them before what they hold.
-pub const PATHS: [&str; 24] = [
-    "-", ".hid", "1", "=", "[a]", "a", "a b", "a'b", "a*b", "a-c", "a.b", "a:b", "ab", "abc", "b", "c", "d", "d/.e",
-    "d/b", "d/c", "d/e", "d/e/f", "x", "x y",
+pub const PATHS: [&str; 26] = [
+    "-", ".hid", "1", "=", "Z9", "[a]", "_b", "a", "a b", "a'b", "a*b", "a-c", "a.b", "a:b", "ab", "abc", "b", "c",
+    "d", "d/.e", "d/b", "d/c", "d/e", "d/e/f", "x", "x y",
 ];
 
 const DIRECTORIES: [&str; 2] = ["d", "d/e"];
