@@ -21,11 +21,12 @@ bitAt n k = eqb (bitAnd (n / 2 ^ k) 1) 1
 abbrev coded : Class → ℕ → Bool
 coded class b = pick (ltb b 64) (bitAt (lowBytes class) b) (pick (ltb b 128) (bitAt (highBytes class) (b - 64)) (upperBytes class))
 
-sameBool : Bool → Bool → Bool
+-- two tests agree
+unfoldable pub sameBool : Bool → Bool → Bool
 sameBool true b = b
 sameBool false b = not b
 
-same-bools : (a b : Bool) → sameBool a b ≡ true → a ≡ b
+pub same-bools : (a b : Bool) → sameBool a b ≡ true → a ≡ b
 unfolding sameBool
 same-bools true true e = refl
 same-bools true false e = absurd (no e)
