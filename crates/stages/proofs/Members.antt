@@ -49,13 +49,13 @@ unfolding member
 as-byte path s r o = rw (o, member)
 
 -- a byte that no range goes on from is itself
-byte-alone : (path : Bool) (b : ℕ) (r : Signs) → ranges path r ≡ false → byteMember path b r ≡ single b
+pub byte-alone : (path : Bool) (b : ℕ) (r : Signs) → ranges path r ≡ false → byteMember path b r ≡ single b
 unfolding byteMember
 byte-alone path b [] e = refl
 byte-alone path b (d ∷ []) e = refl
 byte-alone path b (d ∷ n ∷ r) e = rw e
 
-byte-range : (path : Bool) (b : ℕ) (d n : Sign) (r : Signs) → ranges path (d ∷ n ∷ r) ≡ true → opensClass n r ≡ false →
+pub byte-range : (path : Bool) (b : ℕ) (d n : Sign) (r : Signs) → ranges path (d ∷ n ∷ r) ≡ true → opensClass n r ≡ false →
     byteMember path b (d ∷ n ∷ r) ≡ range b (n .byte)
 unfolding byteMember
 byte-range path b d n r h o = rw (h, o)
