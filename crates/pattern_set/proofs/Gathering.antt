@@ -1,98 +1,58 @@
--- The members of a bracket one after the other: a range takes three units, any other member one, and each adds to the set that is gathered.
-use Prim.Native.Nat.{ℕ, _+_, _-_, _≤_, _<_}
-use Prim.Native.Char.{code}
+-- The members of a bracket one after the other: each adds its bytes to the set that is gathered.
+use Prim.Native.Nat.{ℕ, zero, suc, _+_, _≤_, _<_}
 use mathlib.Core.Path.{_≡_, refl, sym, _∙_, ap}
-use mathlib.Core.Bool.{Bool, true, false, not, _||_, or-false}
+use mathlib.Core.Bool.{Bool, true, false, not, _||_}
 use mathlib.Core.List.{[], _∷_}
-use native.Mathlib.Omega.{arith}
-use native.Mathlib.Decide.{decLt}
-use lib.Dec.{eqb}
 use lib.ListN.{length, drop, getD}
 use Rattle.stages.specs.Bytes.{Text, between}
-use Rattle.stages.proofs.Bools.{apart}
-use Rattle.stages.specs.Outcome.{pick}
-use Rattle.stages.specs.Pattern.{Sign, Signs, isLive, these, allOthers, listed, inSet}
-use Rattle.text.specs.Rows.{signsOf}
-use Rattle.pattern_set.specs.Heads.{begins, ranges}
-use Rattle.pattern_set.proofs.Units.{signAt, unit-at, none-at}
+use Rattle.stages.specs.Pattern.{Signs, these, allOthers, memberLength, memberHolds, listed, inSet}
+use Rattle.pattern_unit.specs.Widths.{size, signsBy}
+use Rattle.pattern_unit.specs.declared.Width.{Width}
+use Rattle.pattern_unit.proofs.Units.{unit-at, none-at}
+use Rattle.pattern_class.specs.Table.{inRuns}
+use Rattle.pattern_member.specs.Members.{firstMember, memberOf, Says, behindOf}
+use Rattle.pattern_member.specs.declared.Member.{Member}
+use Rattle.pattern_member.proofs.Members.{member-first, member-units}
 
--- three units or more, by whether the middle one makes a range
-parted : (m s u : Sign) (r : Signs) (x : ℕ)
-    → listed (m ∷ s ∷ u ∷ r) x ≡ pick (isLive (code "-") s) (between (m .byte) x (u .byte) || listed r x)
-    (eqb (m .byte) x || listed (s ∷ u ∷ r) x)
-unfolding listed
-parted m s u r x = go (isLive (code "-") s)
+-- four runs added one after the other are all that is in one of them
+pub four-runs : (r : Text) (k : ℕ) (a : Bool) {b c d e : Bool} →
+    b ≡ (between (getD r 6 0) k (getD r 7 0) || a) →
+    c ≡ (between (getD r 4 0) k (getD r 5 0) || b) →
+    d ≡ (between (getD r 2 0) k (getD r 3 0) || c) →
+    e ≡ (between (getD r 0 0) k (getD r 1 0) || d) → e ≡ (inRuns r k || a)
+four-runs r k a g h i j =
+    rw (j, i, h, g)
+    (turned (between (getD r 0 0) k (getD r 1 0)) (between (getD r 2 0) k (getD r 3 0)) (between (getD r 4 0) k (getD r 5 0))
+    (between (getD r 6 0) k (getD r 7 0)) a)
   where
-    go : (b : Bool) → elim b [ true ↦ between (m .byte) x (u .byte) || listed r x | false ↦ eqb (m .byte) x || listed (s ∷ u ∷ r) x ]
-        ≡ pick b (between (m .byte) x (u .byte) || listed r x) (eqb (m .byte) x || listed (s ∷ u ∷ r) x)
-    go true = refl
-    go false = refl
+    turned : (w x y z a : Bool) → (w || (x || (y || (z || a)))) ≡ ((w || (x || (y || z))) || a)
+    turned true x y z a = refl
+    turned false true y z a = refl
+    turned false false true z a = refl
+    turned false false false z a = refl
 
--- one unit that begins no range is a member
-single : (m : Sign) (l : Signs) (x : ℕ) → ranges (m ∷ l) ≡ false → listed (m ∷ l) x ≡ (eqb (m .byte) x || listed l x)
-unfolding listed ranges
-single m [] x n = sym (or-false (eqb (m .byte) x))
-single m (s ∷ []) x n = refl
-single m (s ∷ u ∷ r) x n =
-    parted m s u r x ∙ ap (λ (b : Bool). pick b (between (m .byte) x (u .byte) || listed r x) (eqb (m .byte) x || listed (s ∷ u ∷ r) x)) n
+-- skipping units is dropping them
+listed-skip : (n : ℕ) (r : Signs) (b : ℕ) → listed n r b ≡ listed 0 (drop n r) b
+unfolding listed
+listed-skip zero r b = refl
+listed-skip (suc n) [] b = refl
+listed-skip (suc n) (s ∷ r) b = listed-skip n r b
 
-triple : (m s u : Sign) (r : Signs) (x : ℕ) → ranges (m ∷ s ∷ u ∷ r) ≡ true → listed (m ∷ s ∷ u ∷ r) x ≡
-    (between (m .byte) x (u .byte) || listed r x)
-unfolding ranges
-triple m s u r x y =
-    parted m s u r x ∙ ap (λ (b : Bool). pick b (between (m .byte) x (u .byte) || listed r x) (eqb (m .byte) x || listed (s ∷ u ∷ r) x)) y
-
-module _ (p : Text) (k : ℕ) where
-  -- a range asks for two units behind the first
-  pub range-short : length p - k ≤ 5 → ranges (signsOf (drop k p)) ≡ false
-  unfolding ranges
-  range-short h = go (decLt (k + 1) (length p)) (decLt (k + 2 + 1) (length p))
-    where
-      go : Dec (k + 1 < length p) → Dec (k + 2 + 1 < length p) → ranges (signsOf (drop k p)) ≡ false
-      go (no f) e = rw (none-at p k (omega arith))
-      go (yes e) (no f) = rw (unit-at p k e, none-at p (k + 2) (omega arith))
-      go (yes e) (yes f) = rw (unit-at p k e, unit-at p (k + 2) f, none-at p (k + 2 + 2) (omega arith))
-
-  pub range-long : 5 < length p - k → ranges (signsOf (drop k p)) ≡ begins (code "-") (signsOf (drop (k + 2) p))
-  unfolding ranges begins
-  range-long h =
-      let e : k + 1 < length p = omega arith in
-      let f : k + 2 + 1 < length p = omega arith in
-      let g : k + 2 + 2 + 1 < length p = omega arith in
-      rw (unit-at p k e, unit-at p (k + 2) f, unit-at p (k + 2 + 2) g)
-
-  pub range-inside : ranges (signsOf (drop k p)) ≡ true → k + 5 < length p
-  range-inside y = go (decLt (k + 5) (length p))
-    where
-      go : Dec (k + 5 < length p) → k + 5 < length p
-      go (yes h) = h
-      go (no f) = absurd (apart (range-short (omega arith)) y)
-
-  -- what a member, or a range, lists
-  pub lists-member : (x : ℕ) → k + 1 < length p → ranges (signsOf (drop k p)) ≡ false
-      → listed (signsOf (drop k p)) x ≡ (eqb (getD p k 0) x || listed (signsOf (drop (k + 2) p)) x)
-  lists-member x h n =
-      rw (unit-at p k h) (single (signAt p k) (signsOf (drop (k + 2) p)) x (rw (unit-at p k h) at n))
-
-  pub lists-range : (x : ℕ) → ranges (signsOf (drop k p)) ≡ true
-      → listed (signsOf (drop k p)) x ≡ (between (getD p k 0) x (getD p (k + 4) 0) || listed (signsOf (drop (k + 6) p)) x)
-  lists-range x y =
-      let i = range-inside y in
-      let e : k + 1 < length p = omega arith in
-      let f : k + 2 + 1 < length p = omega arith in
-      let g : k + 4 + 1 < length p = omega arith in
-      let four : k + 2 + 2 ≡ k + 4 = omega arith in
-      let six : k + 4 + 2 ≡ k + 6 = omega arith in
-      let whole : signsOf (drop k p) ≡ signAt p k ∷ signAt p (k + 2) ∷ signAt p (k + 4) ∷ signsOf (drop (k + 6) p) =
-      unit-at p k e ∙ ap (λ (r : Signs). signAt p k ∷ r)
-      (unit-at p (k + 2) f ∙ ap (λ (r : Signs). signAt p (k + 2) ∷ r)
-      (ap (λ (n : ℕ). signsOf (drop n p)) four ∙ unit-at p (k + 4) g ∙ ap (λ (n : ℕ). signAt p (k + 4) ∷ signsOf (drop n p)) six)) in
-      ap (λ (r : Signs). listed r x) whole
-      ∙ triple (signAt p k) (signAt p (k + 2)) (signAt p (k + 4)) (signsOf (drop (k + 6) p)) x (sym (ap ranges whole) ∙ y)
-
-  pub lists-none : (x : ℕ) → length p ≤ k + 1 → listed (signsOf (drop k p)) x ≡ false
+module _ (w : Width) (p : Text) (k b : ℕ) where
+  -- what the member that stands at a place lists, and those behind it
+  pub lists-on : k + size w ≤ length p → {m : Member} → Says w p (k + size w) (firstMember false (signsBy w (drop k p))) m →
+      listed 0 (signsBy w (drop k p)) b ≡ (memberHolds (memberOf m) b || listed 0 (signsBy w (drop (behindOf m k w) p)) b)
   unfolding listed
-  lists-none x h = rw (none-at p k h)
+  lists-on h {m} s =
+      let r = signsBy w (drop (k + size w) p) in
+      let n = memberLength (memberOf m) in
+      ap (λ (l : Signs). listed 0 l b) (unit-at w p k h)
+      ∙ rw (sym (member-first k false h s))
+      (ap (λ (x : Bool). memberHolds (memberOf m) b || x) (listed-skip n r b ∙ ap (λ (l : Signs). listed 0 l b) (member-units w p k m)))
+
+  pub lists-none : length p < k + size w → listed 0 (signsBy w (drop k p)) b ≡ false
+  unfolding listed
+  lists-none h = rw (none-at w p k h)
 
 -- what is gathered and what is left, before and after a member
 pub gathered : (all had now new left : Bool) → all ≡ (had || left) → left ≡ (new || now) → {more : Bool} → more ≡ (new || had) → all
@@ -106,10 +66,10 @@ gathered all had now new left e f g = e ∙ rw (f, g) (turned had new now)
     turned false false c = refl
 
 -- a set or all other bytes
-pub in-members : (members : Signs) (b : ℕ) {r : Bool} → r ≡ listed members b → r ≡ inSet these members b
+pub in-members : (members : Signs) (b : ℕ) {r : Bool} → r ≡ listed 0 members b → r ≡ inSet these members b
 unfolding inSet
 in-members members b h = h
 
-pub in-others : (members : Signs) (b : ℕ) {r s : Bool} → s ≡ listed members b → r ≡ not s → r ≡ inSet allOthers members b
+pub in-others : (members : Signs) (b : ℕ) {r s : Bool} → s ≡ listed 0 members b → r ≡ not s → r ≡ inSet allOthers members b
 unfolding inSet
 in-others members b h g = g ∙ ap not h

@@ -1,4 +1,3 @@
 pub mod Flags
-pub mod Units
 pub mod Gathering
 pub mod Determined

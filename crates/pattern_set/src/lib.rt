@@ -1,16 +1,16 @@
-// The set of byte values that a bracket stands for, from the units of its members. A unit is two bytes, its byte and behind it its mark. N units are gone,
-// so a unit is quoted or active; an odd last byte counts for nothing.
+// The set of byte values that a bracket stands for, from the units of its members.
 ghost use mathlib.Core.Path.{_≡_};
-ghost use mathlib.Core.Bool.{true, false, not, _||_};
-ghost use Prim.Native.Nat.{ℕ, _+_, _<_, _≤_};
+ghost use mathlib.Core.Bool.{false, not, _||_};
+ghost use Prim.Native.Nat.{ℕ, _<_};
 ghost use lib.Dec.{eqb};
-ghost use lib.ListN.{length, drop};
 ghost use Rattle.stages.specs.Bytes.{between};
-ghost use Rattle.stages.specs.Pattern.{listed, senseOf, inSet};
-ghost use Rattle.text.specs.Rows.{signsOf};
+ghost use Rattle.stages.specs.Pattern.{memberHolds, listed, senseOf, inSet};
+ghost use Rattle.pattern_unit.specs.Widths.{signsBy};
+ghost use Rattle.pattern_class.specs.Rows.{count, rowClass};
+ghost use Rattle.pattern_member.specs.Members.{memberOf, isRow};
 ghost use Rattle.pattern_set.specs.Sets.{has};
-ghost use Rattle.pattern_set.specs.Heads.{begins, ranges};
-use text::marks;
+use pattern_member::Member;
+use pattern_unit::Width;
 
 // "A bracket stands for a set of the 256 byte values": a flag for each of them.
 pub struct ByteSet {
@@ -25,8 +25,8 @@ fn none() -> ByteSet
 }
 
 impl ByteSet {
-    // The set with one member more.
-    fn with_member(mut self, b: u8) -> Self
+    // The set with one byte more.
+    fn with_byte(mut self, b: u8) -> Self
         ensures { λ r. ⌜ ((k : ℕ) → k < 256 → has (r .on) k ≡ (eqb b k || has (self .on) k)) ⌝ }
     {
         let i = b as usize;
@@ -45,6 +45,31 @@ impl ByteSet {
             i += 1;
         }
         self
+    }
+
+    // The set with all bytes of a class.
+    fn with_class(self, row: usize) -> Self
+        requires { ⌜ row < count ⌝ }
+        ensures { λ r. ⌜ ((k : ℕ) → k < 256 → has (r .on) k ≡ (rowClass row .holds k || has (self .on) k)) ⌝ }
+    {
+        let runs = pattern_class::runs(row);
+        self.with_range(runs[6], runs[7])
+            .with_range(runs[4], runs[5])
+            .with_range(runs[2], runs[3])
+            .with_range(runs[0], runs[1])
+    }
+
+    // The set with all bytes of a member.
+    fn with_member(self, member: Member) -> Self
+        requires { ⌜ isRow member ⌝ }
+        ensures { λ r. ⌜ ((k : ℕ) → k < 256 → has (r .on) k ≡ (memberHolds (memberOf member) k || has (self .on) k)) ⌝ }
+    {
+        match member {
+            Member::Single(b) => self.with_byte(b),
+            Member::Range { lo, hi } => self.with_range(lo, hi),
+            Member::Class(row) => self.with_class(row),
+            Member::Unserved => self,
+        }
     }
 
     // All other bytes.
@@ -68,55 +93,26 @@ impl ByteSet {
     }
 }
 
-// The unit at a place is this byte, and active.
-pub fn is_live(units: &[u8], at: usize, c: u8) -> bool
-    requires { ⌜ at ≤ length (now units) ⌝ }
-    ensures { λ r. ⌜ r ≡ begins c (signsOf (drop at (now (units .entry)))) ⌝ }
-{
-    if units.len() <= at + 1 {
-        return false;
-    }
-    if units[at + 1] == marks::QUOTED {
-        return false;
-    }
-    units[at] == c
-}
-
-// "An active `-` between two members is a range": one stands at this member.
-fn is_range(units: &[u8], at: usize) -> bool
-    requires { ⌜ at ≤ length (now units) ⌝ }
-    ensures { λ r. ⌜ r ≡ ranges (signsOf (drop at (now (units .entry)))) ⌝ }
-{
-    if units.len() - at <= 5 {
-        return false;
-    }
-    is_live(units, at + 2, b'-')
-}
-
 // The set of the members, by one walk over them.
-fn members(units: &[u8]) -> ByteSet
-    ensures { λ r. ⌜ ((k : ℕ) → k < 256 → has (r .on) k ≡ listed (signsOf (now (units .entry))) k) ⌝ }
+fn members(units: &[u8], width: Width) -> ByteSet
+    ensures { λ r. ⌜ ((k : ℕ) → k < 256 → has (r .on) k ≡ listed 0 (signsBy width (now (units .entry))) k) ⌝ }
 {
+    let size = pattern_unit::unit_size(width);
     let mut set = none();
     let mut at: usize = 0;
-    while at + 1 < units.len() {
-        let b = units[at];
-        if is_range(units, at) {
-            set = set.with_range(b, units[at + 4]);
-            at += 6;
-            continue;
-        }
-        set = set.with_member(b);
-        at += 2;
+    while at + size <= units.len() {
+        let member = pattern_member::member_at(units, at, false, width);
+        set = set.with_member(member);
+        at = pattern_member::behind(member, at, width);
     }
     set
 }
 
 // The set that a bracket stands for: its members, or with the `!` all other bytes.
-pub fn set_of(units: &[u8], negative: bool) -> ByteSet
-    ensures { λ r. ⌜ ((k : ℕ) → k < 256 → has (r .on) k ≡ inSet (senseOf negative) (signsOf (now (units .entry))) k) ⌝ }
+pub fn set_of(units: &[u8], negative: bool, width: Width) -> ByteSet
+    ensures { λ r. ⌜ ((k : ℕ) → k < 256 → has (r .on) k ≡ inSet (senseOf negative) (signsBy width (now (units .entry))) k) ⌝ }
 {
-    let set = members(units);
+    let set = members(units, width);
     if negative {
         return set.others();
     }

@@ -1,25 +1,29 @@
 -- The set holds what is listed by the units that are passed: with what the units from `at` on list, it is all that is listed.
-use Prim.Native.Nat.{ℕ, _+_, _≤_, _<_, _-_}
+use Prim.Native.Nat.{ℕ, _≤_, _<_, _-_}
 use mathlib.Core.Path.{_≡_, sym, _∙_, ap}
 use mathlib.Core.Bool.{_||_, or-false}
 use native.Mathlib.Omega.{arith}
-use borrow.Author.Needs.{needs}
-use lib.Dec.{eqb}
-use lib.ListN.{length, drop, getD}
-use Rattle.stages.specs.Bytes.{between}
-use Rattle.stages.specs.Pattern.{listed}
-use Rattle.text.specs.Rows.{signsOf}
+use lib.ListN.{length, drop}
+use Rattle.stages.specs.Pattern.{memberHolds, listed}
+use Rattle.pattern_unit.specs.Widths.{signsBy}
+use Rattle.pattern_unit.proofs.Units.{size-bounds}
+use Rattle.pattern_member.specs.Members.{memberOf, behindOf}
+use Rattle.pattern_member.proofs.Members.{behind-inside, behind-further}
 use Rattle.pattern_set.specs.Sets.{has}
-use Rattle.pattern_set.proofs.Gathering.{range-inside, lists-member, lists-range, lists-none, gathered}
+use Rattle.pattern_set.proofs.Gathering.{lists-on, lists-none, gathered}
+use borrow.Author.Needs.{needs}
 use Rattle.pattern_set.proofs.members.Statement.{statement}
 use Rattle.pattern_set.proofs.members.Tie as tie
 
 abbrev Inv-loop : tie.InvT-loop
-Inv-loop units set₀ at₀ set at =
-    (at ≤ length units) × ((k : ℕ) → k < 256 → listed (signsOf units) k ≡ (has (set .on) k || listed (signsOf (drop at units)) k))
+Inv-loop units width size set₀ at₀ set at =
+    (at ≤ length units) × ((k : ℕ) → k < 256 → listed 0 (signsBy width units) k ≡ (has (set .on) k || listed 0 (signsBy width (drop at units)) k))
 
 abbrev μ-loop : tie.MeasureT-loop
-μ-loop units set₀ at₀ set at = length units - at
+μ-loop units width size set₀ at₀ set at = length units - at
+
+unit-size-requires : tie.Need-unit-size-requires Inv-loop μ-loop
+unit-size-requires c κs = search needs
 
 none-requires : tie.Need-none-requires Inv-loop μ-loop
 none-requires c κs = search needs
@@ -28,80 +32,49 @@ loop-holds : tie.Need-loop-holds Inv-loop μ-loop
 loop-holds c = (omega arith, λ k h. rw (c .none .ensures k h))
 
 add-loop : tie.Need-add-loop Inv-loop μ-loop
-add-loop c = search needs
+add-loop c = omega (arith, c .before .before .unit-size .ensures, size-bounds (c .before .before .before .before .args .width))
 
-shared-slice-read-b : tie.Need-shared-slice-read-b Inv-loop μ-loop
-shared-slice-read-b c = search needs
+member-at-requires : tie.Need-member-at-requires Inv-loop μ-loop
+member-at-requires c κs = omega (arith, c .before .before .before .unit-size .ensures, c .loop-test .taken)
 
-is-range-requires : tie.Need-is-range-requires Inv-loop μ-loop
-is-range-requires c κs = search needs
+with-member-requires : tie.Need-with-member-requires Inv-loop μ-loop
+with-member-requires c κs = c .member-at .ensures .listed
 
-add-with-range : tie.Need-add-with-range Inv-loop μ-loop
-add-with-range c =
-    let a = c .before .before .before .before .before .before .before .args in
-    let l = c .before .before .before .before .loop in
-    omega (arith, range-inside (a .units .now) (l .at) (sym (c .before .is-range .ensures) ∙ c .if1 .taken))
-
-shared-slice-read-with-range : tie.Need-shared-slice-read-with-range Inv-loop μ-loop
-shared-slice-read-with-range c =
-    let a = c .before .before .before .before .before .before .before .before .args in
-    let l = c .before .before .before .before .before .loop in
-    omega (arith, range-inside (a .units .now) (l .at) (sym (c .before .before .is-range .ensures) ∙ c .before .if1 .taken))
-
-with-range-requires : tie.Need-with-range-requires Inv-loop μ-loop
-with-range-requires c κs = search needs
-
-add-at : tie.Need-add-at Inv-loop μ-loop
-add-at c =
-    let a = c .before .before .before .before .before .before .before .before .before .args in
-    let l = c .before .before .before .before .before .before .loop in
-    omega (arith, range-inside (a .units .now) (l .at) (sym (c .before .before .before .is-range .ensures) ∙ c .before .before .if1 .taken))
+behind-requires : tie.Need-behind-requires Inv-loop μ-loop
+behind-requires c κs =
+    let s = c .before .member-at .ensures in
+    record { listed = s .listed; fits = omega (arith, behind-inside (c .before .before .before .loop .at) s) }
 
 loop-less : tie.Need-loop-less Inv-loop μ-loop
 loop-less c =
-    let a = c .before .before .before .before .before .before .before .before .before .args in
-    let l = c .before .before .before .before .before .before .loop in
-    omega (arith, range-inside (a .units .now) (l .at) (sym (c .before .before .before .is-range .ensures) ∙ c .before .before .if1 .taken))
+    let at = c .before .before .before .before .loop .at in
+    let s = c .before .before .member-at .ensures in
+    let w = c .before .before .before .before .before .before .before .before .args .width in
+    omega (arith, c .behind .ensures, behind-inside at s, behind-further at s, size-bounds w)
 
 loop-again : tie.Need-loop-again Inv-loop μ-loop
 loop-again c =
-    let a = c .before .before .before .before .before .before .before .before .before .args in
-    let l = c .before .before .before .before .before .before .loop in
-    let p = a .units .now in
-    let at = l .at in
-    let y = sym (c .before .before .before .is-range .ensures) ∙ c .before .before .if1 .taken in (
-      omega (arith, range-inside p at y),
-      λ k h. gathered _ (has (l .set .on) k) (listed (signsOf (drop (at + 6) p)) k) (between (getD p at 0) k (getD p (at + 4) 0)) _ (l .inv .1 k h)
-          (lists-range p at k y) (c .with-range .ensures k h),
-    )
-
-with-member-requires : tie.Need-with-member-requires Inv-loop μ-loop
-with-member-requires c κs = search needs
-
-add-at-2 : tie.Need-add-at-2 Inv-loop μ-loop
-add-at-2 c = search needs
-
-loop-less-2 : tie.Need-loop-less-2 Inv-loop μ-loop
-loop-less-2 c = search needs
-
-loop-again-2 : tie.Need-loop-again-2 Inv-loop μ-loop
-loop-again-2 c =
     let a = c .before .before .before .before .before .before .before .before .args in
-    let l = c .before .before .before .before .before .loop in
-    let p = a .units .now in
-    let at = l .at in (
-      omega arith,
-      λ k h. gathered _ (has (l .set .on) k) (listed (signsOf (drop (at + 2) p)) k) (eqb (getD p at 0) k) _ (l .inv .1 k h)
-          (lists-member p at k (c .before .before .before .before .loop-test .taken)
-          (sym (c .before .before .is-range .ensures) ∙ c .before .if1 .left)) (c .with-member .ensures k h),
+    let l = c .before .before .before .before .loop in
+    let m = c .before .before .member-at .result in
+    let s = c .before .before .member-at .ensures in
+    rw (c .behind .ensures) (
+      behind-inside (l .at) s,
+      λ k h. gathered _ (has (l .set .on) k) (listed 0 (signsBy (a .width) (drop (behindOf m (l .at) (a .width)) (a .units .now))) k)
+          (memberHolds (memberOf m) k) _ (l .inv .1 k h)
+          (lists-on (a .width) (a .units .now) (l .at) k (omega
+          (arith, c .before .before .before .before .before .before .unit-size .ensures, c .before .before .before .loop-test .taken)) s)
+          (c .before .with-member .ensures k h),
     )
 
 returns : tie.Need-returns Inv-loop μ-loop
 returns c =
-    let a = c .before .before .before .before .args in
+    let a = c .before .before .before .before .before .args in
     let l = c .before .loop in
-    λ k h. sym (l .inv .1 k h ∙ ap (λ b. has (l .set .on) k || b) (lists-none (a .units .now) (l .at) k (c .loop-test .left)) ∙ or-false
-    (has (l .set .on) k))
+    λ k h. sym (l .inv .1 k h
+    ∙ ap (λ b. has (l .set .on) k || b)
+    (lists-none (a .width) (a .units .now) (l .at) k (omega (arith, c .before .before .before .unit-size .ensures, c .loop-test .left)))
+    ∙ or-false (has (l .set .on) k))
 
 pub members-spec : {M : Type 1} → statement M
 members-spec =
@@ -109,19 +82,13 @@ members-spec =
     (tie.spec
     Inv-loop
     μ-loop
+    unit-size-requires
     none-requires
     loop-holds
     add-loop
-    shared-slice-read-b
-    is-range-requires
-    add-with-range
-    shared-slice-read-with-range
-    with-range-requires
-    add-at
+    member-at-requires
+    with-member-requires
+    behind-requires
     loop-less
     loop-again
-    with-member-requires
-    add-at-2
-    loop-less-2
-    loop-again-2
     returns)
