@@ -18,7 +18,7 @@ use Rattle.stages.specs.Pattern.{
   Element,
   set,
   Found,
-  class,
+  refusing,
   unclosed,
   closedAfter,
   bracket,
@@ -30,14 +30,15 @@ use Rattle.stages.specs.Pattern.{
   element,
   extra,
   elements,
-  isClass,
+  isRefusing,
   hasClass,
 }
-use Rattle.text.specs.Rows.{signsOf}
-use Rattle.pattern_element.specs.Pieces.{setFrom, bracketAt, pieceAt, behindOf, elementOf, isClassPiece, Lies}
+use Rattle.pattern_unit.specs.Widths.{size, signsBy}
+use Rattle.pattern_unit.specs.declared.Width.{Width}
+use Rattle.pattern_unit.proofs.Units.{scale-zero, scale-suc, scale-add, signAt, unit-at, none-at, units-behind, units-of, units-there}
+use Rattle.pattern_element.specs.Pieces.{setFrom, bracketAt, pieceAt, behindOf, elementOf, isRefusingPiece, Lies}
 use Rattle.pattern_element.specs.declared.Piece.{Piece}
 use Rattle.pattern_element.specs.declared.Piece.the-variants.{Star, One, Byte}
-use Rattle.pattern_set.proofs.Units.{signAt, unit-at, none-at, units-behind, units-of, units-there}
 use Rattle.pattern_element.proofs.Searches.{found-inside}
 
 -- skipping units is dropping them
@@ -59,147 +60,170 @@ other-byte b c s n y =
     rw (ne-eqb (s .byte) c (λ h. n (sym (eqb-true (s .byte) b (and-right (s .live) (eqb (s .byte) b) y)) ∙ h))) (and-false (s .live))
 
 -- a bracket behind its `[`, at the place k, by what its search finds
-module _ (p : Text) (k : ℕ) where
+module _ (w : Width) (p : Text) (k : ℕ) where
   abbrev units : Signs
-  units = signsOf (drop k p)
+  units = signsBy w (drop k p)
 
-  bracket-element : (f : Found) → elementOf p (setFrom (others units) (k + 2 * skipped units) f) ≡ bracketed units f
+  bracket-element : (f : Found) → elementOf w p (setFrom w (others units) (k + size w * skipped units) f) ≡ bracketed units f
   unfolding elementOf bracketed
-  bracket-element class = refl
+  bracket-element refusing = refl
   bracket-element unclosed = refl
   bracket-element (closedAfter n) =
-      let a = k + 2 * skipped units in
-      let e : a + 2 * n - a ≡ 2 * n = omega arith in
+      let a = k + size w * skipped units in
+      let e : a + size w * n - a ≡ size w * n = omega arith in
       ap (λ (l : Signs). set (senseOf (others units)) l)
-      (rw e (sym (rw (units-behind (skipped units) (drop k p), units-of n (drop (2 * skipped units) (drop k p)), drop-drop (2 * skipped units) k p))))
+      (rw e (sym (rw (
+        units-behind w (skipped units) (drop k p),
+        units-of w n (drop (size w * skipped units) (drop k p)),
+        drop-drop
+            (size w * skipped units) k p,
+      ))))
 
-  bracket-behind : (at : ℕ) → at + 2 ≡ k → (f : Found) → behindOf (setFrom (others units) (k + 2 * skipped units) f) at ≡ k + 2 *
+  bracket-behind : (at : ℕ) → at + size w ≡ k → (f : Found) → behindOf w (setFrom w (others units) (k + size w * skipped units) f) at ≡ k + size w *
       bracketLength units f
   unfolding bracketLength
-  bracket-behind at h class = omega arith
-  bracket-behind at h unclosed = omega arith
-  bracket-behind at h (closedAfter n) = omega arith
+  bracket-behind at h refusing = omega (arith, scale-zero w)
+  bracket-behind at h unclosed = omega (arith, scale-zero w)
+  bracket-behind at h (closedAfter n) = omega (arith, scale-add w (skipped units) (suc n), scale-suc w n)
 
-  bracket-class : (f : Found) → isClassPiece (setFrom (others units) (k + 2 * skipped units) f) ≡ isClass f
-  bracket-class class = refl
+  bracket-class : (f : Found) → isRefusingPiece (setFrom w (others units) (k + size w * skipped units) f) ≡ isRefusing f
+  bracket-class refusing = refl
   bracket-class unclosed = refl
   bracket-class (closedAfter n) = refl
 
   -- it ends inside the pattern
-  bracket-inside : (path : Bool) → k ≤ length p → (f : Found) → bracket path units ≡ f → k + 2 * bracketLength units f ≤ length p
+  bracket-inside : (path : Bool) → k ≤ length p → (f : Found) → bracket path units ≡ f → k + size w * bracketLength units f ≤ length p
   unfolding bracket bracketLength
-  bracket-inside path h class e = omega arith
-  bracket-inside path h unclosed e = omega arith
+  bracket-inside path h refusing e = omega (arith, scale-zero w)
+  bracket-inside path h unclosed e = omega (arith, scale-zero w)
   bracket-inside path h (closedAfter n) e =
-      let i = found-inside path true (drop (skipped units) units) n e in
-      let j = units-there (skipped units + suc n) (drop k p) (omega (arith, i, length-drop (skipped units) units)) in
+      let i = found-inside path true 0 (drop (skipped units) units) n e in
+      let j = units-there w (skipped units + suc n) (drop k p) (omega (arith, i, length-drop (skipped units) units)) in
       omega (arith, j, length-drop k p)
 
 -- the piece at a place, the unit there being s and k the place behind it
-module _ (path : Bool) (p : Text) (at : ℕ) (s : Sign) where
+module _ (w : Width) (path : Bool) (p : Text) (at : ℕ) (s : Sign) where
   abbrev rest : Signs
-  rest = signsOf (drop (at + 2) p)
+  rest = signsBy w (drop (at + size w) p)
 
   abbrev here : Piece
-  here = pieceAt path at (s ∷ rest)
+  here = pieceAt w path at (s ∷ rest)
 
   record Stands : Type 0 where
-    as-element : elementOf p here ≡ element path s rest
-    as-behind : behindOf here at ≡ at + 2 + 2 * extra path s rest
-    as-class : isClassPiece here ≡ (isLive 91 s && isClass (bracket path rest))
-    as-inside : at + 2 ≤ length p → at + 2 + 2 * extra path s rest ≤ length p
+    as-element : elementOf w p here ≡ element path s rest
+    as-behind : behindOf w here at ≡ at + size w + size w * extra path s rest
+    as-class : isRefusingPiece here ≡ (isLive 91 s && isRefusing (bracket path rest))
+    as-inside : at + size w ≤ length p → at + size w + size w * extra path s rest ≤ length p
 
   stands : (x y z : Bool) → isLive 42 s ≡ x → isLive 63 s ≡ y → isLive 91 s ≡ z → Stands
   unfolding pieceAt elementOf element extra bracketAt
   stands true y z e f g =
       let n : isLive 91 s ≡ false = other-byte 42 91 s (λ h. let w : _≡_ {A = ℕ} 42 91 = h in omega arith) e in
-      record { as-element = rw e; as-behind = rw (e, n) (omega arith); as-class = rw (e, n); as-inside = λ h. rw n (omega arith) }
+      record {
+        as-element = rw e;
+        as-behind = rw (e, n) (omega (arith, scale-zero w));
+        as-class = rw (e, n);
+        as-inside = λ h. rw n
+            (omega (arith, scale-zero w));
+      }
   stands false true z e f g =
       let n : isLive 91 s ≡ false = other-byte 63 91 s (λ h. let w : _≡_ {A = ℕ} 63 91 = h in omega arith) f in
-      record { as-element = rw (e, f); as-behind = rw (e, f, n) (omega arith); as-class = rw (e, f, n); as-inside = λ h. rw n (omega arith) }
+      record {
+        as-element = rw (e, f);
+        as-behind = rw (e, f, n) (omega (arith, scale-zero w));
+        as-class = rw (e, f, n);
+        as-inside = λ h. rw n
+            (omega (arith, scale-zero w));
+      }
   stands false false true e f g = record {
-    as-element = rw (e, f, g) (bracket-element p (at + 2) (bracket path rest));
-    as-behind = rw (e, f, g) (bracket-behind p (at + 2) at refl (bracket path rest));
-    as-class = rw (e, f, g) (bracket-class p (at + 2) (bracket path rest));
-    as-inside = λ h. rw g (bracket-inside p (at + 2) path h (bracket path rest) refl);
+    as-element = rw (e, f, g) (bracket-element w p (at + size w) (bracket path rest));
+    as-behind = rw (e, f, g) (bracket-behind w p (at + size w) at refl (bracket path rest));
+    as-class = rw (e, f, g) (bracket-class w p (at + size w) (bracket path rest));
+    as-inside = λ h. rw g (bracket-inside w p (at + size w) path h (bracket path rest) refl);
   }
   stands false false false e f g =
-      record { as-element = rw (e, f, g); as-behind = rw (e, f, g) (omega arith); as-class = rw (e, f, g); as-inside = λ h. rw g (omega arith) }
+      record {
+        as-element = rw (e, f, g);
+        as-behind = rw (e, f, g) (omega (arith, scale-zero w));
+        as-class = rw (e, f, g);
+        as-inside = λ h. rw g
+            (omega (arith, scale-zero w));
+      }
 
   standing : Stands
   standing = stands (isLive 42 s) (isLive 63 s) (isLive 91 s) refl refl refl
 
 -- what stands from a place on: the piece there, and what stands behind it
-module _ (path : Bool) (p : Text) (at : ℕ) (h : at + 1 < length p) where
+module _ (w : Width) (path : Bool) (p : Text) (at : ℕ) (h : at + size w ≤ length p) where
   abbrev piece : Piece
-  piece = pieceAt path at (signsOf (drop at p))
+  piece = pieceAt w path at (signsBy w (drop at p))
 
   abbrev next : ℕ
-  next = behindOf piece at
+  next = behindOf w piece at
 
-  seen : piece ≡ pieceAt path at (signAt p at ∷ signsOf (drop (at + 2) p))
-  seen = ap (pieceAt path at) (unit-at p at h)
+  seen : piece ≡ pieceAt w path at (signAt w p at ∷ signsBy w (drop (at + size w) p))
+  seen = ap (pieceAt w path at) (unit-at w p at h)
 
   -- the units behind the piece
-  behind-units : drop (extra path (signAt p at) (signsOf (drop (at + 2) p))) (signsOf (drop (at + 2) p)) ≡ signsOf (drop next p)
+  behind-units : drop (extra path (signAt w p at) (signsBy w (drop (at + size w) p))) (signsBy w (drop (at + size w) p)) ≡ signsBy w (drop next p)
   behind-units =
-      let x = extra path (signAt p at) (signsOf (drop (at + 2) p)) in
-      units-behind x (drop (at + 2) p) ∙ ap signsOf (drop-drop (2 * x) (at + 2) p)
-      ∙ ap (λ (n : ℕ). signsOf (drop n p)) (sym (ap (λ (q : Piece). behindOf q at) seen ∙ standing path p at (signAt p at) .as-behind))
+      let x = extra path (signAt w p at) (signsBy w (drop (at + size w) p)) in
+      units-behind w x (drop (at + size w) p) ∙ ap (signsBy w) (drop-drop (size w * x) (at + size w) p)
+      ∙ ap (λ (n : ℕ). signsBy w (drop n p)) (sym (ap (λ (q : Piece). behindOf w q at) seen ∙ standing w path p at (signAt w p at) .as-behind))
 
   pub next-inside : next ≤ length p
   next-inside =
-      rw (ap (λ (q : Piece). behindOf q at) seen ∙ standing path p at (signAt p at) .as-behind)
-      (standing path p at (signAt p at) .as-inside (omega arith))
+      rw (ap (λ (q : Piece). behindOf w q at) seen ∙ standing w path p at (signAt w p at) .as-behind)
+      (standing w path p at (signAt w p at) .as-inside (omega arith))
 
-  pub next-further : at + 2 ≤ next
-  next-further = rw (ap (λ (q : Piece). behindOf q at) seen ∙ standing path p at (signAt p at) .as-behind) (omega arith)
+  pub next-further : at + size w ≤ next
+  next-further = rw (ap (λ (q : Piece). behindOf w q at) seen ∙ standing w path p at (signAt w p at) .as-behind) (omega arith)
 
-  pub elements-on : elements path 0 (signsOf (drop at p)) ≡ elementOf p piece ∷ elements path 0 (signsOf (drop next p))
+  pub elements-on : elements path 0 (signsBy w (drop at p)) ≡ elementOf w p piece ∷ elements path 0 (signsBy w (drop next p))
   unfolding elements
   elements-on =
-      let s = signAt p at in
-      let r = signsOf (drop (at + 2) p) in
-      ap (elements path 0) (unit-at p at h)
+      let s = signAt w p at in
+      let r = signsBy w (drop (at + size w) p) in
+      ap (elements path 0) (unit-at w p at h)
       ∙ ap (λ (l : List Element). element path s r ∷ l) (elements-skip path (extra path s r) r ∙ ap (elements path 0) behind-units)
-      ∙ ap (λ (e : Element). e ∷ elements path 0 (signsOf (drop next p))) (sym (ap (elementOf p) seen ∙ standing path p at s .as-element))
+      ∙ ap (λ (e : Element). e ∷ elements path 0 (signsBy w (drop next p))) (sym (ap (elementOf w p) seen ∙ standing w path p at s .as-element))
 
-  pub class-on : hasClass path 0 (signsOf (drop at p)) ≡ (isClassPiece piece || hasClass path 0 (signsOf (drop next p)))
+  pub class-on : hasClass path 0 (signsBy w (drop at p)) ≡ (isRefusingPiece piece || hasClass path 0 (signsBy w (drop next p)))
   unfolding hasClass
   class-on =
-      let s = signAt p at in
-      let r = signsOf (drop (at + 2) p) in
-      ap (hasClass path 0) (unit-at p at h)
-      ∙ ap (λ (b : Bool). (isLive 91 s && isClass (bracket path r)) || b) (class-skip path (extra path s r) r ∙ ap (hasClass path 0) behind-units)
-      ∙ ap (λ (b : Bool). b || hasClass path 0 (signsOf (drop next p))) (sym (ap isClassPiece seen ∙ standing path p at s .as-class))
+      let s = signAt w p at in
+      let r = signsBy w (drop (at + size w) p) in
+      ap (hasClass path 0) (unit-at w p at h)
+      ∙ ap (λ (b : Bool). (isLive 91 s && isRefusing (bracket path r)) || b) (class-skip path (extra path s r) r ∙ ap (hasClass path 0) behind-units)
+      ∙ ap (λ (b : Bool). b || hasClass path 0 (signsBy w (drop next p))) (sym (ap isRefusingPiece seen ∙ standing w path p at s .as-class))
 
 -- a set's members stand inside the pattern
-module _ (n at from : ℕ) (negative : Bool) (b : ℕ) where
+module _ (w : Width) (n at from : ℕ) (negative : Bool) (b : ℕ) where
   abbrev tried : Bool → Bool → Bool → Found → Piece
-  tried x y z f = pick x Star (pick y One (pick z (setFrom negative from f) (Byte b)))
+  tried x y z f = pick x Star (pick y One (pick z (setFrom w negative from f) (Byte b)))
 
-  tried-lies : (x y z : Bool) (f : Found) → behindOf (tried x y z f) at ≤ n → Lies n (tried x y z f)
+  tried-lies : (x y z : Bool) (f : Found) → behindOf w (tried x y z f) at ≤ n → Lies n (tried x y z f)
   tried-lies true y z f h = tt
   tried-lies false true z f h = tt
-  tried-lies false false true class h = tt
+  tried-lies false false true refusing h = tt
   tried-lies false false true unclosed h = tt
   tried-lies false false true (closedAfter m) h = (omega arith, omega arith)
   tried-lies false false false f h = tt
 
-lies : (n : ℕ) (path : Bool) (at : ℕ) (l : Signs) → behindOf (pieceAt path at l) at ≤ n → Lies n (pieceAt path at l)
+lies : (w : Width) (n : ℕ) (path : Bool) (at : ℕ) (l : Signs) → behindOf w (pieceAt w path at l) at ≤ n → Lies n (pieceAt w path at l)
 unfolding pieceAt bracketAt
-lies n path at [] h = tt
-lies n path at (s ∷ r) h =
-    tried-lies n at (at + 2 + 2 * skipped r) (others r) (s .byte) (isLive 42 s) (isLive 63 s) (isLive 91 s) (bracket path r) h
+lies w n path at [] h = tt
+lies w n path at (s ∷ r) h =
+    tried-lies w n at (at + size w + size w * skipped r) (others r) (s .byte) (isLive 42 s) (isLive 63 s) (isLive 91 s) (bracket path r) h
 
-pub piece-lies : (path : Bool) (p : Text) (at : ℕ) → at + 1 < length p → Lies (length p) (pieceAt path at (signsOf (drop at p)))
-piece-lies path p at h = lies (length p) path at (signsOf (drop at p)) (next-inside path p at h)
+pub piece-lies : (w : Width) (path : Bool) (p : Text) (at : ℕ) → at + size w ≤ length p → Lies (length p) (pieceAt w path at (signsBy w (drop at p)))
+piece-lies w path p at h = lies w (length p) path at (signsBy w (drop at p)) (next-inside w path p at h)
 
 -- no units, no elements
-pub elements-over : (path : Bool) (p : Text) (at : ℕ) → length p ≤ at + 1 → elements path 0 (signsOf (drop at p)) ≡ []
+pub elements-over : (w : Width) (path : Bool) (p : Text) (at : ℕ) → length p < at + size w → elements path 0 (signsBy w (drop at p)) ≡ []
 unfolding elements
-elements-over path p at h = rw (none-at p at h)
+elements-over w path p at h = rw (none-at w p at h)
 
-pub class-over : (path : Bool) (p : Text) (at : ℕ) → length p ≤ at + 1 → hasClass path 0 (signsOf (drop at p)) ≡ false
+pub class-over : (w : Width) (path : Bool) (p : Text) (at : ℕ) → length p < at + size w → hasClass path 0 (signsBy w (drop at p)) ≡ false
 unfolding hasClass
-class-over path p at h = rw (none-at p at h)
+class-over w path p at h = rw (none-at w p at h)

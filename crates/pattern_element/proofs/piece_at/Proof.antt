@@ -1,9 +1,25 @@
 -- The active byte at the place decides, tried in the order of the definition.
-use mathlib.Core.Path.{sym, _∙_}
+use mathlib.Core.Path.{_≡_, sym, _∙_}
+use mathlib.Core.Bool.{false}
+use native.Mathlib.Omega.{arith}
+use lib.ListN.{drop}
+use Rattle.pattern_unit.specs.Widths.{signsBy}
+use Rattle.pattern_unit.specs.Heads.{begins}
+use Rattle.pattern_unit.proofs.Units.{size-bounds}
 use Rattle.pattern_element.proofs.Searches.{piece-star, piece-one, piece-bracket, piece-byte}
 use borrow.Author.Needs.{needs}
 use Rattle.pattern_element.proofs.piece_at.Statement.{statement}
 use Rattle.pattern_element.proofs.piece_at.Tie as tie
+
+-- no star stands there ..
+no-star : (c : tie.Else1) → let a = c .before .before .before .args in begins 42 (signsBy (a .width) (drop (a .at) (a .pattern .now))) ≡ false
+no-star c = sym (c .before .is-live .ensures) ∙ c .if1 .left
+
+-- .. and no `?`
+no-query : (c : tie.Else2) →
+    let a = c .before .before .before .before .before .args in
+    begins 63 (signsBy (a .width) (drop (a .at) (a .pattern .now))) ≡ false
+no-query c = sym (c .before .is-live2 .ensures) ∙ c .if2 .left
 
 is-live-requires : tie.Need-is-live-requires
 is-live-requires c κs = search needs
@@ -11,7 +27,7 @@ is-live-requires c κs = search needs
 returns : tie.Need-returns
 returns c =
     let a = c .before .before .before .args in
-    piece-star (a .path) (a .pattern .now) (a .at) (c .before .before .before .pre) (sym (c .before .is-live .ensures) ∙ c .if1 .taken)
+    piece-star (a .width) (a .path) (a .pattern .now) (a .at) (c .before .before .before .pre) (sym (c .before .is-live .ensures) ∙ c .if1 .taken)
 
 is-live-requires-2 : tie.Need-is-live-requires-2
 is-live-requires-2 c κs = search needs
@@ -19,11 +35,14 @@ is-live-requires-2 c κs = search needs
 returns-2 : tie.Need-returns-2
 returns-2 c =
     let a = c .before .before .before .before .before .args in
-    piece-one (a .path) (a .pattern .now) (a .at) (c .before .before .before .before .before .pre)
-    (sym (c .before .before .before .is-live .ensures) ∙ c .before .before .if1 .left) (sym (c .before .is-live2 .ensures) ∙ c .if2 .taken)
+    piece-one (a .width) (a .path) (a .pattern .now) (a .at) (c .before .before .before .before .before .pre) (no-star (c .before .before))
+    (sym (c .before .is-live2 .ensures) ∙ c .if2 .taken)
 
 is-live-requires-3 : tie.Need-is-live-requires-3
 is-live-requires-3 c κs = search needs
+
+unit-size-requires : tie.Need-unit-size-requires
+unit-size-requires c κs = search needs
 
 add-bracket-at : tie.Need-add-bracket-at
 add-bracket-at c = search needs
@@ -33,23 +52,27 @@ bracket-at-requires c κs = search needs
 
 returns-3 : tie.Need-returns-3
 returns-3 c =
-    let a = c .before .before .before .before .before .before .before .before .args in
-    c .bracket-at .ensures ∙ piece-bracket (a .path) (a .pattern .now) (a .at)
-    (c .before .before .before .before .before .before .before .before .pre)
-    (sym (c .before .before .before .before .before .before .is-live .ensures) ∙ c .before .before .before .before .before .if1 .left)
-    (sym (c .before .before .before .before .is-live2 .ensures) ∙ c .before .before .before .if2 .left)
-    (sym (c .before .before .is-live3 .ensures) ∙ c .before .if3 .taken)
+    let a = c .before .before .before .before .before .before .before .before .before .args in
+    c .bracket-at .ensures
+    ∙ rw (c .before .unit-size .ensures)
+    (piece-bracket (a .width) (a .path) (a .pattern .now) (a .at) (c .before .before .before .before .before .before .before .before .before .pre)
+    (no-star (c .before .before .before .before .before .before))
+    (no-query (c .before .before .before .before)) (sym (c .before .before .before .is-live3 .ensures) ∙ c .before .before .if3 .taken))
 
-shared-slice-read-t9 : tie.Need-shared-slice-read-t9
-shared-slice-read-t9 c = search needs
+shared-slice-read-t11 : tie.Need-shared-slice-read-t11
+shared-slice-read-t11 c = omega (
+  arith,
+  c .before .before .before .before .before .before .before .before .pre,
+  size-bounds
+      (c .before .before .before .before .before .before .before .before .args .width),
+)
 
 returns-4 : tie.Need-returns-4
 returns-4 c =
     let a = c .before .before .before .before .before .before .before .before .args in
-    piece-byte (a .path) (a .pattern .now) (a .at) (c .before .before .before .before .before .before .before .before .pre)
-    (sym (c .before .before .before .before .before .before .is-live .ensures) ∙ c .before .before .before .before .before .if1 .left)
-    (sym (c .before .before .before .before .is-live2 .ensures) ∙ c .before .before .before .if2 .left)
-    (sym (c .before .before .is-live3 .ensures) ∙ c .before .if3 .left)
+    piece-byte (a .width) (a .path) (a .pattern .now) (a .at) (c .before .before .before .before .before .before .before .before .pre)
+    (no-star (c .before .before .before .before .before))
+    (no-query (c .before .before .before)) (sym (c .before .before .is-live3 .ensures) ∙ c .before .if3 .left)
 
 pub piece-at-spec : {M : Type 1} → statement M
 piece-at-spec =
@@ -60,8 +83,9 @@ piece-at-spec =
     is-live-requires-2
     returns-2
     is-live-requires-3
+    unit-size-requires
     add-bracket-at
     bracket-at-requires
     returns-3
-    shared-slice-read-t9
+    shared-slice-read-t11
     returns-4)
