@@ -4,6 +4,7 @@ use mathlib.Core.Path.{_≡_, refl, sym, _∙_, ap}
 use mathlib.Core.Bool.{Bool, true, false, _&&_}
 use mathlib.Core.List.{List, [], _∷_}
 use native.Mathlib.Numerals.{add-one}
+use native.Mathlib.Omega.{arith}
 use lib.Dec.{eqb}
 use lib.ListN.{length, drop, getD, drop-of-length-le}
 use lib.Seq.{drop-cons}
@@ -13,9 +14,10 @@ use Rattle.stages.specs.Bytes.{Text}
 use Rattle.stages.specs.Pattern.{Sense, senseOf, Element, one, exactly, set, passes, takes, inSet, elements, someEnd, matchesFrom, matches}
 use Rattle.text.specs.Cases.{purposeOf}
 use Rattle.text.specs.Rows.{signsOf}
+use Rattle.pattern_unit.specs.declared.Width.the-variants.{Marked}
 use Rattle.pattern_element.specs.Pieces.{elementOf, Lies}
 use Rattle.pattern_element.specs.declared.Piece.{Piece}
-use Rattle.pattern_element.specs.declared.Piece.the-variants.{Star, One, Byte, Class, Set}
+use Rattle.pattern_element.specs.declared.Piece.the-variants.{Star, One, Byte, Refusing, Set}
 use Rattle.pattern_element.proofs.Reading.{elements-over}
 use Rattle.pattern_row.specs.Special.{from}
 use Rattle.pattern_row.proofs.Standing.{Standing, parted}
@@ -74,50 +76,50 @@ module _ (path head first : Bool) (es : List Element) (b : ℕ) (t : Text) where
       go false = refl
 
   step : (p : Text) (q : Piece) → isStar q ≡ false
-      → matchesFrom path (elementOf p q ∷ es) head first (b ∷ t) ≡
-      (takesOne path head first (elementOf p q) b && matchesFrom path es (isSlash q) (isSlash q) t)
+      → matchesFrom path (elementOf Marked p q ∷ es) head first (b ∷ t) ≡
+      (takesOne path head first (elementOf Marked p q) b && matchesFrom path es (isSlash q) (isSlash q) t)
   unfolding elementOf takesOne
   step p Star n = absurd (no (sym n))
   step p One n = one-step
   step p (Byte c) n = byte-step c
-  step p Class n = byte-step 91
+  step p Refusing n = byte-step 91
   step p (Set negative a e) n = set-step (senseOf negative) _
 
 -- no byte is left for it
-none-left : (path head first : Bool) (es : List Element) (p : Text) (q : Piece) → isStar q ≡ false → matchesFrom path (elementOf p q ∷ es)
+none-left : (path head first : Bool) (es : List Element) (p : Text) (q : Piece) → isStar q ≡ false → matchesFrom path (elementOf Marked p q ∷ es)
     head first [] ≡ false
 unfolding matchesFrom elementOf
 none-left path head first es p Star n = absurd (no (sym n))
 none-left path head first es p One n = refl
 none-left path head first es p (Byte c) n = refl
-none-left path head first es p Class n = refl
+none-left path head first es p Refusing n = refl
 none-left path head first es p (Set negative a e) n = refl
 
 -- what it takes a star may take too, but for a slash of the pattern
 takes-passes : (path head first : Bool) (b : ℕ) (p : Text) (q : Piece) → isStar q ≡ false → isSlash q ≡ false
-    → takesOne path head first (elementOf p q) b ≡ true → passes path false b ≡ true
+    → takesOne path head first (elementOf Marked p q) b ≡ true → passes path false b ≡ true
 unfolding elementOf takesOne takes
 takes-passes path head first b p Star n s y = absurd (no (sym n))
 takes-passes path head first b p One n s y = passes-inside path first b y
 takes-passes path head first b p (Byte c) n s y = passes-other path b (rw (eqb-true c b (and-left (eqb c b) _ y)) at s)
-takes-passes path head first b p Class n s y = passes-other path b (ap (λ (x : ℕ). eqb x 47) (sym (eqb-true 91 b (and-left (eqb 91 b) _ y))))
+takes-passes path head first b p Refusing n s y = passes-other path b (ap (λ (x : ℕ). eqb x 47) (sym (eqb-true 91 b (and-left (eqb 91 b) _ y))))
 takes-passes path head first b p (Set negative a e) n s y = passes-inside path first b (and-left (passes path first b) _ y)
 
 -- a slash of the pattern takes a byte that in paths no star takes
-slash-bars : (head first : Bool) (b : ℕ) (p : Text) (q : Piece) → isSlash q ≡ true → takesOne true head first (elementOf p q) b ≡ true →
+slash-bars : (head first : Bool) (b : ℕ) (p : Text) (q : Piece) → isSlash q ≡ true → takesOne true head first (elementOf Marked p q) b ≡ true →
     passes true first b ≡ false
 unfolding elementOf takesOne takes
 slash-bars head first b p Star s y = absurd (no s)
 slash-bars head first b p One s y = absurd (no s)
 slash-bars head first b p (Byte c) s y = passes-slash first b (rw (eqb-true c b (and-left (eqb c b) _ y)) at s)
-slash-bars head first b p Class s y = absurd (no s)
+slash-bars head first b p Refusing s y = absurd (no s)
 slash-bars head first b p (Set negative a e) s y = absurd (no s)
 
 -- A star before an element that takes the byte here: whatever it reaches with other places, it reaches if it stands behind this byte.
 module _ (path head first : Bool) (es : List Element) (b : ℕ) (u p : Text) (q : Piece) (n : isStar q ≡ false)
-    (y : takesOne path head first (elementOf p q) b ≡ true) where
+    (y : takesOne path head first (elementOf Marked p q) b ≡ true) where
   abbrev Before : Bool → Text → Bool
-  Before = λ f v. matchesFrom path (elementOf p q ∷ es) head f v
+  Before = λ f v. matchesFrom path (elementOf Marked p q ∷ es) head f v
 
   abbrev Behind : Bool → Text → Bool
   Behind = λ f v. matchesFrom path es (isSlash q) f v
@@ -125,7 +127,7 @@ module _ (path head first : Bool) (es : List Element) (b : ℕ) (u p : Text) (q 
   at-slash : path ≡ true → isSlash q ≡ true → someEnd path Before first (b ∷ u) ≡ true → someEnd path Behind (isSlash q) u ≡ true
   at-slash e s z =
       some-here path Behind (isSlash q) u
-      (and-right (takesOne path head first (elementOf p q) b) _ (sym (step path head first es b u p q n) ∙
+      (and-right (takesOne path head first (elementOf Marked p q) b) _ (sym (step path head first es b u p q n) ∙
       (bars (Before first (b ∷ u)) (passes path first b) _ (rw e (slash-bars head first b p q s (rw e at y))) (sym (some-next path Before first b u) ∙ z))))
 
   elsewhere : (path && isSlash q) ≡ false → someEnd path Before first (b ∷ u) ≡ true → someEnd path Behind (isSlash q) u ≡ true
@@ -134,8 +136,8 @@ module _ (path head first : Bool) (es : List Element) (b : ℕ) (u p : Text) (q 
       took : (f : Bool) (c : ℕ) (v : Text) → Before f (c ∷ v) ≡ true → (passes path false c ≡ true) × (Behind false v ≡ true)
       took f c v w =
           let x = sym (step path head f es c v p q n) ∙ w in (
-            passes-unless path (isSlash q) c s λ m. takes-passes path head f c p q n m (and-left (takesOne path head f (elementOf p q) c) _ x),
-            sym (inside-part es v path (isSlash q) s) ∙ and-right (takesOne path head f (elementOf p q) c) _ x,
+            passes-unless path (isSlash q) c s λ m. takes-passes path head f c p q n m (and-left (takesOne path head f (elementOf Marked p q) c) _ x),
+            sym (inside-part es v path (isSlash q) s) ∙ and-right (takesOne path head f (elementOf Marked p q) c) _ x,
           )
 
   pub star-on : someEnd path Before first (b ∷ u) ≡ true → someEnd path Behind (isSlash q) u ≡ true
@@ -143,22 +145,22 @@ module _ (path head first : Bool) (es : List Element) (b : ℕ) (u p : Text) (q 
 
 -- a star
 met : (path head first : Bool) (p : Text) (n : ℕ) (t : Text) (q : Piece) → isStar q ≡ true
-    → matchesFrom path (elementOf p q ∷ from path p n) head first t ≡ behindStar path p n false first t
+    → matchesFrom path (elementOf Marked p q ∷ from path p n) head first t ≡ behindStar path p n false first t
 unfolding matchesFrom elementOf behindStar
 met path head first p n t Star y = refl
 met path head first p n t One y = absurd (no y)
 met path head first p n t (Byte c) y = absurd (no y)
-met path head first p n t Class y = absurd (no y)
+met path head first p n t Refusing y = absurd (no y)
 met path head first p n t (Set negative a e) y = absurd (no y)
 
 again : (path head first : Bool) (p : Text) (n : ℕ) (t : Text) (q : Piece) → isStar q ≡ true
-    → someEnd path (λ f u. matchesFrom path (elementOf p q ∷ from path p n) head f u) first t ≡ true
+    → someEnd path (λ f u. matchesFrom path (elementOf Marked p q ∷ from path p n) head f u) first t ≡ true
     → someEnd path (λ f u. someEnd path (λ g v. matchesFrom path (from path p n) false g v) f u) first t ≡ true
 unfolding matchesFrom elementOf
 again path head first p n t Star y z = z
 again path head first p n t One y z = absurd (no y)
 again path head first p n t (Byte c) y z = absurd (no y)
-again path head first p n t Class y z = absurd (no y)
+again path head first p n t Refusing y z = absurd (no y)
 again path head first p n t (Set negative a e) y z = absurd (no y)
 
 -- the piece that stands at a place
@@ -168,14 +170,14 @@ module _ {path : Bool} {p : Text} {at : ℕ} {q : Piece} {n : ℕ} (s : Standing
     abbrev running : Bool
     running = matchesFrom path (from path p at) head first (drop k t)
 
-    seen : running ≡ matchesFrom path (elementOf p q ∷ from path p n) head first (drop k t)
+    seen : running ≡ matchesFrom path (elementOf Marked p q ∷ from path p n) head first (drop k t)
     seen = ap (λ (es : List Element). matchesFrom path es head first (drop k t)) (parted s)
 
     pub run-star : isStar q ≡ true → running ≡ behindStar path p n false first (drop k t)
     run-star y = seen ∙ met path head first p n (drop k t) q y
 
     -- and had a star stood there
-    star-seen : behindStar path p at head first (drop k t) ≡ someEnd path (λ f u. matchesFrom path (elementOf p q ∷ from path p n) head f u)
+    star-seen : behindStar path p at head first (drop k t) ≡ someEnd path (λ f u. matchesFrom path (elementOf Marked p q ∷ from path p n) head f u)
         first (drop k t)
     unfolding behindStar
     star-seen = ap (λ (es : List Element). someEnd path (λ f u. matchesFrom path es head f u) first (drop k t)) (parted s)
@@ -188,23 +190,23 @@ module _ {path : Bool} {p : Text} {at : ℕ} {q : Piece} {n : ℕ} (s : Standing
     module _ (y : isStar q ≡ false) where
       pub run-short : length t ≤ k → running ≡ false
       run-short l =
-          seen ∙ ap (λ (u : Text). matchesFrom path (elementOf p q ∷ from path p n) head first u) (drop-of-length-le t l)
+          seen ∙ ap (λ (u : Text). matchesFrom path (elementOf Marked p q ∷ from path p n) head first u) (drop-of-length-le t l)
           ∙ none-left path head first (from path p n) p q y
 
       stepped : k < length t → running ≡
-          (takesOne path head first (elementOf p q) (getD t k 0) && matchesFrom path (from path p n) (isSlash q) (isSlash q) (drop (k + 1) t))
+          (takesOne path head first (elementOf Marked p q) (getD t k 0) && matchesFrom path (from path p n) (isSlash q) (isSlash q) (drop (k + 1) t))
       stepped l =
-          seen ∙ ap (λ (u : Text). matchesFrom path (elementOf p q ∷ from path p n) head first u) (drop-cons t k 0 l)
+          seen ∙ ap (λ (u : Text). matchesFrom path (elementOf Marked p q ∷ from path p n) head first u) (drop-cons t k 0 l)
           ∙ rw (add-one k) (step path head first (from path p n) (getD t k 0) (drop (suc k) t) p q y)
 
-      pub run-fails : k < length t → takesOne path head first (elementOf p q) (getD t k 0) ≡ false → running ≡ false
+      pub run-fails : k < length t → takesOne path head first (elementOf Marked p q) (getD t k 0) ≡ false → running ≡ false
       run-fails l x = stepped l ∙ rw x
 
-      pub run-takes : k < length t → takesOne path head first (elementOf p q) (getD t k 0) ≡ true → {x : Bool} → x ≡ isSlash q
+      pub run-takes : k < length t → takesOne path head first (elementOf Marked p q) (getD t k 0) ≡ true → {x : Bool} → x ≡ isSlash q
           → running ≡ matchesFrom path (from path p n) x x (drop (k + 1) t)
       run-takes l x e = stepped l ∙ rw (x, e)
 
-      pub star-takes : k < length t → takesOne path head first (elementOf p q) (getD t k 0) ≡ true → {x : Bool} → x ≡ isSlash q
+      pub star-takes : k < length t → takesOne path head first (elementOf Marked p q) (getD t k 0) ≡ true → {x : Bool} → x ≡ isSlash q
           → behindStar path p at head first (drop k t) ≡ true → behindStar path p n x x (drop (k + 1) t) ≡ true
       unfolding behindStar
       star-takes l x e z =
@@ -215,11 +217,11 @@ module _ {path : Bool} {p : Text} {at : ℕ} {q : Piece} {n : ℕ} (s : Standing
 module _ (path head first : Bool) (p t : Text) (at k : ℕ) (h : length p ≤ at + 1) where
   pub run-left : k < length t → matchesFrom path (from path p at) head first (drop k t) ≡ false
   unfolding matchesFrom
-  run-left l = rw (elements-over path p at h, drop-cons t k 0 l)
+  run-left l = rw (elements-over Marked path p at (omega arith), drop-cons t k 0 l)
 
   pub run-whole : length t ≤ k → matchesFrom path (from path p at) head first (drop k t) ≡ true
   unfolding matchesFrom
-  run-whole l = rw (elements-over path p at h, drop-of-length-le t l)
+  run-whole l = rw (elements-over Marked path p at (omega arith), drop-of-length-le t l)
 
 -- behind a star the ends of the text, one after the other
 module _ (path : Bool) (p : Text) (at : ℕ) (first : Bool) (t : Text) (k : ℕ) where

@@ -8,7 +8,7 @@ use lib.ListN.{length, drop}
 use Rattle.stages.specs.Bytes.{Text}
 use Rattle.stages.specs.Pattern.{Element, star, one, exactly, set, passes, takes, inSet, someEnd, matchesFrom}
 use Rattle.pattern_element.specs.declared.Piece.{Piece}
-use Rattle.pattern_element.specs.declared.Piece.the-variants.{Star, One, Byte, Class, Set}
+use Rattle.pattern_element.specs.declared.Piece.the-variants.{Star, One, Byte, Refusing, Set}
 use Rattle.pattern_row.specs.Special.{from}
 use Rattle.pattern_match.specs.declared.Run.{Run}
 use Rattle.pattern_match.specs.declared.Run.the-variants.{Whole, Fails, Star as StarMet}
@@ -17,7 +17,7 @@ abbrev pub isStar : Piece → Bool
 isStar Star = true
 isStar One = false
 isStar (Byte b) = false
-isStar Class = false
+isStar Refusing = false
 isStar (Set negative from to) = false
 
 -- a slash of the pattern
@@ -25,7 +25,7 @@ abbrev pub isSlash : Piece → Bool
 isSlash Star = false
 isSlash One = false
 isSlash (Byte b) = eqb b (code "/")
-isSlash Class = false
+isSlash Refusing = false
 isSlash (Set negative from to) = false
 
 -- an element that is no star takes the byte b

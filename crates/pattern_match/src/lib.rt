@@ -3,6 +3,7 @@
 // the star takes one byte more.
 use pattern_element::Piece;
 use pattern_set::ByteSet;
+use pattern_unit::Width;
 ghost use Prim.Native.Nat.{_≤_};
 ghost use mathlib.Core.Path.{_≡_};
 ghost use mathlib.Core.Bool.{true, false, _&&_};
@@ -10,6 +11,7 @@ ghost use lib.ListN.{length, drop};
 ghost use Rattle.stages.specs.Pattern.{elements, passes, takes, matches};
 ghost use Rattle.text.specs.Cases.{purposeOf};
 ghost use Rattle.text.specs.Rows.{signsOf};
+ghost use Rattle.pattern_unit.specs.declared.Width.the-variants.{Marked};
 ghost use Rattle.pattern_set.specs.Sets.{has};
 ghost use Rattle.pattern_element.specs.Pieces.{elementOf, Lies};
 ghost use Rattle.pattern_match.specs.Steps.{isStar, isSlash, takesOne, behindStar, RunSays};
@@ -22,7 +24,7 @@ fn is_star(piece: Piece) -> bool
         Piece::Star => true,
         Piece::One => false,
         Piece::Byte(_) => false,
-        Piece::Class => false,
+        Piece::Refusing => false,
         Piece::Set {
             negative: _,
             from: _,
@@ -39,7 +41,7 @@ fn is_slash(piece: Piece) -> bool
         Piece::Star => false,
         Piece::One => false,
         Piece::Byte(b) => b == b'/',
-        Piece::Class => false,
+        Piece::Refusing => false,
         Piece::Set {
             negative: _,
             from: _,
@@ -96,15 +98,15 @@ fn takes_member(set: ByteSet, b: u8, path: bool, first: bool) -> bool
 // An element that is no star takes this byte of the text.
 fn takes_one(pattern: &[u8], piece: Piece, b: u8, path: bool, head: bool, first: bool) -> bool
     requires { ⌜ Lies (length (now pattern)) piece ⌝ }
-    ensures { λ r. ⌜ r ≡ takesOne path head first (elementOf (now (pattern .entry)) piece) b ⌝ }
+    ensures { λ r. ⌜ r ≡ takesOne path head first (elementOf Marked (now (pattern .entry)) piece) b ⌝ }
 {
     match piece {
         Piece::Star => false,
         Piece::One => passes_byte(b, path, first),
         Piece::Byte(c) => takes_byte(c, b, path, head, first),
-        Piece::Class => takes_byte(b'[', b, path, head, first),
+        Piece::Refusing => takes_byte(b'[', b, path, head, first),
         Piece::Set { negative, from, to } => {
-            let set = pattern_set::set_of(&pattern[from..to], negative);
+            let set = pattern_set::set_of(&pattern[from..to], negative, Width::Marked);
             takes_member(set, b, path, first)
         }
     }
@@ -138,8 +140,8 @@ fn run_to_star(
     let mut at = start;
     let mut k = since;
     while at + 1 < pattern.len() {
-        let piece = pattern_element::piece_at(pattern, at, path);
-        let next = pattern_element::behind(piece, at);
+        let piece = pattern_element::piece_at(pattern, at, path, Width::Marked);
+        let next = pattern_element::behind(piece, at, Width::Marked);
         if is_star(piece) {
             return Run::Star { at: next, k, first };
         }

@@ -7,7 +7,7 @@ use Rattle.stages.specs.Bytes.{Text}
 use Rattle.stages.specs.Pattern.{Element, elements}
 use Rattle.text.specs.Rows.{signsOf}
 use Rattle.pattern_element.specs.declared.Piece.{Piece}
-use Rattle.pattern_element.specs.declared.Piece.the-variants.{Star, One, Byte, Class, Set}
+use Rattle.pattern_element.specs.declared.Piece.the-variants.{Star, One, Byte, Refusing, Set}
 
 -- the elements of a pattern from a place on
 abbrev pub from : Bool → Text → ℕ → List Element
@@ -18,5 +18,5 @@ abbrev pub isSpecial : Piece → Bool
 isSpecial Star = true
 isSpecial One = true
 isSpecial (Byte b) = false
-isSpecial Class = false
+isSpecial Refusing = false
 isSpecial (Set negative from to) = true

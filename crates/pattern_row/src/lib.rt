@@ -1,12 +1,13 @@
-// Rows as patterns see them, before anything is matched: their N dropped, whether a class refuses them, whether a field is a pattern.
+// Rows as patterns see them, before anything is matched: their N dropped, whether a class that is not served refuses them, whether a field is a pattern.
 use pattern_element::Piece;
+use pattern_unit::Width;
 use text::marks;
 ghost use mathlib.Core.Path.{_≡_};
 ghost use mathlib.Core.Bool.{true};
 ghost use Rattle.stages.specs.Pattern.{elements, hasClass};
 ghost use Rattle.stages.specs.Paths.{active};
 ghost use Rattle.text.specs.Rows.{signsOf};
-ghost use Rattle.pattern_element.specs.Pieces.{isClassPiece};
+ghost use Rattle.pattern_element.specs.Pieces.{isRefusingPiece};
 ghost use Rattle.pattern_row.specs.Special.{isSpecial};
 ghost use Rattle.pattern_row.specs.Kept.{Dropped};
 
@@ -30,15 +31,15 @@ pub fn drop_empty(row: &mut [u8]) -> usize
     to
 }
 
-// A class was met in the search for its bracket's end.
-fn is_class(piece: Piece) -> bool
-    ensures { λ r. ⌜ r ≡ isClassPiece piece ⌝ }
+// A member that is 19 was met in the search for its bracket's end.
+fn is_refusing(piece: Piece) -> bool
+    ensures { λ r. ⌜ r ≡ isRefusingPiece piece ⌝ }
 {
     match piece {
         Piece::Star => false,
         Piece::One => false,
         Piece::Byte(_) => false,
-        Piece::Class => true,
+        Piece::Refusing => true,
         Piece::Set {
             negative: _,
             from: _,
@@ -55,7 +56,7 @@ fn is_special(piece: Piece) -> bool
         Piece::Star => true,
         Piece::One => true,
         Piece::Byte(_) => false,
-        Piece::Class => false,
+        Piece::Refusing => false,
         Piece::Set {
             negative: _,
             from: _,
@@ -64,17 +65,17 @@ fn is_special(piece: Piece) -> bool
     }
 }
 
-// A bracket class refuses the pattern with 19, "closed or not, whatever the text".
+// A class that is not served refuses the pattern with 19, "closed or not, whatever the text".
 pub fn has_class(pattern: &[u8], path: bool) -> bool
     ensures { λ r. ⌜ r ≡ hasClass path 0 (signsOf (now (pattern .entry))) ⌝ }
 {
     let mut at: usize = 0;
     while at + 1 < pattern.len() {
-        let piece = pattern_element::piece_at(pattern, at, path);
-        if is_class(piece) {
+        let piece = pattern_element::piece_at(pattern, at, path, Width::Marked);
+        if is_refusing(piece) {
             return true;
         }
-        at = pattern_element::behind(piece, at);
+        at = pattern_element::behind(piece, at, Width::Marked);
     }
     false
 }
@@ -85,11 +86,11 @@ pub fn is_active(pattern: &[u8]) -> bool
 {
     let mut at: usize = 0;
     while at + 1 < pattern.len() {
-        let piece = pattern_element::piece_at(pattern, at, true);
+        let piece = pattern_element::piece_at(pattern, at, true, Width::Marked);
         if is_special(piece) {
             return true;
         }
-        at = pattern_element::behind(piece, at);
+        at = pattern_element::behind(piece, at, Width::Marked);
     }
     false
 }

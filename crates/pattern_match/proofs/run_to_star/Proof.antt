@@ -8,6 +8,7 @@ use borrow.Author.Needs.{needs}
 use borrow.Author.Tests.{not-true, not-false}
 use lib.ListN.{length, drop}
 use Rattle.stages.specs.Pattern.{matchesFrom}
+use Rattle.pattern_unit.specs.declared.Width.the-variants.{Marked}
 use Rattle.pattern_element.specs.Pieces.{behindOf}
 use Rattle.pattern_row.specs.Special.{from}
 use Rattle.pattern_row.proofs.Standing.{Standing, piece-inside, piece-further, piece-within}
@@ -29,7 +30,7 @@ abbrev μ-loop : tie.MeasureT-loop
 stood : (c : tie.After-piece-at Inv-loop μ-loop) →
     let l = c .before .before .loop in
     let a = c .before .before .before .before .before .args in
-    Standing (a .path) (a .pattern .now) (l .at) (c .piece-at .result) (behindOf (c .piece-at .result) (l .at))
+    Standing (a .path) (a .pattern .now) (l .at) (c .piece-at .result) (behindOf Marked (c .piece-at .result) (l .at))
 stood c = record { there = c .before .loop-test .taken; is = c .piece-at .ensures; ends = refl }
 
 -- and with the place behind it

@@ -3,6 +3,7 @@ use mathlib.Core.Path.{sym, _∙_, ap}
 use mathlib.Core.Bool.{Bool, _&&_}
 use native.Mathlib.Omega.{arith}
 use Rattle.stages.specs.Pattern.{passes}
+use Rattle.pattern_unit.specs.declared.Width.the-variants.{Marked}
 use Rattle.pattern_element.specs.Pieces.{elementOf}
 use Rattle.pattern_element.specs.declared.Piece.{Piece}
 use Rattle.pattern_match.specs.Steps.{takesOne}
@@ -54,28 +55,28 @@ returns : tie.Need-returns
 unfolding takesOne elementOf
 returns c =
     let a = c .before .before .before .args in
-    sym (ap (λ (q : Piece). takesOne (a .path) (a .head) (a .first) (elementOf (a .pattern .now) q) (a .b)) (c .enum-told .given .1))
+    sym (ap (λ (q : Piece). takesOne (a .path) (a .head) (a .first) (elementOf Marked (a .pattern .now) q) (a .b)) (c .enum-told .given .1))
 
 returns-2 : tie.Need-returns-2
 unfolding takesOne elementOf
 returns-2 c =
     let a = c .before .before .before .before .args in
     c .passes-byte .ensures ∙ sym
-    (ap (λ (q : Piece). takesOne (a .path) (a .head) (a .first) (elementOf (a .pattern .now) q) (a .b)) (c .before .enum-told2 .given .1))
+    (ap (λ (q : Piece). takesOne (a .path) (a .head) (a .first) (elementOf Marked (a .pattern .now) q) (a .b)) (c .before .enum-told2 .given .1))
 
 returns-3 : tie.Need-returns-3
 unfolding takesOne elementOf
 returns-3 c =
     let a = c .before .before .before .before .before .args in
     c .takes-byte .ensures ∙ sym
-    (ap (λ (q : Piece). takesOne (a .path) (a .head) (a .first) (elementOf (a .pattern .now) q) (a .b)) (c .before .before .piece .given .1))
+    (ap (λ (q : Piece). takesOne (a .path) (a .head) (a .first) (elementOf Marked (a .pattern .now) q) (a .b)) (c .before .before .piece .given .1))
 
 returns-4 : tie.Need-returns-4
 unfolding takesOne elementOf
 returns-4 c =
     let a = c .before .before .before .before .args in
     c .takes-byte2 .ensures ∙ sym
-    (ap (λ (q : Piece). takesOne (a .path) (a .head) (a .first) (elementOf (a .pattern .now) q) (a .b)) (c .before .enum-told3 .given .1))
+    (ap (λ (q : Piece). takesOne (a .path) (a .head) (a .first) (elementOf Marked (a .pattern .now) q) (a .b)) (c .before .enum-told3 .given .1))
 
 returns-5 : tie.Need-returns-5
 unfolding takesOne elementOf
@@ -83,7 +84,7 @@ returns-5 c =
     let a = c .before .before .before .before .before .before .before .args in
     c .takes-member .ensures ∙ ap (λ (x : Bool). passes (a .path) (a .first) (a .b) && x)
     (c .before .set-of .ensures (a .b) (c .before .before .before .before .before .before .before .fits .b .fits))
-    ∙ sym (ap (λ (q : Piece). takesOne (a .path) (a .head) (a .first) (elementOf (a .pattern .now) q) (a .b))
+    ∙ sym (ap (λ (q : Piece). takesOne (a .path) (a .head) (a .first) (elementOf Marked (a .pattern .now) q) (a .b))
     (c .before .before .before .before .piece2 .given .1))
 
 pub takes-one-spec : {M : Type 1} → statement M

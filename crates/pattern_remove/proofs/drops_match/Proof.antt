@@ -1,7 +1,7 @@
 -- The part from k to the end is what is left when k bytes are dropped; the part up to k is the first k bytes.
 use mathlib.Core.Path.{sym, _∙_}
 use lib.Seq.{length-take-le}
-use Rattle.pattern_set.proofs.Units.{to-end}
+use Rattle.pattern_unit.proofs.Units.{to-end}
 use borrow.Author.Needs.{needs}
 use Rattle.pattern_remove.proofs.drops_match.Statement.{statement}
 use Rattle.pattern_remove.proofs.drops_match.Tie as tie

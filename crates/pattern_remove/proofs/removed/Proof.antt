@@ -8,7 +8,7 @@ use Rattle.stages.specs.Pattern.{elements}
 use Rattle.stages.specs.Removal.{cut, left, removed}
 use Rattle.text.specs.Cases.{sideOf, reachOf}
 use Rattle.text.specs.Rows.{signsOf}
-use Rattle.pattern_set.proofs.Units.{to-end}
+use Rattle.pattern_unit.proofs.Units.{to-end}
 use Rattle.pattern_remove.proofs.Cutting.{cut-is}
 use borrow.Author.Needs.{needs}
 use Rattle.pattern_remove.proofs.removed.Statement.{statement}

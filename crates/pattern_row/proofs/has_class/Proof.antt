@@ -1,4 +1,4 @@
--- No class is met before `at`: the whole pattern has one just if the elements from there on have.
+-- No class that is not served is met before `at`: the whole pattern has one just if the elements from there on have.
 use Prim.Native.Nat.{_≤_, _-_}
 use mathlib.Core.Path.{_≡_, refl, sym, _∙_}
 use native.Mathlib.Omega.{arith}
@@ -7,6 +7,7 @@ use lib.ListN.{length, drop}
 use Rattle.stages.specs.Pattern.{hasClass}
 use Rattle.pattern_element.proofs.Reading.{class-over}
 use Rattle.text.specs.Rows.{signsOf}
+use Rattle.pattern_unit.specs.declared.Width.the-variants.{Marked}
 use Rattle.pattern_element.specs.Pieces.{behindOf}
 use Rattle.pattern_row.proofs.Standing.{Standing, piece-inside, piece-further, class-step}
 use Rattle.pattern_row.proofs.has_class.Statement.{statement}
@@ -22,7 +23,7 @@ abbrev μ-loop : tie.MeasureT-loop
 stood : (c : tie.After-piece-at Inv-loop μ-loop) →
     let at = c .before .before .loop .at in
     let a = c .before .before .before .before .args in
-    Standing (a .path) (a .pattern .now) at (c .piece-at .result) (behindOf (c .piece-at .result) at)
+    Standing (a .path) (a .pattern .now) at (c .piece-at .result) (behindOf Marked (c .piece-at .result) at)
 stood c = record { there = c .before .loop-test .taken; is = c .piece-at .ensures; ends = refl }
 
 -- and with the place behind it
@@ -42,13 +43,13 @@ add-loop c = search needs
 piece-at-requires : tie.Need-piece-at-requires Inv-loop μ-loop
 piece-at-requires c κs = search needs
 
-is-class-requires : tie.Need-is-class-requires Inv-loop μ-loop
-is-class-requires c κs = search needs
+is-refusing-requires : tie.Need-is-refusing-requires Inv-loop μ-loop
+is-refusing-requires c κs = search needs
 
 returns : tie.Need-returns Inv-loop μ-loop
 returns c =
     let l = c .before .before .before .before .loop in
-    sym (l .inv .1 ∙ class-step (stood (c .before .before)) ∙ rw (sym (c .before .is-class .ensures) ∙ c .if1 .taken))
+    sym (l .inv .1 ∙ class-step (stood (c .before .before)) ∙ rw (sym (c .before .is-refusing .ensures) ∙ c .if1 .taken))
 
 behind-requires : tie.Need-behind-requires Inv-loop μ-loop
 behind-requires c κs = omega (arith, piece-inside (stood (c .before .before)))
@@ -59,13 +60,13 @@ loop-less c = omega (arith, piece-further (stands c))
 loop-again : tie.Need-loop-again Inv-loop μ-loop
 loop-again c =
     let l = c .before .before .before .before .before .loop in
-    (piece-inside (stands c), l .inv .1 ∙ class-step (stands c) ∙ rw (sym (c .before .before .is-class .ensures) ∙ c .before .if1 .left))
+    (piece-inside (stands c), l .inv .1 ∙ class-step (stands c) ∙ rw (sym (c .before .before .is-refusing .ensures) ∙ c .before .if1 .left))
 
 returns-2 : tie.Need-returns-2 Inv-loop μ-loop
 returns-2 c =
     let a = c .before .before .before .args in
     let l = c .before .loop in
-    sym (l .inv .1 ∙ class-over (a .path) (a .pattern .now) (l .at) (c .loop-test .left))
+    sym (l .inv .1 ∙ class-over Marked (a .path) (a .pattern .now) (l .at) (omega arith))
 
 pub has-class-spec : {M : Type 1} → statement M
 has-class-spec =
@@ -76,7 +77,7 @@ has-class-spec =
     loop-holds
     add-loop
     piece-at-requires
-    is-class-requires
+    is-refusing-requires
     returns
     behind-requires
     loop-less

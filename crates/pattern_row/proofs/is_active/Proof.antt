@@ -8,6 +8,7 @@ use mathlib.Core.Bool.{true}
 use Rattle.stages.specs.Pattern.{elements}
 use Rattle.stages.specs.Paths.{active}
 use Rattle.text.specs.Rows.{signsOf}
+use Rattle.pattern_unit.specs.declared.Width.the-variants.{Marked}
 use Rattle.pattern_element.specs.Pieces.{behindOf}
 use Rattle.pattern_row.proofs.Standing.{Standing, piece-inside, piece-further, special-step, special-over}
 use Rattle.pattern_row.proofs.is_active.Statement.{statement}
@@ -24,7 +25,7 @@ abbrev μ-loop : tie.MeasureT-loop
 stood : (c : tie.After-piece-at Inv-loop μ-loop) →
     let at = c .before .before .loop .at in
     let a = c .before .before .before .before .args in
-    Standing true (a .pattern .now) at (c .piece-at .result) (behindOf (c .piece-at .result) at)
+    Standing true (a .pattern .now) at (c .piece-at .result) (behindOf Marked (c .piece-at .result) at)
 stood c = record { there = c .before .loop-test .taken; is = c .piece-at .ensures; ends = refl }
 
 -- and with the place behind it
