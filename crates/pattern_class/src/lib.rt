@@ -9,8 +9,8 @@ ghost use Rattle.pattern_class.specs.Rows.{count, rowClass, Finds};
 ghost use Rattle.pattern_class.specs.Table.{entry, Holds};
 use pattern_unit::Width;
 
-// A class as the table has it: the bytes that stand behind its `[`, filled up by a blank, and how many they are; the bytes that it holds, as four runs each by its
-// first byte and its last, where the last one stands again if there are fewer.
+// A class as the table has it: the bytes that stand behind its `[`, filled up by a blank, and how many they are; the bytes that it holds, as four runs, each by
+// its first byte and its last. Where there are fewer, the last run stands again.
 struct Class([u8; 9], usize, [u8; 8]);
 
 // How many classes there are.

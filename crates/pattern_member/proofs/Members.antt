@@ -133,6 +133,9 @@ module _ (w : Width) (p : Text) (k : ℕ) (fits : k ≤ length p) (path : Bool) 
     whole : here w p k ≡ signAt w p k ∷ signAt w p (k + size w) ∷ signsBy w (drop (k + size w + size w) p)
     whole = range-units w p k path (range-inside w p k path y)
 
+    ranged : ranges path (signAt w p k ∷ signAt w p (k + size w) ∷ signsBy w (drop (k + size w + size w) p)) ≡ true
+    ranged = sym (ap (ranges path) whole) ∙ y
+
     opened : {x : Bool} → opens (behind w p k) ≡ x → opensClass (signAt w p (k + size w)) (signsBy w (drop (k + size w + size w) p)) ≡ x
     unfolding opens
     opened e = rw (unit-at w p (k + size w) (range-inside w p k path y)) at e
@@ -143,7 +146,7 @@ module _ (w : Width) (p : Text) (k : ℕ) (fits : k ≤ length p) (path : Bool) 
       listed = tt;
       says = sym
           (ap (byteMember path b) whole
-          ∙ byte-class path b (signAt w p k) (signAt w p (k + size w)) (signsBy w (drop (k + size w + size w) p)) (sym (ap (ranges path) whole) ∙ y) (opened o));
+          ∙ byte-class path b (signAt w p k) (signAt w p (k + size w)) (signsBy w (drop (k + size w + size w) p)) ranged (opened o));
       inside = omega (arith, scale-zero w);
     }
 
@@ -153,7 +156,7 @@ module _ (w : Width) (p : Text) (k : ℕ) (fits : k ≤ length p) (path : Bool) 
       listed = tt;
       says = sym
           (ap (byteMember path b) whole
-          ∙ byte-range path b (signAt w p k) (signAt w p (k + size w)) (signsBy w (drop (k + size w + size w) p)) (sym (ap (ranges path) whole) ∙ y) (opened o));
+          ∙ byte-range path b (signAt w p k) (signAt w p (k + size w)) (signsBy w (drop (k + size w + size w) p)) ranged (opened o));
       inside = omega (arith, scale-two w, range-inside w p k path y);
     }
 

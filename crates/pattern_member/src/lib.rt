@@ -68,7 +68,7 @@ fn is_range(units: &[u8], at: usize, path: bool, width: Width) -> bool
     !bars(units, end, path)
 }
 
-// The member of a `[` that opens a class: "An unknown name, or `[.` or `[=`, stays 19. A class as an end of a range is 19." The place is the one behind the `[`.
+// The member of a `[` that opens a class, its place the one behind the `[`: "An unknown name, or `[.` or `[=`, stays 19. A class as an end of a range is 19."
 fn class_member(units: &[u8], at: usize, path: bool, width: Width) -> Member
     requires { ⌜ at ≤ length (now units) ⌝ }
     ensures { λ r. ⌜ (let s = signsBy width (drop at (now (units .entry))) in Says width (now (units .entry)) at (classMember path (classAt classes s) s) r) ⌝ }

@@ -49,7 +49,8 @@ loop-again c =
     let l = c .before .before .before .loop in (
       omega arith,
       l .inv .1
-          ∙ found-on (l .row) (signsBy (a .width) (drop (a .at) (a .units .now))) (c .before .before .loop-test .taken) (sym (c .before .is-written .ensures) ∙ c .if1 .left),
+          ∙ found-on (l .row) (signsBy (a .width) (drop (a .at) (a .units .now))) (c .before .before .loop-test .taken)
+          (sym (c .before .is-written .ensures) ∙ c .if1 .left),
     )
 
 returns-2 : tie.Need-returns-2 Inv-loop μ-loop

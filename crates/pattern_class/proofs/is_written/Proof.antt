@@ -18,17 +18,20 @@ array-share-prefix-text c = row-fits (c .before .before .before .args .row) (c .
 
 slice-aggregate-begins-with : tie.Need-slice-aggregate-begins-with
 slice-aggregate-begins-with c =
-    let e = c .before .before .class-of .result in
-    sym (length-take-le (e .1) (e .0) (row-fits (c .before .before .before .before .args .row) (c .before .before .before .before .pre .1) (c .before .before .class-of .ensures)))
+    let e = c .before .before .class-of in
+    let s = c .before .before .before .before in
+    sym (length-take-le (e .result .1) (e .result .0) (row-fits (s .args .row) (s .pre .1) (e .ensures)))
 
 begins-with-requires : tie.Need-begins-with-requires
 begins-with-requires c κs = search needs
 
 returns : tie.Need-returns
 returns c =
-    let a = c .before .before .before .before .before .args in
+    let s = c .before .before .before .before .before in
+    let a = s .args in
     c .begins-with .ensures
-    ∙ ap (λ (t : Text). begin t (signsBy (a .width) (drop (a .at) (a .units .now)))) (row-written (a .row) (c .before .before .before .before .before .pre .1) (c .before .before .before .class-of .ensures))
+    ∙ ap (λ (t : Text). begin t (signsBy (a .width) (drop (a .at) (a .units .now))))
+    (row-written (a .row) (s .pre .1) (c .before .before .before .class-of .ensures))
 
 pub is-written-spec : {M : Type 1} → statement M
 is-written-spec =

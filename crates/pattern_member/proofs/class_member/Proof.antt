@@ -50,9 +50,10 @@ is-range-requires c κs = omega (arith, scaled c, found (c .before .before) .ins
 
 returns : tie.Need-returns
 returns c =
-    let a = c .before .before .before .before .before .before .before .before .before .args in
     let f = c .before .before .before .before in
-    class-to-more (a .width) (a .units .now) (a .at) (c .before .before .before .before .before .before .before .before .before .pre) (a .path) (c .before .before .before .before .before .row .given .0 .0) (found f)
+    let s = f .before .before .before .before .before in
+    let a = s .args in
+    class-to-more (a .width) (a .units .now) (a .at) (s .pre) (a .path) (f .before .row .given .0 .0) (found f)
     (rw (sym (scaled (c .before .before))) (sym (c .before .is-range .ensures) ∙ c .if1 .taken))
 
 returns-2 : tie.Need-returns-2
@@ -63,9 +64,10 @@ returns-2 c =
 
 returns-3 : tie.Need-returns-3
 returns-3 c =
-    let a = c .before .before .before .before .before .before .before .before .before .args in
     let f = c .before .before .before .before in
-    class-alone (a .width) (a .units .now) (a .at) (c .before .before .before .before .before .before .before .before .before .pre) (a .path) (c .before .before .before .before .before .row .given .0 .0) (found f)
+    let s = f .before .before .before .before .before in
+    let a = s .args in
+    class-alone (a .width) (a .units .now) (a .at) (s .pre) (a .path) (f .before .row .given .0 .0) (found f)
     (rw (sym (scaled (c .before .before))) (sym (c .before .is-range .ensures) ∙ c .if1 .left))
 
 pub class-member-spec : {M : Type 1} → statement M

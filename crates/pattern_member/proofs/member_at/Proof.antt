@@ -25,22 +25,24 @@ class-member-requires c κs = search needs
 
 returns : tie.Need-returns
 returns c =
-    let a = c .before .before .before .before .before .args in
+    let s = c .before .before .before .before .before in
+    let a = s .args in
     subst (λ (m : pattern.Member). Says (a .width) (a .units .now) (a .at + size (a .width)) m (c .class-member .result))
-    (member-class (a .width) (a .units .now) (a .at) (a .path) (c .before .before .before .before .before .pre) (sym (c .before .before .opens-class .ensures) ∙ c .before .if1 .taken))
+    (member-class (a .width) (a .units .now) (a .at) (a .path) (s .pre) (sym (c .before .before .opens-class .ensures) ∙ c .before .if1 .taken))
     (rw (c .before .before .before .unit-size .ensures) at (c .class-member .ensures))
 
 shared-slice-read-byte-member : tie.Need-shared-slice-read-byte-member
-shared-slice-read-byte-member c = omega (arith, c .before .before .before .before .before .pre, size-bounds (c .before .before .before .before .before .args .width))
+shared-slice-read-byte-member c = let s = c .before .before .before .before .before in omega (arith, s .pre, size-bounds (s .args .width))
 
 byte-member-requires : tie.Need-byte-member-requires
 byte-member-requires c κs = search needs
 
 returns-2 : tie.Need-returns-2
 returns-2 c =
-    let a = c .before .before .before .before .before .before .args in
+    let s = c .before .before .before .before .before .before in
+    let a = s .args in
     subst (λ (m : pattern.Member). Says (a .width) (a .units .now) (a .at + size (a .width)) m (c .byte-member .result))
-    (member-byte (a .width) (a .units .now) (a .at) (a .path) (c .before .before .before .before .before .before .pre) (sym (c .before .before .before .opens-class .ensures) ∙ c .before .before .if1 .left))
+    (member-byte (a .width) (a .units .now) (a .at) (a .path) (s .pre) (sym (c .before .before .before .opens-class .ensures) ∙ c .before .before .if1 .left))
     (rw (c .before .before .before .before .unit-size .ensures) at (c .byte-member .ensures))
 
 pub member-at-spec : {M : Type 1} → statement M

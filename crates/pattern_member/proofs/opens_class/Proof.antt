@@ -65,8 +65,9 @@ is-live-requires-4 c κs = inside (c .before .before .before .before)
 returns-4 : tie.Need-returns-4
 returns-4 c =
     let a = c .before .before .before .before .before .before .before .before .before .args in
+    let first = c .before .before .before .before .before .before in
     sym (opens-at (a .width) (a .units .now) (a .at) ∙ rw (
-      sym (c .before .before .before .before .before .before .before .is-live .ensures) ∙ not-false _ (c .before .before .before .before .before .before .if1 .left),
+      sym (first .before .is-live .ensures) ∙ not-false _ (first .if1 .left),
       sym (c .before .before .before .before .before .unit-size .ensures),
       sym (c .before .before .before .before .is-live2 .ensures) ∙ c .before .before .before .if2 .left,
       sym (c .before .before .is-live3 .ensures) ∙ c .before .if3 .left,

@@ -23,7 +23,9 @@ written-length-requires : tie.Need-written-length-requires
 written-length-requires c κs = subst isRow (c .before .member .given .1) (c .before .before .before .pre)
 
 add-result : tie.Need-add-result
-add-result c = omega (arith, c .written-length .ensures, row-short (c .before .before .member .given .0 .0) (subst isRow (c .before .before .member .given .1) (c .before .before .before .before .pre)))
+add-result c =
+    let m = c .before .before .member .given in
+    omega (arith, c .written-length .ensures, row-short (m .0 .0) (subst isRow (m .1) (c .before .before .before .before .pre)))
 
 enum-told-3 : tie.Need-enum-told-3
 enum-told-3 c = search needs

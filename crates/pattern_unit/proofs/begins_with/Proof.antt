@@ -1,11 +1,13 @@
 -- The text begins there just if what is left of it begins at the place that is reached. The measure is what is left of the text.
-use Prim.Native.Nat.{_≤_, _-_}
+use Prim.Native.Nat.{_+_, _≤_, _-_}
 use mathlib.Core.Path.{_≡_, refl, sym, _∙_}
+use mathlib.Core.Bool.{true}
 use native.Mathlib.Omega.{arith}
 use borrow.Author.Tests.{not-true, not-false}
-use lib.ListN.{length, drop}
+use lib.ListN.{length, drop, getD}
 use Rattle.stages.specs.Pattern.{begin}
 use Rattle.pattern_unit.specs.Widths.{signsBy}
+use Rattle.pattern_unit.specs.Heads.{begins}
 use Rattle.pattern_unit.proofs.Units.{live-inside, text-fails, text-on, text-over}
 use borrow.Author.Needs.{needs}
 use Rattle.pattern_unit.proofs.begins_with.Statement.{statement}
@@ -17,6 +19,25 @@ Inv-loop units at text width size k₀ i₀ k i =
 
 abbrev μ-loop : tie.MeasureT-loop
 μ-loop units at text width size k₀ i₀ k i = length text - i
+
+-- the text's next byte stands at the place that is reached ..
+met : (c : tie.Else1 Inv-loop μ-loop) →
+    let l = c .before .before .before .before .loop in
+    let a = c .before .before .before .before .before .before .before .before .args in
+    begins (getD (a .text .now) (l .i) 0) (signsBy (a .width) (drop (l .k) (a .units .now))) ≡ true
+met c = sym (c .before .is-live .ensures) ∙ not-false _ (c .if1 .left)
+
+-- .. and the place behind it is in the pattern
+inside : (c : tie.Else1 Inv-loop μ-loop) →
+    let b = c .before .before .before .before .before in
+    c .before .before .before .before .loop .k + b .unit-size .result ≤ length (b .before .before .before .args .units .now)
+inside c =
+    let a = c .before .before .before .before .before .before .before .before .args in
+    omega (
+      arith,
+      c .before .before .before .before .before .unit-size .ensures,
+      live-inside (a .width) (a .units .now) (c .before .before .before .before .loop .k) _ (met c),
+    )
 
 unit-size-requires : tie.Need-unit-size-requires Inv-loop μ-loop
 unit-size-requires c κs = search needs
@@ -38,10 +59,7 @@ returns c =
     (sym (c .before .is-live .ensures) ∙ not-true _ (c .if1 .taken)))
 
 add-k : tie.Need-add-k Inv-loop μ-loop
-add-k c =
-    let a = c .before .before .before .before .before .before .before .before .args in
-    let l = c .before .before .before .before .loop in
-    omega (arith, c .before .before .before .before .before .unit-size .ensures, live-inside (a .width) (a .units .now) (l .k) _ (sym (c .before .is-live .ensures) ∙ not-false _ (c .if1 .left)))
+add-k c = omega (arith, inside c)
 
 add-i : tie.Need-add-i Inv-loop μ-loop
 add-i c = search needs
@@ -52,10 +70,10 @@ loop-less c = search needs
 loop-again : tie.Need-loop-again Inv-loop μ-loop
 loop-again c =
     let a = c .before .before .before .before .before .before .before .before .args in
-    let l = c .before .before .before .before .loop in
-    let y = sym (c .before .is-live .ensures) ∙ not-false _ (c .if1 .left) in (
-      omega (arith, c .before .before .before .before .before .unit-size .ensures, live-inside (a .width) (a .units .now) (l .k) _ y),
-      l .inv .1 ∙ text-on (a .width) (a .units .now) (l .k) (a .text .now) (l .i) (c .before .before .before .loop-test .taken) y ∙ rw (c .before .before .before .before .before .unit-size .ensures),
+    let l = c .before .before .before .before .loop in (
+      inside c,
+      l .inv .1 ∙ text-on (a .width) (a .units .now) (l .k) (a .text .now) (l .i) (c .before .before .before .loop-test .taken) (met c) ∙ rw
+          (c .before .before .before .before .before .unit-size .ensures),
     )
 
 returns-2 : tie.Need-returns-2 Inv-loop μ-loop
