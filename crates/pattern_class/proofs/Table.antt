@@ -1,12 +1,10 @@
 -- Each row of the code's table is that of the stage's: the same bytes are written for it, and its runs hold the bytes that the class holds. One test over all
 -- rows and all bytes says so.
-use Prim.Native.Nat.{ℕ, zero, suc, _≤_, _<_}
-use native.Mathlib.Nat.{le-of-suc-le-suc, not-suc-le-zero}
+use Prim.Native.Nat.{ℕ, _≤_, _<_}
 use mathlib.Core.Path.{_≡_, refl, sym, _∙_, ap}
 use mathlib.Core.Bool.{Bool, true, _&&_}
-use mathlib.Core.List.{List, [], _∷_}
 use lib.Dec.{leb}
-use lib.ListN.{length, take, getD}
+use lib.ListN.{length, take}
 use lib.Seq.{length-take-le}
 use borrow.Author.Tests.{leb-true}
 use Rattle.stages.specs.Bytes.{isLetter, isDigit, eqText}
@@ -18,16 +16,6 @@ use Rattle.text.proofs.ClassTable.{sameBool, same-bools}
 use Rattle.pattern_class.specs.Rows.{count, rowClass}
 use Rattle.pattern_class.specs.Table.{table, entry, inRuns, Holds}
 use Rattle.pattern_class.specs.declared.Class.{Class}
-
--- a row that is there is what it is, whatever stands behind the last
-pub any-default : (l : List Class) (row : ℕ) (d e : Class) → row < length l → getD l row d ≡ getD l row e
-any-default [] row d e h = absurd (not-suc-le-zero h)
-any-default (c ∷ l) zero d e h = refl
-any-default (c ∷ l) (suc row) d e h = any-default l row d e (le-of-suc-le-suc h)
-
-pub rows-counted : length table ≡ count
-unfolding table
-rows-counted = refl
 
 holdsAt : ℕ → ℕ → Bool
 unfolding sameBool

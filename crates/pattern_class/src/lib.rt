@@ -16,27 +16,25 @@ struct Class([u8; 9], usize, [u8; 8]);
 // How many classes there are.
 const COUNT: usize = 12;
 
-const CLASSES: [Class; COUNT] = [
-    Class(*b":alnum:] ", 8, *b"09AZazaz"),
-    Class(*b":alpha:] ", 8, *b"AZazazaz"),
-    Class(*b":blank:] ", 8, *b"\t\t      "),
-    Class(*b":cntrl:] ", 8, *b"\x00\x1f\x7f\x7f\x7f\x7f\x7f\x7f"),
-    Class(*b":digit:] ", 8, *b"09090909"),
-    Class(*b":graph:] ", 8, *b"!~!~!~!~"),
-    Class(*b":lower:] ", 8, *b"azazazaz"),
-    Class(*b":print:] ", 8, *b" ~ ~ ~ ~"),
-    Class(*b":punct:] ", 8, *b"!/:@[`{~"),
-    Class(*b":space:] ", 8, *b"\t\r      "),
-    Class(*b":upper:] ", 8, *b"AZAZAZAZ"),
-    Class(*b":xdigit:]", 9, *b"09AFafaf"),
-];
-
-// The row of the table.
+// The table. It is no constant array, which would be laid out again at each call.
 fn class_of(row: usize) -> Class
     requires { ⌜ row < count ⌝ }
     ensures { λ r. ⌜ r ≡ entry row ⌝ }
 {
-    CLASSES[row]
+    match row {
+        0 => Class(*b":alnum:] ", 8, *b"09AZazaz"),
+        1 => Class(*b":alpha:] ", 8, *b"AZazazaz"),
+        2 => Class(*b":blank:] ", 8, *b"\t\t      "),
+        3 => Class(*b":cntrl:] ", 8, *b"\x00\x1f\x7f\x7f\x7f\x7f\x7f\x7f"),
+        4 => Class(*b":digit:] ", 8, *b"09090909"),
+        5 => Class(*b":graph:] ", 8, *b"!~!~!~!~"),
+        6 => Class(*b":lower:] ", 8, *b"azazazaz"),
+        7 => Class(*b":print:] ", 8, *b" ~ ~ ~ ~"),
+        8 => Class(*b":punct:] ", 8, *b"!/:@[`{~"),
+        9 => Class(*b":space:] ", 8, *b"\t\r      "),
+        10 => Class(*b":upper:] ", 8, *b"AZAZAZAZ"),
+        _ => Class(*b":xdigit:]", 9, *b"09AFafaf"),
+    }
 }
 
 // How many bytes stand behind the `[` of a class.
