@@ -1,3 +1,4 @@
-pub mod Flags
+pub mod Words
+pub mod Sets
 pub mod Gathering
 pub mod Determined

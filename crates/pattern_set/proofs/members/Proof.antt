@@ -17,7 +17,7 @@ use Rattle.pattern_set.proofs.members.Tie as tie
 
 abbrev Inv-loop : tie.InvT-loop
 Inv-loop units width size set₀ at₀ set at =
-    (at ≤ length units) × ((k : ℕ) → k < 256 → listed 0 (signsBy width units) k ≡ (has (set .on) k || listed 0 (signsBy width (drop at units)) k))
+    (at ≤ length units) × ((k : ℕ) → k < 256 → listed 0 (signsBy width units) k ≡ (has (set .words) k || listed 0 (signsBy width (drop at units)) k))
 
 abbrev μ-loop : tie.MeasureT-loop
 μ-loop units width size set₀ at₀ set at = length units - at
@@ -60,7 +60,7 @@ loop-again c =
     let s = c .before .before .member-at .ensures in
     rw (c .behind .ensures) (
       behind-inside (l .at) s,
-      λ k h. gathered _ (has (l .set .on) k) (listed 0 (signsBy (a .width) (drop (behindOf m (l .at) (a .width)) (a .units .now))) k)
+      λ k h. gathered _ (has (l .set .words) k) (listed 0 (signsBy (a .width) (drop (behindOf m (l .at) (a .width)) (a .units .now))) k)
           (memberHolds (memberOf m) k) _ (l .inv .1 k h)
           (lists-on (a .width) (a .units .now) (l .at) k (omega
           (arith, c .before .before .before .before .before .before .unit-size .ensures, c .before .before .before .loop-test .taken)) s)
@@ -72,9 +72,9 @@ returns c =
     let a = c .before .before .before .before .before .args in
     let l = c .before .loop in
     λ k h. sym (l .inv .1 k h
-    ∙ ap (λ b. has (l .set .on) k || b)
+    ∙ ap (λ b. has (l .set .words) k || b)
     (lists-none (a .width) (a .units .now) (l .at) k (omega (arith, c .before .before .before .unit-size .ensures, c .loop-test .left)))
-    ∙ or-false (has (l .set .on) k))
+    ∙ or-false (has (l .set .words) k))
 
 pub members-spec : {M : Type 1} → statement M
 members-spec =

@@ -1,19 +1,25 @@
--- One store sets the flag of `b` and leaves all others.
+-- One store sets the bit of `b` in its word and leaves all other bits.
+use Rattle.pattern_set.proofs.Sets.{counted, byte-more}
 use borrow.Author.Needs.{needs}
-use mathlib.Core.Path.{_≡_}
-use Rattle.pattern_set.proofs.Flags.{counted, stored}
-use native.Mathlib.Omega.{arith}
-use lib.ListN.{length}
 use Rattle.pattern_set.proofs.ByteSet.with_byte.Statement.{statement}
 use Rattle.pattern_set.proofs.ByteSet.with_byte.Tie as tie
+
+shl-self : tie.Need-shl-self
+shl-self c = search needs
+
+mul-self : tie.Need-mul-self
+mul-self c = search needs
+
+element-copy-out-self : tie.Need-element-copy-out-self
+element-copy-out-self c = search needs
 
 element-write-self : tie.Need-element-write-self
 element-write-self c = search needs
 
 returns : tie.Need-returns
-returns c = λ k h.
-    let n : length (c .args .t1 .on) ≡ 256 = counted (c .args .t1 .on) (c .good .0 .1 .1 .0 .1 .0 .1) in
-    stored (c .args .t1 .on) (c .args .b) k (omega arith)
+returns c =
+    let a = c .before .args in
+    λ k h. byte-more (a .t1 .words) (a .b) k (counted (a .t1 .words) (c .before .good .0 .1 .1 .0 .1 .0 .1)) (c .before .fits .b .fits)
 
 pub with-byte-spec : {M : Type 1} → statement M
-with-byte-spec = tie.close (tie.spec element-write-self returns)
+with-byte-spec = tie.close (tie.spec shl-self mul-self element-copy-out-self element-write-self returns)

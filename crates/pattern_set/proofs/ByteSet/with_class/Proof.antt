@@ -48,7 +48,7 @@ with-range-requires-4 c κs = search needs
 
 returns : tie.Need-returns
 returns c = λ k h.
-    let had = has (c .before .before .before .before .before .args .self .on) k in
+    let had = has (c .before .before .before .before .before .args .self .words) k in
     four-runs (c .before .before .before .before .runs .result) k had (c .before .before .before .with-range .ensures k h)
     (c .before .before .with-range2 .ensures k h) (c .before .with-range3 .ensures k h) (c .with-range4 .ensures k h)
     ∙ ap (λ (b : Bool). b || had) (c .before .before .before .before .runs .ensures .holds k h)

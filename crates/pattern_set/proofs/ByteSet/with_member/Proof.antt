@@ -37,19 +37,19 @@ enum-told c = search needs
 
 returns : tie.Need-returns
 unfolding memberHolds
-returns c = λ k h. added k (has (c .before .before .before .before .args .self .on) k) (c .before .before .member .given .1) (c .with-byte .ensures k h)
+returns c = λ k h. added k (has (c .before .before .before .before .args .self .words) k) (c .before .before .member .given .1) (c .with-byte .ensures k h)
 
 returns-2 : tie.Need-returns-2
 unfolding memberHolds
-returns-2 c = λ k h. added k (has (c .before .before .before .before .args .self .on) k) (c .before .before .member2 .given .1) (c .with-range .ensures k h)
+returns-2 c = λ k h. added k (has (c .before .before .before .before .args .self .words) k) (c .before .before .member2 .given .1) (c .with-range .ensures k h)
 
 returns-3 : tie.Need-returns-3
 unfolding memberHolds
-returns-3 c = λ k h. added k (has (c .before .before .before .before .args .self .on) k) (c .before .before .member3 .given .1) (c .with-class .ensures k h)
+returns-3 c = λ k h. added k (has (c .before .before .before .before .args .self .words) k) (c .before .before .member3 .given .1) (c .with-class .ensures k h)
 
 returns-4 : tie.Need-returns-4
 unfolding memberHolds
-returns-4 c = λ k h. added k (has (c .before .before .args .self .on) k) (c .enum-told .given .1) refl
+returns-4 c = λ k h. added k (has (c .before .before .args .self .words) k) (c .enum-told .given .1) refl
 
 pub with-member-spec : {M : Type 1} → statement M
 with-member-spec =
