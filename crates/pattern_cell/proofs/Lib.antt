@@ -1,0 +1,3 @@
+pub mod Showing
+pub mod Stars
+pub mod Determined
