@@ -1,3 +1,4 @@
 pub mod Searches
+pub mod Filling
 pub mod Reading
 pub mod Determined

@@ -36,10 +36,10 @@ use Rattle.stages.specs.Pattern.{
 use Rattle.pattern_unit.specs.Widths.{size, signsBy}
 use Rattle.pattern_unit.specs.declared.Width.{Width}
 use Rattle.pattern_unit.proofs.Units.{scale-zero, scale-suc, scale-add, signAt, unit-at, none-at, units-behind, units-of, units-there}
-use Rattle.pattern_element.specs.Pieces.{setFrom, bracketAt, pieceAt, behindOf, elementOf, isRefusingPiece, Lies}
+use Rattle.pattern_element.specs.Pieces.{setFrom, bracketAt, pieceAt, behindOf, elementOf, isRefusingPiece, setsIn, Lies}
 use Rattle.pattern_element.specs.declared.Piece.{Piece}
 use Rattle.pattern_element.specs.declared.Piece.the-variants.{Star, One, Byte}
-use Rattle.pattern_element.proofs.Searches.{found-inside}
+use Rattle.pattern_element.proofs.Searches.{found-inside, found-late}
 
 -- skipping units is dropping them
 elements-skip : (path : Bool) (k : ℕ) (r : Signs) → elements path k r ≡ elements path 0 (drop k r)
@@ -171,6 +171,12 @@ module _ (w : Width) (path : Bool) (p : Text) (at : ℕ) (h : at + size w ≤ le
       units-behind w x (drop (at + size w) p) ∙ ap (signsBy w) (drop-drop (size w * x) (at + size w) p)
       ∙ ap (λ (n : ℕ). signsBy w (drop n p)) (sym (ap (λ (q : Piece). behindOf w q at) seen ∙ standing w path p at (signAt w p at) .as-behind))
 
+  -- it begins so many units further
+  pub next-is : next ≡ at + size w * suc (extra path (signAt w p at) (signsBy w (drop (at + size w) p)))
+  next-is =
+      ap (λ (q : Piece). behindOf w q at) seen ∙ standing w path p at (signAt w p at) .as-behind
+      ∙ omega (arith, scale-suc w (extra path (signAt w p at) (signsBy w (drop (at + size w) p))))
+
   pub next-inside : next ≤ length p
   next-inside =
       rw (ap (λ (q : Piece). behindOf w q at) seen ∙ standing w path p at (signAt w p at) .as-behind)
@@ -218,6 +224,25 @@ lies w n path at (s ∷ r) h =
 
 pub piece-lies : (w : Width) (path : Bool) (p : Text) (at : ℕ) → at + size w ≤ length p → Lies (length p) (pieceAt w path at (signsBy w (drop at p)))
 piece-lies w path p at h = lies w (length p) path at (signsBy w (drop at p)) (next-inside w path p at h)
+
+-- a set has three units at the least: `[`, a member, `]`
+module _ (w : Width) (at from : ℕ) (negative : Bool) (b : ℕ) (h : at + size w ≤ from) where
+  tried-long : (x y z : Bool) (f : Found) → ((m : ℕ) → f ≡ closedAfter m → 1 ≤ m)
+      → let q = tried w 0 at from negative b x y z f in at + 3 * (size w * setsIn q) ≤ behindOf w q at
+  tried-long true y z f l = omega (arith, scale-zero w)
+  tried-long false true z f l = omega (arith, scale-zero w)
+  tried-long false false true refusing l = omega (arith, scale-zero w)
+  tried-long false false true unclosed l = omega (arith, scale-zero w)
+  tried-long false false true (closedAfter zero) l = absurd (omega (arith, l 0 refl))
+  tried-long false false true (closedAfter (suc m)) l = omega (arith, scale-suc w m, scale-suc w 0, scale-zero w)
+  tried-long false false false f l = omega (arith, scale-zero w)
+
+pub piece-long : (w : Width) (path : Bool) (at : ℕ) (l : Signs) → at + 3 * (size w * setsIn (pieceAt w path at l)) ≤ behindOf w (pieceAt w path at l) at
+unfolding pieceAt bracketAt bracket
+piece-long w path at [] = omega (arith, scale-zero w)
+piece-long w path at (s ∷ r) =
+    tried-long w at (at + size w + size w * skipped r) (others r) (s .byte) (omega arith) (isLive 42 s) (isLive 63 s) (isLive 91 s) (bracket path r)
+    (λ m e. found-late path (drop (skipped r) r) m e)
 
 -- no units, no elements
 pub elements-over : (w : Width) (path : Bool) (p : Text) (at : ℕ) → length p < at + size w → elements path 0 (signsBy w (drop at p)) ≡ []

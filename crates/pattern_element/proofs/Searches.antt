@@ -1,11 +1,11 @@
 -- The search for a bracket's end, member by member, and what stands behind its `[`.
-use Prim.Native.Nat.{ℕ, zero, suc, _+_, _*_, _-_, _≤_, _<_}
+use Prim.Native.Nat.{ℕ, zero, suc, _+_, _*_, _≤_, _<_}
 use mathlib.Core.Path.{_≡_, refl, sym, _∙_, ap}
 use mathlib.Core.Bool.{Bool, true, false, not, _&&_}
 use mathlib.Core.List.{[], _∷_}
 use native.Mathlib.Omega.{arith}
 use lib.Dec.{eqb}
-use lib.ListN.{length, drop, getD}
+use lib.ListN.{length, drop, getD, length-drop}
 use Rattle.stages.specs.Bytes.{Text}
 use Rattle.stages.specs.Pattern.{Sign, Signs, Found, refusing, unclosed, closedAfter, oneMore, member, memberLength, find, bracket, others}
 use Rattle.stages.proofs.Searches as search
@@ -19,9 +19,8 @@ use Rattle.pattern_member.specs.Members.{firstMember, memberOf, isUnserved, Say
 use Rattle.pattern_member.specs.declared.Member.{Member}
 use Rattle.pattern_member.specs.declared.Member.the-variants.{Single, Range, Class, Unserved}
 use Rattle.pattern_member.proofs.Members.{member-first, member-units}
-use Rattle.pattern_element.specs.Pieces.{searchOf, setFrom, bracketAt, pieceAt}
-use Rattle.pattern_element.specs.declared.Search.{Search}
-use Rattle.pattern_element.specs.declared.Search.the-variants.{Refusing as RefusingMet, Unclosed, After}
+use Rattle.pattern_element.specs.Ends.{refusingEntry, unclosedEntry, entryOf}
+use Rattle.pattern_element.specs.Pieces.{setFrom, bracketAt, pieceAt}
 use Rattle.pattern_element.specs.declared.Piece.the-variants.{Star, One, Byte, Refusing, Set}
 
 -- UNITS THAT THE SEARCH PASSES
@@ -37,16 +36,16 @@ find-past path zero r = refl
 find-past path (suc n) [] = sym (more-unclosed (suc n))
 find-past path (suc n) (s ∷ r) = ap oneMore (find-past path n r)
 
-one-passed : (w : Width) (k : ℕ) (f : Found) → searchOf w k (oneMore f) ≡ searchOf w (k + size w) f
+one-passed : (w : Width) (k : ℕ) (f : Found) → entryOf w k (oneMore f) ≡ entryOf w (k + size w) f
 one-passed w k refusing = refl
 one-passed w k unclosed = refl
 one-passed w k (closedAfter n) = let e : k + size w * suc n ≡ k + size w + size w * n = omega (arith, scale-suc w n) in rw e
 
-passed : (w : Width) (k n : ℕ) (f : Found) → searchOf w k (more n f) ≡ searchOf w (k + size w * n) f
+passed : (w : Width) (k n : ℕ) (f : Found) → entryOf w k (more n f) ≡ entryOf w (k + size w * n) f
 passed w k zero f = let e : k + size w * 0 ≡ k = omega (arith, scale-zero w) in rw e
 passed w k (suc n) f =
     let e : k + size w + size w * n ≡ k + size w * suc n = omega (arith, scale-suc w n) in
-    one-passed w k (more n f) ∙ passed w (k + size w) n f ∙ ap (λ (i : ℕ). searchOf w i f) e
+    one-passed w k (more n f) ∙ passed w (k + size w) n f ∙ ap (λ (i : ℕ). entryOf w i f) e
 
 -- ONE STEP OF THE SEARCH
 
@@ -59,8 +58,8 @@ served Unserved = refl
 
 -- the search from a place on, in each way that the walk goes there
 module _ (w : Width) (p : Text) (path first : Bool) (k : ℕ) where
-  abbrev pub sought : Search
-  sought = searchOf w k (find path first 0 (signsBy w (drop k p)))
+  abbrev pub sought : ℕ
+  sought = entryOf w k (find path first 0 (signsBy w (drop k p)))
 
   abbrev closing : Bool
   closing = not first && begins 93 (signsBy w (drop k p))
@@ -68,7 +67,7 @@ module _ (w : Width) (p : Text) (path first : Bool) (k : ℕ) where
   abbrev barring : Bool
   barring = path && eqb (getD p k 0) 47
 
-  pub sought-over : length p < k + size w → sought ≡ Unclosed
+  pub sought-over : length p < k + size w → sought ≡ unclosedEntry
   unfolding find
   sought-over h = rw (none-at w p k h)
 
@@ -80,40 +79,40 @@ module _ (w : Width) (p : Text) (path first : Bool) (k : ℕ) where
     behind = signsBy w (drop (k + size w) p)
 
     -- the search where its unit is seen, by the tests there
-    seen : sought ≡ searchOf w k (chosen (endsHere first here) (slashHere path here) (search.isUnserved (member path here behind))
+    seen : sought ≡ entryOf w k (chosen (endsHere first here) (slashHere path here) (search.isUnserved (member path here behind))
         (findBehind path here behind))
     seen =
-        ap (λ (r : Signs). searchOf w k (find path first 0 r)) (unit-at w p k h)
-        ∙ ap (λ (f : Found). searchOf w k f) (find-chosen path first here behind)
+        ap (λ (r : Signs). entryOf w k (find path first 0 r)) (unit-at w p k h)
+        ∙ ap (λ (f : Found). entryOf w k f) (find-chosen path first here behind)
 
     ended : {x : Bool} → closing ≡ x → endsHere first here ≡ x
     ended e = ap (λ (b : Bool). not first && b) (sym (live-seen w p k 93 h)) ∙ e
 
-    pub sought-close : closing ≡ true → sought ≡ After k
+    pub sought-close : closing ≡ true → sought ≡ k
     sought-close y = let e : k + size w * 0 ≡ k = omega (arith, scale-zero w) in seen ∙ rw (ended y, e)
 
     module _ (n : closing ≡ false) where
-      pub sought-bar : barring ≡ true → sought ≡ Unclosed
+      pub sought-bar : barring ≡ true → sought ≡ unclosedEntry
       sought-bar y = seen ∙ rw (ended n, y)
 
       module _ (b : barring ≡ false) {m : Member} (s : Says w p (k + size w) (firstMember path (signsBy w (drop k p))) m) where
         told : {x : Bool} → isUnserved m ≡ x → search.isUnserved (member path here behind) ≡ x
         told e = sym (served m ∙ ap search.isUnserved (member-first k path h s)) ∙ e
 
-        pub sought-unserved : isUnserved m ≡ true → sought ≡ RefusingMet
+        pub sought-unserved : isUnserved m ≡ true → sought ≡ refusingEntry
         sought-unserved y = seen ∙ rw (ended n, b, told y)
 
-        pub sought-on : isUnserved m ≡ false → sought ≡ searchOf w (behindOf m k w) (find path false 0 (signsBy w (drop (behindOf m k w) p)))
+        pub sought-on : isUnserved m ≡ false → sought ≡ entryOf w (behindOf m k w) (find path false 0 (signsBy w (drop (behindOf m k w) p)))
         sought-on y =
             let u = memberLength (memberOf m) in
             let e : k + size w * suc u ≡ behindOf m k w = let f : suc u ≡ u + 1 = omega arith in rw f in
             seen
             ∙ rw (ended n, b, told y)
-            (ap (λ q. searchOf w k (oneMore (find path false (memberLength q) behind))) (sym (member-first k path h s))
-            ∙ ap (λ (f : Found). searchOf w k (oneMore f)) (find-past path u behind)
+            (ap (λ q. entryOf w k (oneMore (find path false (memberLength q) behind))) (sym (member-first k path h s))
+            ∙ ap (λ (f : Found). entryOf w k (oneMore f)) (find-past path u behind)
             ∙ passed w k (suc u) (find path false 0 (drop u behind))
-            ∙ ap (λ (i : ℕ). searchOf w i (find path false 0 (drop u behind))) e
-            ∙ ap (λ (r : Signs). searchOf w (behindOf m k w) (find path false 0 r)) (member-units w p k m))
+            ∙ ap (λ (i : ℕ). entryOf w i (find path false 0 (drop u behind))) e
+            ∙ ap (λ (r : Signs). entryOf w (behindOf m k w) (find path false 0 r)) (member-units w p k m))
 
 -- A BRACKET
 
@@ -159,38 +158,44 @@ found-inside path first (suc k) (s ∷ r) zero e = absurd (not-here (find path f
 found-inside path first (suc k) (s ∷ r) (suc n) e =
     let h = found-inside path false k r n (one-less (find path false k r) n e) in omega arith
 
--- what is found, as the answer for the bracket
-module _ (w : Width) (negative : Bool) (from : ℕ) {r : Search} where
-  pub met-refusing : (f : Found) → r ≡ searchOf w 0 f → r ≡ RefusingMet → Refusing ≡ setFrom w negative from f
-  met-refusing refusing e h = refl
-  met-refusing unclosed e h = absurd (let z : _≡_ {A = ℕ} 0 1 = cc in omega arith)
-  met-refusing (closedAfter n) e h = absurd (let z : _≡_ {A = ℕ} 0 1 = cc in omega arith)
+-- a bracket has a member before its end
+late : (f : Found) (n : ℕ) (y z : Bool) → chosen false y z f ≡ closedAfter n → 1 ≤ n
+late f n true z e = absurd (let h : _≡_ {A = ℕ} 0 1 = cc in omega arith)
+late f n false true e = absurd (let h : _≡_ {A = ℕ} 0 1 = cc in omega arith)
+late f zero false false e = absurd (not-here f e)
+late f (suc n) false false e = omega arith
 
-  pub met-none : (f : Found) → r ≡ searchOf w 0 f → r ≡ Unclosed → Byte 91 ≡ setFrom w negative from f
-  met-none refusing e h = absurd (let z : _≡_ {A = ℕ} 0 1 = cc in omega arith)
-  met-none unclosed e h = refl
-  met-none (closedAfter n) e h = absurd (let z : _≡_ {A = ℕ} 0 1 = cc in omega arith)
+pub found-late : (path : Bool) (l : Signs) (n : ℕ) → find path true 0 l ≡ closedAfter n → 1 ≤ n
+unfolding find
+found-late path [] n e = absurd (never path true 0 n e)
+found-late path (s ∷ r) n e =
+    late (findBehind path s r) n (slashHere path s) (search.isUnserved (member path s r)) (sym (find-chosen path true s r) ∙ e)
 
-  pub met-end : (f : Found) {n : ℕ} → r ≡ searchOf w 0 f → r ≡ After n → Set negative from (from + n) ≡ setFrom w negative from f
-  met-end refusing e h = absurd (let z : _≡_ {A = ℕ} 0 1 = cc in omega arith)
-  met-end unclosed e h = absurd (let z : _≡_ {A = ℕ} 0 1 = cc in omega arith)
-  met-end (closedAfter m) {n} e h =
-      let z : n ≡ 0 + size w * m = cc in
-      let y : 0 + size w * m ≡ size w * m = omega arith in
-      ap (λ (k : ℕ). Set negative from (from + k)) (z ∙ y)
+-- the end that is found from a place on is inside the pattern
+pub end-inside : (w : Width) (path first : Bool) (p : Text) (k n : ℕ) → k ≤ length p → find path first 0 (signsBy w (drop k p)) ≡ closedAfter n →
+    k + size w * n + size w ≤ length p
+end-inside w path first p k n h e =
+    let i = units-there w (suc n) (drop k p) (found-inside path first 0 (signsBy w (drop k p)) n e) in
+    omega (arith, i, length-drop k p, scale-suc w n)
 
--- the end is inside the slice that was searched
-pub end-inside : (w : Width) (path : Bool) (t : Text) {r : Search} {n : ℕ} → r ≡ searchOf w 0 (find path true 0 (signsBy w t)) → r ≡ After n →
-    n + size w ≤ length t
-end-inside w path t {r} {n} e h = go (find path true 0 (signsBy w t)) refl (sym h ∙ e)
-  where
-    go : (f : Found) → find path true 0 (signsBy w t) ≡ f → After n ≡ searchOf w 0 f → n + size w ≤ length t
-    go refusing g a = absurd (let z : _≡_ {A = ℕ} 0 1 = cc in omega arith)
-    go unclosed g a = absurd (let z : _≡_ {A = ℕ} 0 1 = cc in omega arith)
-    go (closedAfter m) g a =
-        let z : n ≡ 0 + size w * m = cc in
-        let i = units-there w (suc m) t (found-inside path true 0 (signsBy w t) m g) in
-        omega (arith, scale-suc w m)
+-- what is found, as the answer for the bracket: the places of a pattern are below the other entries
+module _ (w : Width) (negative : Bool) (from : ℕ) {e : ℕ} where
+  pub met-refusing : (f : Found) → ((n : ℕ) → f ≡ closedAfter n → from + size w * n < refusingEntry) → e ≡ entryOf w from f → e ≡ refusingEntry →
+      Refusing ≡ setFrom w negative from f
+  met-refusing refusing b i h = refl
+  met-refusing unclosed b i h = absurd (omega (arith, i, h))
+  met-refusing (closedAfter n) b i h = absurd (omega (arith, i, h, b n refl))
+
+  pub met-none : (f : Found) → ((n : ℕ) → f ≡ closedAfter n → from + size w * n < refusingEntry) → e ≡ entryOf w from f → e ≡ unclosedEntry →
+      Byte 91 ≡ setFrom w negative from f
+  met-none refusing b i h = absurd (omega (arith, i, h))
+  met-none unclosed b i h = refl
+  met-none (closedAfter n) b i h = absurd (omega (arith, i, h, b n refl))
+
+  pub met-end : (f : Found) → e ≡ entryOf w from f → (e ≡ refusingEntry → ⊥) → (e ≡ unclosedEntry → ⊥) → Set negative from e ≡ setFrom w negative from f
+  met-end refusing i r u = absurd (r i)
+  met-end unclosed i r u = absurd (u i)
+  met-end (closedAfter n) i r u = ap (λ (k : ℕ). Set negative from k) i
 
 -- the piece at a place, by the active byte that stands there
 module _ (w : Width) (path : Bool) (p : Text) (at : ℕ) (h : at + size w ≤ length p) where

@@ -8,16 +8,8 @@ use Rattle.stages.specs.Outcome.{pick}
 use Rattle.stages.specs.Pattern.{Signs, isLive, Element, star, one, exactly, set, Found, refusing, unclosed, closedAfter, bracket, others, senseOf, skipped}
 use Rattle.pattern_unit.specs.Widths.{size, signsBy}
 use Rattle.pattern_unit.specs.declared.Width.{Width}
-use Rattle.pattern_element.specs.declared.Search.{Search}
-use Rattle.pattern_element.specs.declared.Search.the-variants.{Refusing as RefusingMet, Unclosed, After}
 use Rattle.pattern_element.specs.declared.Piece.{Piece}
 use Rattle.pattern_element.specs.declared.Piece.the-variants.{Star, One, Byte, Refusing, Set}
-
--- what the search finds, in bytes, behind k bytes that it has passed
-abbrev pub searchOf : Width → ℕ → Found → Search
-searchOf w k refusing = RefusingMet
-searchOf w k unclosed = Unclosed
-searchOf w k (closedAfter n) = After (k + size w * n)
 
 -- the bracket whose members begin at a place
 abbrev pub setFrom : Width → Bool → ℕ → Found → Piece
@@ -66,6 +58,14 @@ isRefusingPiece One = false
 isRefusingPiece (Byte b) = false
 isRefusingPiece Refusing = true
 isRefusingPiece (Set negative from to) = false
+
+-- how many sets it is
+abbrev pub setsIn : Piece → ℕ
+setsIn Star = 0
+setsIn One = 0
+setsIn (Byte b) = 0
+setsIn Refusing = 0
+setsIn (Set negative from to) = 1
 
 -- a set's members stand inside a pattern of n bytes
 abbrev pub Lies : ℕ → Piece → Type 0

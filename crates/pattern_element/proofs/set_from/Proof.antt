@@ -1,74 +1,49 @@
--- The search is made over the units from the first member on, and each of its findings is one answer.
+-- Each entry is one answer.
+use Prim.Native.Nat.{ℕ, _+_, _*_, _<_}
+use mathlib.Core.Path.{_≡_}
 use mathlib.Core.Bool.{true}
 use native.Mathlib.Omega.{arith}
-use lib.ListN.{drop, length-drop}
-use Rattle.stages.specs.Pattern.{find}
-use Rattle.pattern_unit.specs.Widths.{signsBy}
-use Rattle.pattern_unit.proofs.Units.{to-end}
-use Rattle.pattern_element.proofs.Searches.{met-refusing, met-none, met-end, end-inside}
+use lib.ListN.{drop}
+use Rattle.stages.specs.Pattern.{closedAfter, find}
+use Rattle.pattern_unit.specs.Widths.{size, signsBy}
+use Rattle.pattern_element.specs.Ends.{refusingEntry}
+use Rattle.pattern_element.proofs.Searches.{end-inside, met-refusing, met-none, met-end}
+use Rattle.pattern_element.proofs.Filling.{roomy-small}
 use borrow.Author.Needs.{needs}
 use Rattle.pattern_element.proofs.set_from.Statement.{statement}
 use Rattle.pattern_element.proofs.set_from.Tie as tie
 
-sub-search-end : tie.Need-sub-search-end
-sub-search-end c = search needs
+-- an end that is found is a place
+placed : (c : tie.Start) →
+    let a = c .args in
+    (n : ℕ) → find (a .path) true 0 (signsBy (a .width) (drop (a .from) (a .pattern .now))) ≡ closedAfter n → a .from + size (a .width) * n < refusingEntry
+placed c n e =
+    let a = c .args in
+    omega (arith, roomy-small (c .pre .1 .roomy), end-inside (a .width) (a .path) true (a .pattern .now) (a .from) n (c .pre .0) e)
 
-part-search-end-start : tie.Need-part-search-end-start
-part-search-end-start c = search needs
-
-part-search-end-end : tie.Need-part-search-end-end
-part-search-end-end c = search needs
-
-search-end-requires : tie.Need-search-end-requires
-search-end-requires c κs = search needs
-
-enum-told : tie.Need-enum-told
-enum-told c = search needs
-
-enum-told-2 : tie.Need-enum-told-2
-enum-told-2 c = search needs
-
-enum-known-n : tie.Need-enum-known-n
-enum-known-n c = search needs
-
-add-t13 : tie.Need-add-t13
-add-t13 c =
-    let a = c .before .before .before .before .before .before .args in
-    let p = a .pattern .now in
-    let i = end-inside (a .width) (a .path) (drop (a .from) p) (rw (to-end p (a .from)) at (c .before .before .before .search-end .ensures))
-    (c .before .n .given .1) in
-    omega (arith, i, length-drop (a .from) p)
+end-at-requires : tie.Need-end-at-requires
+end-at-requires c κs = search needs
 
 returns : tie.Need-returns
 returns c =
-    let a = c .before .before .before .before .before .args in
+    let a = c .before .before .before .before .args in
     met-refusing (a .width) (a .negative) (a .from) (find (a .path) true 0 (signsBy (a .width) (drop (a .from) (a .pattern .now))))
-    (rw (to-end (a .pattern .now) (a .from)) at (c .before .before .search-end .ensures)) (c .enum-told .given .1)
+    (placed (c .before .before .before .before)) (c .before .end-at .ensures) (c .if1 .taken)
 
 returns-2 : tie.Need-returns-2
 returns-2 c =
     let a = c .before .before .before .before .before .args in
     met-none (a .width) (a .negative) (a .from) (find (a .path) true 0 (signsBy (a .width) (drop (a .from) (a .pattern .now))))
-    (rw (to-end (a .pattern .now) (a .from)) at (c .before .before .search-end .ensures)) (c .enum-told2 .given .1)
+    (placed (c .before .before .before .before .before)) (c .before .before .end-at .ensures) (c .if2 .taken)
+
+cast-t9 : tie.Need-cast-t9
+cast-t9 c = search needs
 
 returns-3 : tie.Need-returns-3
 returns-3 c =
-    let a = c .before .before .before .before .before .before .args in
+    let a = c .before .before .before .before .before .args in
     met-end (a .width) (a .negative) (a .from) (find (a .path) true 0 (signsBy (a .width) (drop (a .from) (a .pattern .now))))
-    (rw (to-end (a .pattern .now) (a .from)) at (c .before .before .before .search-end .ensures)) (c .before .n .given .1)
+    (c .before .before .end-at .ensures) (c .before .if1 .left) (c .if2 .left)
 
 pub set-from-spec : {M : Type 1} → statement M
-set-from-spec =
-    tie.close
-    (tie.spec
-    sub-search-end
-    part-search-end-start
-    part-search-end-end
-    search-end-requires
-    enum-told
-    enum-told-2
-    enum-known-n
-    add-t13
-    returns
-    returns-2
-    returns-3)
+set-from-spec = tie.close (tie.spec end-at-requires returns returns-2 cast-t9 returns-3)
