@@ -1,0 +1,2 @@
+pub mod Celled
+pub mod Settled
