@@ -1,3 +1,4 @@
 pub mod Stars
 pub mod Matching
+pub mod Ends
 pub mod Determined
