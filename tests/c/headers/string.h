@@ -1,4 +1,4 @@
-/* What tests/c uses of <string.h>. */
+/* What tests/c and tools/bench use of <string.h>. */
 #ifndef STRING_H
 #define STRING_H
 #include <stddef.h>
