@@ -4,14 +4,14 @@ use mathlib.Core.Path.{_≡_, refl, sym, _∙_, ap}
 use mathlib.Core.Bool.{Bool, true, false, not}
 use native.Mathlib.Omega.{arith}
 use native.Mathlib.Numerals.{add-one}
+use mathlib.Core.List.{List}
 use lib.ListN.{length}
 use Rattle.stages.specs.Outcome.{pick}
 use Rattle.stages.specs.Bytes.{Text}
 use Rattle.stages.specs.Syntax.{Side, suffix, prefix, Reach}
-use Rattle.stages.specs.Pattern.{elements}
+use Rattle.stages.specs.Pattern.{Element}
 use Rattle.stages.specs.Removal.{firstCut, cutAt, keepAll, fromEnd, cut}
 use Rattle.text.specs.Cases.{reachOf}
-use Rattle.text.specs.Rows.{signsOf}
 use Rattle.pattern_remove.specs.Cuts.{matchedAt, CutsAt}
 
 -- the first of some cuts, by whether the first one tried passes
@@ -24,7 +24,7 @@ one-cut f other at i d = go (f (at i))
     go true = refl
     go false = refl
 
-module _ (side : Side) (down : Bool) (p v : Text) where
+module _ (side : Side) (down : Bool) (p : List Element) (v : Text) where
   abbrev first : ℕ → ℕ → ℕ
   first i d = firstCut (λ k. matchedAt side p v k) (keepAll side v) (cutAt down (length v)) i d
 
@@ -70,8 +70,8 @@ from-prefix true = refl
 from-prefix false = refl
 
 -- the cut that the walk finds is the stage's
-pub cut-is : (side : Side) (reach : Reach) (p v : Text) {down : Bool} {k : ℕ} → down ≡ fromEnd side reach → CutsAt side down p v k
-    → k ≡ cut side reach (elements false 0 (signsOf p)) v
+pub cut-is : (side : Side) (reach : Reach) (p : List Element) (v : Text) {down : Bool} {k : ℕ} → down ≡ fromEnd side reach → CutsAt side down p v k
+    → k ≡ cut side reach p v
 unfolding cut
 cut-is side reach p v e c =
     c .first ∙ ap (λ (d : Bool). firstCut (λ i. matchedAt side p v i) (keepAll side v) (cutAt d (length v)) 0 (suc (length v))) e

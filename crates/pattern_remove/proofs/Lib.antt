@@ -1,2 +1,11 @@
+pub mod Agreeing
+pub mod Fitting
+pub mod Covering
+pub mod Bounding
+pub mod Stars
+pub mod SuffixWalk
+pub mod PrefixWalk
+pub mod Placing
+pub mod Deciding
 pub mod Cutting
 pub mod Determined
