@@ -33,6 +33,3 @@ module _ {row left : Text} (rest : Text) {n : ℕ} (s : Dropped row left n) wher
 
   pub dropped-inside : n ≤ length (left ++ rest)
   dropped-inside = front-inside (kept row) _ rest left n (s .stands) (s .counts)
-
-  pub dropped-length : n ≡ length (take n (left ++ rest))
-  dropped-length = sym (length-take-le n (left ++ rest) dropped-inside)

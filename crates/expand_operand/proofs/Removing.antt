@@ -8,51 +8,49 @@ use Rattle.stages.specs.Outcome.{Outcome, refused, done, _>>=_}
 use Rattle.stages.specs.Images.{Pairs}
 use Rattle.stages.specs.Syntax.{Side, Reach}
 use Rattle.stages.specs.Units.{Mark, Row, marked, expandedMark}
-use Rattle.stages.specs.Pattern.{Signs, Element, signs, hasClass, elements, forRemoval, pattern}
+use Rattle.stages.specs.Pattern.{Element, hasClass, elements, forRemoval, pattern}
 use Rattle.stages.specs.Removal.{removed}
 use Rattle.stages.specs.Expand.{Made, value, cutBy}
 use Rattle.text.specs.Rows.{rowOf, signsOf}
 use Rattle.row.specs.Marks.{markOf}
 use Rattle.row.specs.declared.RowEnd.{RowEnd}
-use Rattle.pattern_row.specs.Kept.{kept}
-use Rattle.pattern_row.proofs.Keeping.{kept-signs}
+use Rattle.pattern_row.specs.Kept.{kept, NoEmpty}
+use Rattle.pattern_row.proofs.Keeping.{kept-pattern, full-refused, full-done}
 use Rattle.expand_add.specs.Added.{EndsExpanded, Adds, measured}
 use Rattle.expand_add.specs.Steps.{beside}
 use Rattle.expand_add.specs.declared.answers.Onward.{Onward}
 use Rattle.expand_add.specs.declared.answers.Expanded.{Expanded}
 use Rattle.expand_add.proofs.Fitting.{adds-same, adds-expanded}
-use Rattle.expand_operand.specs.Operands.{leftBy}
+use Rattle.expand_operand.specs.Operands.{cutOf, leftBy}
 
-module _ (side : Side) (reach : Reach) (x : Text) (end : RowEnd) (on : Onward) (v : Pairs) (row : Text) {pat : Text} (e : pat ≡ kept row) where
-  same-signs : signsOf pat ≡ signs (rowOf row)
-  same-signs = ap signsOf e ∙ kept-signs row
+-- the units of a pattern without N, by what settling them answers
+module _ (side : Side) (reach : Reach) (own : Text) (end : RowEnd) (on : Onward) {units : Text} (f : NoEmpty units) where
+  pub cut-class : hasClass false 0 (signsOf units) ≡ true
+      → measured (end .units) (cutOf side reach own (markOf (end .mark)) (rowOf units)) ≡ refused bracketClass
+  unfolding measured cutOf
+  cut-class y = rw (full-refused forRemoval f y)
 
-  pub cut-class : hasClass false 0 (signsOf pat) ≡ true
-      → measured (end .units) (leftBy side reach x (markOf (end .mark)) (rowOf row) v) ≡ refused bracketClass
-  unfolding measured leftBy pattern
-  cut-class c = rw (ap (hasClass false 0) (sym same-signs) ∙ c, pattern)
+  cut-done : hasClass false 0 (signsOf units) ≡ false → cutOf side reach own (markOf (end .mark)) (rowOf units)
+      ≡ done (marked (expandedMark (markOf (end .mark))) (removed side reach (elements false 0 (signsOf units)) own))
+  unfolding cutOf
+  cut-done n = rw (full-done forRemoval f n)
 
-  cut-left : hasClass false 0 (signsOf pat) ≡ false
-      → leftBy side reach x (markOf (end .mark)) (rowOf row) v
-      ≡ done (marked (expandedMark (markOf (end .mark))) (removed side reach (elements false 0 (signs (rowOf row))) (value v x)))
-  unfolding leftBy pattern
-  cut-left c = rw (ap (hasClass false 0) (sym same-signs) ∙ c, pattern)
-
-  pub cut-given : (area : Text) (r : Expanded) → hasClass false 0 (signsOf pat) ≡ false → {own : Text} → own ≡ value v x →
-      {left : Text} → left ≡ removed side reach (elements false 0 (signsOf pat)) own → {there : RowEnd} → EndsExpanded end there
+  pub cut-given : (area : Text) (r : Expanded) → hasClass false 0 (signsOf units) ≡ false
+      → {left : Text} → left ≡ removed side reach (elements false 0 (signsOf units)) own → {there : RowEnd} → EndsExpanded end there
       → Adds (there .units) on (done (marked (markOf (there .mark)) left)) area r
-      → Adds (end .units) on (leftBy side reach x (markOf (end .mark)) (rowOf row) v) area r
-  cut-given area r c {own} f {left} g ends h = adds-same (end .units) on area r (sym (cut-left c)) (adds-expanded end on area r ends same h)
-    where
-      same : left ≡ removed side reach (elements false 0 (signs (rowOf row))) (value v x)
-      same =
-          g ∙ ap (λ (s : Signs). removed side reach (elements false 0 s) own) same-signs
-          ∙ ap (removed side reach (elements false 0 (signs (rowOf row)))) f
+      → Adds (end .units) on (cutOf side reach own (markOf (end .mark)) (rowOf units)) area r
+  cut-given area r n g ends h = adds-same (end .units) on area r (sym (cut-done n)) (adds-expanded end on area r ends g h)
+
+-- N is no part of a pattern, and the name's value is what is cut
+pub cut-left : (side : Side) (reach : Reach) (x : Text) (m : Mark) (row : Text) (v : Pairs) {units own : Text} → units ≡ kept row → own ≡ value v x
+    → cutOf side reach own m (rowOf units) ≡ leftBy side reach x m (rowOf row) v
+unfolding cutOf leftBy
+cut-left side reach x m row v e f = rw (e, f, kept-pattern forRemoval row)
 
 -- nothing is stored besides
 pub cut-beside : (side : Side) (reach : Reach) (x : Text) (m : Mark) (row : Row) (v : Pairs)
     → beside v (leftBy side reach x m row v) ≡ cutBy side reach x m (row, v)
-unfolding cutBy leftBy
+unfolding cutBy leftBy cutOf
 cut-beside side reach x m row v = go (pattern forRemoval row)
   where
     go : (o : Outcome (List Element))

@@ -1,5 +1,5 @@
 -- An operand's row where it stands, for what is done with it.
-use Prim.Native.Nat.{ℕ, _*_, _≤_}
+use Prim.Native.Nat.{ℕ, _*_, _≤_, _<_}
 use mathlib.Core.Path.{_≡_}
 use mathlib.Core.Bool.{true}
 use lib.ListN.{length, take}
@@ -12,12 +12,17 @@ use Rattle.stages.specs.Pattern.{forRemoval, pattern}
 use Rattle.stages.specs.Removal.{removed}
 use Rattle.stages.specs.Arith.{arithmeticOf}
 use Rattle.stages.specs.Expand.{value, store}
-use Rattle.stages.specs.Numbers.{imageLimit, variableRoom}
+use Rattle.stages.specs.Numbers.{rowLimit, imageLimit, variableRoom}
 use Rattle.table_store.specs.declared.Stored.{Stored}
 use Rattle.table_store.specs.declared.Stored.the-variants.{Used, Full}
+use Rattle.expand_add.specs.Added.{Adds}
 use Rattle.expand_add.specs.Answers.{Holds}
+use Rattle.expand_add.specs.declared.answers.Onward.{Onward}
 use lib.Dec.{leb}
 use Rattle.text.specs.Rows.{rowBytes, rowOf}
+use Rattle.pattern_row.specs.Kept.{NoEmpty}
+use Rattle.expand_operand.specs.declared.Tried.{Tried}
+use Rattle.expand_operand.specs.declared.Tried.the-variants.{Done, TooManySets}
 
 -- the row of so many units at the front of the area
 abbrev pub rowAt : Text → ℕ → Row
@@ -25,15 +30,32 @@ rowAt area units = rowOf (take (2 * units) area)
 
 -- such a row stands there, none of its bytes is zero, and the name is one: it may be stored
 pub record Operand (name area : Text) (units : ℕ) : Type 0 where
+  pub few : units ≤ rowLimit
   pub inside : 2 * units ≤ length area
   pub is : rowBytes (rowAt area units) ≡ take (2 * units) area
   pub clean : all notZero (bytes (rowAt area units)) ≡ true
   pub named : isName name ≡ true
 
--- what a removal leaves of the value, as units
+-- the first bytes of the area are the units of a pattern, without N
+pub record Pattern (area : Text) (end : ℕ) : Type 0 where
+  pub inside : end ≤ length area
+  pub few : end ≤ 2 * rowLimit
+  pub full : NoEmpty (take end area)
+
+-- what a removal leaves of a text, as units; and of a name's value
+unfoldable pub cutOf : Side → Reach → Text → Mark → Row → Outcome Row
+unfolding pattern removed marked
+cutOf side reach own m row = pattern forRemoval row >>= λ es. done (marked (expandedMark m) (removed side reach es own))
+
 unfoldable pub leftBy : Side → Reach → Text → Mark → Row → Pairs → Outcome Row
-unfolding pattern removed marked value
-leftBy side reach x m row v = pattern forRemoval row >>= λ es. done (marked (expandedMark m) (removed side reach es (value v x)))
+unfolding cutOf value
+leftBy side reach x m row v = cutOf side reach (value v x) m row
+
+-- what comes of a removal whose pattern of so many bytes is settled in a table of so many words: the row is added, or they are too many, and all is as
+-- it was
+abbrev pub TriedSays : ℕ → Onward → Outcome Row → ℕ → Text → Text → ℕ → Tried → Type 0
+TriedSays units on o end area left words (Done r) = Adds units on o left r
+TriedSays units on o end area left words TooManySets = (left ≡ area) × (3 * (2 * words) < 4 * end)
 
 -- the number of an arithmetic text, as units
 unfoldable pub sumOf : Mark → Row → Pairs → Outcome Row

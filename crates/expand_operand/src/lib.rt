@@ -7,12 +7,13 @@ ghost use Rattle.stages.specs.Numbers.{rowLimit};
 ghost use Rattle.stages.specs.Images.{held};
 ghost use Rattle.stages.specs.Units.{bytes};
 ghost use Rattle.text.specs.Cases.{sideOf, reachOf};
+ghost use Rattle.text.specs.Rows.{rowOf};
 ghost use Rattle.row.specs.Marks.{markOf};
 ghost use Rattle.table.specs.Places.{Table};
 ghost use Rattle.expand_add.specs.Added.{Adds, admitted};
 ghost use Rattle.expand_form.specs.Plans.{settled, finished};
 ghost use Rattle.expand_add.specs.Steps.{placed};
-ghost use Rattle.expand_operand.specs.Operands.{Operand, rowAt, leftBy, sumOf, limitOf, StoresIn};
+ghost use Rattle.expand_operand.specs.Operands.{Operand, rowAt, cutOf, leftBy, sumOf, limitOf, StoresIn, Pattern, TriedSays};
 ghost use Rattle.expand_add.specs.Answers.{Holds, Finishes};
 use arith_int::Number;
 use expand_add::answers::Expanded;
@@ -20,9 +21,18 @@ use expand_add::answers::Extent;
 use expand_add::answers::Onward;
 use expand_form::Unused;
 use expand_form::Used;
+use pattern_settle::Settled;
+use pattern_unit::Width;
 use row::RowEnd;
 use table_store::Stored;
 use text::numbers;
+
+// What comes of a removal whose pattern is settled in one table of sets: it is done or refused; or the sets are too many for the table, and nothing is
+// touched.
+enum Tried {
+    Done(Expanded),
+    TooManySets,
+}
 
 // A row of so many units is added after those before it, if they are not too many.
 fn admit(units: usize, row: RowEnd, on: Onward) -> Expanded
@@ -104,6 +114,96 @@ fn assign(
     }
 }
 
+// What is left of a value by a removal, whose pattern is the units of the area's first `end` bytes, settled in lent tables.
+fn cut_settled(
+    value: &[u8],
+    suffix: bool,
+    long: bool,
+    end: usize,
+    row: RowEnd,
+    on: Onward,
+    work: &mut [u8],
+    cells: &mut [u16],
+    sets: &mut [u64],
+) -> Tried
+    requires { ⌜ Pattern (now work) end × (row .units ≤ rowLimit) × (2 * rowLimit ≤ length (now work)) × (length (now cells) ≡ rowLimit) ⌝ }
+    ensures { λ r. ⌜ TriedSays (row .units) on
+        (cutOf (sideOf suffix) (reachOf long) (now (value .entry)) (markOf (row .mark)) (rowOf (take end (now (work .entry))))) end (now (work .entry))
+        (now (work .exit)) (length (now (sets .entry))) r ⌝ }
+{
+    match pattern_settle::settle(&work[..end], false, Width::Marked, cells, sets) {
+        Settled::Class => Tried::Done(Expanded::Refused(numbers::REFUSED_CLASS)),
+        Settled::NoRoom => Tried::TooManySets,
+        Settled::Cells { count, special: _ } => {
+            let left = pattern_remove::removed(value, &cells[..count], sets, suffix, long);
+            Tried::Done(expand_add::give_text(left, expand_add::expanded_end(row), on, work))
+        }
+    }
+}
+
+// Holds the cells, and a table of a few sets.
+fn with_few_sets(
+    value: &[u8],
+    suffix: bool,
+    long: bool,
+    end: usize,
+    row: RowEnd,
+    on: Onward,
+    work: &mut [u8],
+) -> Tried
+    requires { ⌜ Pattern (now work) end × (row .units ≤ rowLimit) × (2 * rowLimit ≤ length (now work)) ⌝ }
+    ensures { λ r. ⌜ TriedSays (row .units) on
+        (cutOf (sideOf suffix) (reachOf long) (now (value .entry)) (markOf (row .mark)) (rowOf (take end (now (work .entry))))) end (now (work .entry))
+        (now (work .exit)) 64 r ⌝ }
+{
+    let mut cells = [0u16; numbers::ROW_LIMIT];
+    let mut sets = [0u64; pattern_settle::FEW_SETS];
+    cut_settled(value, suffix, long, end, row, on, work, &mut cells, &mut sets)
+}
+
+// Holds the cells, and a table with room for the sets of every row.
+fn with_all_sets(
+    value: &[u8],
+    suffix: bool,
+    long: bool,
+    end: usize,
+    row: RowEnd,
+    on: Onward,
+    work: &mut [u8],
+) -> Tried
+    requires { ⌜ Pattern (now work) end × (row .units ≤ rowLimit) × (2 * rowLimit ≤ length (now work)) ⌝ }
+    ensures { λ r. ⌜ TriedSays (row .units) on
+        (cutOf (sideOf suffix) (reachOf long) (now (value .entry)) (markOf (row .mark)) (rowOf (take end (now (work .entry))))) end (now (work .entry))
+        (now (work .exit)) 2732 r ⌝ }
+{
+    let mut cells = [0u16; numbers::ROW_LIMIT];
+    let mut sets = [0u64; pattern_settle::SETS_ROOM];
+    cut_settled(value, suffix, long, end, row, on, work, &mut cells, &mut sets)
+}
+
+// The same without tables. The second one is never too small: a set has three units at the least.
+fn cut_value(
+    value: &[u8],
+    suffix: bool,
+    long: bool,
+    end: usize,
+    row: RowEnd,
+    on: Onward,
+    work: &mut [u8],
+) -> Expanded
+    requires { ⌜ Pattern (now work) end × (row .units ≤ rowLimit) × (2 * rowLimit ≤ length (now work)) ⌝ }
+    ensures { λ r. ⌜ Adds (row .units) on
+        (cutOf (sideOf suffix) (reachOf long) (now (value .entry)) (markOf (row .mark)) (rowOf (take end (now (work .entry))))) (now (work .exit)) r ⌝ }
+{
+    match with_few_sets(value, suffix, long, end, row, on, work) {
+        Tried::Done(answer) => answer,
+        Tried::TooManySets => match with_all_sets(value, suffix, long, end, row, on, work) {
+            Tried::Done(answer) => answer,
+            Tried::TooManySets => Expanded::Refused(numbers::REFUSED_CLASS),
+        },
+    }
+}
+
 // What is left of the name's value by a removal whose pattern the operand is. The value is read after the operand's own stores.
 fn cut(
     name: &[u8],
@@ -115,19 +215,14 @@ fn cut(
     vars: &[u8],
     work: &mut [u8],
 ) -> Expanded
-    requires { ⌜ Table (now vars) × (2 * units ≤ length (now work)) × (row .units ≤ rowLimit) × (2 * rowLimit ≤ length (now work)) ⌝ }
+    requires { ⌜ Table (now vars) × (units ≤ rowLimit) × (row .units ≤ rowLimit) × (2 * rowLimit ≤ length (now work)) ⌝ }
     ensures { λ r. ⌜ Adds (row .units) on
         (leftBy (sideOf suffix) (reachOf long) (now (name .entry)) (markOf (row .mark)) (rowAt (now (work .entry)) units) (held (now (vars .entry))))
         (now (work .exit)) r ⌝ }
 {
     let end = 2 * units;
     let n = pattern_row::drop_empty(&mut work[..end]);
-    if pattern_row::has_class(&work[..n], false) {
-        return Expanded::Refused(numbers::REFUSED_CLASS);
-    }
-    let value = table_find::value_of(vars, name);
-    let left = pattern_remove::removed(value, &work[..n], suffix, long);
-    expand_add::give_text(left, expand_add::expanded_end(row), on, work)
+    cut_value(table_find::value_of(vars, name), suffix, long, n, row, on, work)
 }
 
 // The number of the arithmetic text that the row is.

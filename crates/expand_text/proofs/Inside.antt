@@ -252,6 +252,7 @@ module _ {lent : Lent} {text : Text} {at : ℕ} {mode : Mode} {d size : ℕ} {va
     used-ready i =
         let o = operand-row .0 in
         record {
+          few = omega (arith, o .fits);
           inside = stands-inside (o .row) ys count (o .stands) (o .counts);
           is = ap rowBytes at-front ∙ sym (front (o .row) ys count (o .stands) (o .counts));
           clean = ap (λ (r : Row). all notZero (bytes r)) at-front ∙ row-clean (x .ready) (x .lends) (x .mark) (o .row)

@@ -17,7 +17,7 @@ use Rattle.table.specs.Pieces.{pieceAt, textsFrom}
 use Rattle.table.specs.declared.Piece.{Piece}
 use Rattle.table.specs.declared.Piece.the-variants.{End, Bad, At}
 use Rattle.table.proofs.Pieces.{Ahead, ahead-from, ahead-first, Next, ahead-end, ahead-bad, ahead-text}
-use Rattle.pattern_paths.specs.Chosen.{Walks, pathElements, nextIn, nothing, path, NextSays}
+use Rattle.pattern_paths.specs.Chosen.{Walks, nextIn, nothing, path, NextSays}
 use Rattle.pattern_paths.specs.declared.Next.the-variants.{Path, Nothing}
 
 walks-ahead : (t : Text) (at : ℕ) (l : List Text) → Ahead t at l → Walks t at
@@ -41,15 +41,16 @@ chosen-first p t l = go (matches forPaths p t)
     go false = refl
 
 -- The walk: what is chosen, and the next path, are the same from the place i on as from the place `at`.
-pub record Passing (p t : Text) (at i : ℕ) : Type 0 where
+pub record Passing (p : List Element) (t : Text) (at i : ℕ) : Type 0 where
+  pub order : at ≤ i
   pub walks : Walks t i
-  pub next : nextIn (pathElements p) at (textsFrom t at) ≡ nextIn (pathElements p) i (textsFrom t i)
-  pub chooses : chosen (pathElements p) (textsFrom t at) ≡ chosen (pathElements p) (textsFrom t i)
+  pub next : nextIn p at (textsFrom t at) ≡ nextIn p i (textsFrom t i)
+  pub chooses : chosen p (textsFrom t at) ≡ chosen p (textsFrom t i)
 
-pub passing-start : (p t : Text) (at : ℕ) → Walks t at → Passing p t at at
-passing-start p t at w = record { walks = w; next = refl; chooses = refl }
+pub passing-start : (p : List Element) (t : Text) (at : ℕ) → Walks t at → Passing p t at at
+passing-start p t at w = record { order = omega arith; walks = w; next = refl; chooses = refl }
 
-module _ {p t : Text} {at i : ℕ} (g : Passing p t at i) {r : Piece} (s : r ≡ pieceAt t i) where
+module _ {p : List Element} {t : Text} {at i : ℕ} (g : Passing p t at i) {r : Piece} (s : r ≡ pieceAt t i) where
   ahead : Ahead t i (textsFrom t i)
   ahead = record { within = g .walks .within; is = g .walks .reads }
 
@@ -58,8 +59,8 @@ module _ {p t : Text} {at i : ℕ} (g : Passing p t at i) {r : Piece} (s : r ≡
   passing-end e =
       let none : textsFrom t i ≡ [] = ahead-end ahead s e in
       record {
-        is = sym (g .next ∙ ap (λ (l : List Text). nextIn (pathElements p) i l) none);
-        shows = nothing (g .chooses ∙ ap (λ (l : List Text). chosen (pathElements p) l) none);
+        is = sym (g .next ∙ ap (λ (l : List Text). nextIn p i l) none);
+        tells = nothing (g .chooses ∙ ap (λ (l : List Text). chosen p l) none);
       }
 
   pub passing-bad : r ≡ Bad → NextSays p t at Nothing
@@ -88,28 +89,29 @@ module _ {p t : Text} {at i : ℕ} (g : Passing p t at i) {r : Piece} (s : r ≡
     here : textsFrom t i ≡ found ∷ textsFrom t end
     here = step .is ∙ ap (λ (l : List Text). found ∷ l) (sym (ahead-from (step .ahead)))
 
-    next-here : nextIn (pathElements p) i (textsFrom t i) ≡ pick (matches forPaths (pathElements p) found) (Path (i + 2) end)
-        (nextIn (pathElements p) end (textsFrom t end))
+    next-here : nextIn p i (textsFrom t i) ≡ pick (matches forPaths p found) (Path (i + 2) end)
+        (nextIn p end (textsFrom t end))
     unfolding nextIn
-    next-here = ap (λ (l : List Text). nextIn (pathElements p) i l) here
-        ∙ ap (λ (n : ℕ). pick (matches forPaths (pathElements p) found) (Path (i + 2) n) (nextIn (pathElements p) n (textsFrom t end))) ends
+    next-here = ap (λ (l : List Text). nextIn p i l) here
+        ∙ ap (λ (n : ℕ). pick (matches forPaths p found) (Path (i + 2) n) (nextIn p n (textsFrom t end))) ends
 
-    chosen-here : chosen (pathElements p) (textsFrom t i)
-        ≡ pick (matches forPaths (pathElements p) found) (found ∷ chosen (pathElements p) (textsFrom t end)) (chosen (pathElements p) (textsFrom t end))
-    chosen-here = ap (λ (l : List Text). chosen (pathElements p) l) here ∙ chosen-first (pathElements p) found (textsFrom t end)
+    chosen-here : chosen p (textsFrom t i)
+        ≡ pick (matches forPaths p found) (found ∷ chosen p (textsFrom t end)) (chosen p (textsFrom t end))
+    chosen-here = ap (λ (l : List Text). chosen p l) here ∙ chosen-first p found (textsFrom t end)
 
-    pub passing-found : matches forPaths (pathElements p) found ≡ true → NextSays p t at (Path (i + 2) end)
+    pub passing-found : matches forPaths p found ≡ true → NextSays p t at (Path (i + 2) end)
     passing-found y = record {
-      is = sym (g .next ∙ next-here ∙ ap (λ (b : Bool). pick b (Path (i + 2) end) (nextIn (pathElements p) end (textsFrom t end))) y);
-      shows = path (step .low) (step .ahead .within) (walks-ahead t end (step .more) (step .ahead))
+      is = sym (g .next ∙ next-here ∙ ap (λ (b : Bool). pick b (Path (i + 2) end) (nextIn p end (textsFrom t end))) y);
+      tells = path {from = i + 2} {to = end} (omega (arith, g .order)) (step .low) (step .ahead .within) (walks-ahead t end (step .more) (step .ahead))
           (g .chooses ∙ chosen-here ∙ ap
-          (λ (b : Bool). pick b (found ∷ chosen (pathElements p) (textsFrom t end)) (chosen (pathElements p) (textsFrom t end))) y);
+          (λ (b : Bool). pick b (found ∷ chosen p (textsFrom t end)) (chosen p (textsFrom t end))) y);
     }
 
-    pub passing-on : matches forPaths (pathElements p) found ≡ false → Passing p t at end
+    pub passing-on : matches forPaths p found ≡ false → Passing p t at end
     passing-on n = record {
+      order = omega (arith, g .order, step .low);
       walks = walks-ahead t end (step .more) (step .ahead);
-      next = g .next ∙ next-here ∙ ap (λ (b : Bool). pick b (Path (i + 2) end) (nextIn (pathElements p) end (textsFrom t end))) n;
+      next = g .next ∙ next-here ∙ ap (λ (b : Bool). pick b (Path (i + 2) end) (nextIn p end (textsFrom t end))) n;
       chooses = g .chooses ∙ chosen-here ∙ ap
-          (λ (b : Bool). pick b (found ∷ chosen (pathElements p) (textsFrom t end)) (chosen (pathElements p) (textsFrom t end))) n;
+          (λ (b : Bool). pick b (found ∷ chosen p (textsFrom t end)) (chosen p (textsFrom t end))) n;
     }

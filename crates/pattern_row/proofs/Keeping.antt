@@ -11,12 +11,13 @@ use borrow.Author.Tests.{eqb-true}
 use Rattle.stages.specs.Numbers.{bracketClass}
 use Rattle.stages.specs.Outcome.{refused, done, pick}
 use Rattle.stages.specs.Bytes.{Text}
-use Rattle.stages.specs.Units.{L, E, Q, cell, N, Row}
-use Rattle.stages.specs.Pattern.{signs, hasClass, elements, Purpose, isForPaths, pattern}
+use Rattle.stages.specs.Units.{L, E, Q, cell, N, Row, bytes}
+use Rattle.stages.specs.Pattern.{Sign, Signs, signs, hasClass, elements, Purpose, isForPaths, pattern}
+use Rattle.stages.proofs.Bools.{either}
 use Rattle.text.proofs.Rows.{rowOf-rowBytes}
 use Rattle.text.specs.Rows.{isMark, rowBytes, rowOf, unitOf, signsOf}
 use Rattle.pattern_unit.proofs.Units.{two-on}
-use Rattle.pattern_row.specs.Kept.{withoutEmpty, kept, Dropped}
+use Rattle.pattern_row.specs.Kept.{withoutEmpty, kept, NoEmpty, Dropped}
 
 -- the first unit of a row stays if its mark is that of a byte
 kept-first : (b m : ℕ) (t : Text) → kept (b ∷ m ∷ t) ≡ pick (isMark m) (b ∷ m ∷ kept t) (kept t)
@@ -119,7 +120,7 @@ module _ {entry row : Text} {at to : ℕ} (g : Going entry row at to) where
       }
 
 -- what is kept is no longer than the row
-pub kept-fits : (t : Text) → length (kept t) ≤ length t
+kept-fits : (t : Text) → length (kept t) ≤ length t
 kept-fits [] = rw (kept-few [] (omega arith)) (omega arith)
 kept-fits (b ∷ []) = rw (kept-few (b ∷ []) (omega arith)) (omega arith)
 kept-fits (b ∷ m ∷ t) = go (isMark m) refl (kept-fits t)
@@ -129,7 +130,7 @@ kept-fits (b ∷ m ∷ t) = go (isMark m) refl (kept-fits t)
     go false e h = rw (kept-first b m t, e) (omega arith)
 
 -- patterns see in it what they see in the row
-pub kept-signs : (t : Text) → signsOf (kept t) ≡ signs (rowOf t)
+kept-signs : (t : Text) → signsOf (kept t) ≡ signs (rowOf t)
 unfolding signsOf signs rowOf
 kept-signs [] = ap signsOf (kept-few [] (omega arith))
 kept-signs (b ∷ []) = ap signsOf (kept-few (b ∷ []) (omega arith))
@@ -143,9 +144,56 @@ kept-signs (b ∷ m ∷ t) =
     go false false true e f g h = rw (g refl, h)
     go false false false e f g h = h
 
--- the signs of a row that stands in bytes
-pub row-signs : (r : Row) → signsOf (kept (rowBytes r)) ≡ signs r
-row-signs r = kept-signs (rowBytes r) ∙ ap signs (rowOf-rowBytes r)
+-- what is kept is a row without its N, which neither patterns nor the row's bytes see
+kept-row : (t : Text) → rowOf (kept t) ≡ withoutEmpty (rowOf t)
+unfolding kept
+kept-row t = rowOf-rowBytes (withoutEmpty (rowOf t))
+
+signs-without : (r : Row) → signs (withoutEmpty r) ≡ signs r
+unfolding signs withoutEmpty
+signs-without [] = refl
+signs-without (cell L b ∷ r) = ap (λ (s : Signs). record { live = true; byte = b } ∷ s) (signs-without r)
+signs-without (cell E b ∷ r) = ap (λ (s : Signs). record { live = true; byte = b } ∷ s) (signs-without r)
+signs-without (cell Q b ∷ r) = ap (λ (s : Signs). record { live = false; byte = b } ∷ s) (signs-without r)
+signs-without (N ∷ r) = signs-without r
+
+bytes-without : (r : Row) → bytes (withoutEmpty r) ≡ bytes r
+unfolding bytes withoutEmpty
+bytes-without [] = refl
+bytes-without (cell m b ∷ r) = ap (λ (t : Text). b ∷ t) (bytes-without r)
+bytes-without (N ∷ r) = bytes-without r
+
+kept-row-signs : (t : Text) → signs (rowOf (kept t)) ≡ signs (rowOf t)
+kept-row-signs t = ap signs (kept-row t) ∙ signs-without (rowOf t)
+
+pub kept-bytes : (t : Text) → bytes (rowOf (kept t)) ≡ bytes (rowOf t)
+kept-bytes t = ap bytes (kept-row t) ∙ bytes-without (rowOf t)
+
+pub kept-full : (t : Text) → NoEmpty (kept t)
+kept-full t = record { seen = kept-signs t ∙ sym (kept-row-signs t) }
+
+-- the pattern that a row makes, by the answer for 19
+module _ (purpose : Purpose) where
+  pattern-refused : (r : Row) → hasClass (isForPaths purpose) 0 (signs r) ≡ true → pattern purpose r ≡ refused bracketClass
+  unfolding pattern
+  pattern-refused r y = rw (y, pattern)
+
+  pattern-done : (r : Row) → hasClass (isForPaths purpose) 0 (signs r) ≡ false → pattern purpose r ≡ done (elements (isForPaths purpose) 0 (signs r))
+  unfolding pattern
+  pattern-done r n = rw (n, pattern)
+
+  pub kept-pattern : (t : Text) → pattern purpose (rowOf (kept t)) ≡ pattern purpose (rowOf t)
+  kept-pattern t = either (hasClass (isForPaths purpose) 0 (signs (rowOf t)))
+      (λ y. pattern-refused (rowOf (kept t)) (rw (kept-row-signs t) y) ∙ sym (pattern-refused (rowOf t) y))
+      λ n. pattern-done (rowOf (kept t)) (rw (kept-row-signs t) n) ∙ rw (kept-row-signs t) (sym (pattern-done (rowOf t) n))
+
+  -- and that of units among which is no N
+  module _ {t : Text} (f : NoEmpty t) where
+    pub full-refused : hasClass (isForPaths purpose) 0 (signsOf t) ≡ true → pattern purpose (rowOf t) ≡ refused bracketClass
+    full-refused y = pattern-refused (rowOf t) (rw (← f .seen) y)
+
+    pub full-done : hasClass (isForPaths purpose) 0 (signsOf t) ≡ false → pattern purpose (rowOf t) ≡ done (elements (isForPaths purpose) 0 (signsOf t))
+    full-done n = pattern-done (rowOf t) (rw (← f .seen) n) ∙ ap (λ (s : Signs). done (elements (isForPaths purpose) 0 s)) (sym (f .seen))
 
 -- what a caller has who drops the N of a row and lends its front
 module _ {entry exit : Text} {count : ℕ} (d : Dropped entry exit count) where
@@ -157,19 +205,5 @@ module _ {entry exit : Text} {count : ℕ} (d : Dropped entry exit count) where
       let n = d .counts in
       omega (arith, ap length (d .stands) ∙ length-append (kept entry) (drop (length (kept entry)) entry))
 
-  pub dropped-signs : signsOf (take count exit) ≡ signs (rowOf entry)
-  dropped-signs = ap signsOf dropped-front ∙ kept-signs entry
-
--- the same where the row stood in the bytes
-pub dropped-row : (r : Row) {exit : Text} {count : ℕ} → Dropped (rowBytes r) exit count → signsOf (take count exit) ≡ signs r
-dropped-row r d = dropped-signs d ∙ ap signs (rowOf-rowBytes r)
-
--- the pattern that a row makes, by the answer for 19
-pub pattern-refused : (purpose : Purpose) (r : Row) → hasClass (isForPaths purpose) 0 (signs r) ≡ true → pattern purpose r ≡ refused bracketClass
-unfolding pattern
-pattern-refused purpose r y = rw (y, pattern)
-
-pub pattern-done : (purpose : Purpose) (r : Row) → hasClass (isForPaths purpose) 0 (signs r) ≡ false
-    → pattern purpose r ≡ done (elements (isForPaths purpose) 0 (signs r))
-unfolding pattern
-pattern-done purpose r n = rw (n, pattern)
+  pub dropped-few : count ≤ length entry
+  dropped-few = omega (arith, d .counts, kept-fits entry)

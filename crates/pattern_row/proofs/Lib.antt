@@ -1,3 +1,3 @@
-pub mod Standing
 pub mod Keeping
+pub mod Plain
 pub mod Determined

@@ -5,7 +5,8 @@ use mathlib.Core.List.{[], _∷_, _++_}
 use lib.ListN.{length, drop}
 use Rattle.stages.specs.Bytes.{Text}
 use Rattle.stages.specs.Units.{cell, N, Row}
-use Rattle.text.specs.Rows.{rowBytes, rowOf}
+use Rattle.stages.specs.Pattern.{signs}
+use Rattle.text.specs.Rows.{rowBytes, rowOf, signsOf}
 
 -- "N vanishes"
 unfoldable pub withoutEmpty : Row → Row
@@ -17,6 +18,10 @@ withoutEmpty (N ∷ r) = withoutEmpty r
 unfoldable pub kept : Text → Text
 unfolding withoutEmpty rowBytes rowOf
 kept t = rowBytes (withoutEmpty (rowOf t))
+
+-- no unit is N: patterns see each
+pub record NoEmpty (t : Text) : Type 0 where
+  pub seen : signsOf t ≡ signs (rowOf t)
 
 -- they stand at the front, and behind them stands what stood there
 pub record Dropped (entry exit : Text) (count : ℕ) : Type 0 where

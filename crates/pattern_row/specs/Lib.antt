@@ -1,2 +1,2 @@
-pub mod Special
 pub mod Kept
+pub mod Plain

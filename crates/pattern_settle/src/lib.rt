@@ -22,6 +22,9 @@ pub enum Settled {
 // The words of a table that has room for the sets of any row: each has three units at the least.
 pub const SETS_ROOM: usize = 2732;
 
+// The words of a table of 16 sets: few patterns have more, and a small table is quickly made.
+pub const FEW_SETS: usize = 64;
+
 // What one element becomes: as above, or its cell, whether it or one before it is special, and how many sets the table has with it.
 enum Cell {
     Class,

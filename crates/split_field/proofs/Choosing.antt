@@ -5,22 +5,22 @@ use native.Mathlib.Omega.{arith}
 use mathlib.Core.Path.{_≡_, refl, sym, ap, _∙_}
 use mathlib.Core.Bool.{Bool, true, false}
 use mathlib.Core.List.{List, [], _∷_, _++_, append-assoc, append-nil}
-use lib.ListN.{length, take, drop}
-use lib.Seq.{take-at}
+use lib.ListN.{length, take}
 use Rattle.stages.specs.Bytes.{Text, part}
-use Rattle.stages.specs.Outcome.{done}
+use Rattle.stages.specs.Outcome.{Outcome, refused, done, _>>=_}
 use Rattle.stages.specs.Images.{written, recordBytes, heldTexts}
-use Rattle.stages.specs.Units.{cell, N, Row, bytes}
-use Rattle.stages.specs.Pattern.{Element, signs, elements, hasClass, pattern}
+use Rattle.stages.specs.Units.{Row, bytes}
+use Rattle.stages.specs.Pattern.{Element, elements, hasClass, forPaths, pattern}
 use Rattle.stages.specs.Paths.{chosen, active, pathsFor}
 use Rattle.stages.proofs.Images.{recordBytes-append}
 use Rattle.stages.proofs.Outcomes.{done-same}
 use Rattle.text.specs.Rows.{rowOf, signsOf}
-use Rattle.pattern_row.specs.Kept.{withoutEmpty, kept, Dropped}
-use Rattle.text.proofs.Rows.{rowOf-rowBytes}
-use Rattle.pattern_row.proofs.Keeping.{kept-fits, kept-signs}
+use Rattle.pattern_row.specs.Kept.{kept, NoEmpty, Dropped}
+use Rattle.pattern_row.specs.Plain.{plain}
+use Rattle.pattern_row.proofs.Keeping.{kept-bytes, kept-full, kept-pattern, full-refused, full-done, dropped-front}
+use Rattle.pattern_row.proofs.Plain.{plain-served, plain-still}
 use Rattle.table.specs.Pieces.{textsFrom}
-use Rattle.pattern_paths.specs.Chosen.{Walks, pathElements, Shows, nothing, path, NextSays}
+use Rattle.pattern_paths.specs.Chosen.{Walks, Tells, nothing, path, NextSays}
 use Rattle.pattern_paths.specs.declared.Next.{Next}
 use Rattle.pattern_paths.specs.declared.Next.the-variants.{Path, Nothing}
 use Rattle.pattern_paths.proofs.Walking.{walks-first}
@@ -35,49 +35,47 @@ use Rattle.split_field.proofs.Filling.{Filled, filled-start, filled-len
 -- `put_paths`
 
 -- what the search for the next path found
-pub record Found (p t : Text) (at from to : ℕ) : Type 0 where
+pub record Found (p : List Element) (t : Text) (at from to : ℕ) : Type 0 where
+  pub further : at < to
   pub low : from ≤ to
   pub high : to ≤ length t
   pub walks : Walks t to
-  pub chooses : chosen (pathElements p) (textsFrom t at) ≡ part t from to ∷ chosen (pathElements p) (textsFrom t to)
+  pub chooses : chosen p (textsFrom t at) ≡ part t from to ∷ chosen p (textsFrom t to)
 
-found-of : {p t : Text} {at from to : ℕ} → Shows p t at (Path from to) → Found p t at from to
-found-of (path l h w e) = record { low = l; high = h; walks = w; chooses = e }
+found-of : {p : List Element} {t : Text} {at from to : ℕ} → Tells p t at (Path from to) → Found p t at from to
+found-of (path a l h w e) = record { further = omega arith; low = l; high = h; walks = w; chooses = e }
 
-nothing-of : {p t : Text} {at : ℕ} → Shows p t at Nothing → chosen (pathElements p) (textsFrom t at) ≡ []
+nothing-of : {p : List Element} {t : Text} {at : ℕ} → Tells p t at Nothing → chosen p (textsFrom t at) ≡ []
 nothing-of (nothing e) = e
 
-pub is-path : {p t : Text} {at : ℕ} {r : Next} → NextSays p t at r → {from to : ℕ} → r ≡ Path from to → Found p t at from to
-is-path s e = found-of (rw e at (s .shows))
+pub is-path : {p : List Element} {t : Text} {at : ℕ} {r : Next} → NextSays p t at r → {from to : ℕ} → r ≡ Path from to → Found p t at from to
+is-path s e = found-of (rw e at (s .tells))
 
 -- the paths met are written
-pub record Choosing (p t : Text) (used : ℕ) (old : Text) (at n : ℕ) (out : Text) : Type 0 where
+pub record Choosing (p : List Element) (t : Text) (used : ℕ) (old : Text) (at n : ℕ) (out : Text) : Type 0 where
   pub texts : List Text
   pub walks : Walks t at
-  pub whole : chosen (pathElements p) (heldTexts t) ≡ texts ++ chosen (pathElements p) (textsFrom t at)
+  pub whole : chosen p (heldTexts t) ≡ texts ++ chosen p (textsFrom t at)
   pub filled : Filled used old texts n out
 
-pub choosing-start : (p t : Text) (used : ℕ) (old : Text) → Listed t → used ≤ length old → Choosing p t used old 1 used old
+pub choosing-start : (p : List Element) (t : Text) (used : ℕ) (old : Text) → Listed t → used ≤ length old → Choosing p t used old 1 used old
 choosing-start p t used old e h =
     let w : Walks t 1 × (textsFrom t 1 ≡ heldTexts t) = walks-first t (heldTexts t) e in
-    record { texts = []; walks = w .0; whole = ap (λ (l : List Text). chosen (pathElements p) l) (sym (w .1)); filled = filled-start used old h }
+    record { texts = []; walks = w .0; whole = ap (λ (l : List Text). chosen p l) (sym (w .1)); filled = filled-start used old h }
 
-module _ {p t : Text} {used : ℕ} {old : Text} {at n : ℕ} {out : Text} (g : Choosing p t used old at n out) where
+module _ {p : List Element} {t : Text} {used : ℕ} {old : Text} {at n : ℕ} {out : Text} (g : Choosing p t used old at n out) where
   abbrev all : List Text
-  all = chosen (pathElements p) (heldTexts t)
+  all = chosen p (heldTexts t)
 
   abbrev left : ℕ → List Text
-  left k = chosen (pathElements p) (textsFrom t k)
+  left k = chosen p (textsFrom t k)
 
   pub choosing-end : {r : Next} → NextSays p t at r → r ≡ Nothing → Says (done all) used old out (Len n)
   choosing-end s e =
-      let none : left at ≡ [] = nothing-of (rw e at (s .shows)) in
+      let none : left at ≡ [] = nothing-of (rw e at (s .tells)) in
       says-filled (ap done (g .whole ∙ ap (λ (l : List Text). g .texts ++ l) none ∙ append-nil (g .texts))) (g .filled)
 
   module _ {from to : ℕ} (f : Found p t at from to) where
-    pub choosing-falls : length (left to) < length (left at)
-    choosing-falls = omega (arith, ap length (f .chooses))
-
     split : all ≡ (g .texts ++ (part t from to ∷ [])) ++ left to
     split = g .whole ∙ ap (λ (l : List Text). g .texts ++ l) (f .chooses) ∙ sym (append-assoc (g .texts) (part t from to ∷ []) (left to))
 
@@ -167,17 +165,32 @@ module _ (paths : List Text) (r : Row) (p : List Element) {used : ℕ} {old afte
         let d : Lacks (done (chosen p paths)) used old = says-full s l in
         noRoom (d .texts) (ap done (paths-some paths r p e (d .texts) (done-same (d .gives)) (some-bytes (d .texts) (omega (arith, d .short))))) (d .short)
 
+-- a field that is settled: what is looked at has no N, so patterns see each of its units
+
+module _ (paths : List Text) {field : Text} (f : NoEmpty field) {used : ℕ} {old after : Text} where
+  pub settled-class : hasClass true 0 (signsOf field) ≡ true → Says (fieldTexts paths (rowOf field)) used old after Class
+  unfolding fieldTexts
+  settled-class y = class (rw (full-refused forPaths f y))
+
+  pub settled-texts : hasClass true 0 (signsOf field) ≡ false → {r : Written}
+      → Says (done (pathsFor paths (rowOf field) (elements true 0 (signsOf field)))) used old after r → Says (fieldTexts paths (rowOf field)) used old after r
+  unfolding fieldTexts
+  settled-texts n s = rw (full-done forPaths f n) s
+
+  -- among the signs of a plain one is none that is special
+  pub plain-own : plain field ≡ true → {r : Written} → Says (done (bytes (rowOf field) ∷ [])) used old after r
+      → Says (fieldTexts paths (rowOf field)) used old after r
+  plain-own e s =
+      settled-texts (plain-served true field e)
+      (own-only paths (rowOf field) (elements true 0 (signsOf field)) (plain-still true field e) s)
+
+-- `put_pattern`: a try that touched nothing is as none
+
+pub says-again : (paths : List Text) {field spent : Text} {used : ℕ} {old left after : Text} {r : Written} → left ≡ old → spent ≡ field
+    → Says (fieldTexts paths (rowOf spent)) used left after r → Says (fieldTexts paths (rowOf field)) used old after r
+says-again paths e f s = rw (← e, ← f) s
+
 -- `put_field`: N vanishes first, which neither patterns nor a field's bytes see
-
-bytes-without : (r : Row) → bytes (withoutEmpty r) ≡ bytes r
-unfolding bytes withoutEmpty
-bytes-without [] = refl
-bytes-without (cell m b ∷ r) = ap (λ (t : Text). b ∷ t) (bytes-without r)
-bytes-without (N ∷ r) = bytes-without r
-
-bytes-kept : (t : Text) → bytes (rowOf (kept t)) ≡ bytes (rowOf t)
-unfolding kept
-bytes-kept t = ap bytes (rowOf-rowBytes (withoutEmpty (rowOf t))) ∙ bytes-without (rowOf t)
 
 paths-bytes : (paths : List Text) (p : List Element) (r s : Row) → bytes r ≡ bytes s → pathsFor paths r p ≡ pathsFor paths s p
 unfolding pathsFor
@@ -188,31 +201,17 @@ paths-bytes paths p r s e = go (active p) refl
     go false q = rw (q, pathsFor, e)
 
 module _ (paths : List Text) {field row : Text} {n : ℕ} (d : Dropped field row n) where
-  front-is : take n row ≡ kept field
-  front-is = ap (take n) (d .stands) ∙ take-at (kept field) (drop (length (kept field)) field) n (sym (d .counts))
+  texts-of : (o : Outcome (List Element)) → (o >>= λ p. done (pathsFor paths (rowOf (kept field)) p)) ≡ (o >>= λ p. done (pathsFor paths (rowOf field) p))
+  texts-of (refused e) = refl
+  texts-of (done p) = ap done (paths-bytes paths p (rowOf (kept field)) (rowOf field) (kept-bytes field))
 
-  signs-are : signsOf (take n row) ≡ signs (rowOf field)
-  signs-are = ap signsOf front-is ∙ kept-signs field
+  same-texts : fieldTexts paths (rowOf (take n row)) ≡ fieldTexts paths (rowOf field)
+  unfolding fieldTexts
+  same-texts = rw (dropped-front d, kept-pattern forPaths field) (texts-of (pattern forPaths (rowOf field)))
 
-  pub field-fits : length row ≡ length field → n ≤ length row
-  field-fits e = omega (arith, kept-fits field, d .counts)
+  pub dropped-says : {used : ℕ} {old after : Text} {r : Written} → Says (fieldTexts paths (rowOf (take n row))) used old after r
+      → Says (fieldTexts paths (rowOf field)) used old after r
+  dropped-says s = rw (← same-texts) s
 
-  module _ {used : ℕ} {old after : Text} where
-    pub field-class : hasClass true 0 (signsOf (take n row)) ≡ true → Says (fieldTexts paths (rowOf field)) used old after Class
-    unfolding fieldTexts pattern
-    field-class e = class (rw (ap (hasClass true 0) (sym signs-are) ∙ e, pattern))
-
-    pub field-named : hasClass true 0 (signsOf (take n row)) ≡ false → {r : Written} → Says
-        (done (pathsFor paths (rowOf (take n row)) (pathElements (take n row)))) used old after r
-        → Says (fieldTexts paths (rowOf field)) used old after r
-    field-named e s =
-        let k : fieldTexts paths (rowOf field) ≡ done (pathsFor paths (rowOf field) (elements true 0 (signs (rowOf field)))) =
-        unclassed (ap (hasClass true 0) (sym signs-are) ∙ e) in
-        let m : pathsFor paths (rowOf (take n row)) (pathElements (take n row)) ≡ pathsFor paths (rowOf field) (elements true 0 (signs (rowOf field))) =
-        paths-bytes paths (pathElements (take n row)) (rowOf (take n row)) (rowOf field) (ap (λ (t : Text). bytes (rowOf t)) front-is ∙ bytes-kept field)
-        ∙ ap (λ x. pathsFor paths (rowOf field) (elements true 0 x)) signs-are in
-        rw (k, ← m) s
-      where
-        unclassed : hasClass true 0 (signs (rowOf field)) ≡ false → fieldTexts paths (rowOf field) ≡ done
-            (pathsFor paths (rowOf field) (elements true 0 (signs (rowOf field))))
-        unclassed q = unfold fieldTexts in unfold pattern in rw (q, pattern)
+  pub dropped-full : NoEmpty (take n row)
+  dropped-full = rw (dropped-front d) (kept-full field)

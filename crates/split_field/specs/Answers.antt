@@ -1,6 +1,6 @@
 -- What the writers answer, and every byte that they leave: the records of a stage's texts stand behind what was used, all else is as it was. After
 -- a refusal nothing is said of the bytes, since no caller keeps them.
-use Prim.Native.Nat.{ℕ, _+_, _≤_, _<_}
+use Prim.Native.Nat.{ℕ, _+_, _*_, _≤_, _<_}
 use mathlib.Core.Path.{_≡_}
 use mathlib.Core.List.{List}
 use lib.Dec.{leb}
@@ -14,6 +14,8 @@ use Rattle.table_store.specs.declared.Put.{Put}
 use Rattle.table_store.specs.declared.Put.the-variants as put
 use Rattle.split_field.specs.declared.Written.{Written}
 use Rattle.split_field.specs.declared.Written.the-variants.{Len, Class, NoRoom}
+use Rattle.split_field.specs.declared.Tried.{Tried}
+use Rattle.split_field.specs.declared.Tried.the-variants.{Done, TooManySets}
 
 -- the answers in document 01's numbers: the output's new length, 19, "bracket class", or 21, "no room for output"
 abbrev pub writtenOutcome : Written → Outcome ℕ
@@ -36,6 +38,11 @@ pub data Says (o : Outcome (List Text)) (used : ℕ) (old left : Text) : Written
       Says o used old left (Len n)
   class : o ≡ refused bracketClass → Says o used old left Class
   noRoom : (l : List Text) → o ≡ done l → length old < used + recordBytes l → Says o used old left NoRoom
+
+-- what comes of a field that is settled in a table of so many words: an answer, or that the field has too many units for them, and all is as it was
+abbrev pub TriedSays : Outcome (List Text) → ℕ → Text → Text → ℕ → Text → Text → Tried → Type 0
+TriedSays o used old left words field spent (Done r) = Says o used old left r
+TriedSays o used old left words field spent TooManySets = (left ≡ old) × (spent ≡ field) × (3 * (2 * words) < 4 * length field)
 
 pub record Puts (o : Outcome (List Text)) (used : ℕ) (old left : Text) (r : Written) : Type 0 where
   pub answers : writtenOutcome r ≡ lengthWith (length old) used o

@@ -1,9 +1,9 @@
 // A row of units to fields, and what those become behind the output's used part. The walk over the row is one pass of two nested loops: the outer
 // one takes field by field, the inner one finds a field's end.
 ghost use mathlib.Core.Path.{_≡_};
-ghost use Prim.Native.Nat.{_≤_};
+ghost use Prim.Native.Nat.{_≤_, _*_};
 ghost use lib.ListN.{length, take};
-ghost use Rattle.stages.specs.Numbers.{imageLimit};
+ghost use Rattle.stages.specs.Numbers.{imageLimit, rowLimit};
 ghost use Rattle.stages.specs.Bytes.{text, blanks};
 ghost use Rattle.stages.specs.Images.{lookup, held, heldTexts};
 ghost use Rattle.stages.specs.Split.{split, ifsOr, fieldsOfRow};
@@ -19,7 +19,7 @@ use table::Found;
 // are checked for a class before one that does not fit refuses the row, so the walk goes on behind it.
 fn put_fields(row: &mut [u8], ifs: &[u8], paths: &[u8], out: &mut [u8], used: usize) -> Written
     requires { ⌜ (used ≤ length (now out)) × (length (now out) ≤ imageLimit) ⌝ }
-    requires { ⌜ Listed (now paths) ⌝ }
+    requires { ⌜ Listed (now paths) × (length (now row) ≤ 2 * rowLimit) ⌝ }
     ensures { λ r. ⌜ Says (textsOfFields (heldTexts (now (paths .entry))) (split (now (ifs .entry)) (rowOf (now (row .entry))))) used (now (out .entry))
         (now (out .exit)) r ⌝ }
 {
@@ -72,7 +72,7 @@ pub fn put_word_fields(
 ) -> Written
     requires { ⌜ («vars_used» ≤ length (now vars)) × Table (take «vars_used» (now vars)) ⌝ }
     requires { ⌜ (used ≤ length (now out)) × (length (now out) ≤ imageLimit) ⌝ }
-    requires { ⌜ Listed (now paths) ⌝ }
+    requires { ⌜ Listed (now paths) × (length (now row) ≤ 2 * rowLimit) ⌝ }
     ensures { λ r. ⌜ Puts (textsOfFields (heldTexts (now (paths .entry)))
         (fieldsOfRow (held (take «vars_used» (now (vars .entry)))) (rowOf (now (row .entry))))) used (now (out .entry)) (now (out .exit)) r ⌝ }
 {

@@ -1,4 +1,5 @@
 -- The row stands at the front of the work area, and its fields or the number that refuses them are the word's.
+use Prim.Native.Nat.{_*_}
 use native.Mathlib.Omega.{arith}
 use mathlib.Core.Path.{sym}
 use lib.ListN.{take}
@@ -71,8 +72,10 @@ put-word-fields-requires : tie.Need-put-word-fields-requires
 put-word-fields-requires c κs =
     let g = c .before .before .before .before in
     let p = entry (giving g) .pre in
-    let h = row g .holds in
-    ((h .inside, variables-table _ (h .formed)), ((p .low, p .few), paths-of _ (p .listed) .table))
+    let r = row g in
+    let h = r .holds in
+    let t = length-take-le (2 * g .got2 .given .0 .0) (area (giving g)) (row-within r) in
+    ((h .inside, variables-table _ (h .formed)), ((p .low, p .few), (paths-of _ (p .listed) .table, omega (arith, t, r .fits))))
 
 enum-told : tie.Need-enum-told
 enum-told c = search needs

@@ -60,7 +60,7 @@ cut-requires : tie.Need-cut-requires
 cut-requires c κs =
     let s = c .before .before .before .before .before .before .before .before in
     let p = s .pre in
-    (table-held (s .args .extent .«vars_room») (s .args .vars .now) (s .args .extent .«vars_used») (p .1), p .0 .inside, p .2, p .3)
+    (table-held (s .args .extent .«vars_room») (s .args .vars .now) (s .args .extent .«vars_used») (p .1), p .0 .few, p .2, p .3)
 
 returns : tie.Need-returns
 returns c =

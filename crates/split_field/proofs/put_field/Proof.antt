@@ -1,107 +1,112 @@
--- Patterns see the same units when N is gone, and so do the bytes.
+-- Patterns see the same units when N is gone, and so do the bytes; a plain field is no pattern.
 use Prim.Native.Nat.{_≤_}
 use mathlib.Core.Path.{sym, _∙_}
+use native.Mathlib.Omega.{arith}
 use lib.ListN.{length}
 use lib.Seq.{length-take-le}
-use borrow.Author.Needs.{needs}
 use Rattle.stages.specs.Images.{heldTexts}
-use Rattle.split_field.proofs.Filling.{says-shown}
-use Rattle.split_field.proofs.Choosing.{field-fits, field-class, field-named}
+use Rattle.pattern_row.proofs.Keeping.{dropped-fits, dropped-few}
+use Rattle.split_field.proofs.Choosing.{plain-own, dropped-says, dropped-full}
+use borrow.Author.Needs.{needs}
 use Rattle.split_field.proofs.put_field.Statement.{statement}
 use Rattle.split_field.proofs.put_field.Tie as tie
 
--- the call, where N is gone; and that place, where the field was searched for a class
+-- the call, where N is gone
 abbrev start : tie.After-drop-empty → tie.Start
-start r = r .before .before .before .before .before
-
-abbrev dropped : tie.After-has-class → tie.After-drop-empty
-dropped h = h .before .before .before .before
+start d = d .before .before .before .before .before
 
 -- what is left stands in the field
-fits : (r : tie.After-drop-empty) → r .drop-empty .result ≤ length (r .drop-empty .last .0)
-fits r = field-fits (heldTexts (start r .args .paths .now)) (r .drop-empty .ensures) (r .drop-empty .kept .0)
+fits : (d : tie.After-drop-empty) → d .drop-empty .result ≤ length (d .drop-empty .last .0)
+fits d = dropped-fits (d .drop-empty .ensures)
+
+-- that place, where it was looked at
+abbrev dropped : tie.After-is-plain → tie.After-drop-empty
+dropped l = l .before .before .before .before
 
 drop-empty-requires : tie.Need-drop-empty-requires
 drop-empty-requires c κs = search needs
 
-slice-reshare-prefix-has-class : tie.Need-slice-reshare-prefix-has-class
-slice-reshare-prefix-has-class c = fits (c .before .before)
+slice-reshare-prefix-is-plain : tie.Need-slice-reshare-prefix-is-plain
+slice-reshare-prefix-is-plain c = fits (c .before .before)
 
-slice-aggregate-has-class : tie.Need-slice-aggregate-has-class
-slice-aggregate-has-class c = sym (length-take-le _ _ (fits (c .before .before .before)))
+slice-aggregate-is-plain : tie.Need-slice-aggregate-is-plain
+slice-aggregate-is-plain c = sym (length-take-le _ _ (fits (c .before .before .before)))
 
-has-class-requires : tie.Need-has-class-requires
-has-class-requires c κs = search needs
+is-plain-requires : tie.Need-is-plain-requires
+is-plain-requires c κs = search needs
+
+slice-relend-prefix-put-own : tie.Need-slice-relend-prefix-put-own
+slice-relend-prefix-put-own c = fits (dropped (c .before))
+
+slice-aggregate-put-own : tie.Need-slice-aggregate-put-own
+slice-aggregate-put-own c = sym (length-take-le _ _ (fits (dropped (c .before .before))))
+
+put-own-requires : tie.Need-put-own-requires
+put-own-requires c κs = search needs
+
+answer-of-requires : tie.Need-answer-of-requires
+answer-of-requires c κs = search needs
 
 same-length : tie.Need-same-length
 same-length c = search needs
 
-returns : tie.Need-returns
-returns c =
-    let h = c .before in
-    field-class (heldTexts (start (dropped h) .args .paths .now)) (dropped h .drop-empty .ensures) (sym (h .has-class .ensures) ∙ c .if1 .taken)
-
-slice-relend-prefix-put-paths-or-own : tie.Need-slice-relend-prefix-put-paths-or-own
-slice-relend-prefix-put-paths-or-own c = fits (dropped (c .before))
-
-slice-aggregate-put-paths-or-own : tie.Need-slice-aggregate-put-paths-or-own
-slice-aggregate-put-paths-or-own c = sym (length-take-le _ _ (fits (dropped (c .before .before))))
-
-put-paths-or-own-requires : tie.Need-put-paths-or-own-requires
-put-paths-or-own-requires c κs = search needs
-
-enum-known-len : tie.Need-enum-known-len
-enum-known-len c = search needs
-
-enum-told : tie.Need-enum-told
-enum-told c = search needs
-
 same-length-2 : tie.Need-same-length-2
 same-length-2 c = search needs
+
+returns : tie.Need-returns
+returns c =
+    let o = c .before .before .before .before .before in
+    let t = o .before .before .before in
+    let d = dropped (t .before) in
+    let paths = heldTexts (start d .args .paths .now) in
+    let e = d .drop-empty .ensures in
+    dropped-says paths e
+    (plain-own paths (dropped-full paths e) (sym (t .before .is-plain .ensures) ∙ t .if1 .taken) (rw (c .answer-of .ensures) (o .put-own .ensures)))
+
+slice-relend-prefix-put-pattern : tie.Need-slice-relend-prefix-put-pattern
+slice-relend-prefix-put-pattern c = fits (dropped (c .before))
+
+slice-aggregate-put-pattern : tie.Need-slice-aggregate-put-pattern
+slice-aggregate-put-pattern c = sym (length-take-le _ _ (fits (dropped (c .before .before))))
+
+put-pattern-requires : tie.Need-put-pattern-requires
+put-pattern-requires c κs =
+    let d = dropped (c .before .before .before) in
+    let s = start d in
+    let e = d .drop-empty .ensures in
+    (s .pre .0,
+    (s .pre .1 .0, dropped-full (heldTexts (s .args .paths .now)) e, omega (arith, length-take-le (d .drop-empty .result) (d .drop-empty .last .0) (fits d), dropped-few e, s .pre .1 .1)))
 
 same-length-3 : tie.Need-same-length-3
 same-length-3 c = search needs
 
-returns-2 : tie.Need-returns-2
-returns-2 c =
-    let p = c .before .before .before .before .before .before .before in
-    let u = p .before .before .before in
-    let h = u .before in
-    says-shown (field-named (heldTexts (start (dropped h) .args .paths .now)) (dropped h .drop-empty .ensures)
-    (sym (h .has-class .ensures) ∙ u .if1 .left) (p .put-paths-or-own .ensures)) (c .before .len .given .1)
-
 same-length-4 : tie.Need-same-length-4
 same-length-4 c = search needs
 
-same-length-5 : tie.Need-same-length-5
-same-length-5 c = search needs
-
-returns-3 : tie.Need-returns-3
-returns-3 c =
-    let p = c .before .before .before .before .before .before in
-    let u = p .before .before .before in
-    let h = u .before in
-    says-shown (field-named (heldTexts (start (dropped h) .args .paths .now)) (dropped h .drop-empty .ensures)
-    (sym (h .has-class .ensures) ∙ u .if1 .left) (p .put-paths-or-own .ensures)) (c .enum-told .given .1)
+returns-2 : tie.Need-returns-2
+returns-2 c =
+    let p = c .before .before .before .before in
+    let d = dropped (p .before .before .before .before) in
+    dropped-says (heldTexts (start d .args .paths .now)) (d .drop-empty .ensures) (p .put-pattern .ensures)
 
 pub put-field-spec : {M : Type 1} → statement M
 put-field-spec =
     tie.close
     (tie.spec
     drop-empty-requires
-    slice-reshare-prefix-has-class
-    slice-aggregate-has-class
-    has-class-requires
+    slice-reshare-prefix-is-plain
+    slice-aggregate-is-plain
+    is-plain-requires
+    slice-relend-prefix-put-own
+    slice-aggregate-put-own
+    put-own-requires
+    answer-of-requires
     same-length
-    returns
-    slice-relend-prefix-put-paths-or-own
-    slice-aggregate-put-paths-or-own
-    put-paths-or-own-requires
-    enum-known-len
-    enum-told
     same-length-2
+    returns
+    slice-relend-prefix-put-pattern
+    slice-aggregate-put-pattern
+    put-pattern-requires
     same-length-3
-    returns-2
     same-length-4
-    same-length-5
-    returns-3)
+    returns-2)

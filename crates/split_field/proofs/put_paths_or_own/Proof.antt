@@ -1,31 +1,22 @@
 -- Where no path matches, the length stays, and only then.
 use mathlib.Core.Path.{_≡_, sym, ap, _∙_}
 use mathlib.Core.Bool.{true}
-use borrow.Author.Needs.{needs}
 use borrow.Author.Tests.{not-true, not-false}
 use Rattle.stages.specs.Images.{heldTexts}
-use Rattle.stages.specs.Paths.{active}
 use Rattle.text.specs.Rows.{rowOf}
-use Rattle.pattern_paths.specs.Chosen.{pathElements}
 use Rattle.table_store.specs.declared.Put.the-variants.{Len}
 use Rattle.split_field.specs.Answers.{answered}
 use Rattle.split_field.proofs.Choosing.{own-only, own-instead, paths-written, paths-full}
+use borrow.Author.Needs.{needs}
 use Rattle.split_field.proofs.put_paths_or_own.Statement.{statement}
 use Rattle.split_field.proofs.put_paths_or_own.Tie as tie
 
--- the call, where the field was looked at
-abbrev start : tie.After-is-active → tie.Start
-start r = r .before .before .before .before .before
+-- the call, where the paths were written: the field is a pattern
+abbrev start : tie.After-put-paths → tie.Start
+start p = p .before .before .before .before .before .before .before .before
 
--- and where the paths were written: the field is a pattern
-abbrev tested : tie.After-put-paths → tie.After-is-active
-tested p = p .before .before .before .before
-
-is-pattern : (p : tie.After-put-paths) → active (pathElements (start (tested p) .args .field .now)) ≡ true
-is-pattern p = sym (tested p .is-active .ensures) ∙ not-false _ (p .before .before .before .if1 .left)
-
-is-active-requires : tie.Need-is-active-requires
-is-active-requires c κs = search needs
+special : (p : tie.After-put-paths) → start p .args .special ≡ true
+special p = not-false _ (p .before .before .if1 .left)
 
 put-own-requires : tie.Need-put-own-requires
 put-own-requires c κs = search needs
@@ -40,10 +31,8 @@ returns : tie.Need-returns
 returns c =
     let o = c .before .before .before .before in
     let t = o .before .before .before in
-    let r = t .before in
-    let a = start r .args in
-    let plain = sym (r .is-active .ensures) ∙ not-true _ (t .if1 .taken) in
-    own-only (heldTexts (a .paths .now)) (rowOf (a .field .now)) (pathElements (a .field .now)) plain (o .put-own .ensures)
+    let a = t .before .before .before .before .before .before .args in
+    λ es h k. own-only (heldTexts (a .paths .now)) (rowOf (a .field .now)) es (sym k ∙ not-true _ (t .if1 .taken)) (o .put-own .ensures)
 
 put-paths-requires : tie.Need-put-paths-requires
 put-paths-requires c κs = search needs
@@ -66,8 +55,8 @@ returns-2 c =
     let same = o .before .before .before in
     let l = same .before .before in
     let p = l .before .before .before .before in
-    let a = start (tested p) .args in
-    own-instead (heldTexts (a .paths .now)) (rowOf (a .field .now)) (pathElements (a .field .now)) (is-pattern p) (p .put-paths .ensures)
+    let a = start p .args in
+    λ es h k. own-instead (heldTexts (a .paths .now)) (rowOf (a .field .now)) es (sym k ∙ special p) (p .put-paths .ensures es h)
     (ap answered (l .len .given .1 ∙ ap Len (same .if2 .taken))) (o .put-own2 .ensures)
 
 enum-told : tie.Need-enum-told
@@ -76,35 +65,28 @@ enum-told c = search needs
 same-length-5 : tie.Need-same-length-5
 same-length-5 c = search needs
 
-same-length-6 : tie.Need-same-length-6
-same-length-6 c = search needs
-
 returns-3 : tie.Need-returns-3
 returns-3 c =
     let p = c .before .before .before .before .before .before in
-    let a = start (tested p) .args in
-    paths-written (heldTexts (a .paths .now)) (rowOf (a .field .now)) (pathElements (a .field .now)) (is-pattern p) (p .put-paths .ensures)
+    let a = start p .args in
+    λ es h k. paths-written (heldTexts (a .paths .now)) (rowOf (a .field .now)) es (sym k ∙ special p) (p .put-paths .ensures es h)
     (ap answered (c .before .before .len .given .1)) (c .if2 .left)
 
-same-length-7 : tie.Need-same-length-7
-same-length-7 c = search needs
-
-same-length-8 : tie.Need-same-length-8
-same-length-8 c = search needs
+same-length-6 : tie.Need-same-length-6
+same-length-6 c = search needs
 
 returns-4 : tie.Need-returns-4
 returns-4 c =
     let p = c .before .before .before .before in
-    let s = start (tested p) in
+    let s = start p in
     let a = s .args in
-    paths-full (heldTexts (a .paths .now)) (rowOf (a .field .now)) (pathElements (a .field .now)) (is-pattern p) (p .put-paths .ensures) (s .pre .0 .0)
+    λ es h k. paths-full (heldTexts (a .paths .now)) (rowOf (a .field .now)) es (sym k ∙ special p) (p .put-paths .ensures es h) (s .pre .0 .0)
     (ap answered (c .enum-told .given .1))
 
 pub put-paths-or-own-spec : {M : Type 1} → statement M
 put-paths-or-own-spec =
     tie.close
     (tie.spec
-    is-active-requires
     put-own-requires
     same-length
     same-length-2
@@ -117,8 +99,6 @@ put-paths-or-own-spec =
     returns-2
     enum-told
     same-length-5
-    same-length-6
     returns-3
-    same-length-7
-    same-length-8
+    same-length-6
     returns-4)

@@ -10,6 +10,7 @@ use Rattle.stages.specs.Images.{heldTexts}
 use Rattle.stages.specs.Split.{split}
 use Rattle.stages.specs.Paths.{textsOfFields}
 use Rattle.text.specs.Rows.{rowOf}
+use Rattle.text.proofs.Parts.{part-length}
 use Rattle.split_delimiter.specs.Places.{ahead, goesOn}
 use Rattle.split_row.proofs.Runs.{Run, run-start, run-fits, run-on, run-further}
 use Rattle.split_row.proofs.Walking.{Walk, walk-start, walk-full, walk-fits, Taken, walk-class, left-sized, walk-falls, walk-on, walk-over}
@@ -113,10 +114,13 @@ part-put-field-end c = ended c .loop2 .inv .within
 
 put-field-requires : tie.Need-put-field-requires Inv-loop2 μ-loop2 Inv-loop μ-loop
 put-field-requires c κs =
-    let l = outer (ended (c .before .before)) in
+    let e = ended (c .before .before) in
+    let l = outer e in
     let w = l .loop .inv in
     let p = start l .pre in
-    ((omega (arith, w .room, w .same), omega (arith, p .0 .1, w .same)), p .1)
+    let r = e .loop2 .inv in
+    ((omega (arith, w .room, w .same), omega (arith, p .0 .1, w .same)),
+    (p .1 .0, omega (arith, part-length (l .loop .row) (l .loop .at) (e .loop2 .end) (run-further _ r) (r .within), r .within, w .sized, p .1 .1)))
 
 enum-known-n : tie.Need-enum-known-n Inv-loop2 μ-loop2 Inv-loop μ-loop
 enum-known-n c = search needs
