@@ -9,7 +9,7 @@
 #include <time.h>
 
 _Bool measured_paths_formed(const uint8_t *image, size_t length);
-_Bool measured_matches(const uint8_t *pattern, size_t pattern_length, const uint8_t *text, size_t length, _Bool path);
+size_t measured_matching(const uint8_t *pattern, size_t pattern_length, const uint8_t *paths, size_t length);
 uint8_t measured_read(const uint8_t *line, size_t length);
 
 static double seconds = 12;
@@ -44,7 +44,6 @@ struct card {
   uint8_t image[32768];
   size_t length;
   char names[1500][24];
-  size_t name_lengths[1500];
   int count;
 };
 static struct card season, many_a;
@@ -56,7 +55,7 @@ static void add_path(struct card *card, const char *path) {
   uint8_t *at = card->image + card->length;
   at[0] = (uint8_t)(n / 256), at[1] = (uint8_t)(n % 256);
   memcpy(at + 2, path, n), memcpy(card->names[card->count], path, n + 1);
-  card->length += 2 + n, card->name_lengths[card->count++] = n;
+  card->length += 2 + n, card->count++;
 }
 
 /* A season's card, and one of paths on which many stars fail. */
@@ -95,13 +94,6 @@ static void check_paths(void) {
          peer / (double)rounds * 1e6, ours / peer);
 }
 
-/* How many paths of a card match the units of a pattern. */
-static long matches(const uint8_t *units, size_t length, const struct card *card) {
-  long found = 0;
-  for (int i = 0; i < card->count; i++) found += measured_matches(units, length, (const uint8_t *)card->names[i], card->name_lengths[i], 1);
-  return found;
-}
-
 static void match(const char *pattern, const char *of, const struct card *card) {
   uint8_t units[256];
   size_t n = strlen(pattern);
@@ -110,7 +102,7 @@ static void match(const char *pattern, const char *of, const struct card *card) 
   long rounds = 0, found = 0, known = 0;
   while (ours + peer < 2 * share) {
     double a = now();
-    found += matches(units, 2 * n, card);
+    found += (long)measured_matching(units, 2 * n, card->image, card->length);
     double b = now();
     for (int i = 0; i < card->count; i++) known += fnmatch(pattern, card->names[i], FNM_PATHNAME | FNM_PERIOD) == 0;
     double c = now();
