@@ -10,6 +10,8 @@ LINE, IMAGE, PATHS = 2048, 8192, 32768  # the limits of document 01
 
 # what a case grows where a doubled size may take four times as long
 BOTH = "pattern and value"
+# the kind of what is timed only
+UNBOUND = "unbound"
 # `kind` is what is dear, `parts` how many removals, fields or arithmetic texts of the line are
 Case = namedtuple("Case", "name kind grows make parts")
 Given = namedtuple("Given", "line variables homes paths", defaults=({}, {}, ()))
@@ -68,6 +70,7 @@ PATTERNS = {
     "*, [a-": lambda n: (b"*" + b"[a-" * n(600) + b"b", b"[a-"),
     "*, [ and a quoted ]": lambda n: (b"*" + b'["]"' * n(450) + b"b", b"[]"),
     "*, [[:": lambda n: (b"*" + b"[[:" * n(600) + b"b", b"[[:"),
+    "*, [ and classes": lambda n: (b"*" + b"[[:alpha:]" * n(190) + b"b", b"[a"),
     "long bracket": lambda n: (b"*[" + b"bdefghi" * n(260) + b"]*c", b"a"),
     "long bracket of all others": lambda n: (b"*[!" + b"bdefghi" * n(260) + b"]c", b"a"),
     "long bracket of ranges": lambda n: (b"*[" + b"b-z" * n(600) + b"]*c", b"a"),
@@ -78,9 +81,12 @@ PATTERNS = {
     "*, classes": lambda n: (b"*" + b"[[:alpha:]]" * n(170) + b"1", b"ab"),
     "empty quotes": lambda n: (b"''" * n(900) + b"*c", b"a"),
 }
-OPERATORS = (b"%", b"%%", b"#", b"##")
-# those that are tried with each operator, the pattern in a variable, and with the longest values
-DEAREST = ("stars", "*a..ab", "a..ab*", "*, unclosed [", "*, brackets")
+# the operators, a suffix and a prefix in turn; each pattern has one of each side, and those of ONCE have one
+PAIRS = ((b"%%", b"#"), (b"%", b"##"))
+ONCE = ("? and stars", "*, [!", "*, [a-", "*, [[:", "long bracket of all others", "long bracket of ranges", "long bracket of classes", "*, classes",
+        "empty quotes")
+# those that are tried in a variable too, with the operators that they have not in the line or with all, and with the longest value
+DEAREST = {"*a..ab": PAIRS[0] + PAIRS[1], "stars": PAIRS[1], "a..ab*": PAIRS[1], "*, unclosed [": PAIRS[0], "*, brackets": PAIRS[0]}
 
 
 def in_line(name, operator, share, length):
@@ -106,19 +112,24 @@ def met_last(operator, value):
 
 def removals():
     for at, name in enumerate(PATTERNS):
-        for operator in (OPERATORS[at % 2], OPERATORS[3 - at % 2]):
+        pair = PAIRS[at % 2]
+        for operator in (pair[at // 2 % 2],) if name in ONCE else pair:
             yield f"{name} in {operator.decode()}", BOTH, in_line(name, operator, 2, 2000), 1
-    for name in DEAREST:
-        for operator in OPERATORS:
+    for name, operators in DEAREST.items():
+        for operator in operators:
             yield f"{name} in {operator.decode()}, in a variable", BOTH, in_variable(name, operator), 1
-        for operator in (b"%%", b"##"):
-            yield f"{name} in {operator.decode()}, longest", BOTH, in_line(name, operator, 1, 8150), 1
+        yield f"{name} in {operators[-1].decode()}, longest", BOTH, in_line(name, operators[-1], 1, 8150), 1
     yield "*[..[b in %%, 300 [ on 2,000", BOTH, lambda n: Given(b"${v%%*" + b"[" * n(300) + b"b}", {b"v": b"[" * n(2000)}), 1
     yield "*a..ab* met last in %", BOTH, met_last(b"%", lambda n: b"a" * n(1900) + b"b" + b"a" * n(4000)), 1
     yield "*a..ab* met last in #", BOTH, met_last(b"#", lambda n: b"a" * n(5900) + b"b"), 1
     yield ("removals in removals", BOTH,
            lambda n: Given(b'"' + b"${v%" * 7 + b"$p" + b"}" * 7 + b'"', {b"p": b"*" + b"a" * n(900) + b"b", b"v": b"a" * n(1900) + b"c"}), 7)
     yield "short removals", "their number", lambda n: Given(b"${v#*b}" * n(280), {b"v": b"a" * 1999 + b"b"}), 280
+
+
+def dearest():
+    """A line of two hundred long removals, which each leave nothing. It is the dearest line known, and timed, but held to no bound."""
+    yield "dearest removals", "their number", lambda n: Given(b"${v#$p}" * n(200), {b"p": b"*" + b"a" * 1900 + b"b", b"v": b"a" * 5900 + b"b"}), 200
 
 
 # Patterns over paths: the pattern, what the paths are made of, and how long each is.
@@ -130,6 +141,9 @@ FIELDS = {
     "*, unclosed [": (lambda n: b"*" + b"[" * n(900) + b"b", b"[", 2000),
     "*, [!": (lambda n: b"*" + b"[!" * n(500) + b"b", b"[!", 2000),
     "*, [a-": (lambda n: b"*" + b"[a-" * n(300) + b"b", b"[a-", 2000),
+    "*, [[:": (lambda n: b"*" + b"[[:" * n(600) + b"b", b"[[:", 2000),
+    "*, [ and classes": (lambda n: b"*" + b"[[:alpha:]" * n(190) + b"b", b"[a", 2000),
+    "[ before a slash": (lambda n: b"[" * n(1900) + b"/]*", b"[", 2000),
     "*, [ and slashes": (lambda n: b"*" + b"[/" * n(900) + b"*b", b"[/", 4000),
     "long bracket": (lambda n: b"*[" + b"bdefghi" * n(260) + b"]*c", b"a", 2000),
     "brackets": (lambda n: b"[ab]" * n(480) + b"c", b"ab", 500),
@@ -141,17 +155,16 @@ FIELDS = {
 def fields():
     for name, (pattern, stem, length) in FIELDS.items():
         yield f"{name} over paths", "pattern", lambda n, row=(pattern, stem, length): Given(row[0](n), paths=paths_of(*row[1:])), 1
-    for name in ("*a..ab*c", "unclosed [", "*, brackets", "long bracket"):
+    for name in ("*a..ab*c", "*, brackets"):
         yield (f"{name} over paths", "paths",
                lambda n, row=FIELDS[name]: Given(row[0](lambda full: full), paths=paths_of(*row[1:], n(PATHS))), 1)
     yield "*a..ab over one path", "pattern", lambda n: Given(b"*" + b"a" * n(2000) + b"b", paths=paths_of(b"a", PATHS)), 1
     names, short = paths_of(b"ab", 16), [b"%c%c" % (a, b) for a in range(48, 123) for b in range(48, 123)]
     yield "patterns over paths", "their number", lambda n: Given(b"*c? " * n(500), paths=names), 500
-    yield "patterns over paths", "paths", lambda n: Given(b"*c? " * 500, paths=paths_of(b"ab", 16, n(PATHS))), 500
     yield "patterns over short paths", "their number", lambda n: Given(b"*~ " * n(300), paths=short), 300
-    yield "a word of patterns over paths", "its fields", lambda n: Given(b"$v", {b"v": b"*c " * n(680)}, paths=names), 680
+    yield "a word of patterns over paths", "its fields", lambda n: Given(b"$v", {b"v": b"*c " * n(400)}, paths=names), 400
     yield "a word of [ over paths", "its fields", lambda n: Given(b"$v", {b"v": b"[* " * n(680)}, paths=names), 680
-    yield "stars in words over paths", "their number", lambda n: Given(b"*a*b*a*b*a*b*c " * n(130), paths=names), 130
+    yield "stars in words over paths", "paths", lambda n: Given(b"*a*b*a*b*a*b*c " * 130, paths=paths_of(b"ab", 16, n(PATHS))), 130
 
 
 def arithmetic():
@@ -206,7 +219,7 @@ def scaled(make):
 
 def cases():
     """All cases, in order."""
-    groups = {"removal": removals, "field": fields, "arithmetic": arithmetic, "other": others, "line": one_of_each}
+    groups = {"removal": removals, "field": fields, "arithmetic": arithmetic, "other": others, "line": one_of_each, UNBOUND: dearest}
     for kind, group in groups.items():
         for name, grows, make, parts in group():
             yield Case(name, kind, grows, scaled(make), parts)
