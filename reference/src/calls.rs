@@ -1,9 +1,11 @@
 //! The three calls of document 01 over lent buffers. Each works on copies; buffers are written once it is accepted.
 
+use std::borrow::Cow;
+
 use crate::expand::{Expander, Seen};
 use crate::image;
 use crate::limits;
-use crate::matching::matches_path;
+use crate::matching::matching_paths;
 use crate::number::{Number, Refusal, ACCEPTED};
 use crate::pattern::{self, Element, Purpose};
 use crate::read::read;
@@ -143,7 +145,7 @@ fn expand_words(
 }
 
 /// The fields of one word; every field is checked for 19 before any goes to the output.
-fn expand_word(word: &Word, expander: &mut Expander, paths: &[Vec<u8>]) -> Result<Vec<Vec<u8>>, Number> {
+fn expand_word<'a>(word: &Word, expander: &mut Expander, paths: &'a [Vec<u8>]) -> Result<Vec<Cow<'a, [u8]>>, Number> {
     let row = expander.row(&word.parts)?;
     let mut fields = Vec::new();
     for field in split(row.units(), expander.variables.value(b"IFS")) {
@@ -153,15 +155,14 @@ fn expand_word(word: &Word, expander: &mut Expander, paths: &[Vec<u8>]) -> Resul
 }
 
 /// All matching paths in order, or the field's own bytes if it has nothing active or nothing matches.
-fn found(field: &[Unit], paths: &[Vec<u8>]) -> Result<Vec<Vec<u8>>, Number> {
+fn found<'a>(field: &[Unit], paths: &'a [Vec<u8>]) -> Result<Vec<Cow<'a, [u8]>>, Number> {
     let pattern = pattern::read(field, Purpose::Paths)?;
-    let mut found: Vec<Vec<u8>> = Vec::new();
+    let mut found = Vec::new();
     if pattern.elements.iter().any(|element| !matches!(element, Element::Byte(_))) {
-        let matching = paths.iter().filter(|path| matches_path(&pattern.elements, path));
-        found.extend(matching.cloned());
+        found.extend(matching_paths(&pattern.elements, paths).into_iter().map(Cow::Borrowed));
     }
     if found.is_empty() {
-        found.push(bytes(field));
+        found.push(Cow::Owned(bytes(field)));
     }
     Ok(found)
 }

@@ -42,6 +42,10 @@ impl Class {
     }
 
     pub fn holds(&self, byte: u8) -> bool {
-        self.members.iter().any(|list| list.contains(&byte))
+        self.members().any(|member| member == byte)
+    }
+
+    pub fn members(&self) -> impl Iterator<Item = u8> {
+        self.members.iter().copied().flatten().copied()
     }
 }

@@ -1,6 +1,6 @@
 //! Reading a pattern from units: bytes, `*`, `?` and brackets.
 
-use crate::bracket::{search, Bracket, End, Fault};
+use crate::bracket::{set, Bracket, End, Fault, Searches};
 use crate::row::{Mark, Unit};
 
 /// What a pattern is read for; in paths a slash ends the search for a bracket's end.
@@ -41,23 +41,29 @@ pub struct Pattern {
     pub brackets: Vec<Bracket>,
 }
 
+/// The bytes of these units; N vanishes before anything is looked at.
+pub fn pattern_bytes(units: &[Unit]) -> Vec<PatternByte> {
+    units.iter().filter_map(pattern_byte).collect()
+}
+
 /// The pattern these units are.
 pub fn read(units: &[Unit], purpose: Purpose) -> Result<Pattern, Fault> {
-    let bytes: Vec<PatternByte> = units.iter().filter_map(pattern_byte).collect();
+    let bytes = pattern_bytes(units);
+    let mut searches = Searches::new(&bytes, purpose);
     let mut pattern = Pattern::default();
-    let mut rest = bytes.as_slice();
-    while let [first, behind @ ..] = rest {
-        rest = behind;
+    let mut at = 0;
+    while let Some(first) = bytes.get(at) {
+        at += 1;
         let mut element = Element::Byte(first.byte);
         if first.is(b'*') {
             element = Element::Any;
         } else if first.is(b'?') {
             element = Element::One;
         } else if first.is(b'[') {
-            let bracket = search(behind, purpose)?;
+            let bracket = searches.bracket(at)?;
             if bracket.end == End::Closed {
-                element = Element::Set(bracket.set.clone());
-                rest = &behind[bracket.length + 1..];
+                element = Element::Set(set(&searches.members(&bracket), bracket.negated));
+                at = bracket.members.end + 1;
             }
             pattern.brackets.push(bracket);
         }

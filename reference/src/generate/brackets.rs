@@ -4,11 +4,11 @@ use std::collections::{BTreeMap, BTreeSet};
 use std::fmt;
 
 use super::classes::BORDERS;
-use crate::bracket::{Bracket, End, Fault, Member};
+use crate::bracket::{Bracket, End, Fault, Member, Searches};
 use crate::class::{Class, CLASSES};
 use crate::expand::{HeldTo, Seen, SeenPattern};
-use crate::matching::{matches_path, remaining};
-use crate::pattern::{self, Element, Pattern, Purpose};
+use crate::matching::{matching_paths, remaining};
+use crate::pattern::{self, pattern_bytes, Element, Pattern, Purpose};
 use crate::row::{Mark, Unit};
 use crate::tree::{End as ValueEnd, Extent};
 
@@ -50,44 +50,54 @@ impl Brackets {
 
     fn add_pattern(&mut self, seen: &SeenPattern, pattern: &Pattern, paths: &[Vec<u8>]) {
         let purpose = seen.purpose();
-        for bracket in &pattern.brackets {
-            for class in classes(bracket) {
+        let members = members(&seen.units, purpose, pattern);
+        for (bracket, members) in pattern.brackets.iter().zip(&members) {
+            for class in classes(members) {
                 count(&mut self.classes, class.name, purpose);
             }
-            if classes(bracket).next().is_some() {
-                kinds_of(bracket).into_iter().for_each(|kind| count(&mut self.kinds, kind, purpose));
+            if classes(members).next().is_some() {
+                kinds_of(bracket, members).into_iter().for_each(|kind| count(&mut self.kinds, kind, purpose));
             }
         }
-        if marks_inside(&seen.units, purpose, pattern) {
+        if marks_inside(&seen.units, purpose, &members) {
             count(&mut self.kinds, "N inside a class", purpose);
         }
         match &seen.held_to {
-            HeldTo::Paths => paths.iter().for_each(|path| self.decide_path(pattern, path)),
-            HeldTo::Value(value, end) => self.decide_value(pattern, value, *end),
+            HeldTo::Paths => self.decide_paths(pattern, &members, paths),
+            HeldTo::Value(value, end) => self.decide_value(pattern, &members, value, *end),
         }
     }
 
-    /// What the first element decides about the path's first byte.
-    fn decide_path(&mut self, pattern: &Pattern, path: &[u8]) {
-        if let Some((class, others)) = alone(pattern, ValueEnd::Prefix) {
-            if matches_path(&others, path) {
-                self.decided.entry(class.name).or_default().insert(path[0]);
-            }
+    /// What the first element decides about the first bytes of paths.
+    fn decide_paths(&mut self, pattern: &Pattern, members: &[Vec<Member>], paths: &[Vec<u8>]) {
+        if let Some((class, others)) = alone(pattern, members, ValueEnd::Prefix) {
+            let bytes = matching_paths(&others, paths).into_iter().map(|path| path[0]);
+            self.decided.entry(class.name).or_default().extend(bytes);
         }
     }
 
     /// What the first element decides about the value's first byte, or the last about the last.
-    fn decide_value(&mut self, pattern: &Pattern, value: &[u8], end: ValueEnd) {
+    fn decide_value(&mut self, pattern: &Pattern, members: &[Vec<Member>], value: &[u8], end: ValueEnd) {
         let byte = match end {
             ValueEnd::Prefix => value.first(),
             ValueEnd::Suffix => value.last(),
         };
-        if let (Some((class, others)), Some(byte)) = (alone(pattern, end), byte) {
+        if let (Some((class, others)), Some(byte)) = (alone(pattern, members, end), byte) {
             if remaining(&others, value, end, Extent::Longest) != value {
                 self.decided.entry(class.name).or_default().insert(*byte);
             }
         }
     }
+}
+
+/// The members of each bracket of a pattern in which `[:` stands; of others nothing is asked here.
+fn members(units: &[Unit], purpose: Purpose, pattern: &Pattern) -> Vec<Vec<Member>> {
+    let bytes = pattern_bytes(units);
+    if !bytes.windows(2).any(|two| two[0].is(b'[') && two[1].is(b':')) {
+        return Vec::new();
+    }
+    let searches = Searches::new(&bytes, purpose);
+    pattern.brackets.iter().map(|bracket| searches.members(bracket)).collect()
 }
 
 fn all(counts: &Counts) -> usize {
@@ -98,22 +108,24 @@ fn count(counts: &mut Counts, name: &'static str, purpose: Purpose) {
     counts.entry(name).or_default()[purpose as usize] += 1;
 }
 
-fn classes(bracket: &Bracket) -> impl Iterator<Item = &'static Class> + '_ {
-    bracket.members.iter().filter_map(|member| match member {
+fn classes(members: &[Member]) -> impl Iterator<Item = &'static Class> + '_ {
+    members.iter().filter_map(|member| match member {
         Member::Class(class) => Some(*class),
-        Member::Byte(_) => None,
+        Member::Byte(_) | Member::Range(..) => None,
     })
 }
 
-fn kinds_of(bracket: &Bracket) -> Vec<&'static str> {
-    let is = |member: &Member, wanted: u8| matches!(member, Member::Byte(byte) if byte.is(wanted));
-    let class = |member: &Member| matches!(member, Member::Class(_));
-    let first = bracket.members.first().is_some_and(|first| is(first, b']'));
-    let range = bracket.members.windows(3).any(|three| is(&three[1], b'-') && !class(&three[0]) && !class(&three[2]));
-    let dash = bracket.members.windows(2).any(|two| class(&two[0]) && is(&two[1], b'-'));
+fn kinds_of(bracket: &Bracket, members: &[Member]) -> Vec<&'static str> {
+    let is = |member: &Member, wanted: u8| match member {
+        Member::Byte(byte) | Member::Range(byte, _) => byte.is(wanted),
+        Member::Class(_) => false,
+    };
+    let first = members.first().is_some_and(|first| is(first, b']'));
+    let range = members.iter().any(|member| matches!(member, Member::Range(..)));
+    let dash = members.windows(2).any(|two| matches!(two[0], Member::Class(_)) && is(&two[1], b'-'));
     let said = [
         ("closed", bracket.end == End::Closed),
-        ("several classes", classes(bracket).count() > 1),
+        ("several classes", classes(members).count() > 1),
         ("negated", bracket.negated),
         ("a range beside", range),
         ("`-` behind a class", dash),
@@ -145,26 +157,27 @@ fn kind_of(fault: &Fault) -> &'static str {
 }
 
 /// Whether an N stands inside a class: were it a byte, there would be one less.
-fn marks_inside(units: &[Unit], purpose: Purpose, pattern: &Pattern) -> bool {
+fn marks_inside(units: &[Unit], purpose: Purpose, given: &[Vec<Member>]) -> bool {
     let as_bytes = |unit: &Unit| match unit {
         Unit::Empty => Unit::Byte(b'x', Mark::Quoted),
         byte => *byte,
     };
-    let served = |pattern: &Pattern| pattern.brackets.iter().flat_map(classes).count();
-    match pattern::read(&units.iter().map(as_bytes).collect::<Vec<_>>(), purpose) {
-        Ok(read) => served(&read) < served(pattern),
+    let served = |members: &[Vec<Member>]| members.iter().flat_map(|members| classes(members)).count();
+    let units: Vec<Unit> = units.iter().map(as_bytes).collect();
+    match pattern::read(&units, purpose) {
+        Ok(read) => served(&members(&units, purpose, &read)) < served(given),
         Err(fault) => matches!(fault, Fault::Name(_)),
     }
 }
 
 /// The class whose bracket, with nothing else in it, is the pattern's first or last element, and the pattern with a `?` in its place.
-fn alone(pattern: &Pattern, end: ValueEnd) -> Option<(&'static Class, Vec<Element>)> {
+fn alone(pattern: &Pattern, members: &[Vec<Member>], end: ValueEnd) -> Option<(&'static Class, Vec<Element>)> {
     let mut elements = pattern.elements.clone();
-    let (element, bracket) = match end {
-        ValueEnd::Prefix => (elements.first_mut()?, pattern.brackets.first()?),
-        ValueEnd::Suffix => (elements.last_mut()?, pattern.brackets.last()?),
+    let (element, members) = match end {
+        ValueEnd::Prefix => (elements.first_mut()?, members.first()?),
+        ValueEnd::Suffix => (elements.last_mut()?, members.last()?),
     };
-    match (&element, bracket.members.as_slice()) {
+    match (&element, members.as_slice()) {
         (Element::Set(_), [Member::Class(class)]) => {
             *element = Element::One;
             Some((*class, elements))
