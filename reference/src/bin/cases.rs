@@ -1,28 +1,32 @@
-//! Prints cases made from a seed with the reference's answers, or how often each number and each edge comes up in those of one seed or more.
+//! Prints cases made from a seed with the reference's answers, or hostile ones, or how often each number and each edge comes up in the cases of
+//! one seed or more.
 
 use std::io::{stdout, BufWriter, Write};
 use std::ops::RangeInclusive;
 use std::process::ExitCode;
 
-use reference::case::case;
-use reference::generate::{call, tally::Tally};
+use reference::case::{case, Call};
+use reference::generate::{call, hostile, tally::Tally};
 
 fn main() -> ExitCode {
     let words: Vec<String> = std::env::args().skip(1).collect();
     let words: Vec<&str> = words.iter().map(String::as_str).collect();
-    let (tally, seeds, count) = match words[..] {
-        ["--tally", seeds, count] => (true, range(seeds), count.parse()),
-        [seed, count] => (false, seed.parse().ok().map(|seed| seed..=seed), count.parse()),
+    let (seeds, count) = match words[..] {
+        ["--tally" | "--hostile", seeds, count] | [seeds, count] => (range(seeds), count.parse()),
         _ => return usage(),
     };
     let (Some(seeds), Ok(count)) = (seeds, count) else {
         return usage();
     };
-    if tally {
-        print!("{}", Tally::of(seeds, count));
-        return ExitCode::SUCCESS;
-    }
-    match print_cases(*seeds.start(), count) {
+    let printed = match words[0] {
+        "--tally" => {
+            print!("{}", Tally::of(seeds, count));
+            Ok(())
+        }
+        "--hostile" => print_cases(hostile::call, seeds, count),
+        _ => print_cases(call, seeds, count),
+    };
+    match printed {
         Ok(()) => ExitCode::SUCCESS,
         Err(error) => {
             eprintln!("cases: {error}");
@@ -32,7 +36,7 @@ fn main() -> ExitCode {
 }
 
 fn usage() -> ExitCode {
-    eprintln!("usage: cases SEED COUNT, or cases --tally SEED[-SEED] COUNT");
+    eprintln!("usage: cases [--hostile|--tally] SEED[-SEED] COUNT");
     ExitCode::FAILURE
 }
 
@@ -42,11 +46,14 @@ fn range(seeds: &str) -> Option<RangeInclusive<u64>> {
     Some(first.parse().ok()?..=last.parse().ok()?)
 }
 
-fn print_cases(seed: u64, count: u64) -> std::io::Result<()> {
+/// So many cases of each of the seeds.
+fn print_cases(call: fn(u64, u64) -> Call, seeds: RangeInclusive<u64>, count: u64) -> std::io::Result<()> {
     let mut out = BufWriter::new(stdout().lock());
-    for number in 0..count {
-        let case = case(&call(seed, number)).map_err(std::io::Error::other)?;
-        writeln!(out, "{case}")?;
+    for seed in seeds {
+        for number in 0..count {
+            let case = case(&call(seed, number)).map_err(std::io::Error::other)?;
+            writeln!(out, "{case}")?;
+        }
     }
     out.flush()
 }

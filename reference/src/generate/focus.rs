@@ -111,7 +111,7 @@ fn bytes(random: &mut Random, alphabet: &[u8], most: usize) -> Vec<u8> {
     (0..random.below(most + 1)).map(|_| *random.pick(alphabet)).collect()
 }
 
-fn lend(lent: &mut Lent, table: &Table) {
+pub fn lend(lent: &mut Lent, table: &Table) {
     lent.variables = image(table);
     lent.used = lent.variables.len();
     lent.variables_buffer = lent.used + 100;

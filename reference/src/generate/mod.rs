@@ -2,16 +2,20 @@
 
 pub mod brackets;
 pub mod classes;
+mod crowds;
 mod damage;
 mod expression;
 mod focus;
 pub mod grammar;
+pub mod hostile;
 pub mod operands;
+pub mod patterns;
 pub mod quoting;
 pub mod random;
 pub mod season;
 mod sizes;
-pub mod stars;
+mod stars;
+pub mod steps;
 pub mod tables;
 pub mod tally;
 mod tildes;
@@ -24,13 +28,13 @@ use crate::case::{Call, Job, Lent};
 use crate::image::of_texts;
 use crate::limits;
 
-/// The most stars one pattern of a case has.
-pub const MOST_STARS: usize = 3;
+/// The most steps of a case's patterns; `hostile` has those without a bound.
+pub const MOST_STEPS: usize = 5_000_000;
 
 /// The call of this case; the same for the same seed and case.
 pub fn call(seed: u64, case: u64) -> Call {
     let random = &mut Random::new(seed, case);
-    let call = match random.below(100) {
+    let call = match random.below(112) {
         0..=4 => sizes::call(random),
         5..=9 => quoting::call(random),
         10..=13 => malformed(random),
@@ -40,11 +44,13 @@ pub fn call(seed: u64, case: u64) -> Call {
         34..=43 => focused(random, tildes::case),
         44..=46 => focused(random, quoting::fed_again),
         47..=61 => focused(random, classes::case),
+        62..=68 => focused(random, stars::case),
+        69..=73 => focused(random, crowds::case),
         _ => lines(random),
     };
     match call {
         Call::Lines(job, mut lent) => {
-            stars::thin(&mut lent, MOST_STARS);
+            steps::thin(&mut lent, MOST_STEPS);
             tighten(random, job, &mut lent);
             Call::Lines(job, lent)
         }

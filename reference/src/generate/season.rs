@@ -1,6 +1,6 @@
 //! A folder for the program: tables from a seed, and lines that share them one after the other, as a crew's season does.
 
-use super::{call, ordinary, random::Random, stars, MOST_STARS};
+use super::{call, ordinary, random::Random, steps::steps, MOST_STEPS};
 use crate::calls::normalise;
 use crate::case::{Call, Lent};
 use crate::limits;
@@ -13,8 +13,8 @@ pub struct Season {
 }
 
 impl Season {
-    /// The lines are those of the seed's cases, a newline in them a blank. One whose pattern would have too many stars with these tables, and with what the
-    /// lines before it have stored, is left out.
+    /// The lines are those of the seed's cases, a newline in them a blank. One whose patterns would cost too much with these tables, and with what
+    /// the lines before it have stored, is left out.
     pub fn of(seed: u64, count: usize) -> Season {
         let mut lent = ordinary(&mut Random::new(seed, u64::MAX));
         lent.variables_buffer = limits::IMAGE;
@@ -28,7 +28,7 @@ impl Season {
                 continue;
             };
             lent.line = made.line.into_iter().map(|byte| if byte == b'\n' { b' ' } else { byte }).collect();
-            if stars::most(&lent) <= MOST_STARS {
+            if steps(&lent) <= MOST_STEPS {
                 carry_over(&mut lent);
                 lines.push(lent.line.clone());
             }

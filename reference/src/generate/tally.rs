@@ -7,6 +7,7 @@ use std::ops::RangeInclusive;
 use super::brackets::Brackets;
 use super::call;
 use super::operands::Tildes;
+use super::patterns::Patterns;
 use super::quoting::Quoting;
 use super::walk::walk;
 use crate::case::{Call, Job, Lent};
@@ -32,6 +33,7 @@ pub struct Tally {
     pub tildes: Tildes,
     pub quoting: Quoting,
     pub brackets: Brackets,
+    pub patterns: Patterns,
 }
 
 impl Tally {
@@ -70,7 +72,9 @@ impl Tally {
         let seen = walk(lent);
         self.full_lines += usize::from(lent.line.len() == limits::LINE);
         self.tildes.add(lent);
-        self.brackets.add(&seen, &image::paths(&lent.paths).unwrap_or_default());
+        let paths = image::paths(&lent.paths).unwrap_or_default();
+        self.brackets.add(&seen, &paths);
+        self.patterns.add(&seen, paths.len());
         self.sums += seen.sums.len();
         self.different_sums.extend(seen.sums);
         for units in seen.rows {
@@ -92,12 +96,12 @@ impl fmt::Display for Tally {
             writeln!(out, "{number:2} {count}")?;
         }
         let Tally { expand, normalise, quote, bytes, sums, different_sums, full_lines, rows, .. } = self;
-        let Tally { tildes, quoting, brackets, .. } = self;
+        let Tally { tildes, quoting, brackets, patterns, .. } = self;
         writeln!(out, "expand {expand}, normalise {normalise}, quote {quote}")?;
         writeln!(out, "{bytes} bytes")?;
         writeln!(out, "arithmetic texts {sums}, different ones {}", different_sums.len())?;
         writeln!(out, "lines of 2048 bytes {full_lines}")?;
         writeln!(out, "rows of 2047 units {}, of 2048 {}, refused at 2049 {}", rows[0], rows[1], rows[2])?;
-        write!(out, "{tildes}{quoting}{brackets}")
+        write!(out, "{tildes}{quoting}{brackets}{patterns}")
     }
 }
