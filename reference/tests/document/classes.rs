@@ -7,7 +7,7 @@ use crate::support::{gives, refuses, World};
 pub const REMOVALS: [&str; 4] = ["#", "##", "%", "%%"];
 
 /// Each class by the standard library's own tests for ASCII, where it has one.
-const DEFINITIONS: [(&str, fn(u8) -> bool); 12] = [
+pub const DEFINITIONS: [(&str, fn(u8) -> bool); 12] = [
     ("alnum", |byte| byte.is_ascii_alphanumeric()),
     ("alpha", |byte| byte.is_ascii_alphabetic()),
     ("blank", |byte| byte == b' ' || byte == b'\t'),

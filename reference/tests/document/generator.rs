@@ -6,8 +6,8 @@ use std::sync::OnceLock;
 use reference::case::{case, replay, Call, Job};
 use reference::generate::random::Random;
 use reference::generate::{
-    brackets::KINDS, call, classes::BORDERS, operands::SIGNS, ordinary, quoting, season::Season, stars, tally::Tally,
-    MOST_STARS,
+    brackets::KINDS, call, classes::BORDERS, hostile, operands::SIGNS, ordinary, quoting, season::Season, steps::steps,
+    tally::Tally, MOST_STEPS,
 };
 use reference::{image, limits};
 
@@ -71,6 +71,18 @@ fn classes_come_up() {
     }
 }
 
+/// Patterns of several stars, of unclosed brackets and of many brackets, over long lists and from long values; hostile ones are answered too.
+#[test]
+fn stars_come_up() {
+    let patterns = &tally().patterns;
+    assert!(patterns.stars >= CASES as usize / 25 && patterns.long_list >= 40, "{patterns}");
+    assert!(patterns.unclosed >= CASES as usize / 25 && patterns.many_unclosed >= 50, "{patterns}");
+    assert!(patterns.many_closed >= 100 && patterns.crowds >= 20, "{patterns}");
+    assert!(patterns.removal >= CASES as usize / 25 && patterns.long_value >= 20, "{patterns}");
+    let answers = (0..100).map(|case| hostile::call(SEED, case).answer().expect("buffers kept as promised").0.number);
+    assert!(answers.filter(|number| *number == 0).count() >= 20);
+}
+
 /// Demand 3 on made fields: their quoted line gives them again and is its own quoted line, under tables that were not asked for.
 #[test]
 fn quoted_lines_come_back() {
@@ -98,7 +110,7 @@ fn limits_come_up() {
         match call(SEED, number) {
             Call::Lines(_, lent) => {
                 assert!(lent.variables.len() <= lent.variables_buffer);
-                assert!(stars::most(&lent) <= MOST_STARS);
+                assert!(steps(&lent) <= MOST_STEPS, "{}", lent.line.escape_ascii());
                 lines.insert(lent.line.len());
                 variables.insert(lent.used);
                 homes.insert(lent.homes.len());
