@@ -20,6 +20,7 @@ pub mod SafeRows
 pub mod SafeLines
 pub mod Answers
 pub mod Program
+pub mod Files
 pub mod Plain
 pub mod Quoted
 pub mod Quiet

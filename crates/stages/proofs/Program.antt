@@ -4,7 +4,7 @@ use Prim.Native.Char.{code}
 use native.Mathlib.Omega.{arith}
 use mathlib.Core.Path.{_≡_, refl, sym, ap, _∙_}
 use mathlib.Core.Bool.{Bool, true, false, not}
-use mathlib.Core.List.{List, [], _∷_, _++_}
+use mathlib.Core.List.{List, [], _∷_, _++_, append-assoc}
 use lib.Dec.{eqb, leb}
 use lib.ListN.{length, take}
 use lib.Seq.{take-all, length-take-le}
@@ -15,7 +15,7 @@ use Rattle.stages.specs.Outcome.{Placed, refusedAt, doneAt, _then_, pick
 use Rattle.stages.specs.Images.{Pairs, image}
 use Rattle.stages.specs.Line.{Around, Fields, expandLine}
 use Rattle.stages.specs.Call.{Given, answered, expanded, expander, quotedIn, normaliser}
-use Rattle.stages.specs.Program.{longerLine, linesOf, Variables, givenLine, said, saidOf}
+use Rattle.stages.specs.Program.{longerLine, linesOf, Variables, givenLine, said, afterLine, afterLines, saidOf}
 use Rattle.stages.proofs.Bools.{either, or-neither}
 use Rattle.stages.proofs.Outcomes.{Each}
 
@@ -71,12 +71,33 @@ abbrev pub cutLines : List Text → List Text
 cutLines [] = []
 cutLines (l ∷ ls) = cutLine l ∷ cutLines ls
 
-pub said-cut : (homes paths : Text) (v : Variables) (ls : List Text) → saidOf homes paths v (cutLines ls) ≡ saidOf homes paths v ls
-unfolding saidOf givenLine
-said-cut homes paths v [] = refl
-said-cut homes paths v (l ∷ ls) =
-    let n : normaliser (givenLine homes paths (cutLine l) v) ≡ normaliser (givenLine homes paths l v) = normaliser-cut (givenLine homes paths l v) l in
-    rw n (ap (λ (s : Text). said (normaliser (givenLine homes paths l v)) ++ s) (said-cut homes paths _ ls))
+module _ (homes paths : Text) where
+  pub answer-cut : (l : Text) (v : Variables) → normaliser (givenLine homes paths (cutLine l) v) ≡ normaliser (givenLine homes paths l v)
+  unfolding givenLine
+  answer-cut l v = normaliser-cut (givenLine homes paths l v) l
+
+  pub after-cut : (v : Variables) (l : Text) → afterLine homes paths v (cutLine l) ≡ afterLine homes paths v l
+  unfolding afterLine
+  after-cut v l = rw (answer-cut l v)
+
+  pub said-cut : (v : Variables) (ls : List Text) → saidOf homes paths v (cutLines ls) ≡ saidOf homes paths v ls
+  unfolding saidOf
+  said-cut v [] = refl
+  said-cut v (l ∷ ls) = rw (answer-cut l v) (ap (λ (s : Text). said (normaliser (givenLine homes paths l v)) ++ s) (said-cut _ ls))
+
+  -- lines one by one: what is said of some and then of others, and the variables after them
+  pub said-append : (v : Variables) (ls ms : List Text)
+      → saidOf homes paths v (ls ++ ms) ≡ saidOf homes paths v ls ++ saidOf homes paths (afterLines homes paths v ls) ms
+  unfolding saidOf afterLines
+  said-append v [] ms = refl
+  said-append v (l ∷ ls) ms =
+      ap (λ (s : Text). said (normaliser (givenLine homes paths l v)) ++ s) (said-append (afterLine homes paths v l) ls ms)
+      ∙ sym (append-assoc (said (normaliser (givenLine homes paths l v))) _ _)
+
+  pub after-append : (v : Variables) (ls ms : List Text) → afterLines homes paths v (ls ++ ms) ≡ afterLines homes paths (afterLines homes paths v ls) ms
+  unfolding afterLines
+  after-append v [] ms = refl
+  after-append v (l ∷ ls) ms = after-append (afterLine homes paths v l) ls ms
 
 -- lines
 

@@ -58,18 +58,29 @@ said a =
       | false ↦ text "no " ++ (decimal (a .number) ++ (text " " ++ (decimal (a .place) ++ text "\n")))
     ]
 
--- "Variables carry over"
+-- "Variables carry over": the variables after a line
+unfoldable pub afterLine : Text → Text → Variables → Text → Variables
+unfolding givenLine normaliser
+afterLine homes paths v l = record { buffer = normaliser (givenLine homes paths l v) .vars; varsUsed = normaliser (givenLine homes paths l v) .varsUsed }
+
+-- and after lines, one by one
+unfoldable pub afterLines : Text → Text → Variables → List Text → Variables
+unfolding afterLine
+afterLines homes paths v [] = v
+afterLines homes paths v (l ∷ ls) = afterLines homes paths (afterLine homes paths v l) ls
+
+-- what is said of lines, of each one among the variables after those before it
 unfoldable pub saidOf : Text → Text → Variables → List Text → Text
-unfolding givenLine normaliser said
+unfolding givenLine normaliser said afterLine
 saidOf homes paths v [] = []
-saidOf homes paths v (l ∷ ls) =
-    said (normaliser (givenLine homes paths l v))
-    ++ saidOf homes paths (record { buffer = normaliser (givenLine homes paths l v) .vars; varsUsed = normaliser (givenLine homes paths l v) .varsUsed }) ls
+saidOf homes paths v (l ∷ ls) = said (normaliser (givenLine homes paths l v)) ++ saidOf homes paths (afterLine homes paths v l) ls
+
+-- the variables before the first line, by the file `vars.tab`
+unfoldable pub firstVariables : Option Text → Variables
+unfolding tableOr buffered
+firstVariables vars = record { buffer = buffered (tableOr vars); varsUsed = length (tableOr vars) }
 
 -- what the program writes: the files `vars.tab`, `homes.tab`, `paths.tab` where they are there, and standard input
 unfoldable pub program : Option Text → Option Text → Option Text → Text → Text
-unfolding tableOr buffered saidOf linesOf
-program vars homes paths input =
-    saidOf (tableOr homes) (tableOr paths)
-    (record { buffer = buffered (tableOr vars); varsUsed = length (tableOr vars) })
-    (linesOf input)
+unfolding tableOr firstVariables saidOf linesOf
+program vars homes paths input = saidOf (tableOr homes) (tableOr paths) (firstVariables vars) (linesOf input)

@@ -1,0 +1,170 @@
+-- Of a table's file only so many bytes can matter as its image may have, and one more, which tells that it is too long: the program may cut each file there.
+use Prim.Native.Nat.{ℕ, suc, _-_, _≤_, _<_}
+use native.Mathlib.Omega.{arith}
+use mathlib.Core.Path.{_≡_, refl, sym, ap, _∙_}
+use mathlib.Core.Bool.{true, false}
+use mathlib.Core.List.{List, [], _∷_, _++_, append-nil}
+use mathlib.Core.Option.{Option, none, some}
+use lib.Dec.{leb}
+use lib.ListN.{length, take, length-replicate}
+use lib.Seq.{take-all, take-nil, take-take, length-take-le}
+use borrow.Author.Tests.{leb-true, leb-false, le-leb, lt-leb}
+use Rattle.stages.specs.Numbers.{badVariables, workLeast, imageLimit, pathsLimit}
+use Rattle.stages.specs.Bytes.{Text}
+use Rattle.stages.specs.Outcome.{Placed, refusedAt, doneAt, _then_}
+use Rattle.stages.specs.Images.{Pairs, texts, isLogin, pairsOf, pairsChecked, pathsChecked, sized, homesOf, pathsOf, written, image}
+use Rattle.stages.specs.Call.{Given, expanded, answered, quotedIn, normaliser}
+use Rattle.stages.specs.Program.{linesOf, tableOr, buffered, Variables, givenLine, said, afterLine, saidOf, firstVariables, program}
+use Rattle.stages.proofs.Bools.{either}
+
+-- the bytes of a file that can matter
+abbrev pub cutFile : ℕ → Option Text → Option Text
+cutFile limit none = none
+cutFile limit (some t) = some (take (suc limit) t)
+
+sized-none : {A : Type 0} (n : ℕ) (t : Text) (r : Option A) → n < length t → sized n t r ≡ none
+unfolding sized
+sized-none n t r l = rw (lt-leb (length t) n l, sized)
+
+-- an image is too long exactly if it is so when it is cut, and else it is not cut
+sized-cut : {A : Type 0} (n : ℕ) (t : Text) (f : Text → Option A) → sized n (take (suc n) t) (f (take (suc n) t)) ≡ sized n t (f t)
+sized-cut n t f = either (leb (length t) n) short long
+  where
+    short : leb (length t) n ≡ true → sized n (take (suc n) t) (f (take (suc n) t)) ≡ sized n t (f t)
+    short e = let l : length t ≤ n = leb-true (length t) n e in rw (take-all (suc n) t (omega arith))
+
+    long : leb (length t) n ≡ false → sized n (take (suc n) t) (f (take (suc n) t)) ≡ sized n t (f t)
+    long e =
+        let l : n < length t = leb-false (length t) n e in
+        let m : length (take (suc n) t) ≡ suc n = length-take-le (suc n) t l in
+        sized-none n (take (suc n) t) (f (take (suc n) t)) (omega arith) ∙ sym (sized-none n t (f t) l)
+
+homes-cut : (t : Text) → homesOf (take (suc imageLimit) t) ≡ homesOf t
+unfolding homesOf
+homes-cut t = sized-cut imageLimit t (λ u. pairsChecked isLogin (pairsOf (texts u)))
+
+paths-cut : (t : Text) → pathsOf (take (suc pathsLimit) t) ≡ pathsOf t
+unfolding pathsOf
+paths-cut t = sized-cut pathsLimit t (λ u. pathsChecked (texts u))
+
+-- what is given, with other tables
+abbrev withTables : Given → Text → Text → Given
+withTables g homes paths = record {
+  work = g .work;
+  vars = g .vars;
+  varsUsed = g .varsUsed;
+  homes = homes;
+  paths = paths;
+  line = g .line;
+  out = g .out;
+}
+
+module _ (g : Given) (homes paths : Text) where
+  abbrev whole : Given
+  whole = withTables g homes paths
+
+  abbrev short : Given
+  short = withTables g (take (suc imageLimit) homes) (take (suc pathsLimit) paths)
+
+  expanded-tables : (out : ℕ) → expanded short out ≡ expanded whole out
+  unfolding expanded
+  expanded-tables out = simp (homes-cut, paths-cut)
+
+  -- an answer does not hold the tables
+  answered-tables : (o : Placed (Text × Pairs)) → answered short o ≡ answered whole o
+  unfolding answered
+  answered-tables (refusedAt n place) = refl
+  answered-tables (doneAt r) = refl
+
+  normaliser-tables : normaliser short ≡ normaliser whole
+  unfolding normaliser
+  normaliser-tables =
+      rw (expanded-tables imageLimit) (answered-tables (expanded whole imageLimit then λ r. quotedIn (length (g .out)) (r .0) then λ t. doneAt (t, r .1)))
+
+-- variables beyond their buffer: every line is refused with 2 and leaves them so, whatever their used length
+expanded-beyond : (g : Given) (out : ℕ) → workLeast ≤ length (g .work) → length (g .vars) < g .varsUsed → expanded g out ≡ refusedAt badVariables 0
+unfolding expanded
+expanded-beyond g out w b = rw (le-leb workLeast (length (g .work)) w, lt-leb (g .varsUsed) (length (g .vars)) b)
+
+normaliser-beyond : (g : Given) → workLeast ≤ length (g .work) → length (g .vars) < g .varsUsed → normaliser g ≡ answered g (refusedAt badVariables 0)
+unfolding normaliser
+normaliser-beyond g w b = rw (expanded-beyond g imageLimit w b)
+
+module _ (homes paths buffer : Text) where
+  abbrev beyond : ℕ → Variables
+  beyond used = record { buffer = buffer; varsUsed = used }
+
+  answer-beyond : (l : Text) (used : ℕ) → length buffer < used
+      → normaliser (givenLine homes paths l (beyond used)) ≡ answered (givenLine homes paths l (beyond used)) (refusedAt badVariables 0)
+  unfolding givenLine
+  answer-beyond l used b = normaliser-beyond (givenLine homes paths l (beyond used)) (omega (arith, length-replicate {A = ℕ} workLeast 0)) b
+
+  said-beyond : (ls : List Text) (m n : ℕ) → length buffer < m → length buffer < n
+      → saidOf homes paths (beyond m) ls ≡ saidOf homes paths (beyond n) ls
+  unfolding saidOf afterLine answered givenLine said
+  said-beyond [] m n b c = refl
+  said-beyond (l ∷ ls) m n b c = rw (answer-beyond l m b, answer-beyond l n c, said-beyond ls m n b c)
+
+-- the program, whose files may be cut
+
+said-tables : (homes paths : Text) (v : Variables) (ls : List Text)
+    → saidOf (take (suc imageLimit) homes) (take (suc pathsLimit) paths) v ls ≡ saidOf homes paths v ls
+unfolding saidOf givenLine
+said-tables homes paths v [] = refl
+said-tables homes paths v (l ∷ ls) =
+    rw (normaliser-tables (givenLine homes paths l v) homes paths)
+    (ap (λ (s : Text). said (normaliser (givenLine homes paths l v)) ++ s) (said-tables homes paths _ ls))
+
+table-cut : (n : ℕ) (file : Option Text) → tableOr (cutFile n file) ≡ take (suc n) (tableOr file)
+unfolding tableOr image written
+table-cut n none = rw (take-nil {A = ℕ} n)
+table-cut n (some t) = refl
+
+-- a file beyond the variables' buffer fills it
+buffered-full : (t : Text) → imageLimit ≤ length t → buffered t ≡ take imageLimit t
+unfolding buffered
+buffered-full t h = let z : imageLimit - length t ≡ 0 = omega arith in rw (z, append-nil (take imageLimit t))
+
+module _ (t : Text) (h : imageLimit < length t) where
+  cut-length : length (take (suc imageLimit) t) ≡ suc imageLimit
+  cut-length = length-take-le (suc imageLimit) t h
+
+  buffered-cut : buffered (take (suc imageLimit) t) ≡ buffered t
+  buffered-cut =
+      buffered-full (take (suc imageLimit) t) (omega (arith, cut-length))
+      ∙ take-take imageLimit (suc imageLimit) t (omega arith)
+      ∙ sym (buffered-full t (omega arith))
+
+  buffered-short : length (buffered t) ≡ imageLimit
+  buffered-short = ap length (buffered-full t (omega arith)) ∙ length-take-le imageLimit t (omega arith)
+
+abbrev begun : Text → Variables
+begun t = record { buffer = buffered t; varsUsed = length t }
+
+module _ (homes paths : Text) (ls : List Text) where
+  begun-cut : (t : Text) → saidOf homes paths (begun (take (suc imageLimit) t)) ls ≡ saidOf homes paths (begun t) ls
+  begun-cut t = either (leb (length t) imageLimit) short long
+    where
+      short : leb (length t) imageLimit ≡ true → saidOf homes paths (begun (take (suc imageLimit) t)) ls ≡ saidOf homes paths (begun t) ls
+      short e =
+          let l : length t ≤ imageLimit = leb-true (length t) imageLimit e in
+          ap (λ (u : Text). saidOf homes paths (begun u) ls) (take-all (suc imageLimit) t (omega arith))
+
+      long : leb (length t) imageLimit ≡ false → saidOf homes paths (begun (take (suc imageLimit) t)) ls ≡ saidOf homes paths (begun t) ls
+      long e =
+          let l : imageLimit < length t = leb-false (length t) imageLimit e in
+          rw (buffered-cut t l, cut-length t l)
+          (said-beyond homes paths (buffered t) ls (suc imageLimit) (length t) (omega (arith, buffered-short t l)) (omega (arith, buffered-short t l)))
+
+  first-cut : (vars : Option Text) → saidOf homes paths (firstVariables (cutFile imageLimit vars)) ls ≡ saidOf homes paths (firstVariables vars) ls
+  unfolding firstVariables
+  first-cut vars = rw (table-cut imageLimit vars) (begun-cut (tableOr vars))
+
+-- the program says the same of files that are cut
+pub program-cut : (vars homes paths : Option Text) (input : Text)
+    → program (cutFile imageLimit vars) (cutFile imageLimit homes) (cutFile pathsLimit paths) input ≡ program vars homes paths input
+unfolding program
+program-cut vars homes paths input =
+    rw (table-cut imageLimit homes, table-cut pathsLimit paths)
+    (said-tables (tableOr homes) (tableOr paths) (firstVariables (cutFile imageLimit vars)) (linesOf input)
+    ∙ first-cut (tableOr homes) (tableOr paths) (linesOf input) vars)
