@@ -1,15 +1,46 @@
--- What the contracts on tables cite.
+-- What the contracts on tables' files cite: what was fetched, and the table that it stands for.
 use Prim.Native.Nat.{ℕ, _≤_}
 use mathlib.Core.Path.{_≡_}
+use mathlib.Core.Option.{Option, none, some}
+use lib.ListN.{length, take, replicate}
+use Rattle.stages.specs.Bytes.{Text}
+use Rattle.stages.specs.Call.{over}
+use Rattle.stages.specs.Program.{tableOr}
 use Rattle.recipe_load.specs.declared.Loaded.{Loaded}
 use Rattle.recipe_load.specs.declared.Loaded.the-variants.{Length, Failed}
+use Rattle.recipe_load.specs.declared.Fetched.{Fetched}
+use Rattle.recipe_load.specs.declared.Fetched.the-variants.{File, Absent, Unread}
 
--- a table that was read lies within a buffer of so many bytes
-abbrev pub Loads : ℕ → Loaded → Type 0
-Loads room (Length n) = n ≤ room
-Loads room Failed = Unit {0}
+-- what was fetched lies within a buffer of so many bytes
+abbrev pub Fetches : ℕ → Fetched → Type 0
+Fetches room (File n) = n ≤ room
+Fetches room Absent = Unit {0}
+Fetches room Unread = Unit {0}
 
 -- a file that ended has so many bytes
-abbrev pub Ends : ℕ → Loaded → Type 0
-Ends done (Length n) = n ≡ done
-Ends done Failed = Unit {0}
+abbrev pub Ends : ℕ → Fetched → Type 0
+Ends done (File n) = n ≡ done
+Ends done Absent = ⊥
+Ends done Unread = Unit {0}
+
+-- the table of a file, or of none, stands at the front of zeros, and is counted
+pub record Stands (file : Option Text) (room : ℕ) (left : Text) (r : Loaded) : Type 0 where
+  pub counts : r ≡ Length (length (tableOr file))
+  pub leaves : left ≡ over (tableOr file) (replicate room 0)
+
+-- "(absent: no records)": what is made of a buffer by what was fetched to it
+abbrev pub Settles : Fetched → Text → Text → Loaded → Type 0
+Settles (File n) old left r = Stands (some (take n old)) (length old) left r
+Settles Absent old left r = Stands none (length old) left r
+Settles Unread old left r = (r ≡ Failed) × (left ≡ old)
+
+-- a table of n bytes stands in a buffer of so many: that of a file, or of none
+pub record Held (room n : ℕ) (left : Text) : Type 0 where
+  pub file : Option Text
+  pub counts : n ≡ length (tableOr file)
+  pub leaves : left ≡ over (tableOr file) (replicate room 0)
+  pub within : n ≤ room
+
+abbrev pub Loads : ℕ → Text → Loaded → Type 0
+Loads room left (Length n) = Held room n left
+Loads room left Failed = Unit {0}

@@ -1,30 +1,46 @@
-// A table's file of the current folder, read into a lent buffer. "(absent: no records)"; a file that is there and cannot be read is an error.
+// A table's file of the current folder, read into a lent buffer. "(absent: no records)"; a file that is there and cannot be read is an error. What the
+// system gives is fetched first, and what it stands for is settled then, by what was fetched alone.
+ghost use mathlib.Core.Path.{_≡_};
+ghost use mathlib.Core.Option.{none};
 ghost use Prim.Native.Nat.{_≤_};
-ghost use lib.ListN.{length};
-ghost use Rattle.recipe_load.specs.Loads.{Loads, Ends};
+ghost use lib.ListN.{length, take, replicate};
+ghost use Rattle.stages.specs.Call.{over};
+ghost use Rattle.stages.specs.Program.{tableOr};
+ghost use Rattle.text.specs.Putting.{Puts};
+ghost use Rattle.recipe_load.specs.Loads.{Fetches, Ends, Settles, Loads};
 use text::numbers;
 
 pub enum Loaded {
-    // So many bytes of the file stand in the buffer: all, or as many as it takes.
+    // So many bytes of the table stand in the buffer: all, or as many as it takes. Behind them are zeros.
     Length(usize),
     // It cannot be read, and standard error says why.
     Failed,
 }
 
+// What the system gave of a file.
+enum Fetched {
+    // So many bytes of it stand in the buffer: all, or as many as it takes.
+    File(usize),
+    // There is no such file.
+    Absent,
+    // It cannot be read, and standard error says why.
+    Unread,
+}
+
 // A read that gave no byte was the file's end, or has failed.
-fn end_of_file(got: isize, name: &[u8], done: usize) -> Loaded
+fn end_of_file(got: isize, name: &[u8], done: usize) -> Fetched
     ensures { λ r. ⌜ Ends done r ⌝ }
 {
     if got < 0 {
         os::fail(name);
-        return Loaded::Failed;
+        return Fetched::Unread;
     }
-    Loaded::Length(done)
+    Fetched::File(done)
 }
 
 // Reads a file to its end, or until the buffer is full.
-fn read_file(fd: i32, name: &[u8], buffer: &mut [u8]) -> Loaded
-    ensures { λ r. ⌜ Loads (length (now (buffer .entry))) r ⌝ }
+fn read_file(fd: i32, name: &[u8], buffer: &mut [u8]) -> Fetched
+    ensures { λ r. ⌜ Fetches (length (now (buffer .entry))) r ⌝ }
 {
     let mut done = 0;
     while done < buffer.len() {
@@ -35,32 +51,74 @@ fn read_file(fd: i32, name: &[u8], buffer: &mut [u8]) -> Loaded
         }
         done += n;
     }
-    Loaded::Length(done)
+    Fetched::File(done)
 }
 
 // A file that cannot be opened is absent, or an error.
-fn absent(name: &[u8], buffer: &mut [u8]) -> Loaded
-    requires { ⌜ 1 ≤ length (now buffer) ⌝ }
-    ensures { λ r. ⌜ Loads (length (now (buffer .entry))) r ⌝ }
+fn unopened(name: &[u8]) -> Fetched
+    ensures { λ r. ⌜ Fetches 0 r ⌝ }
 {
     if os::errno() != libc::ENOENT {
         os::fail(name);
-        return Loaded::Failed;
+        return Fetched::Unread;
     }
+    Fetched::Absent
+}
+
+// Fetches the file of that name.
+fn fetch(name: &[u8], buffer: &mut [u8]) -> Fetched
+    ensures { λ r. ⌜ Fetches (length (now (buffer .entry))) r ⌝ }
+{
+    let fd = os::open_read(name);
+    if fd < 0 {
+        return unopened(name);
+    }
+    let fetched = read_file(fd, name, buffer);
+    libc::close(fd);
+    fetched
+}
+
+// Writes the table without records, and zeros behind it.
+fn put_no_records(buffer: &mut [u8]) -> usize
+    requires { ⌜ 1 ≤ length (now buffer) ⌝ }
+    ensures { λ r. ⌜ Puts (tableOr none) (replicate (length (now (buffer .entry))) 0) (now (buffer .exit)) r ⌝ }
+{
+    text_copy::fill_zero(buffer);
     buffer[0] = numbers::VERSION;
-    Loaded::Length(1)
+    1
+}
+
+// Puts zeros behind the table of n bytes that was fetched.
+fn clear_behind(buffer: &mut [u8], n: usize)
+    requires { ⌜ n ≤ length (now buffer) ⌝ }
+    ensures { λ _. ⌜ now (buffer .exit) ≡ over (take n (now (buffer .entry))) (replicate (length (now (buffer .entry))) 0) ⌝ }
+{
+    text_copy::fill_zero(&mut buffer[n..]);
+}
+
+// The table that was fetched: its length, or that it cannot be read. An absent one has no records; zeros stand behind a table.
+fn settle(fetched: Fetched, buffer: &mut [u8]) -> Loaded
+    requires { ⌜ (1 ≤ length (now buffer)) × Fetches (length (now buffer)) fetched ⌝ }
+    ensures { λ r. ⌜ Settles fetched (now (buffer .entry)) (now (buffer .exit)) r ⌝ }
+{
+    match fetched {
+        Fetched::File(n) => {
+            clear_behind(buffer, n);
+            Loaded::Length(n)
+        }
+        Fetched::Absent => {
+            let n = put_no_records(buffer);
+            Loaded::Length(n)
+        }
+        Fetched::Unread => Loaded::Failed,
+    }
 }
 
 // Reads the table of that name.
 pub fn load(name: &[u8], buffer: &mut [u8]) -> Loaded
     requires { ⌜ 1 ≤ length (now buffer) ⌝ }
-    ensures { λ r. ⌜ Loads (length (now (buffer .entry))) r ⌝ }
+    ensures { λ r. ⌜ Loads (length (now (buffer .entry))) (now (buffer .exit)) r ⌝ }
 {
-    let fd = os::open_read(name);
-    if fd < 0 {
-        return absent(name, buffer);
-    }
-    let loaded = read_file(fd, name, buffer);
-    libc::close(fd);
-    loaded
+    let fetched = fetch(name, buffer);
+    settle(fetched, buffer)
 }

@@ -6,7 +6,7 @@ use lib.ListN.{length}
 use Rattle.stages.specs.Numbers.{imageLimit}
 use lib.Seq.{length-take-le}
 use borrow.Author.Needs.{needs}
-use Rattle.recipe_load.proofs.Reading.{loads-inside}
+use Rattle.recipe_load.proofs.Reading.{loads-held}
 use Rattle.recipe.proofs.run.Statement.{statement}
 use Rattle.recipe.proofs.run.Tie as tie
 
@@ -26,12 +26,12 @@ homed c = c .before .before .before .before
 homes-inside : (c : tie.After-h) → (c .h .given .0 .0) ≤ length (entry (c .before .before .before .before) .args .homes .now)
 homes-inside c =
     let l = c .before .before .before .before in
-    loads-inside (length (entry l .args .homes .now)) (l .load2 .result) (c .h .given .1) (l .load2 .ensures)
+    loads-held (length (entry l .args .homes .now)) (l .load2 .last .1 .0) (c .h .given .1) (l .load2 .ensures) .within
 
 paths-inside : (c : tie.After-p) → (c .p .given .0 .0) ≤ length (entry (second (c .before .before .before .before)) .args .paths .now)
 paths-inside c =
     let l = c .before .before .before .before in
-    loads-inside (length (entry (second l) .args .paths .now)) (l .load3 .result) (c .p .given .1) (l .load3 .ensures)
+    loads-held (length (entry (second l) .args .paths .now)) (l .load3 .last .1 .0) (c .p .given .1) (l .load3 .ensures) .within
 
 slice-aggregate-load : tie.Need-slice-aggregate-load
 slice-aggregate-load c = search needs

@@ -4,7 +4,7 @@ use native.Mathlib.Omega.{arith}
 use Prim.Native.Nat.{_≤_, _-_}
 use mathlib.Core.Path.{_≡_}
 use lib.ListN.{length}
-use Rattle.recipe_load.proofs.Reading.{ends-loads}
+use Rattle.recipe_load.proofs.Reading.{ends-fetches}
 use Rattle.recipe_load.proofs.read_file.Statement.{statement}
 use Rattle.recipe_load.proofs.read_file.Tie as tie
 
@@ -48,7 +48,7 @@ same-length : tie.Need-same-length Inv-loop μ-loop
 same-length c = search needs
 
 returns : tie.Need-returns Inv-loop μ-loop
-returns c = ends-loads
+returns c = ends-fetches
     (length (c .before .before .before .before .before .before .before .before .before .before .before .before .before .args .buffer .now))
     (c .before .before .before .before .before .before .before .before .before .before .loop .done) (c .end-of-file .result)
     (omega (arith, c .before .before .before .before .before .before .before .before .before .before .loop .inv)) (c .end-of-file .ensures)
