@@ -2,32 +2,60 @@
 use Prim.Native.Nat.{ℕ, _+_, _-_, _≤_}
 use native.Mathlib.Omega.{arith}
 use mathlib.Core.Path.{_≡_, refl, sym, ap, subst, _∙_}
+use mathlib.Core.Bool.{true, false}
 use mathlib.Core.List.{[], _∷_, _++_}
 use mathlib.Core.Option.{Option, none}
-use lib.ListN.{length, take, drop, set, replicate, length-replicate, replicate-append-replicate}
-use lib.Seq.{drop-at, length-take-le}
+use lib.Dec.{eqb}
+use lib.IntN.{ℤ, pos, negsuc}
+use lib.Signed.{ltZ}
+use lib.ListN.{length, take, drop, set, replicate, length-replicate}
+use lib.Seq.{length-take-le}
+use borrow.Author.Tests.{ltb-true, eqb-true}
+use mir.Syntax.{w32}
+use mir.Val.{SFits, toZ, ofZ}
+use mir.ValLaws.{toZ-ofZ}
 use borrow.Rule.Slice.PartMut.{putMid, midOf}
 use Rattle.stages.specs.Bytes.{Text}
 use Rattle.stages.specs.Images.{image, written}
 use Rattle.stages.specs.Call.{over}
 use Rattle.stages.specs.Program.{tableOr}
+use Rattle.stages.proofs.Bools.{no, either}
+use Rattle.stages.proofs.Files.{zeros-behind}
 use Rattle.text.specs.Putting.{Puts}
 use Rattle.text.proofs.Parts.{rest-length, rest-back}
-use Rattle.recipe_load.specs.Loads.{Fetches, Ends, Settles, Stands, Held, Loads}
+use Rattle.recipe_load.specs.Loads.{Fetches, Ends, unopenedBy, Settles, Stands, Held, Loads}
 use Rattle.recipe_load.specs.declared.Loaded.{Loaded}
 use Rattle.recipe_load.specs.declared.Loaded.the-variants.{Length, Failed}
 use Rattle.recipe_load.specs.declared.Fetched.{Fetched}
 use Rattle.recipe_load.specs.declared.Fetched.the-variants.{File, Absent, Unread}
 
-pub ends-fetches : (room done : ℕ) (r : Fetched) → done ≤ room → Ends done r → Fetches room r
-ends-fetches room done (File n) h e = omega arith
-ends-fetches room done Absent h e = tt
-ends-fetches room done Unread h e = tt
+-- `end_of_file`, by the sign of what the read answered
+pub ended-file : (got : ℤ) (done : ℕ) → ltZ got (pos 0) ≡ false → Ends got done (File done)
+ended-file (pos k) done e = refl
+ended-file (negsuc k) done e = absurd (no (sym e))
 
-pub none-fetches : (room : ℕ) (r : Fetched) → Fetches 0 r → Fetches room r
-none-fetches room (File n) h = omega arith
-none-fetches room Absent h = tt
-none-fetches room Unread h = tt
+pub ended-unread : (got : ℤ) (done : ℕ) → ltZ got (pos 0) ≡ true → Ends got done Unread
+ended-unread (pos k) done e = absurd (let l = ltb-true k 0 e in omega arith)
+ended-unread (negsuc k) done e = refl
+
+pub ends-fetches : (room : ℕ) (got : ℤ) (done : ℕ) (r : Fetched) → done ≤ room → Ends got done r → Fetches room r
+ends-fetches room (pos k) done r h e = subst (Fetches room) (sym e) h
+ends-fetches room (negsuc k) done r h e = subst (Fetches room) (sym e) tt
+
+-- `unopened`, by the bits of the error
+pub unopened-absent : (error : ℤ) → SFits w32 error → ofZ w32 error ≡ 2 → Absent ≡ unopenedBy error
+unopened-absent error h e = ap unopenedBy (sym (sym (toZ-ofZ w32 error h) ∙ ap (toZ w32) e))
+
+pub unopened-unread : (error : ℤ) → (ofZ w32 error ≡ 2 → ⊥) → Unread ≡ unopenedBy error
+unopened-unread (pos k) n = either (eqb k 2) (λ e. absurd (n (ap (λ (j : ℕ). ofZ w32 (pos j)) (eqb-true k 2 e)))) (λ e. rw e)
+unopened-unread (negsuc k) n = refl
+
+pub unopened-fetches : (room : ℕ) (error : ℤ) (r : Fetched) → r ≡ unopenedBy error → Fetches room r
+unopened-fetches room error r e = subst (Fetches room) (sym e) (go error)
+  where
+    go : (z : ℤ) → Fetches room (unopenedBy z)
+    go (pos k) = either (eqb k 2) (λ q. rw q tt) (λ q. rw q tt)
+    go (negsuc k) = tt
 
 pub fetches-same : {m n : ℕ} (f : Fetched) → m ≡ n → Fetches m f → Fetches n f
 fetches-same f e h = subst (λ (room : ℕ). Fetches room f) e h
@@ -50,13 +78,6 @@ no-records-put old zeros h e = record {
 }
 
 -- `clear_behind`: zeros from n on
-zeros-behind : (n room : ℕ) → n ≤ room → drop n (replicate {A = ℕ} room 0) ≡ replicate (room - n) 0
-zeros-behind n room h =
-    let k : n + (room - n) ≡ room = omega arith in
-    ap (λ (m : ℕ). drop n (replicate m 0)) (sym k)
-    ∙ ap (drop n) (sym (replicate-append-replicate n (room - n) 0))
-    ∙ drop-at (replicate n 0) (replicate (room - n) 0) n (length-replicate n 0)
-
 pub behind-cleared : (old ys : Text) (n : ℕ) → n ≤ length old → ys ≡ replicate (length (midOf n (length old - n) old)) 0
     → putMid n (length old - n) old ys ≡ over (take n old) (replicate (length old) 0)
 unfolding over

@@ -2,8 +2,11 @@
 use Prim.Native.Nat.{ℕ, _≤_}
 use mathlib.Core.Path.{_≡_}
 use mathlib.Core.Option.{Option, none, some}
+use lib.Dec.{eqb}
 use lib.ListN.{length, take, replicate}
+use lib.IntN.{ℤ, pos, negsuc}
 use Rattle.stages.specs.Bytes.{Text}
+use Rattle.stages.specs.Outcome.{pick}
 use Rattle.stages.specs.Call.{over}
 use Rattle.stages.specs.Program.{tableOr}
 use Rattle.recipe_load.specs.declared.Loaded.{Loaded}
@@ -17,11 +20,15 @@ Fetches room (File n) = n ≤ room
 Fetches room Absent = Unit {0}
 Fetches room Unread = Unit {0}
 
--- a file that ended has so many bytes
-abbrev pub Ends : ℕ → Fetched → Type 0
-Ends done (File n) = n ≡ done
-Ends done Absent = ⊥
-Ends done Unread = Unit {0}
+-- a read that gave no byte: a file of so many bytes ended, or the read failed
+abbrev pub Ends : ℤ → ℕ → Fetched → Type 0
+Ends (pos k) done r = r ≡ File done
+Ends (negsuc k) done r = r ≡ Unread
+
+-- a file that cannot be opened, by C's number of the error: 2 is that there is no such file
+abbrev pub unopenedBy : ℤ → Fetched
+unopenedBy (pos k) = pick (eqb k 2) Absent Unread
+unopenedBy (negsuc k) = Unread
 
 -- the table of a file, or of none, stands at the front of zeros, and is counted
 pub record Stands (file : Option Text) (room : ℕ) (left : Text) (r : Loaded) : Type 0 where

@@ -7,7 +7,7 @@ ghost use lib.ListN.{length, take, replicate};
 ghost use Rattle.stages.specs.Call.{over};
 ghost use Rattle.stages.specs.Program.{tableOr};
 ghost use Rattle.text.specs.Putting.{Puts};
-ghost use Rattle.recipe_load.specs.Loads.{Fetches, Ends, Settles, Loads};
+ghost use Rattle.recipe_load.specs.Loads.{Fetches, Ends, unopenedBy, Settles, Loads};
 use text::numbers;
 
 pub enum Loaded {
@@ -29,7 +29,7 @@ enum Fetched {
 
 // A read that gave no byte was the file's end, or has failed.
 fn end_of_file(got: isize, name: &[u8], done: usize) -> Fetched
-    ensures { λ r. ⌜ Ends done r ⌝ }
+    ensures { λ r. ⌜ Ends got done r ⌝ }
 {
     if got < 0 {
         os::fail(name);
@@ -54,15 +54,15 @@ fn read_file(fd: i32, name: &[u8], buffer: &mut [u8]) -> Fetched
     Fetched::File(done)
 }
 
-// A file that cannot be opened is absent, or an error.
-fn unopened(name: &[u8]) -> Fetched
-    ensures { λ r. ⌜ Fetches 0 r ⌝ }
+// A file that cannot be opened is absent, or cannot be read.
+fn unopened(error: i32, name: &[u8]) -> Fetched
+    ensures { λ r. ⌜ r ≡ unopenedBy error ⌝ }
 {
-    if os::errno() != libc::ENOENT {
-        os::fail(name);
-        return Fetched::Unread;
+    if error == libc::ENOENT {
+        return Fetched::Absent;
     }
-    Fetched::Absent
+    os::fail(name);
+    Fetched::Unread
 }
 
 // Fetches the file of that name.
@@ -71,7 +71,7 @@ fn fetch(name: &[u8], buffer: &mut [u8]) -> Fetched
 {
     let fd = os::open_read(name);
     if fd < 0 {
-        return unopened(name);
+        return unopened(os::errno(), name);
     }
     let fetched = read_file(fd, name, buffer);
     libc::close(fd);

@@ -1,19 +1,19 @@
 -- Of a table's file only so many bytes can matter as its image may have, and one more, which tells that it is too long: the program may cut each file there.
-use Prim.Native.Nat.{ℕ, suc, _-_, _≤_, _<_}
+use Prim.Native.Nat.{ℕ, suc, _+_, _-_, _≤_, _<_}
 use native.Mathlib.Omega.{arith}
 use mathlib.Core.Path.{_≡_, refl, sym, ap, _∙_}
 use mathlib.Core.Bool.{true, false}
 use mathlib.Core.List.{List, [], _∷_, _++_, append-nil}
 use mathlib.Core.Option.{Option, none, some}
 use lib.Dec.{leb}
-use lib.ListN.{length, take, length-replicate}
-use lib.Seq.{take-all, take-nil, take-take, length-take-le}
+use lib.ListN.{length, take, drop, replicate, length-replicate, replicate-append-replicate}
+use lib.Seq.{take-all, take-nil, take-take, take-at, drop-at, take-append-le, take-append-add, length-take-le}
 use borrow.Author.Tests.{leb-true, leb-false, le-leb, lt-leb}
 use Rattle.stages.specs.Numbers.{badVariables, workLeast, imageLimit, pathsLimit}
 use Rattle.stages.specs.Bytes.{Text}
 use Rattle.stages.specs.Outcome.{Placed, refusedAt, doneAt, _then_}
 use Rattle.stages.specs.Images.{Pairs, texts, isLogin, pairsOf, pairsChecked, pathsChecked, sized, homesOf, pathsOf, written, image}
-use Rattle.stages.specs.Call.{Given, expanded, answered, quotedIn, normaliser}
+use Rattle.stages.specs.Call.{Given, over, expanded, answered, quotedIn, normaliser}
 use Rattle.stages.specs.Program.{linesOf, tableOr, buffered, Variables, givenLine, said, afterLine, saidOf, firstVariables, program}
 use Rattle.stages.proofs.Bools.{either}
 
@@ -137,6 +137,41 @@ module _ (t : Text) (h : imageLimit < length t) where
 
   buffered-short : length (buffered t) ≡ imageLimit
   buffered-short = ap length (buffered-full t (omega arith)) ∙ length-take-le imageLimit t (omega arith)
+
+-- zeros from a place on, and up to one
+pub zeros-behind : (n room : ℕ) → n ≤ room → drop n (replicate {A = ℕ} room 0) ≡ replicate (room - n) 0
+zeros-behind n room h =
+    let k : n + (room - n) ≡ room = omega arith in
+    ap (λ (m : ℕ). drop n (replicate m 0)) (sym k)
+    ∙ ap (drop n) (sym (replicate-append-replicate n (room - n) 0))
+    ∙ drop-at (replicate n 0) (replicate (room - n) 0) n (length-replicate n 0)
+
+zeros-front : (n room : ℕ) → n ≤ room → take n (replicate {A = ℕ} room 0) ≡ replicate n 0
+zeros-front n room h =
+    let k : n + (room - n) ≡ room = omega arith in
+    ap (λ (m : ℕ). take n (replicate m 0)) (sym k)
+    ∙ ap (take n) (sym (replicate-append-replicate n (room - n) 0))
+    ∙ take-at (replicate n 0) (replicate (room - n) 0) n (length-replicate n 0)
+
+-- a file at the front of zeros, of which there is a byte more than an image may have, is buffered without that byte
+module _ (t : Text) where
+  buffered-fits : length t ≤ imageLimit → take imageLimit (t ++ replicate (suc imageLimit - length t) 0) ≡ buffered t
+  unfolding buffered
+  buffered-fits l =
+      let k : length t + (imageLimit - length t) ≡ imageLimit = omega arith in
+      ap (λ (j : ℕ). take j (t ++ replicate (suc imageLimit - length t) 0)) (sym k)
+      ∙ take-append-add t (replicate (suc imageLimit - length t) 0) (imageLimit - length t)
+      ∙ ap (λ (x : Text). t ++ x) (zeros-front (imageLimit - length t) (suc imageLimit - length t) (omega arith))
+      ∙ ap (λ (x : Text). x ++ replicate (imageLimit - length t) 0) (sym (take-all imageLimit t l))
+
+  pub buffered-over : length t ≤ suc imageLimit → take imageLimit (over t (replicate (suc imageLimit) 0)) ≡ buffered t
+  unfolding over
+  buffered-over h =
+      ap (λ (x : Text). take imageLimit (t ++ x)) (zeros-behind (length t) (suc imageLimit) h)
+      ∙ either (leb (length t) imageLimit) (λ e. buffered-fits (leb-true (length t) imageLimit e)) (λ e. full (leb-false (length t) imageLimit e))
+    where
+      full : imageLimit < length t → take imageLimit (t ++ replicate (suc imageLimit - length t) 0) ≡ buffered t
+      full l = take-append-le imageLimit t (replicate (suc imageLimit - length t) 0) (omega arith) ∙ sym (buffered-full t (omega arith))
 
 abbrev begun : Text → Variables
 begun t = record { buffer = buffered t; varsUsed = length t }

@@ -76,7 +76,7 @@ module _ (homes paths : Text) where
   unfolding givenLine
   answer-cut l v = normaliser-cut (givenLine homes paths l v) l
 
-  pub after-cut : (v : Variables) (l : Text) → afterLine homes paths v (cutLine l) ≡ afterLine homes paths v l
+  after-cut : (v : Variables) (l : Text) → afterLine homes paths v (cutLine l) ≡ afterLine homes paths v l
   unfolding afterLine
   after-cut v l = rw (answer-cut l v)
 
@@ -84,6 +84,11 @@ module _ (homes paths : Text) where
   unfolding saidOf
   said-cut v [] = refl
   said-cut v (l ∷ ls) = rw (answer-cut l v) (ap (λ (s : Text). said (normaliser (givenLine homes paths l v)) ++ s) (said-cut _ ls))
+
+  pub after-lines-cut : (v : Variables) (ls : List Text) → afterLines homes paths v (cutLines ls) ≡ afterLines homes paths v ls
+  unfolding afterLines
+  after-lines-cut v [] = refl
+  after-lines-cut v (l ∷ ls) = ap (λ (w : Variables). afterLines homes paths w (cutLines ls)) (after-cut v l) ∙ after-lines-cut _ ls
 
   -- lines one by one: what is said of some and then of others, and the variables after them
   pub said-append : (v : Variables) (ls ms : List Text)

@@ -4,6 +4,8 @@ use native.Mathlib.Omega.{arith}
 use Prim.Native.Nat.{_≤_, _-_}
 use mathlib.Core.Path.{_≡_}
 use lib.ListN.{length}
+use mir.Syntax.{w64}
+use mir.Val.{toZ, ofZ}
 use Rattle.recipe_load.proofs.Reading.{ends-fetches}
 use Rattle.recipe_load.proofs.read_file.Statement.{statement}
 use Rattle.recipe_load.proofs.read_file.Tie as tie
@@ -48,10 +50,11 @@ same-length : tie.Need-same-length Inv-loop μ-loop
 same-length c = search needs
 
 returns : tie.Need-returns Inv-loop μ-loop
-returns c = ends-fetches
-    (length (c .before .before .before .before .before .before .before .before .before .before .before .before .before .args .buffer .now))
-    (c .before .before .before .before .before .before .before .before .before .before .loop .done) (c .end-of-file .result)
-    (omega (arith, c .before .before .before .before .before .before .before .before .before .before .loop .inv)) (c .end-of-file .ensures)
+returns c =
+    let r = c .before .before .before .before .before .before .before in
+    let l = r .before .before .before .loop in
+    let room = length (r .before .before .before .before .before .before .args .buffer .now) in
+    ends-fetches room (toZ w64 (ofZ w64 (r .read .result))) (l .done) (c .end-of-file .result) (omega (arith, l .inv)) (c .end-of-file .ensures)
 
 add-done : tie.Need-add-done Inv-loop μ-loop
 add-done c = search needs
