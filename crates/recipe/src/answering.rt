@@ -1,97 +1,106 @@
-// Lines to answers. What is read comes in blocks, which `recipe_cut` cuts into lines; each line's answer is written before the next one is worked out.
+// Lines to answers: what the program reads and writes around the turns of `recipe_answer`, which do all that lies between. Each answer is written before
+// the next line is worked out.
 use libc::STDIN_FILENO;
 use libc::STDOUT_FILENO;
-use recipe_cut::Taken;
-use text::numbers;
+use recipe_answer::Carried;
+use recipe_answer::Turn;
 ghost use mathlib.Core.Path.{_≡_};
-ghost use Prim.Native.Nat.{_+_};
 ghost use lib.ListN.{length};
-ghost use Rattle.stages.specs.Numbers.{imageLimit};
-ghost use Rattle.recipe_cut.specs.Said.{answerRoom};
-ghost use Rattle.recipe.specs.Keeps.{Keeps};
+ghost use Rattle.recipe_answer.specs.Turns.{Ready};
+ghost use Rattle.recipe.specs.Runs.{inputOf, Comes, Spoken, Passes, Finishes, Follows, Answers};
 
-// What is carried from line to line: the bytes kept of a line that has not ended, the variables' used length, and whether there is more to answer.
-pub struct Carried {
-    pub kept: usize,
-    pub vars_used: usize,
-    pub goes_on: bool,
+// What a read gave.
+enum Input {
+    // So many bytes, at the front of the block.
+    Block(usize),
+    // None: the input is at its end.
+    Ended,
+    // It cannot be read, and standard error says why.
+    Failed,
 }
 
-// Room for what is said of a line.
-fn said_room() -> [u8; numbers::SAID_ROOM]
-    ensures { λ r. ⌜ imageLimit + answerRoom ≡ length r ⌝ }
-{
-    [0; numbers::SAID_ROOM]
-}
-
-// "they and the output get 8,192 bytes"
-fn out_room() -> [u8; numbers::IMAGE_LIMIT]
-    ensures { λ r. ⌜ imageLimit ≡ length r ⌝ }
-{
-    [0; numbers::IMAGE_LIMIT]
-}
-
-// Answers a line. Output that cannot be written ends the run.
-fn answer_line(
-    line: &[u8],
-    vars: &mut [u8],
+// Where a run stands: the bytes kept of a line that has not ended, the variables' used length, and whether there is more to answer.
+struct Run {
+    kept: usize,
     vars_used: usize,
-    homes: &[u8],
-    paths: &[u8],
-) -> Carried
-    ensures { λ r. ⌜ r .kept ≡ 0 ⌝ }
+    goes_on: bool,
+}
+
+// What a read gave, by what it answered.
+fn input_of(got: isize, block: &[u8]) -> Input
+    ensures { λ r. ⌜ r ≡ inputOf got (length (now (block .entry))) ⌝ }
 {
-    let mut work = io::large_buffer();
-    let mut out = out_room();
-    let mut said = said_room();
-    let told = recipe_answer::say(
-        line,
-        vars,
-        vars_used,
-        homes,
-        paths,
-        &mut work,
-        &mut out,
-        &mut said,
-    );
-    let len = told.len;
-    let written = io::write_all(STDOUT_FILENO, &said[..len]);
-    if !written {
+    let n = io::count(got, block);
+    if n > 0 {
+        return Input::Block(n);
+    }
+    if got < 0 {
+        os::fail(b"standard input");
+        return Input::Failed;
+    }
+    Input::Ended
+}
+
+// Reads a block.
+fn read_block(block: &mut [u8]) -> Input
+    ensures { λ r. ⌜ Comes (now (block .exit)) r ⌝ }
+{
+    let got = libc::read(STDIN_FILENO, block);
+    input_of(got, block)
+}
+
+// Writes the words of an answer, and tells whether they could be written.
+fn write_words(words: &[u8]) -> bool
+    requires { ⌜ Spoken (now words) ⌝ }
+{
+    let is_written = io::write_all(STDOUT_FILENO, words);
+    if !is_written {
         os::fail(b"standard output");
     }
-    Carried {
-        kept: 0,
-        vars_used: told.vars_used,
-        goes_on: written,
-    }
+    is_written
 }
 
-// Answers the lines that end in a block.
+// Answers the lines that end in a block. Output that cannot be written ends the run.
 fn answer_block(
-    carried: Carried,
+    run: Run,
     block: &[u8],
     line: &mut [u8],
     vars: &mut [u8],
     homes: &[u8],
     paths: &[u8],
-) -> Carried
-    requires { ⌜ Keeps (now line) (carried .kept) ⌝ }
-    ensures { λ r. ⌜ Keeps (now (line .exit)) (r .kept) ⌝ }
+    said: &mut [u8],
+) -> Run
+    requires { ⌜ Ready (now line) (now said) (run .kept) ⌝ }
+    ensures { λ r. ⌜ Passes (now (homes .entry)) (now (paths .entry)) (now (block .entry)) (now (line .entry)) (now (vars .entry)) run (now (line .exit))
+        (now (vars .exit)) r ⌝ }
 {
-    let mut so_far = carried;
+    let mut so_far = run;
     let mut at = 0;
     while so_far.goes_on && at < block.len() {
-        let taken = recipe_cut::take_in(line, so_far.kept, block, at);
-        match taken {
-            Taken::Open(kept) => {
-                return Carried {
+        let carried = Carried {
+            kept: so_far.kept,
+            vars_used: so_far.vars_used,
+        };
+        let turn = recipe_answer::answer_next(carried, block, at, line, vars, homes, paths, said);
+        match turn {
+            Turn::Open(kept) => {
+                return Run {
                     kept: kept,
                     vars_used: so_far.vars_used,
                     goes_on: true,
                 };
             }
-            Taken::Ended { kept, next } => {
-                so_far = answer_line(&line[..kept], vars, so_far.vars_used, homes, paths);
+            Turn::Answered {
+                len,
+                vars_used,
+                next,
+            } => {
+                let is_written = write_words(&said[..len]);
+                so_far = Run {
+                    kept: 0,
+                    vars_used: vars_used,
+                    goes_on: is_written,
+                };
                 at = next;
             }
         }
@@ -99,67 +108,85 @@ fn answer_block(
     so_far
 }
 
-// The input gave no more: it is at its end, where "an unended last one too if not empty" is answered, or it cannot be read.
-fn answer_last(
-    got: isize,
-    carried: Carried,
+// Answers the last line, if it is not empty, where the input is at its end.
+fn answer_end(
+    run: Run,
     line: &[u8],
     vars: &mut [u8],
     homes: &[u8],
     paths: &[u8],
-)
-    requires { ⌜ Keeps (now line) (carried .kept) ⌝ }
+    said: &mut [u8],
+) -> Run
+    requires { ⌜ Ready (now line) (now said) (run .kept) ⌝ }
+    ensures { λ r. ⌜ Finishes (now (homes .entry)) (now (paths .entry)) (now (line .entry)) (now (vars .entry)) (now (said .entry)) run (now (vars .exit))
+        (now (said .exit)) r ⌝ }
 {
-    let kept = carried.kept;
-    if got < 0 {
-        os::fail(b"standard input");
-        return;
+    let carried = Carried {
+        kept: run.kept,
+        vars_used: run.vars_used,
+    };
+    let told = recipe_answer::answer_last(carried, line, vars, homes, paths, said);
+    let len = told.len;
+    if len > 0 {
+        write_words(&said[..len]);
     }
-    if recipe_cut::is_last_line(&line[..kept]) {
-        answer_line(&line[..kept], vars, carried.vars_used, homes, paths);
+    Run {
+        kept: 0,
+        vars_used: told.vars_used,
+        goes_on: false,
     }
 }
 
-// Reads a block and answers its lines.
-fn answer_some(
-    carried: Carried,
-    block: &mut [u8],
+// Answers what a read gave.
+fn answer_input(
+    input: Input,
+    run: Run,
+    block: &[u8],
     line: &mut [u8],
     vars: &mut [u8],
     homes: &[u8],
     paths: &[u8],
-) -> Carried
-    requires { ⌜ Keeps (now line) (carried .kept) ⌝ }
-    ensures { λ r. ⌜ Keeps (now (line .exit)) (r .kept) ⌝ }
+    said: &mut [u8],
+) -> Run
+    requires { ⌜ Ready (now line) (now said) (run .kept) × Comes (now block) input ⌝ }
+    ensures { λ r. ⌜ Follows (now (homes .entry)) (now (paths .entry)) (now (block .entry)) (now (line .entry)) (now (vars .entry)) (now (said .entry)) run
+        (now (line .exit)) (now (vars .exit)) (now (said .exit)) r input ⌝ }
 {
-    let got = libc::read(STDIN_FILENO, block);
-    let n = io::count(got, block);
-    if n == 0 {
-        answer_last(got, carried, line, vars, homes, paths);
-        return Carried {
+    match input {
+        Input::Block(n) => answer_block(run, &block[..n], line, vars, homes, paths, said),
+        Input::Ended => answer_end(run, line, vars, homes, paths, said),
+        Input::Failed => Run {
             kept: 0,
-            vars_used: carried.vars_used,
+            vars_used: run.vars_used,
             goes_on: false,
-        };
+        },
     }
-    answer_block(carried, &block[..n], line, vars, homes, paths)
 }
 
-// Answers all lines. A proved loop has to end, and nothing says that the input does: so it counts its turns down, from a number that no run uses up.
+// Answers all lines, and gives the variables' used length after them. A proved loop has to end, and nothing says that the input does: so it counts its turns
+// down, from a number that no run uses up.
 pub fn answer_all(
-    first: Carried,
+    vars_used: usize,
     block: &mut [u8],
     line: &mut [u8],
     vars: &mut [u8],
     homes: &[u8],
     paths: &[u8],
-)
-    requires { ⌜ Keeps (now line) (first .kept) ⌝ }
+    said: &mut [u8],
+) -> usize
+    requires { ⌜ Ready (now line) (now said) 0 ⌝ }
+    ensures { λ r. ⌜ Answers (now (homes .entry)) (now (paths .entry)) (now (vars .entry)) «vars_used» (now (vars .exit)) r ⌝ }
 {
-    let mut so_far = first;
+    let mut so_far = Run {
+        kept: 0,
+        vars_used: vars_used,
+        goes_on: true,
+    };
     let mut turns = u64::MAX;
     while turns > 0 && so_far.goes_on {
-        so_far = answer_some(so_far, block, line, vars, homes, paths);
+        let input = read_block(block);
+        so_far = answer_input(input, so_far, block, line, vars, homes, paths, said);
         turns -= 1;
     }
+    so_far.vars_used
 }

@@ -3,10 +3,12 @@
 mod answering;
 
 ghost use mathlib.Core.Path.{_≡_};
+ghost use mathlib.Core.Bool.{true};
 ghost use Prim.Native.Nat.{_+_};
 ghost use lib.ListN.{length};
 ghost use Rattle.stages.specs.Numbers.{imageLimit, pathsLimit, lineLimit};
-use answering::Carried;
+ghost use Rattle.recipe_cut.specs.Said.{answerRoom};
+ghost use Rattle.recipe.specs.Runs.{Answers, Runs};
 use recipe_load::Loaded;
 use text::numbers;
 
@@ -31,30 +33,44 @@ fn line_room() -> [u8; numbers::LINE_KEPT]
     [0; numbers::LINE_KEPT]
 }
 
-// Answers all lines with the tables that were read.
-fn answer_with(vars: &mut [u8], vars_used: usize, homes: &[u8], paths: &[u8]) {
-    let mut line = line_room();
-    let mut block = io::buffer();
-    let first = Carried {
-        kept: 0,
-        vars_used: vars_used,
-        goes_on: true,
-    };
-    answering::answer_all(first, &mut block, &mut line, vars, homes, paths);
+// Room for what is said of a line.
+fn said_room() -> [u8; numbers::SAID_ROOM]
+    ensures { λ r. ⌜ imageLimit + answerRoom ≡ length r ⌝ }
+{
+    [0; numbers::SAID_ROOM]
 }
 
-// Reads the three tables. If one of them cannot be read, no line is answered.
-fn run(vars: &mut [u8], homes: &mut [u8], paths: &mut [u8])
+// Answers all lines with the tables that were read, and gives the variables' used length after them.
+fn answer_with(vars: &mut [u8], vars_used: usize, homes: &[u8], paths: &[u8]) -> usize
+    ensures { λ r. ⌜ Answers (now (homes .entry)) (now (paths .entry)) (now (vars .entry)) «vars_used» (now (vars .exit)) r ⌝ }
+{
+    let mut line = line_room();
+    let mut block = io::buffer();
+    let mut said = said_room();
+    answering::answer_all(
+        vars_used,
+        &mut block,
+        &mut line,
+        vars,
+        homes,
+        paths,
+        &mut said,
+    )
+}
+
+// Reads the three tables and answers all lines. If a table cannot be read, no line is answered.
+fn run(vars: &mut [u8], homes: &mut [u8], paths: &mut [u8]) -> bool
     requires { ⌜ (imageLimit + 1 ≡ length (now vars)) × (imageLimit + 1 ≡ length (now homes)) × (pathsLimit + 1 ≡ length (now paths)) ⌝ }
+    ensures { λ r. ⌜ (r ≡ true → Runs (now (vars .exit)) (now (homes .exit)) (now (paths .exit))) ⌝ }
 {
     let Loaded::Length(vars_used) = recipe_load::load(b"vars.tab", vars) else {
-        return;
+        return false;
     };
     let Loaded::Length(h) = recipe_load::load(b"homes.tab", homes) else {
-        return;
+        return false;
     };
     let Loaded::Length(p) = recipe_load::load(b"paths.tab", paths) else {
-        return;
+        return false;
     };
     answer_with(
         &mut vars[..numbers::IMAGE_LIMIT],
@@ -62,6 +78,7 @@ fn run(vars: &mut [u8], homes: &mut [u8], paths: &mut [u8])
         &homes[..h],
         &paths[..p],
     );
+    true
 }
 
 fn main() {

@@ -1,17 +1,44 @@
--- The contract of `say` determines its answer, what stands in the words' buffer and the variables: two outcomes that it allows for one line are equal.
--- The work area and the output are scratch.
+-- The contracts determine the answer, what stands in the words' buffer, the line's buffer and the variables: two outcomes that one allows for one input
+-- are equal.
 use Prim.Native.Nat.{ℕ}
 use mathlib.Core.Path.{_≡_, sym, ap, _∙_}
+use mathlib.Core.List.{List}
 use Rattle.stages.specs.Bytes.{Text}
-use Rattle.stages.specs.Call.{Answer}
-use Rattle.recipe_answer.specs.Says.{Says}
+use Rattle.stages.specs.Program.{Variables}
+use Rattle.stages.proofs.Bools.{clash, some-same}
+use Rattle.text.proofs.Determined.{one-answer}
+use Rattle.text.proofs.Filling.{puts-once}
+use Rattle.recipe_answer.specs.Says.{variables, Says}
+use Rattle.recipe_answer.specs.Turns.{Buffers, Turned, stays, tells}
 use Rattle.recipe_answer.specs.declared.Said.{Said}
+use Rattle.recipe_answer.specs.declared.Carried.{Carried}
+use Rattle.recipe_answer.specs.declared.Turn.{Turn}
+use Rattle.recipe_answer.specs.declared.Turn.the-variants.{Open, Answered}
 
-pub say-determined : (a : Answer) (old left left' vars vars' : Text) (r s : Said) → Says a old left vars r → Says a old left' vars' s
-    → (r ≡ s) × (left ≡ left') × (vars ≡ vars')
-say-determined a old left left' vars vars' r s g h = (
-  ap (λ (n : ℕ). record { len = n; «vars_used» = r .«vars_used» }) (g .words .counts ∙ sym (h .words .counts))
-      ∙ ap (λ (n : ℕ). record { len = s .len; «vars_used» = n }) (g .varsUsed ∙ sym (h .varsUsed)),
-  g .words .leaves ∙ sym (h .words .leaves),
-  g .variables ∙ sym (h .variables),
-)
+-- `say` and `answer_last`
+pub says-determined : (homes paths : Text) (v : Variables) (lines : List Text) (old left left′ vars vars′ : Text) (r s : Said)
+    → Says homes paths v lines old left vars r → Says homes paths v lines old left′ vars′ s → (r ≡ s) × (left ≡ left′) × (vars ≡ vars′)
+says-determined homes paths v lines old left left′ vars vars′ r s g h =
+    let e : variables vars (r .«vars_used») ≡ variables vars′ (s .«vars_used») = one-answer (g .after) (h .after) in
+    let p : (r .len ≡ s .len) × (left ≡ left′) = puts-once (g .words) (h .words) in
+    let u : r .«vars_used» ≡ s .«vars_used» = ap (λ (w : Variables). w .varsUsed) e in (
+      ap (λ (n : ℕ). record { len = n; «vars_used» = r .«vars_used» }) (p .0) ∙ ap (λ (n : ℕ). record { len = s .len; «vars_used» = n }) u,
+      p .1,
+      ap (λ (w : Variables). w .buffer) e,
+    )
+
+-- `answer_next`
+module _ (homes paths : Text) (k : Carried) (block : Text) (at : ℕ) (b : Buffers) where
+  pub turned-determined : (c d : Buffers) (r s : Turn) → Turned homes paths k block at b c r → Turned homes paths k block at b d s → (r ≡ s) × (c ≡ d)
+  turned-determined c d (Open n) (Open m) (stays g) (stays h) =
+      let p : (n ≡ m) × (c .line ≡ d .line) = puts-once (g .keeps) (h .keeps) in
+      (ap Open (p .0), rw (p .1, one-answer (g .sameVars) (h .sameVars), one-answer (g .sameSaid) (h .sameSaid)))
+  turned-determined c d (Open n) (Answered len used next) (stays g) (tells h) = absurd (clash (sym (g .runsOut) ∙ h .ends))
+  turned-determined c d (Answered len used next) (Open n) (tells g) (stays h) = absurd (clash (sym (h .runsOut) ∙ g .ends))
+  turned-determined c d (Answered len used next) (Answered len′ used′ next′) (tells g) (tells h) =
+      let n : next ≡ next′ = some-same (sym (g .ends) ∙ h .ends) in
+      let v : Variables = variables (b .vars) (k .«vars_used») in
+      let p = says-determined homes paths v _ (b .said) (c .said) (d .said) (c .vars) (d .vars) _ _ (g .says) (h .says) in (
+        ap (λ (s : Said). Answered (s .len) (s .«vars_used») next) (p .0) ∙ ap (Answered len′ used′) n,
+        rw (one-answer (g .keeps) (h .keeps), p .2, p .1),
+      )

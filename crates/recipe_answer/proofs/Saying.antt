@@ -2,7 +2,7 @@
 use Prim.Native.Nat.{ℕ, _≤_, _+_}
 use native.Mathlib.Omega.{arith}
 use mathlib.Core.Path.{_≡_, refl, sym, ap, subst, _∙_}
-use mathlib.Core.List.{_++_}
+use mathlib.Core.List.{[], _∷_, _++_, append-nil}
 use lib.Dec.{eqb}
 use lib.ListN.{length, take, drop, replicate, length-append, length-replicate}
 use lib.Seq.{length-take-le}
@@ -13,7 +13,7 @@ use Rattle.stages.specs.Images.{Pairs, flat, image}
 use Rattle.stages.specs.Outcome.{Placed, refusedAt, doneAt, _then_}
 use Rattle.stages.specs.Call.{Given, over, expanded, answered, quotedIn, normaliser}
 use Rattle.stages.specs.Call as stage
-use Rattle.stages.specs.Program.{givenLine, said}
+use Rattle.stages.specs.Program.{givenLine, said, saidOf, afterLine, afterLines}
 use Rattle.stages.proofs.Bools.{either}
 use Rattle.stages.proofs.Answers.{normaliser-fits}
 use Rattle.stages.proofs.Rooms.{over-front}
@@ -25,7 +25,7 @@ use Rattle.recipe_cut.proofs.Saying.{said-is}
 use Rattle.call_check.specs.Calls.{given}
 use Rattle.call_deliver.specs.Hands.{Gives}
 use Rattle.call_deliver.specs.declared.Answer.{Answer}
-use Rattle.recipe_answer.specs.Says.{answerTo, Says}
+use Rattle.recipe_answer.specs.Says.{variables, Says}
 
 -- answers to the same outcome that differ in the output's old bytes and in the work area are said alike and leave the same variables
 pub record Alike (a b : stage.Answer) : Type 0 where
@@ -64,8 +64,8 @@ module _ (line vars : Text) (used : ℕ) (homes paths work out work' out' : Text
 -- the code's answer, said
 
 module _ (line vars : Text) (used : ℕ) (homes paths work out : Text) (w : workLeast ≡ length work) (o : imageLimit ≡ length out) where
-  to-stage : Alike (normaliser (given line vars used homes paths work out)) (answerTo homes paths line vars used)
-  unfolding answerTo givenLine
+  to-stage : Alike (normaliser (given line vars used homes paths work out)) (normaliser (givenLine homes paths line (variables vars used)))
+  unfolding givenLine
   to-stage =
       same-lengths line vars used homes paths work out (replicate workLeast 0) (replicate imageLimit 0)
       (sym w ∙ sym (length-replicate {A = ℕ} workLeast 0)) (sym o ∙ sym (length-replicate {A = ℕ} imageLimit 0))
@@ -100,18 +100,31 @@ module _ (g : Given) {r : Answer} {vars work out : Text} (h : Gives (normaliser 
       ∙ ap (λ (x : Text). saidBy (normaliser g .number) (normaliser g .place) (take (normaliser g .outLength) x)) (h .hands .output)
       ∙ sym (said-is (normaliser g))
 
--- what is said is the stage's
+-- what is said of a line is the stage's
+module _ (homes paths line vars : Text) (used : ℕ) where
+  abbrev answer : stage.Answer
+  answer = normaliser (givenLine homes paths line (variables vars used))
+
+  one-said : said answer ≡ saidOf homes paths (variables vars used) (line ∷ [])
+  unfolding saidOf
+  one-said = sym (append-nil (said answer))
+
+  one-after : (buffer : Text) (n : ℕ) → buffer ≡ answer .vars → n ≡ answer .varsUsed
+      → variables buffer n ≡ afterLines homes paths (variables vars used) (line ∷ [])
+  unfolding afterLines afterLine
+  one-after buffer n e f = ap (λ (b : Text). variables b n) e ∙ ap (λ (k : ℕ). variables (answer .vars) k) f
+
 module _ (line vars : Text) (used : ℕ) (homes paths work out : Text) {r : Answer} {vars' work' out' : Text} where
   pub said-so : {old left : Text} {len : ℕ} → workLeast ≡ length work → imageLimit ≡ length out
       → Gives (normaliser (given line vars used homes paths work out)) r vars' work' out'
       → Puts (saidBy (r .number) (r .place) (take (r .«out_len») out')) old left len
-      → Says (answerTo homes paths line vars used) old left vars' (record { len = len; «vars_used» = r .«vars_used» })
+      → Says homes paths (variables vars used) (line ∷ []) old left vars' (record { len = len; «vars_used» = r .«vars_used» })
   said-so {old} {left} {len} w o h p =
-      let a : Alike (normaliser (given line vars used homes paths work out)) (answerTo homes paths line vars used) =
+      let a : Alike (normaliser (given line vars used homes paths work out)) (answer homes paths line vars used) =
       to-stage line vars used homes paths work out w o in
       record {
-        words = subst (λ (t : Text). Puts t old left len) (words-are (given line vars used homes paths work out) h ∙ a .words) p;
-        variables = h .hands .variables ∙ a .variables;
-        varsUsed = h .hands .varsUsed ∙ a .varsUsed;
+        words = subst (λ (t : Text). Puts t old left len)
+            (words-are (given line vars used homes paths work out) h ∙ a .words ∙ one-said homes paths line vars used) p;
+        after = one-after homes paths line vars used vars' (r .«vars_used») (h .hands .variables ∙ a .variables) (h .hands .varsUsed ∙ a .varsUsed);
         within = puts-counts (saidBy (r .number) (r .place) (take (r .«out_len») out')) old left len p;
       }

@@ -8,7 +8,8 @@ use mathlib.Core.Option.{Option, none, some}
 use lib.Dec.{eqb}
 use lib.ListN.{length, take, drop}
 use Rattle.stages.specs.Numbers.{lineLimit}
-use Rattle.stages.specs.Bytes.{Text, part, span}
+use Rattle.stages.specs.Bytes.{Text, isIn, part, span}
+use Rattle.stages.specs.Outcome.{pick}
 use Rattle.stages.specs.Program.{linesOf}
 use Rattle.text.specs.Putting.{Puts}
 use Rattle.recipe_cut.specs.declared.Taken.{Taken}
@@ -64,3 +65,17 @@ anyLine (l ∷ ls) = true
 unfoldable pub hasLine : Text → Bool
 unfolding linesOf
 hasLine t = anyLine (linesOf t)
+
+-- that line, or none
+unfoldable pub lastLine : Text → List Text
+lastLine t = pick (hasLine t) (t ∷ []) []
+
+-- the lines that ended in what was read, and what is left after the last newline, whatever comes next
+pub record Cuts (read : Text) (ended : List Text) (left : Text) : Type 0 where
+  pub is : (later : Text) → linesOf (read ++ later) ≡ ended ++ linesOf (left ++ later)
+  pub plain : isIn (code "\n") left ≡ false
+
+-- the first bytes of a line so far, all that can matter of it, stand at the front of the line's buffer
+pub record Holding (left line : Text) (kept : ℕ) : Type 0 where
+  pub is : take kept line ≡ keptOf left
+  pub long : kept ≡ length (keptOf left)

@@ -1,37 +1,61 @@
--- Each table lies within its buffer, so the parts that are lent are there.
-use native.Mathlib.Omega.{arith}
-use mathlib.Core.Path.{sym}
-use Prim.Native.Nat.{_≤_}
-use lib.ListN.{length}
-use Rattle.stages.specs.Numbers.{imageLimit}
-use lib.Seq.{length-take-le}
+-- Each table lies within its buffer, and the lines are answered among them.
 use borrow.Author.Needs.{needs}
+use Prim.Native.Nat.{ℕ}
+use native.Mathlib.Omega.{arith}
+use mathlib.Core.Path.{sym, _∙_}
+use lib.ListN.{length}
+use lib.Seq.{length-take-le}
+use Rattle.stages.specs.Numbers.{imageLimit}
+use Rattle.stages.proofs.Bools.{no}
+use Rattle.recipe_load.specs.Loads.{Held}
 use Rattle.recipe_load.proofs.Reading.{loads-held}
+use Rattle.recipe.proofs.Loading.{answers-run}
 use Rattle.recipe.proofs.run.Statement.{statement}
 use Rattle.recipe.proofs.run.Tie as tie
 
 -- where each table has been loaded, and the entry
-abbrev entry : tie.After-load2 → tie.Start
-entry c = c .before .before .before .before .before .before .before .before .before .before .before .before .before .before
-
-abbrev second : tie.After-load3 → tie.After-load2
-second c = c .before .before .before .before .before .before .before .before
+abbrev begun : tie.After-load → tie.Start
+begun c = c .before .before .before .before .before .before
 
 abbrev first : tie.After-load2 → tie.After-load
 first c = c .before .before .before .before .before .before .before .before
 
+abbrev second : tie.After-load3 → tie.After-load2
+second c = c .before .before .before .before .before .before .before .before
+
+-- where each was found to be read
+abbrev loaded : tie.After-vars-used → tie.After-load
+loaded c = c .before .before .before .before
+
+abbrev loaded-2 : tie.After-h → tie.After-load2
+loaded-2 c = c .before .before .before .before
+
+abbrev loaded-3 : tie.After-p → tie.After-load3
+loaded-3 c = c .before .before .before .before
+
 abbrev homed : tie.After-load3 → tie.After-h
 homed c = c .before .before .before .before
 
-homes-inside : (c : tie.After-h) → (c .h .given .0 .0) ≤ length (entry (c .before .before .before .before) .args .homes .now)
-homes-inside c =
-    let l = c .before .before .before .before in
-    loads-held (length (entry l .args .homes .now)) (l .load2 .last .1 .0) (c .h .given .1) (l .load2 .ensures) .within
+module _ (c : tie.After-vars-used) where
+  abbrev room : ℕ
+  room = length (begun (loaded c) .args .vars .now)
 
-paths-inside : (c : tie.After-p) → (c .p .given .0 .0) ≤ length (entry (second (c .before .before .before .before)) .args .paths .now)
-paths-inside c =
-    let l = c .before .before .before .before in
-    loads-held (length (entry (second l) .args .paths .now)) (l .load3 .last .1 .0) (c .p .given .1) (l .load3 .ensures) .within
+  vars-held : Held room (c .vars-used .given .0 .0) (loaded c .load .last .1 .0)
+  vars-held = loads-held room (loaded c .load .last .1 .0) (c .vars-used .given .1) (loaded c .load .ensures)
+
+module _ (c : tie.After-h) where
+  abbrev room-2 : ℕ
+  room-2 = length (begun (first (loaded-2 c)) .args .homes .now)
+
+  homes-held : Held room-2 (c .h .given .0 .0) (loaded-2 c .load2 .last .1 .0)
+  homes-held = loads-held room-2 (loaded-2 c .load2 .last .1 .0) (c .h .given .1) (loaded-2 c .load2 .ensures)
+
+module _ (c : tie.After-p) where
+  abbrev room-3 : ℕ
+  room-3 = length (begun (first (second (loaded-3 c))) .args .paths .now)
+
+  paths-held : Held room-3 (c .p .given .0 .0) (loaded-3 c .load3 .last .1 .0)
+  paths-held = loads-held room-3 (loaded-3 c .load3 .last .1 .0) (c .p .given .1) (loaded-3 c .load3 .ensures)
 
 slice-aggregate-load : tie.Need-slice-aggregate-load
 slice-aggregate-load c = search needs
@@ -49,7 +73,7 @@ same-length : tie.Need-same-length
 same-length c = search needs
 
 returns : tie.Need-returns
-returns c = search needs
+returns c = λ e. absurd (no e)
 
 slice-aggregate-load-2 : tie.Need-slice-aggregate-load-2
 slice-aggregate-load-2 c = search needs
@@ -70,7 +94,7 @@ same-length-3 : tie.Need-same-length-3
 same-length-3 c = search needs
 
 returns-2 : tie.Need-returns-2
-returns-2 c = search needs
+returns-2 c = λ e. absurd (no e)
 
 slice-aggregate-load-3 : tie.Need-slice-aggregate-load-3
 slice-aggregate-load-3 c = search needs
@@ -94,7 +118,7 @@ same-length-6 : tie.Need-same-length-6
 same-length-6 c = search needs
 
 returns-3 : tie.Need-returns-3
-returns-3 c = search needs
+returns-3 c = λ e. absurd (no e)
 
 slice-relend-prefix-answer-with : tie.Need-slice-relend-prefix-answer-with
 slice-relend-prefix-answer-with c = search needs
@@ -102,19 +126,20 @@ slice-relend-prefix-answer-with c = search needs
 slice-aggregate-answer-with : tie.Need-slice-aggregate-answer-with
 slice-aggregate-answer-with c =
     let l = first (second (c .before .before .before .before .before .before)) in
-    sym (length-take-le imageLimit (l .load .last .1 .0) (omega arith))
+    sym (length-take-le _ (l .load .last .1 .0) (omega (arith, l .load .kept .1 .0)))
 
 slice-reshare-prefix-answer-with : tie.Need-slice-reshare-prefix-answer-with
-slice-reshare-prefix-answer-with c = omega (arith, homes-inside (homed (c .before .before .before .before .before .before)))
+slice-reshare-prefix-answer-with c = omega (arith, homes-held (homed (c .before .before .before .before .before .before)) .within)
 
 slice-aggregate-answer-with-2 : tie.Need-slice-aggregate-answer-with-2
-slice-aggregate-answer-with-2 c = sym (length-take-le _ _ (omega (arith, homes-inside (homed (c .before .before .before .before .before .before .before)))))
+slice-aggregate-answer-with-2 c =
+    sym (length-take-le _ _ (omega (arith, homes-held (homed (c .before .before .before .before .before .before .before)) .within)))
 
 slice-reshare-prefix-answer-with-2 : tie.Need-slice-reshare-prefix-answer-with-2
-slice-reshare-prefix-answer-with-2 c = omega (arith, paths-inside (c .before .before .before))
+slice-reshare-prefix-answer-with-2 c = omega (arith, paths-held (c .before .before .before) .within)
 
 slice-aggregate-answer-with-3 : tie.Need-slice-aggregate-answer-with-3
-slice-aggregate-answer-with-3 c = sym (length-take-le _ _ (omega (arith, paths-inside (c .before .before .before .before))))
+slice-aggregate-answer-with-3 c = sym (length-take-le _ _ (omega (arith, paths-held (c .before .before .before .before) .within)))
 
 answer-with-requires : tie.Need-answer-with-requires
 answer-with-requires c κs = search needs
@@ -129,7 +154,15 @@ same-length-9 : tie.Need-same-length-9
 same-length-9 c = search needs
 
 returns-4 : tie.Need-returns-4
-returns-4 c = search needs
+returns-4 c =
+    let p = c .before .before .before .before .before .before .before in
+    let l = loaded-3 p in
+    let m = second l in
+    let v = m .before .before .before .before in
+    let a = c .before .before .answer-with in
+    let e = begun (loaded v) .pre .0 in
+    let k = a .kept .0 ∙ length-take-le imageLimit (loaded v .load .last .1 .0) (omega (arith, loaded v .load .kept .1 .0, e)) in
+    λ _. answers-run (vars-held v) (sym e) (homes-held (homed l)) (m .load2 .kept .1 .0) (paths-held p) (l .load3 .kept .1 .0) (a .ensures) k
 
 pub run-spec : {M : Type 1} → statement M
 run-spec =

@@ -1,23 +1,40 @@
--- The turns that are left fall.
-use borrow.Author.Needs.{needs}
-use mathlib.Core.Path.{_≡_}
+-- Each turn goes on from where the last one left the line and the variables; the turns that are left fall.
+use mathlib.Core.Path.{_≡_, refl}
 use lib.ListN.{length}
-use Rattle.recipe.specs.Keeps.{Keeps}
+use borrow.Author.Needs.{needs}
+use Rattle.recipe.proofs.Running.{Stands, stands-starts, stands-ready, stands-answers, stands-follows}
 use Rattle.recipe.proofs.answering.answer_all.Statement.{statement}
 use Rattle.recipe.proofs.answering.answer_all.Tie as tie
 
 abbrev Inv-loop : tie.InvT-loop
-Inv-loop block₀ line₀ vars₀ homes paths so-far₀ turns₀ block line vars so-far turns =
-    Keeps line (so-far .kept) × (length block ≡ length block₀) × (length line ≡ length line₀) × (length vars ≡ length vars₀)
+Inv-loop vars-used block₀ line₀ vars₀ homes paths said₀ so-far₀ turns₀ block line vars said so-far turns =
+    Stands homes paths vars₀ vars-used line vars said so-far
+    × (length block ≡ length block₀) × (length line ≡ length line₀) × (length vars ≡ length vars₀) × (length said ≡ length said₀)
 
 abbrev μ-loop : tie.MeasureT-loop
-μ-loop block₀ line₀ vars₀ homes paths so-far₀ turns₀ block line vars so-far turns = turns
+μ-loop vars-used block₀ line₀ vars₀ homes paths said₀ so-far₀ turns₀ block line vars said so-far turns = turns
+
+-- a turn, where a block has been read
+abbrev turn : tie.After-read-block Inv-loop μ-loop → tie.At-loop Inv-loop μ-loop
+turn c = c .before .before .before .before
 
 loop-holds : tie.Need-loop-holds Inv-loop μ-loop
-loop-holds c = search needs
+loop-holds c =
+    let a = c .before .before .before .before .before .before in (
+      stands-starts (a .args .homes .now) (a .args .paths .now) (a .args .vars .now) (a .args .vars-used) (a .args .line .now) (a .args .said .now) (a .pre),
+      refl,
+      refl,
+      refl,
+      refl,
+    )
 
-answer-some-requires : tie.Need-answer-some-requires Inv-loop μ-loop
-answer-some-requires c κs = search needs
+read-block-requires : tie.Need-read-block-requires Inv-loop μ-loop
+read-block-requires c κs = search needs
+
+answer-input-requires : tie.Need-answer-input-requires Inv-loop μ-loop
+answer-input-requires c κs =
+    let r = c .before .before .before .before .before .before in
+    (stands-ready (turn r .loop .inv .0) (r .before .before .if1 .taken), r .read-block .ensures)
 
 sub-turns : tie.Need-sub-turns Inv-loop μ-loop
 sub-turns c = search needs
@@ -26,7 +43,16 @@ loop-less : tie.Need-loop-less Inv-loop μ-loop
 loop-less c = search needs
 
 loop-again : tie.Need-loop-again Inv-loop μ-loop
-loop-again c = search needs
+loop-again c =
+    let n = c .before .before .before .before .before .before in
+    let r = n .before .before .before .before .before .before .before in
+    let a = n .answer-input in (
+      stands-follows (turn r .loop .inv .0) (r .before .before .if1 .taken) (a .ensures) (a .kept .1 .1 .1 .0) (a .kept .1 .1 .1 .1 .1 .1 .1 .0),
+      search needs,
+      search needs,
+      search needs,
+      search needs,
+    )
 
 same-length : tie.Need-same-length Inv-loop μ-loop
 same-length c = search needs
@@ -37,11 +63,11 @@ same-length-2 c = search needs
 same-length-3 : tie.Need-same-length-3 Inv-loop μ-loop
 same-length-3 c = search needs
 
-returns : tie.Need-returns Inv-loop μ-loop
-returns c = search needs
-
 same-length-4 : tie.Need-same-length-4 Inv-loop μ-loop
 same-length-4 c = search needs
+
+returns : tie.Need-returns Inv-loop μ-loop
+returns c = stands-answers (c .before .before .loop .inv .0)
 
 same-length-5 : tie.Need-same-length-5 Inv-loop μ-loop
 same-length-5 c = search needs
@@ -49,8 +75,14 @@ same-length-5 c = search needs
 same-length-6 : tie.Need-same-length-6 Inv-loop μ-loop
 same-length-6 c = search needs
 
+same-length-7 : tie.Need-same-length-7 Inv-loop μ-loop
+same-length-7 c = search needs
+
+same-length-8 : tie.Need-same-length-8 Inv-loop μ-loop
+same-length-8 c = search needs
+
 returns-2 : tie.Need-returns-2 Inv-loop μ-loop
-returns-2 c = search needs
+returns-2 c = stands-answers (c .before .loop .inv .0)
 
 pub answer-all-spec : {M : Type 1} → statement M
 answer-all-spec =
@@ -59,15 +91,18 @@ answer-all-spec =
     Inv-loop
     μ-loop
     loop-holds
-    answer-some-requires
+    read-block-requires
+    answer-input-requires
     sub-turns
     loop-less
     loop-again
     same-length
     same-length-2
     same-length-3
-    returns
     same-length-4
+    returns
     same-length-5
     same-length-6
+    same-length-7
+    same-length-8
     returns-2)

@@ -1,35 +1,40 @@
--- Each line that is cut off ends further on in the block, and what is kept of a line fits its buffer.
-use borrow.Author.Needs.{needs}
-use native.Mathlib.Omega.{arith}
+-- Each turn goes on in the block where the last one ended.
 use Prim.Native.Nat.{_-_}
-use mathlib.Core.Path.{sym, _∙_}
-use lib.Seq.{length-take-le}
+use native.Mathlib.Omega.{arith}
 use lib.ListN.{length}
-use Rattle.recipe.proofs.Taking.{Goes, open-most, ended-inside, ended-next, left-length}
+use borrow.Author.Needs.{needs}
+use borrow.Author.Tests.{ltb-false}
+use Rattle.stages.proofs.Bools.{apart}
+use Rattle.recipe_cut.proofs.Callers.{next-turn}
+use Rattle.recipe.proofs.Running.{turned-open, turned-told, one-spoken, Goes, goes-starts, goes-line, passes-open, passes-left}
 use Rattle.recipe.proofs.answering.answer_block.Statement.{statement}
 use Rattle.recipe.proofs.answering.answer_block.Tie as tie
 
 abbrev Inv-loop : tie.InvT-loop
-Inv-loop block line₀ vars₀ homes paths so-far₀ at₀ line vars so-far at = Goes block line₀ vars₀ line vars (so-far .kept) at
+Inv-loop block line₀ vars₀ homes paths said₀ so-far₀ at₀ line vars said so-far at =
+    Goes homes paths block line₀ vars₀ said₀ so-far₀ line vars said so-far at
 
 abbrev μ-loop : tie.MeasureT-loop
-μ-loop block line₀ vars₀ homes paths so-far₀ at₀ line vars so-far at = length block - at
+μ-loop block line₀ vars₀ homes paths said₀ so-far₀ at₀ line vars said so-far at = length block - at
 
--- the turn in which a line has been cut off or kept, and that cut where it ended
-abbrev turn : tie.After-take-in Inv-loop μ-loop → tie.At-loop Inv-loop μ-loop
-turn c = c .before .before .before .before
+-- a turn in the loop, and the one in which a line ended
+abbrev turn : tie.After-answer-next Inv-loop μ-loop → tie.At-loop Inv-loop μ-loop
+turn c = c .before .before .before .before .before .before
 
-abbrev cut : tie.After-taken2 Inv-loop μ-loop → tie.After-take-in Inv-loop μ-loop
-cut c = c .before .before .before .before
+abbrev answered : tie.After-turn2 Inv-loop μ-loop → tie.After-answer-next Inv-loop μ-loop
+answered c = c .before .before .before .before .before .before .before .before
 
 loop-holds : tie.Need-loop-holds Inv-loop μ-loop
-loop-holds c = search needs
+loop-holds c =
+    let a = c .before .before .before .before .before .before in
+    goes-starts (a .args .homes .now) (a .args .paths .now) (a .args .block .now) (a .args .line .now) (a .args .vars .now) (a .args .said .now) (a .args .run)
+    (a .pre)
 
-take-in-requires : tie.Need-take-in-requires Inv-loop μ-loop
-take-in-requires c κs = search needs
+answer-next-requires : tie.Need-answer-next-requires Inv-loop μ-loop
+answer-next-requires c κs = let i = c .before .before .before .before .before .loop .inv in (i .ready, i .inside)
 
-enum-known-taken : tie.Need-enum-known-taken Inv-loop μ-loop
-enum-known-taken c = search needs
+enum-known-turn : tie.Need-enum-known-turn Inv-loop μ-loop
+enum-known-turn c = search needs
 
 same-length : tie.Need-same-length Inv-loop μ-loop
 same-length c = search needs
@@ -37,57 +42,52 @@ same-length c = search needs
 same-length-2 : tie.Need-same-length-2 Inv-loop μ-loop
 same-length-2 c = search needs
 
+same-length-3 : tie.Need-same-length-3 Inv-loop μ-loop
+same-length-3 c = search needs
+
 returns : tie.Need-returns Inv-loop μ-loop
 returns c =
-    let w = c .before .before .before .before .before in
-    let i = turn w .loop .inv in
-    record { most = open-most (w .take-in .ensures) (c .before .taken .given .1); room = omega (arith, left-length (w .take-in .ensures) (i .room), i .room) }
+    let n = c .before .before .before .before .before .before .before .before .before in
+    passes-open (turn n .loop .inv) (turned-open (n .answer-next .ensures) (c .before .turn .given .1))
 
-enum-known-taken-2 : tie.Need-enum-known-taken-2 Inv-loop μ-loop
-enum-known-taken-2 c = search needs
+enum-known-turn-2 : tie.Need-enum-known-turn-2 Inv-loop μ-loop
+enum-known-turn-2 c = search needs
 
-slice-reshare-prefix-answer-line : tie.Need-slice-reshare-prefix-answer-line Inv-loop μ-loop
-slice-reshare-prefix-answer-line c =
-    let w = cut (c .before) in
-    ended-inside (w .take-in .ensures) (turn w .loop .inv .room) (c .before .taken2 .given .1)
+slice-reshare-prefix-write-words : tie.Need-slice-reshare-prefix-write-words Inv-loop μ-loop
+slice-reshare-prefix-write-words c =
+    let e = c .before in
+    let t = turned-told (answered e .answer-next .ensures) (e .turn2 .given .1) in
+    t .says .within .0
 
-slice-aggregate-answer-line : tie.Need-slice-aggregate-answer-line Inv-loop μ-loop
-slice-aggregate-answer-line c =
-    let t = c .before .before in
-    let w = cut t in
-    sym (length-take-le _ _ (ended-inside (w .take-in .ensures) (turn w .loop .inv .room) (t .taken2 .given .1)))
+slice-aggregate-write-words : tie.Need-slice-aggregate-write-words Inv-loop μ-loop
+slice-aggregate-write-words c =
+    let e = c .before .before in
+    let t = turned-told (answered e .answer-next .ensures) (e .turn2 .given .1) in
+    t .says .within .1
 
-answer-line-requires : tie.Need-answer-line-requires Inv-loop μ-loop
-answer-line-requires c κs = search needs
+write-words-requires : tie.Need-write-words-requires Inv-loop μ-loop
+write-words-requires c κs =
+    let e = c .before .before in
+    let t = turned-told (answered e .answer-next .ensures) (e .turn2 .given .1) in
+    one-spoken _ (t .says)
 
 loop-less : tie.Need-loop-less Inv-loop μ-loop
 loop-less c =
-    let t = c .before .before .before .before .before .before in
-    let w = cut t in
-    let n = ended-next (w .take-in .ensures) (t .taken2 .given .1) (turn w .loop .inv .inside) in
+    let e = c .before .before .before in
+    let i = turn (answered e) .loop .inv in
+    let t = turned-told (answered e .answer-next .ensures) (e .turn2 .given .1) in
+    let n = next-turn _ _ _ (t .ends) (i .inside) in
     omega (arith, n .0, n .1)
 
 loop-again : tie.Need-loop-again Inv-loop μ-loop
 loop-again c =
-    let t = c .before .before .before .before .before .before in
-    let w = cut t in
-    let i = turn w .loop .inv in
-    record {
-      most = omega (arith, c .before .before .answer-line .ensures);
-      room = omega (arith, left-length (w .take-in .ensures) (i .room), i .room);
-      inside = ended-next (w .take-in .ensures) (t .taken2 .given .1) (i .inside) .1;
-      sameLine = left-length (w .take-in .ensures) (i .room) ∙ i .sameLine;
-      sameVars = search needs;
-    }
-
-same-length-3 : tie.Need-same-length-3 Inv-loop μ-loop
-same-length-3 c = search needs
+    let e = c .before .before .before in
+    let n = answered e .answer-next in
+    let t = turned-told (n .ensures) (e .turn2 .given .1) in
+    goes-line (turn (answered e) .loop .inv) (c .write-words .result) t (n .kept .1 .1 .1 .0) (n .kept .1 .1 .1 .1 .0) (n .kept .1 .1 .1 .1 .1 .1 .1 .0)
 
 same-length-4 : tie.Need-same-length-4 Inv-loop μ-loop
 same-length-4 c = search needs
-
-returns-2 : tie.Need-returns-2 Inv-loop μ-loop
-returns-2 c = search needs
 
 same-length-5 : tie.Need-same-length-5 Inv-loop μ-loop
 same-length-5 c = search needs
@@ -95,8 +95,20 @@ same-length-5 c = search needs
 same-length-6 : tie.Need-same-length-6 Inv-loop μ-loop
 same-length-6 c = search needs
 
+returns-2 : tie.Need-returns-2 Inv-loop μ-loop
+returns-2 c = passes-left (c .before .before .loop .inv) (λ e. ltb-false _ _ (c .if1 .left))
+
+same-length-7 : tie.Need-same-length-7 Inv-loop μ-loop
+same-length-7 c = search needs
+
+same-length-8 : tie.Need-same-length-8 Inv-loop μ-loop
+same-length-8 c = search needs
+
+same-length-9 : tie.Need-same-length-9 Inv-loop μ-loop
+same-length-9 c = search needs
+
 returns-3 : tie.Need-returns-3 Inv-loop μ-loop
-returns-3 c = search needs
+returns-3 c = passes-left (c .before .loop .inv) (λ e. absurd (apart (c .loop-test .left) e))
 
 pub answer-block-spec : {M : Type 1} → statement M
 answer-block-spec =
@@ -105,20 +117,23 @@ answer-block-spec =
     Inv-loop
     μ-loop
     loop-holds
-    take-in-requires
-    enum-known-taken
+    answer-next-requires
+    enum-known-turn
     same-length
     same-length-2
+    same-length-3
     returns
-    enum-known-taken-2
-    slice-reshare-prefix-answer-line
-    slice-aggregate-answer-line
-    answer-line-requires
+    enum-known-turn-2
+    slice-reshare-prefix-write-words
+    slice-aggregate-write-words
+    write-words-requires
     loop-less
     loop-again
-    same-length-3
     same-length-4
-    returns-2
     same-length-5
     same-length-6
+    returns-2
+    same-length-7
+    same-length-8
+    same-length-9
     returns-3)

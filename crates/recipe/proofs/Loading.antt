@@ -1,0 +1,60 @@
+-- Tables as they were loaded: the part that is lent is the table, and the variables' buffer holds it as the stage's does.
+use Prim.Native.Nat.{ℕ, _+_, _-_}
+use native.Mathlib.Omega.{arith}
+use mathlib.Core.Path.{_≡_, sym, ap, _∙_}
+use mathlib.Core.List.{List, [], _++_, append-nil}
+use mathlib.Core.Option.{Option}
+use lib.ListN.{length, take, drop, replicate}
+use lib.Seq.{take-at}
+use Rattle.stages.specs.Numbers.{imageLimit}
+use Rattle.stages.specs.Bytes.{Text}
+use Rattle.stages.specs.Call.{over}
+use Rattle.stages.specs.Program.{tableOr, buffered, Variables, saidOf, firstVariables, program}
+use Rattle.stages.proofs.Files.{buffered-over}
+use Rattle.stages.proofs.Rooms.{over-front}
+use Rattle.recipe_load.specs.Loads.{Held}
+use Rattle.recipe_answer.specs.Says.{variables}
+use Rattle.recipe_answer.specs.Turns.{Ran}
+use Rattle.recipe.specs.Runs.{Answers, Runs}
+
+-- the part of a buffer that is lent as the table
+pub held-table : {room n : ℕ} {left : Text} (h : Held room n left) → take n left ≡ tableOr (h .file)
+held-table {left = left} h =
+    ap (λ (k : ℕ). take k left) (h .counts) ∙ ap (take (length (tableOr (h .file)))) (h .leaves) ∙ over-front (tableOr (h .file)) _
+
+pub held-variables : {room n : ℕ} {left : Text} (h : Held room n left) → room ≡ imageLimit + 1 → variables (take imageLimit left) n ≡ firstVariables (h .file)
+unfolding firstVariables
+held-variables {room} {n} {left} h e =
+    ap (λ (x : Text). variables x n)
+    (ap (take imageLimit) (h .leaves ∙ ap (λ (m : ℕ). over (tableOr (h .file)) (replicate m 0)) e)
+    ∙ buffered-over (tableOr (h .file)) (omega (arith, h .counts, h .within)))
+    ∙ ap (λ (k : ℕ). variables (buffered (tableOr (h .file))) k) (h .counts)
+
+-- where all lines are answered, what is said is what the stage's program writes
+ran-whole : (vars homes paths : Option Text) {input : Text} {now : Variables}
+    (r : Ran (tableOr homes) (tableOr paths) (firstVariables vars) input now) → r .others ≡ [] → r .told ≡ program vars homes paths input
+unfolding program
+ran-whole vars homes paths r e =
+    r .words
+    ∙ ap (saidOf (tableOr homes) (tableOr paths) (firstVariables vars)) (sym (r .all ∙ ap (λ (x : List Text). r .lines ++ x) e ∙ append-nil (r .lines)))
+
+-- the three tables are loaded, and the lines answered among them
+module _ {vars homes paths vars′ : Text} {room roomHomes roomPaths n h p used : ℕ} (v : Held room n vars) (e : room ≡ imageLimit + 1)
+    (o : Held roomHomes h homes) (f : length homes ≡ roomHomes) (t : Held roomPaths p paths) (g : length paths ≡ roomPaths) where
+  pub answers-run : Answers (take h homes) (take p paths) (take imageLimit vars) n vars′ used → length vars′ ≡ imageLimit
+      → Runs (vars′ ++ drop imageLimit vars) homes paths
+  answers-run a l =
+      let r : Ran (tableOr (o .file)) (tableOr (t .file)) (firstVariables (v .file)) (a .read) (variables vars′ used) =
+      rw (← held-table o, ← held-table t, ← held-variables v e) (a .ran) in
+      record {
+        varsFile = v .file;
+        homesFile = o .file;
+        pathsFile = t .file;
+        input = a .read;
+        now = variables vars′ used;
+        ran = r;
+        whole = ran-whole (v .file) (o .file) (t .file) r;
+        varsAre = take-at vars′ (drop imageLimit vars) imageLimit l;
+        homesAre = o .leaves ∙ ap (λ (m : ℕ). over (tableOr (o .file)) (replicate m 0)) (sym f);
+        pathsAre = t .leaves ∙ ap (λ (m : ℕ). over (tableOr (t .file)) (replicate m 0)) (sym g);
+      }
