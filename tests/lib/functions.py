@@ -16,7 +16,7 @@ METHOD = re.compile(r"\.\s*([a-z_]\w*)\s*\(")
 
 
 class Module:
-    """A file of code: what it imports, and the text of each of its functions."""
+    """A file of code: what it imports, the text of each of its functions, which of them an archive has, and which of them another crate may call."""
 
     def __init__(self, crate, path, text):
         name = os.path.basename(path)[:-len(".rt")]
@@ -25,23 +25,29 @@ class Module:
         self.uses = {path.split("::")[-1]: path for path in re.findall(r"(?m)^(?:pub )?use ([\w:]+);", text)}
         self.types = set(re.findall(r"\b(?:struct|enum) (\w+)", text))
         self.constants = set(re.findall(r"\bconst (\w+)", text))
-        self.functions, self.exported = {}, set()
+        self.functions, self.exported, self.public = {}, set(), set()
         self.read_functions(text)
 
     def read_functions(self, text):
         """Each function's text goes from its name to where the next begins."""
-        marks = list(re.finditer(r'\b(extern 0 )?fn (\w+)|^impl (\w+)|^}', text, re.M))
+        marks = list(re.finditer(r'\b(pub )?(extern 0 )?fn (\w+)|^impl (\w+)|^}', text, re.M))
         owner = ""
         for mark, after in zip(marks, marks[1:] + [None]):
-            if mark[3]:
-                owner = mark[3]
-            elif not mark[2]:
+            if mark[4]:
+                owner = mark[4]
+            elif not mark[3]:
                 owner = ""
             else:
-                key = (self.crate, owner or self.name, mark[2])
+                key = (self.crate, owner or self.name, mark[3])
                 self.functions[key] = text[mark.end():after.start() if after else len(text)]
                 if mark[1]:
+                    self.public.add(key)
+                if mark[2]:
                     self.exported.add(key)
+
+    def promises(self, key):
+        """Has the function an `ensures`?"""
+        return re.search(r"(?m)^\s*ensures \{", self.functions[key]) is not None
 
 
 class Code:

@@ -7,7 +7,7 @@ ghost use Rattle.io.specs.Counts.{Counts};
 const NEWLINE: u8 = b'\n';
 
 // Reads behind the bytes that the block holds, and answers how many it holds then.
-pub fn read_behind(fd: i32, block: &mut [u8], have: usize) -> usize
+pub(crate) fn read_behind(fd: i32, block: &mut [u8], have: usize) -> usize
     requires { ⌜ have ≤ length (now block) ⌝ }
     ensures { λ r. ⌜ (r ≤ length (now (block .exit))) × (length (now (block .exit)) ≡ length (now (block .entry))) ⌝ }
 {
@@ -15,7 +15,7 @@ pub fn read_behind(fd: i32, block: &mut [u8], have: usize) -> usize
 }
 
 // The place of the first newline among the bytes that the block holds, or their end.
-pub fn line_end(block: &[u8], have: usize) -> usize
+pub(crate) fn line_end(block: &[u8], have: usize) -> usize
     requires { ⌜ have ≤ length (now block) ⌝ }
     ensures { λ r. ⌜ (r ≤ have) × (Counts r (now (block .entry))) ⌝ }
 {
@@ -30,7 +30,7 @@ pub fn line_end(block: &[u8], have: usize) -> usize
 }
 
 // Drops a line and its newline from the block's front, and answers how many bytes it holds then.
-pub fn drop_line(block: &mut [u8], have: usize, end: usize) -> usize
+pub(crate) fn drop_line(block: &mut [u8], have: usize, end: usize) -> usize
     requires { ⌜ (end ≤ have) × (have ≤ length (now block)) ⌝ }
     ensures { λ r. ⌜ r ≤ length (now (block .exit)) ⌝ }
 {

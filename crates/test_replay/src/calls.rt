@@ -129,7 +129,7 @@ fn cut_buffers(
 }
 
 // Cuts the areas to the sizes of a case of the expander or the normaliser, first those of what a job reads, and runs it.
-pub fn try_line(
+pub(crate) fn try_line(
     is_normaliser: bool,
     told: Told,
     case: &[u8],
@@ -192,7 +192,7 @@ fn run_quote(told: Told, case: &[u8], fields: &mut [u8], out: &mut [u8]) -> Told
 }
 
 // Cuts the areas to the sizes of a case of the quoter, and runs it.
-pub fn try_quote(told: Told, case: &[u8], fields: &mut [u8], out: &mut [u8]) -> Told {
+pub(crate) fn try_quote(told: Told, case: &[u8], fields: &mut [u8], out: &mut [u8]) -> Told {
     let a = cut_to_bytes(case, words::FIELDS, fields);
     let b = cut_to_size(case, words::QUOTE_OUT, out);
     run_quote(told, case, &mut fields[..a], &mut out[..b])

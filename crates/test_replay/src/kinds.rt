@@ -32,7 +32,7 @@ fn is_quote_case(case: &[u8]) -> bool {
 }
 
 // The job of a case that is sound and that there is room for.
-pub fn job_of(case: &[u8]) -> Job {
+pub(crate) fn job_of(case: &[u8]) -> Job {
     let job = words::word(case, words::JOB);
     if text::same(job, b"quote") && is_quote_case(case) {
         return Job::Quoter;

@@ -21,7 +21,7 @@ const WORK_JUNK: u8 = 0xc3;
 const WORK_ZERO: u8 = 0;
 
 // Writes the bytes of a word to the front of an area, and the fill behind them.
-pub fn lay(area: &mut [u8], bytes: &[u8], fill: u8) {
+pub(crate) fn lay(area: &mut [u8], bytes: &[u8], fill: u8) {
     let mut i: usize = 0;
     while i < area.len() {
         area[i] = byte_at(bytes, i, fill);
@@ -37,31 +37,31 @@ fn cut(size: usize, area: &[u8]) -> usize
 }
 
 // As many bytes of the area as a word of the case writes.
-pub fn cut_to_bytes(case: &[u8], n: usize, area: &[u8]) -> usize
+pub(crate) fn cut_to_bytes(case: &[u8], n: usize, area: &[u8]) -> usize
     ensures { λ r. ⌜ Counts r (now (area .entry)) ⌝ }
 {
     cut(byte_count(word(case, n)), area)
 }
 
 // As many bytes of the area as a number of the case says.
-pub fn cut_to_size(case: &[u8], n: usize, area: &[u8]) -> usize
+pub(crate) fn cut_to_size(case: &[u8], n: usize, area: &[u8]) -> usize
     ensures { λ r. ⌜ Counts r (now (area .entry)) ⌝ }
 {
     cut(number(word(case, n)), area)
 }
 
 // Writes what the case has for a buffer, and the fill behind it.
-pub fn lay_word(area: &mut [u8], case: &[u8], n: usize, fill: u8) {
+pub(crate) fn lay_word(area: &mut [u8], case: &[u8], n: usize, fill: u8) {
     lay(area, word(case, n), fill);
 }
 
 // Holds a number of the answer against the case's.
-pub fn hold_word(told: Told, what: &[u8], given: usize, case: &[u8], n: usize) -> Told {
+pub(crate) fn hold_word(told: Told, what: &[u8], given: usize, case: &[u8], n: usize) -> Told {
     hold_number(told, what, given, number(word(case, n)))
 }
 
 // Holds what a job left in the buffers against the case.
-pub fn hold_buffers(told: Told, case: &[u8], vars: &[u8], work: &[u8], out: &[u8]) -> Told {
+pub(crate) fn hold_buffers(told: Told, case: &[u8], vars: &[u8], work: &[u8], out: &[u8]) -> Told {
     let told = hold_bytes(
         told,
         b"output",
@@ -82,14 +82,14 @@ pub fn hold_buffers(told: Told, case: &[u8], vars: &[u8], work: &[u8], out: &[u8
 }
 
 // Writes a case's line, homes and paths.
-pub fn lay_given(case: &[u8], line: &mut [u8], homes: &mut [u8], paths: &mut [u8]) {
+pub(crate) fn lay_given(case: &[u8], line: &mut [u8], homes: &mut [u8], paths: &mut [u8]) {
     lay_word(line, case, words::LINE, 0);
     lay_word(homes, case, words::HOMES, 0);
     lay_word(paths, case, words::PATHS, 0);
 }
 
 // Fills the buffers that a job writes.
-pub fn lay_buffers(case: &[u8], vars: &mut [u8], work: &mut [u8], out: &mut [u8]) {
+pub(crate) fn lay_buffers(case: &[u8], vars: &mut [u8], work: &mut [u8], out: &mut [u8]) {
     lay_word(vars, case, words::VARS, VARS_FILL);
     lay_word(work, case, words::LINE, WORK_JUNK);
     lay(out, b"-", OUT_FILL);

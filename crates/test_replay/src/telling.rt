@@ -1,6 +1,8 @@
 // What a call gave is held against what the case says, and each difference is told, all those of a case on one line.
 use crate::words::byte_at;
 use libc::STDOUT_FILENO;
+ghost use mathlib.Core.Path.{_≡_};
+ghost use mathlib.Core.Bool.{true};
 
 // The line of a case, and whether a difference was told of it.
 pub struct Told {
@@ -33,14 +35,16 @@ fn open_with(told: Told, what: &[u8]) {
 }
 
 // Ends the line of a case of which a difference was told.
-pub fn end_line(told: Told) {
+pub(crate) fn end_line(told: Told) {
     if told.any {
         say(b"\n");
     }
 }
 
 // Tells what is wrong with a case that cannot be run.
-pub fn tell(told: Told, what: &[u8]) -> Told {
+pub(crate) fn tell(told: Told, what: &[u8]) -> Told
+    ensures { λ r. ⌜ (r .line ≡ told .line) × (r .any ≡ true) ⌝ }
+{
     open_with(told, what);
     Told {
         line: told.line,
@@ -49,7 +53,9 @@ pub fn tell(told: Told, what: &[u8]) -> Told {
 }
 
 // Tells that a number is not the case's.
-pub fn hold_number(told: Told, what: &[u8], given: usize, wanted: usize) -> Told {
+pub(crate) fn hold_number(told: Told, what: &[u8], given: usize, wanted: usize) -> Told
+    ensures { λ r. ⌜ (r .line ≡ told .line) × (given ≡ wanted → r .any ≡ told .any) × ((given ≡ wanted → ⊥) → r .any ≡ true) ⌝ }
+{
     if given == wanted {
         return told;
     }
@@ -82,7 +88,7 @@ fn first_difference(area: &[u8], after: &[u8], before: &[u8], fill: u8) -> usize
 }
 
 // Tells the first byte of an area that is not the wanted one.
-pub fn hold_bytes(
+pub(crate) fn hold_bytes(
     told: Told,
     what: &[u8],
     area: &[u8],
@@ -108,7 +114,7 @@ pub fn hold_bytes(
 }
 
 // Says how many cases were run and how many of them differ.
-pub fn say_sum(cases: u64, differ: u64) {
+pub(crate) fn say_sum(cases: u64, differ: u64) {
     io::print_decimal(STDOUT_FILENO, cases);
     say(b" cases, ");
     io::print_decimal(STDOUT_FILENO, differ);

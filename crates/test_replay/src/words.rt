@@ -87,7 +87,7 @@ fn word_end(line: &[u8], from: usize) -> usize
 }
 
 // The n-th word, counted from 0; no bytes if the line has fewer.
-pub fn word(line: &[u8], n: usize) -> &[u8] {
+pub(crate) fn word(line: &[u8], n: usize) -> &[u8] {
     let from = word_start(line, n);
     let end = word_end(line, from);
     &line[from..end]
@@ -132,12 +132,12 @@ fn is_number(word: &[u8]) -> bool {
 }
 
 // How many bytes a word of hexadecimal digits writes; none for `-`.
-pub fn byte_count(word: &[u8]) -> usize {
+pub(crate) fn byte_count(word: &[u8]) -> usize {
     word.len() / 2
 }
 
 // The i-th byte that a word writes, or another one behind its end.
-pub fn byte_at(word: &[u8], i: usize, other: u8) -> u8 {
+pub(crate) fn byte_at(word: &[u8], i: usize, other: u8) -> u8 {
     if i < word.len() / 2 {
         let at = i * 2;
         digit(word[at]) * 16 + digit(word[at + 1])
@@ -147,7 +147,7 @@ pub fn byte_at(word: &[u8], i: usize, other: u8) -> u8 {
 }
 
 // The number that a word of decimal digits writes; the largest one for what is beyond it.
-pub fn number(word: &[u8]) -> usize {
+pub(crate) fn number(word: &[u8]) -> usize {
     let mut n: usize = 0;
     let mut i: usize = 0;
     while i < word.len() {
@@ -173,7 +173,7 @@ fn is_of(word: &[u8], kind: u8) -> bool {
 }
 
 // Has the line a word of each kind and no more?
-pub fn has_shape(line: &[u8], kinds: &[u8]) -> bool {
+pub(crate) fn has_shape(line: &[u8], kinds: &[u8]) -> bool {
     let mut i: usize = 0;
     while i < kinds.len() {
         if !is_of(word(line, i), kinds[i]) {
@@ -185,11 +185,11 @@ pub fn has_shape(line: &[u8], kinds: &[u8]) -> bool {
 }
 
 // Has the word of bytes as many as the word of a number says?
-pub fn agrees(line: &[u8], length: usize, bytes: usize) -> bool {
+pub(crate) fn agrees(line: &[u8], length: usize, bytes: usize) -> bool {
     number(word(line, length)) == byte_count(word(line, bytes))
 }
 
 // Do the bytes have room in the size?
-pub fn fits(line: &[u8], bytes: usize, size: usize) -> bool {
+pub(crate) fn fits(line: &[u8], bytes: usize, size: usize) -> bool {
     byte_count(word(line, bytes)) <= number(word(line, size))
 }
