@@ -5,12 +5,14 @@ use mathlib.Core.Path.{_≡_, refl}
 use mathlib.Core.Bool.{Bool, true, false, _&&_}
 use mathlib.Core.List.{List, [], _∷_}
 use lib.Dec.{eqb}
-use lib.ListN.{length, replicate}
+use lib.ListN.{length, take, replicate}
+use Rattle.stages.specs.Numbers.{workLeast, imageLimit}
 use Rattle.stages.specs.Bytes.{Text, text, eqText}
 use Rattle.stages.specs.Outcome.{Placed, refusedAt, doneAt, choose}
-use Rattle.stages.specs.Images.{Pairs, image}
+use Rattle.stages.specs.Images.{Pairs, flat, image}
 use Rattle.stages.specs.Line.{Around, Fields, expandLine}
 use Rattle.stages.specs.Quote.{quotedLine}
+use Rattle.stages.specs.Call.{Given, over, expander}
 
 -- what is set, in order of name
 abbrev pub Settings : Type 0
@@ -127,11 +129,25 @@ recipes : allPass table ≡ true
 unfolding allPass table
 recipes = refl
 
--- "C1's whole image in hexadecimal .. 32 bytes"
-image-of-c1 : image (textsOf ("cp" ∷ "north field" ∷ "north" ∷ "field" ∷ []))
+-- a row as a call, in buffers of zeros
+abbrev call : Case → Given
+call c =
+    let vars : Text = image (flat (pairsOf (c .vars))) in
+    record {
+      work = replicate workLeast 0;
+      vars = over vars (replicate imageLimit 0);
+      varsUsed = length vars;
+      homes = image (flat (pairsOf (c .homes)));
+      paths = image (textsOf (c .paths));
+      line = text (c .line);
+      out = replicate imageLimit 0;
+    }
+
+-- "C1's whole image in hexadecimal .. 32 bytes": what the expander writes to its output
+image-of-c1 : take (expander (call C1) .outLength) (expander (call C1) .out)
     ≡ 1 ∷ 0 ∷ 2 ∷ 99 ∷ 112 ∷ 0 ∷ 11 ∷ 110 ∷ 111 ∷ 114 ∷ 116 ∷ 104 ∷ 32 ∷ 102 ∷ 105 ∷ 101 ∷ 108 ∷ 100
     ∷ 0 ∷ 5 ∷ 110 ∷ 111 ∷ 114 ∷ 116 ∷ 104 ∷ 0 ∷ 5 ∷ 102 ∷ 105 ∷ 101 ∷ 108 ∷ 100 ∷ []
-unfolding image
+unfolding expander image over choose
 image-of-c1 = refl
 
 -- "Fields `it's`, empty, `a b` quote to `'it'\''s' '' 'a b'`."
