@@ -1,17 +1,18 @@
 -- Demand 3 over the calls: an accepted line's fields, written as a quoted line, come back from any other call, which changes no variable, and quote to the same
 -- bytes. The calls do nothing but what the stages do, and a well-formed table is the image of what it holds.
-use Prim.Native.Nat.{ℕ, _≤_}
+use Prim.Native.Nat.{ℕ, zero, suc, _≤_}
 use native.Mathlib.Omega.{arith}
-use mathlib.Core.Path.{_≡_, sym, ap, _∙_}
+use mathlib.Core.Path.{_≡_, refl, sym, ap, _∙_}
 use mathlib.Core.Bool.{true}
+use mathlib.Core.List.{[]}
 use mathlib.Core.Option.{some}
-use lib.ListN.{length, take, take-append-drop}
+use lib.ListN.{length, take, replicate, take-append-drop, length-replicate}
 use lib.Seq.{length-take-le}
 use borrow.Author.Tests.{le-leb}
 use Rattle.stages.specs.Numbers.{accepted, workLeast, lineLimit, imageLimit}
 use Rattle.stages.specs.Bytes.{Text}
 use Rattle.stages.specs.Outcome.{doneAt, _then_}
-use Rattle.stages.specs.Images.{Pairs, flat, image, imageLength, variablesOf, homesOf, pathsOf, fieldsOf, held, isSome}
+use Rattle.stages.specs.Images.{Pairs, flat, image, written, imageLength, variablesOf, homesOf, pathsOf, fieldsOf, held, isSome}
 use Rattle.stages.specs.Line.{Fields}
 use Rattle.stages.specs.Quote.{quotedLine}
 use Rattle.stages.specs.Call.{Given, Answer, over, orRefused, expanded, cleared, answered, expander, quotedIn, normaliser, quoting, quoter}
@@ -145,12 +146,46 @@ pub record Asks (h : Given) (l : Fields) : Type 0 where
   pub line : h .line ≡ quotedLine l
   pub room : length (image l) ≤ length (h .out)
 
+-- For any fields whose quoted line is short enough there is such a call, with no records in its tables: no law below is empty.
+abbrev asking : Fields → Given
+asking l = record {
+  work = replicate workLeast 0;
+  vars = image [];
+  varsUsed = length (image []);
+  homes = image [];
+  paths = image [];
+  line = quotedLine l;
+  out = replicate imageLimit 0;
+}
+
+version-byte : Bytes (image [])
+unfolding image written
+version-byte zero = omega arith
+version-byte (suc i) = omega arith
+
+pub asked : (l : Fields) → length (quotedLine l) ≤ lineLimit → Asks (asking l) l
+unfolding image written variablesOf homesOf pathsOf
+asked l short = record {
+  formed = record {
+    work = omega (arith, length-replicate {A = ℕ} workLeast 0);
+    used = omega arith;
+    bytes = version-byte;
+    vars = refl;
+    homes = refl;
+    paths = refl;
+  };
+  line = refl;
+  room = omega (arith, length-image l, quoted-image l, length-replicate {A = ℕ} imageLimit 0);
+}
+
 -- What comes back: from any expander exactly these fields, their image at the output's front and no variable changed; from the quoter, of any
--- image of theirs, their line; and from any normaliser that line again.
+-- image of theirs, their line, and so of what an expander wrote; and from any normaliser that line again.
 pub record Returned (l : Fields) : Type 0 where
   pub expands : (h : Given) → Asks h l → expander h ≡ unchanged h (image l)
   pub fields : (h : Given) → Asks h l → fieldsOf (output (expander h)) ≡ some l
   pub quotes : (t out : Text) → fieldsOf t ≡ some l → length (quotedLine l) ≤ length out → quoter t out ≡ quoting out (doneAt (quotedLine l))
+  pub again : (h : Given) → Asks h l → (out : Text) → length (quotedLine l) ≤ length out
+      → quoter (output (expander h)) out ≡ quoting out (doneAt (quotedLine l))
   pub normalises : (h : Given) → WellFormed h → h .line ≡ quotedLine l → length (quotedLine l) ≤ length (h .out) → normaliser h ≡
       unchanged h (quotedLine l)
 
@@ -158,11 +193,15 @@ module _ (l : Fields) (f : Fine l) (short : length (quotedLine l) ≤ lineLimit)
   expands-to : (h : Given) → Asks h l → expander h ≡ unchanged h (image l)
   expands-to h a = expander-returns h (a .formed) l f (a .line) short (a .room)
 
+  fields-back : (h : Given) → Asks h l → fieldsOf (output (expander h)) ≡ some l
+  fields-back h a = ap (λ r. fieldsOf (output r)) (expands-to h a) ∙ ap fieldsOf (over-front (image l) (h .out)) ∙ image-fields l f short
+
   returned : Returned l
   returned = record {
     expands = expands-to;
-    fields = λ h a. ap (λ r. fieldsOf (output r)) (expands-to h a) ∙ ap fieldsOf (over-front (image l) (h .out)) ∙ image-fields l f short;
+    fields = fields-back;
     quotes = λ t out e o. quoter-returns l t out e short o;
+    again = λ h a out o. quoter-returns l (output (expander h)) out (fields-back h a) short o;
     normalises = λ h r e o. normaliser-returns h r l f e short o;
   }
 
