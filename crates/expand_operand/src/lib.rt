@@ -27,6 +27,13 @@ use row::RowEnd;
 use table_store::Stored;
 use text::numbers;
 
+// A removal: of a suffix or a prefix, the longest or the shortest, whose pattern is the units of the area's first `end` bytes, none of them N.
+struct Removal {
+    suffix: bool,
+    long: bool,
+    end: usize,
+}
+
 // What comes of a removal whose pattern is settled in one table of sets: it is done or refused; or the sets are too many for the table, and nothing is
 // touched.
 enum Tried {
@@ -114,90 +121,75 @@ fn assign(
     }
 }
 
-// What is left of a value by a removal, whose pattern is the units of the area's first `end` bytes, settled in lent tables.
+// What is left of a value by a removal, whose pattern is settled in lent tables.
 fn cut_settled(
     value: &[u8],
-    suffix: bool,
-    long: bool,
-    end: usize,
+    removal: Removal,
     row: RowEnd,
     on: Onward,
     work: &mut [u8],
     cells: &mut [u16],
     sets: &mut [u64],
 ) -> Tried
-    requires { ⌜ Pattern (now work) end × (row .units ≤ rowLimit) × (2 * rowLimit ≤ length (now work)) × (length (now cells) ≡ rowLimit) ⌝ }
+    requires { ⌜ Pattern (now work) (removal .end) × (row .units ≤ rowLimit) × (2 * rowLimit ≤ length (now work)) × (length (now cells) ≡ rowLimit) ⌝ }
     ensures { λ r. ⌜ TriedSays (row .units) on
-        (cutOf (sideOf suffix) (reachOf long) (now (value .entry)) (markOf (row .mark)) (rowOf (take end (now (work .entry))))) end (now (work .entry))
+        (cutOf (sideOf (removal .suffix)) (reachOf (removal .long)) (now (value .entry)) (markOf (row .mark)) (rowOf (take (removal .end) (now (work .entry)))))
+        (removal .end) (now (work .entry))
         (now (work .exit)) (length (now (sets .entry))) r ⌝ }
 {
+    let end = removal.end;
     match pattern_settle::settle(&work[..end], false, Width::Marked, cells, sets) {
         Settled::Class => Tried::Done(Expanded::Refused(numbers::REFUSED_CLASS)),
         Settled::NoRoom => Tried::TooManySets,
         Settled::Cells { count, special: _ } => {
-            let left = pattern_remove::removed(value, &cells[..count], sets, suffix, long);
+            let left = pattern_remove::removed(
+                value,
+                &cells[..count],
+                sets,
+                removal.suffix,
+                removal.long,
+            );
             Tried::Done(expand_add::give_text(left, expand_add::expanded_end(row), on, work))
         }
     }
 }
 
 // Holds the cells, and a table of a few sets.
-fn with_few_sets(
-    value: &[u8],
-    suffix: bool,
-    long: bool,
-    end: usize,
-    row: RowEnd,
-    on: Onward,
-    work: &mut [u8],
-) -> Tried
-    requires { ⌜ Pattern (now work) end × (row .units ≤ rowLimit) × (2 * rowLimit ≤ length (now work)) ⌝ }
+fn with_few_sets(value: &[u8], removal: Removal, row: RowEnd, on: Onward, work: &mut [u8]) -> Tried
+    requires { ⌜ Pattern (now work) (removal .end) × (row .units ≤ rowLimit) × (2 * rowLimit ≤ length (now work)) ⌝ }
     ensures { λ r. ⌜ TriedSays (row .units) on
-        (cutOf (sideOf suffix) (reachOf long) (now (value .entry)) (markOf (row .mark)) (rowOf (take end (now (work .entry))))) end (now (work .entry))
+        (cutOf (sideOf (removal .suffix)) (reachOf (removal .long)) (now (value .entry)) (markOf (row .mark)) (rowOf (take (removal .end) (now (work .entry)))))
+        (removal .end) (now (work .entry))
         (now (work .exit)) 64 r ⌝ }
 {
     let mut cells = [0u16; numbers::ROW_LIMIT];
     let mut sets = [0u64; pattern_settle::FEW_SETS];
-    cut_settled(value, suffix, long, end, row, on, work, &mut cells, &mut sets)
+    cut_settled(value, removal, row, on, work, &mut cells, &mut sets)
 }
 
 // Holds the cells, and a table with room for the sets of every row.
-fn with_all_sets(
-    value: &[u8],
-    suffix: bool,
-    long: bool,
-    end: usize,
-    row: RowEnd,
-    on: Onward,
-    work: &mut [u8],
-) -> Tried
-    requires { ⌜ Pattern (now work) end × (row .units ≤ rowLimit) × (2 * rowLimit ≤ length (now work)) ⌝ }
+fn with_all_sets(value: &[u8], removal: Removal, row: RowEnd, on: Onward, work: &mut [u8]) -> Tried
+    requires { ⌜ Pattern (now work) (removal .end) × (row .units ≤ rowLimit) × (2 * rowLimit ≤ length (now work)) ⌝ }
     ensures { λ r. ⌜ TriedSays (row .units) on
-        (cutOf (sideOf suffix) (reachOf long) (now (value .entry)) (markOf (row .mark)) (rowOf (take end (now (work .entry))))) end (now (work .entry))
+        (cutOf (sideOf (removal .suffix)) (reachOf (removal .long)) (now (value .entry)) (markOf (row .mark)) (rowOf (take (removal .end) (now (work .entry)))))
+        (removal .end) (now (work .entry))
         (now (work .exit)) 2732 r ⌝ }
 {
     let mut cells = [0u16; numbers::ROW_LIMIT];
     let mut sets = [0u64; pattern_settle::SETS_ROOM];
-    cut_settled(value, suffix, long, end, row, on, work, &mut cells, &mut sets)
+    cut_settled(value, removal, row, on, work, &mut cells, &mut sets)
 }
 
 // The same without tables. The second one is never too small: a set has three units at the least.
-fn cut_value(
-    value: &[u8],
-    suffix: bool,
-    long: bool,
-    end: usize,
-    row: RowEnd,
-    on: Onward,
-    work: &mut [u8],
-) -> Expanded
-    requires { ⌜ Pattern (now work) end × (row .units ≤ rowLimit) × (2 * rowLimit ≤ length (now work)) ⌝ }
+fn cut_value(value: &[u8], removal: Removal, row: RowEnd, on: Onward, work: &mut [u8]) -> Expanded
+    requires { ⌜ Pattern (now work) (removal .end) × (row .units ≤ rowLimit) × (2 * rowLimit ≤ length (now work)) ⌝ }
     ensures { λ r. ⌜ Adds (row .units) on
-        (cutOf (sideOf suffix) (reachOf long) (now (value .entry)) (markOf (row .mark)) (rowOf (take end (now (work .entry))))) (now (work .exit)) r ⌝ }
+        (cutOf (sideOf (removal .suffix)) (reachOf (removal .long)) (now (value .entry)) (markOf (row .mark)) (rowOf (take (removal .end) (now (work .entry)))))
+        (now (work .exit)) r ⌝ }
 {
-    match with_few_sets(value, suffix, long, end, row, on, work) {
+    match with_few_sets(value, removal, row, on, work) {
         Tried::Done(answer) => answer,
-        Tried::TooManySets => match with_all_sets(value, suffix, long, end, row, on, work) {
+        Tried::TooManySets => match with_all_sets(value, removal, row, on, work) {
             Tried::Done(answer) => answer,
             Tried::TooManySets => Expanded::Refused(numbers::REFUSED_CLASS),
         },
@@ -222,7 +214,12 @@ fn cut(
 {
     let end = 2 * units;
     let n = pattern_row::drop_empty(&mut work[..end]);
-    cut_value(table_find::value_of(vars, name), suffix, long, n, row, on, work)
+    let removal = Removal {
+        suffix: suffix,
+        long: long,
+        end: n,
+    };
+    cut_value(table_find::value_of(vars, name), removal, row, on, work)
 }
 
 // The number of the arithmetic text that the row is.

@@ -42,12 +42,15 @@ cut-value-requires c κs =
     let a = s .args in
     let e = d .drop-empty .ensures in
     let t = length-take-le (2 * a .units) (a .work .now) (omega (arith, s .pre .1, s .pre .3)) in
-    let l = length-append (d .drop-empty .last .0) (drop (2 * a .units) (a .work .now)) in
-    (record {
-      inside = dropped-inside _ e;
-      few = omega (arith, dropped-few e, t, s .pre .1);
-      full = subst NoEmpty (sym (dropped-front _ e)) (kept-full _);
-    }, s .pre .2, omega (arith, l, length-drop (2 * a .units) (a .work .now), d .drop-empty .kept .0, t, s .pre .1, s .pre .3))
+    let l = length-append (d .drop-empty .last .0) (drop (2 * a .units) (a .work .now)) in (
+      record {
+        inside = dropped-inside _ e;
+        few = omega (arith, dropped-few e, t, s .pre .1);
+        full = subst NoEmpty (sym (dropped-front _ e)) (kept-full _);
+      },
+      s .pre .2,
+      omega (arith, l, length-drop (2 * a .units) (a .work .now), d .drop-empty .kept .0, t, s .pre .1, s .pre .3),
+    )
 
 same-length : tie.Need-same-length
 same-length c = search needs
@@ -59,7 +62,7 @@ returns c =
     let d = c .before .before .before .before .before .before .before in
     let a = start d .args in
     let g = v .cut-value in
-    adds-same (a .row .units) (a .on) (g .last .1 .1 .1 .1 .1 .1 .0) (g .result)
+    adds-same (a .row .units) (a .on) (g .last .1 .1 .1 .1 .0) (g .result)
     (cut-left (sideOf (a .suffix)) (reachOf (a .long)) (a .name .now) (markOf (a .row .mark)) _ (held (a .vars .now))
     (dropped-front _ (d .drop-empty .ensures)) (f .value-of .ensures)) (g .ensures)
 

@@ -23,7 +23,7 @@ abbrev Answers : tie.After-settle → Settled → Type 0
 Answers t r =
     let a = start t .args in
     let l = t .settle .last .1 .1 .1 in
-    SettleSays Marked false (take (a .end) (a .work .now)) (l .0) (l .1 .0) r
+    SettleSays Marked false (take (a .removal .end) (a .work .now)) (l .0) (l .1 .0) r
 
 known : (t : tie.After-settle) {r : Settled} → t .settle .result ≡ r → Answers t r
 known t e = subst (λ (r : Settled). Answers t r) e (t .settle .ensures)
@@ -45,7 +45,7 @@ settle-requires : tie.Need-settle-requires
 settle-requires c κs =
     let s = c .before .before .before .before .before .before .before in
     let p = s .pre in
-    (omega (arith, length-take-le (s .args .end) (s .args .work .now) (p .0 .inside), p .0 .few, p .3), omega (arith, p .3))
+    (omega (arith, length-take-le (s .args .removal .end) (s .args .work .now) (p .0 .inside), p .0 .few, p .3), omega (arith, p .3))
 
 enum-told : tie.Need-enum-told
 enum-told c = search needs
@@ -85,7 +85,7 @@ returns c =
     let t = c .before .before .before .before .before .before in
     let s = start t in
     let a = s .args in
-    cut-class (sideOf (a .suffix)) (reachOf (a .long)) (a .value .now) (a .row) (a .on) (s .pre .0 .full) (known t (c .enum-told .given .1))
+    cut-class (sideOf (a .removal .suffix)) (reachOf (a .removal .long)) (a .value .now) (a .row) (a .on) (s .pre .0 .full) (known t (c .enum-told .given .1))
 
 same-length-4 : tie.Need-same-length-4
 same-length-4 c = search needs
@@ -100,8 +100,8 @@ returns-2 : tie.Need-returns-2
 returns-2 c =
     let t = c .before .before .before .before .before .before in
     let s = start t in
-    (refl, omega (arith, known t (c .enum-told2 .given .1), t .settle .kept .1 .1 .1 .1 .0, length-take-le (s .args .end) (s .args .work .now)
-    (s .pre .0 .inside)))
+    let l = length-take-le (s .args .removal .end) (s .args .work .now) (s .pre .0 .inside) in
+    (refl, omega (arith, known t (c .enum-told2 .given .1), t .settle .kept .1 .1 .1 .1 .0, l))
 
 same-length-7 : tie.Need-same-length-7
 same-length-7 c = search needs
@@ -120,8 +120,8 @@ returns-3 c =
     let s = start (settling k) in
     let a = s .args in
     let e = settled k in
-    cut-given (sideOf (a .suffix)) (reachOf (a .long)) (a .value .now) (a .row) (a .on) (s .pre .0 .full) (g .last .1 .1 .1 .0) (g .result) (e .served)
-    (x .before .removed .ensures _ (e .shows)) (x .expanded-end .ensures) (g .ensures)
+    cut-given (sideOf (a .removal .suffix)) (reachOf (a .removal .long)) (a .value .now) (a .row) (a .on) (s .pre .0 .full)
+    (g .last .1 .1 .1 .0) (g .result) (e .served) (x .before .removed .ensures _ (e .shows)) (x .expanded-end .ensures) (g .ensures)
 
 pub cut-settled-spec : {M : Type 1} → statement M
 cut-settled-spec =

@@ -24,12 +24,12 @@ start f = f .before .before .before .before
 abbrev leaves : tie.Start → Text → Outcome Row
 leaves s area =
     let a = s .args in
-    cutOf (sideOf (a .suffix)) (reachOf (a .long)) (a .value .now) (markOf (a .row .mark)) (rowOf (take (a .end) area))
+    cutOf (sideOf (a .removal .suffix)) (reachOf (a .removal .long)) (a .value .now) (markOf (a .row .mark)) (rowOf (take (a .removal .end) area))
 
 abbrev Few : tie.After-with-few-sets → Tried → Type 0
 Few f r =
     let a = start f .args in
-    TriedSays (a .row .units) (a .on) (leaves (start f) (a .work .now)) (a .end) (a .work .now) (f .with-few-sets .last .1 .1 .1 .1 .1 .1 .0) 64 r
+    TriedSays (a .row .units) (a .on) (leaves (start f) (a .work .now)) (a .removal .end) (a .work .now) (f .with-few-sets .last .1 .1 .1 .1 .0) 64 r
 
 few : (f : tie.After-with-few-sets) {r : Tried} → f .with-few-sets .result ≡ r → Few f r
 few f e = subst (λ (r : Tried). Few f r) e (f .with-few-sets .ensures)
@@ -45,8 +45,8 @@ abbrev All : tie.After-with-all-sets → Tried → Type 0
 All w r =
     let f = tried (told w) in
     let a = start f .args in
-    let area = f .with-few-sets .last .1 .1 .1 .1 .1 .1 .0 in
-    TriedSays (a .row .units) (a .on) (leaves (start f) area) (a .end) area (w .with-all-sets .last .1 .1 .1 .1 .1 .1 .0) 2732 r
+    let area = f .with-few-sets .last .1 .1 .1 .1 .0 in
+    TriedSays (a .row .units) (a .on) (leaves (start f) area) (a .removal .end) area (w .with-all-sets .last .1 .1 .1 .1 .0) 2732 r
 
 all : (w : tie.After-with-all-sets) {r : Tried} → w .with-all-sets .result ≡ r → All w r
 all w e = subst (λ (r : Tried). All w r) e (w .with-all-sets .ensures)
@@ -68,7 +68,7 @@ with-all-sets-requires c κs =
     let n = c .before in
     let s = start (tried n) in
     let u = untouched n .0 in
-    (subst (λ (area : Text). Pattern area (s .args .end)) (sym u) (s .pre .0), s .pre .1, omega (arith, ap length u, s .pre .2))
+    (subst (λ (area : Text). Pattern area (s .args .removal .end)) (sym u) (s .pre .0), s .pre .1, omega (arith, ap length u, s .pre .2))
 
 enum-known-answer-2 : tie.Need-enum-known-answer-2
 enum-known-answer-2 c = search needs
@@ -90,7 +90,7 @@ returns-2 c =
     let w = c .before .before .before .before .before in
     let s = start (tried (told w)) in
     let l = w .with-all-sets in
-    subst (λ (area : Text). Adds (s .args .row .units) (s .args .on) (leaves s area) (l .last .1 .1 .1 .1 .1 .1 .0) (c .before .answer2 .given .0 .0))
+    subst (λ (area : Text). Adds (s .args .row .units) (s .args .on) (leaves s area) (l .last .1 .1 .1 .1 .0) (c .before .answer2 .given .0 .0))
     (untouched (told w) .0) (all w (c .before .answer2 .given .1))
 
 same-length-3 : tie.Need-same-length-3

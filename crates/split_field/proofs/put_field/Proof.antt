@@ -74,8 +74,8 @@ put-pattern-requires c κs =
     let d = dropped (c .before .before .before) in
     let s = start d in
     let e = d .drop-empty .ensures in
-    (s .pre .0,
-    (s .pre .1 .0, dropped-full (heldTexts (s .args .paths .now)) e, omega (arith, length-take-le (d .drop-empty .result) (d .drop-empty .last .0) (fits d), dropped-few e, s .pre .1 .1)))
+    let l = length-take-le (d .drop-empty .result) (d .drop-empty .last .0) (fits d) in
+    (s .pre .0, (s .pre .1 .0, dropped-full (heldTexts (s .args .paths .now)) e, omega (arith, l, dropped-few e, s .pre .1 .1)))
 
 same-length-3 : tie.Need-same-length-3
 same-length-3 c = search needs

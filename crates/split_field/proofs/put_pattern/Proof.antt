@@ -61,9 +61,10 @@ with-all-sets-requires c κs =
     let n = c .before .before in
     let s = start (tried n) in
     let u = untouched n in
-    let p = s .pre .1 in
-    ((omega (arith, ap length (u .0), s .pre .0 .0), omega (arith, ap length (u .0), s .pre .0 .1)),
-    (p .0, subst NoEmpty (sym (u .1)) (p .1), omega (arith, ap length (u .1), p .2)))
+    let p = s .pre .1 in (
+      (omega (arith, ap length (u .0), s .pre .0 .0), omega (arith, ap length (u .0), s .pre .0 .1)),
+      (p .0, subst NoEmpty (sym (u .1)) (p .1), omega (arith, ap length (u .1), p .2)),
+    )
 
 enum-known-answer-2 : tie.Need-enum-known-answer-2
 enum-known-answer-2 c = search needs

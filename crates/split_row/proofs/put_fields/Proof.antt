@@ -118,9 +118,10 @@ put-field-requires c κs =
     let l = outer e in
     let w = l .loop .inv in
     let p = start l .pre in
-    let r = e .loop2 .inv in
-    ((omega (arith, w .room, w .same), omega (arith, p .0 .1, w .same)),
-    (p .1 .0, omega (arith, part-length (l .loop .row) (l .loop .at) (e .loop2 .end) (run-further _ r) (r .within), r .within, w .sized, p .1 .1)))
+    let r = e .loop2 .inv in (
+      (omega (arith, w .room, w .same), omega (arith, p .0 .1, w .same)),
+      (p .1 .0, omega (arith, part-length (l .loop .row) (l .loop .at) (e .loop2 .end) (run-further _ r) (r .within), r .within, w .sized, p .1 .1)),
+    )
 
 enum-known-n : tie.Need-enum-known-n Inv-loop2 μ-loop2 Inv-loop μ-loop
 enum-known-n c = search needs
