@@ -1,9 +1,9 @@
 /* Drunquill: POSIX words expanded, fields quoted. Three functions over buffers that the caller lends.
  *
  * The functions are proved to answer as docs/01-scope.md says, for any bytes in any buffers: they call nothing but memcpy and memset, keep nothing
- * between calls, use no heap, always return, and may run in several threads at once on buffers of their own. How soon they return is not proved: a removal
- * tries its pattern at each place of the value, so that a long pattern that does not match a long value can take minutes, and one of many brackets that are
- * not closed hours. Who takes patterns or lines from strangers should bound the call's time from outside.
+ * between calls, use no heap, always return, and may run in several threads at once on buffers of their own. How soon they return is measured and not
+ * proved: a removal costs at most its pattern times its value, a field its pattern times the paths, and all else is in proportion to the line
+ * (docs/TRUST.md has the dearest lines known and what they take).
  * Link target/staticlib/libdrunquill_c.a, which `rt staticlib drunquill_c` builds (x86-64 Linux).
  *
  * BUFFERS. Each is a pointer and a length in bytes.
