@@ -73,7 +73,7 @@ fn row(random: &mut Random, lent: &mut Lent) {
 /// A directory of a length about the limit, HOME's or a login's, and lines that make rows of it at the start of a word or an operand.
 fn directory(random: &mut Random, lent: &mut Lent) {
     let length = random.between(limits::ROW - 2, limits::ROW + 1);
-    let directory = vec![*random.pick(b"xxx :1"); length];
+    let directory = vec![*random.pick(&[b'x', b'x', b'x', b' ', b':', b'1']); length];
     let mut line = random.text(&[
         "~", "~/", "a ~", "~ b", "${u-~}", "${u:-~}a", "a ${u-~/}", "${u-~}$e", "${e+~}", "${e+~/}", "a${e+~}",
         "${u=~}", "b${u=~}", "${u=~/}", "${u-${w-~}''}", "${v#~}", "\"${v##~}\"", "${v%~}a", "${v%%~}", "${v%%~/}",
