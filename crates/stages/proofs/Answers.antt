@@ -3,13 +3,14 @@
 use Prim.Native.Nat.{ℕ, _-_, _≤_}
 use native.Mathlib.Omega.{arith}
 use mathlib.Core.Path.{_≡_, refl, ap, _∙_}
-use mathlib.Core.Bool.{Bool, true, false, _&&_}
+use mathlib.Core.Bool.{Bool, true, false, _&&_, _||_}
 use mathlib.Core.List.{List}
+use mathlib.Core.Logic.{_⊎_, inl, inr}
 use mathlib.Core.Option.{Option, none, some}
-use lib.Dec.{leb}
+use lib.Dec.{leb, eqb}
 use lib.ListN.{length, take, drop, replicate, length-replicate}
 use lib.Seq.{length-take-le}
-use borrow.Author.Tests.{leb-true}
+use borrow.Author.Tests.{leb-true, eqb-true}
 use Rattle.stages.specs.Numbers.{
   accepted,
   workTooSmall,
@@ -20,17 +21,18 @@ use Rattle.stages.specs.Numbers.{
   unended,
   outputRoom,
   badFields,
+  badParameters,
   workLeast,
   lineLimit,
   imageLimit,
 }
-use Rattle.stages.specs.Bytes.{Text}
+use Rattle.stages.specs.Bytes.{Text, between}
 use Rattle.stages.specs.Outcome.{Placed, refusedAt, doneAt, _then_}
 use Rattle.stages.specs.Images.{Pairs, isName, isLogin, flat, image, imageLength, held, heldTexts, variablesOf, homesOf, pathsOf, fieldsOf}
 use Rattle.stages.specs.Line.{Fields}
 use Rattle.stages.specs.Quote.{quotedLine}
 use Rattle.stages.specs.Call.{Given, Answer, over, orRefused, expanded, cleared, answered, expander, quotedIn, normaliser, Quoting, quoting, quoter}
-use Rattle.stages.proofs.Bools.{and-left, and-right, between-bounds}
+use Rattle.stages.proofs.Bools.{and-left, and-right, or-cases, between-bounds}
 use Rattle.stages.proofs.Rooms.{over-front, over-behind, over-length}
 use Rattle.stages.proofs.Images.{Fine, length-image, held-image, heldTexts-image}
 use Rattle.stages.proofs.Tables.{
@@ -43,6 +45,7 @@ use Rattle.stages.proofs.Tables.{
   Paths,
   paths-held,
   texts-held-fine,
+  fields-held,
   fields-image,
   fields-are,
 }
@@ -54,8 +57,8 @@ use Rattle.stages.proofs.SafeLines.{Ready, line-safe}
 
 -- a refusal: "On refusal the output length is 0, the used length is the one given, and output and variable buffers hold their old bytes."
 pub record Refuses (g : Given) (a : Answer) : Type 0 where
-  pub listed : a .number ≤ outputRoom
-  pub before : a .number ≤ zeroByte → a .place ≡ 0  -- "it is 0 for 1 to 6"
+  pub listed : a .number ≤ badParameters
+  pub before : isEarly (a .number) ≡ true → a .place ≡ 0  -- 01: "it is 0 for 1 to 6"; E5: 23 has "place 0"
   pub inside : a .place ≤ length (g .line) - 1  -- else "the offset of the first byte of the word", or of the operator, or 0
   pub nothing : a .outLength ≡ 0
   pub sameUsed : a .varsUsed ≡ g .varsUsed
@@ -89,12 +92,27 @@ record Writes (P : Text → Type 0) (g : Given) (r : Text × Pairs) : Type 0 whe
   fits : length (r .0) ≤ length (g .out)
   kept : Kept (length (g .vars)) (r .1)
 
+early-bounds : (n : ℕ) → isEarly n ≡ true → (1 ≤ n) × (n ≤ badParameters)
+early-bounds n e = go (or-cases (between workTooSmall n zeroByte) (eqb n badParameters) e)
+  where
+    go : (between workTooSmall n zeroByte ≡ true) ⊎ (eqb n badParameters ≡ true) → (1 ≤ n) × (n ≤ badParameters)
+    go (inl h) = let b = between-bounds workTooSmall n zeroByte h in (b .0, omega (arith, b .1))
+    go (inr h) = let k = eqb-true n badParameters h in (omega arith, omega arith)
+
+-- a number that comes of the line
+late : (n : ℕ) → unended ≤ n → n ≤ outputRoom → isEarly n ≡ true → ⊥
+late n l m e = go (or-cases (between workTooSmall n zeroByte) (eqb n badParameters) e)
+  where
+    go : (between workTooSmall n zeroByte ≡ true) ⊎ (eqb n badParameters ≡ true) → ⊥
+    go (inl h) = let b = between-bounds workTooSmall n zeroByte h in omega (arith, b .1)
+    go (inr h) = let k = eqb-true n badParameters h in omega arith
+
 module _ (g : Given) where
   cleared-length : length (cleared (g .work)) ≡ length (g .work)
   unfolding cleared
   cleared-length = length-replicate (length (g .work)) 0
 
-  refuses-fits : (P : Text → Type 0) (n place : ℕ) → 1 ≤ n → n ≤ outputRoom → place ≤ length (g .line) - 1 → (n ≤ zeroByte → place ≡ 0)
+  refuses-fits : (P : Text → Type 0) (n place : ℕ) → 1 ≤ n → n ≤ badParameters → place ≤ length (g .line) - 1 → (isEarly n ≡ true → place ≡ 0)
       → Fits P g (answered g (refusedAt n place))
   unfolding answered cleared
   refuses-fits P n place l m i h = record {
@@ -138,11 +156,11 @@ module _ (g : Given) where
 
   answered-fits : (P : Text → Type 0) {o : Placed (Text × Pairs)} → SafeAt (length (g .line)) (Writes P g) o → Fits P g (answered g o)
   answered-fits P (early {n = n} e) =
-      let b : (workTooSmall ≤ n) × (n ≤ zeroByte) = between-bounds workTooSmall n zeroByte e in
-      refuses-fits P n 0 (b .0) (omega (arith, b .1)) (omega arith) (λ _. refl)
+      let b : (1 ≤ n) × (n ≤ badParameters) = early-bounds n e in
+      refuses-fits P n 0 (b .0) (b .1) (omega arith) (λ _. refl)
   answered-fits P (refusesAt {n = n} {place = place} e l) =
       let b : (unended ≤ n) × (n ≤ outputRoom) = between-bounds unended n outputRoom e in
-      refuses-fits P n place (omega (arith, b .0)) (b .1) l (λ h. absurd (omega (arith, b .0)))
+      refuses-fits P n place (omega (arith, b .0)) (omega (arith, b .1)) l (λ h. absurd (late n (b .0) (b .1) h))
   answered-fits P (givesAt {a = r} w) = accepts-fits P r w
 
 -- the tables that are given
@@ -173,6 +191,10 @@ homes-fine t h e = let b : (held t ≡ h) × Table isLogin t = table-of isLogin 
 paths-fine : (t : Text) (l : List Text) → pathsOf t ≡ some l → Fine l
 paths-fine t l e = let b : (heldTexts t ≡ l) × Paths t = paths-held t l e in rw (← b .0) (texts-held-fine t (b .1 .table))
 
+-- fields of an image hold no zero byte
+pub fields-fine : (t : Text) (l : Fields) → fieldsOf t ≡ some l → Fine l
+fields-fine t l e = rw (fields-held t l e .0) at (texts-held-fine t (fields-held t l e .1 .table))
+
 pub expanded-safe : (g : Given) (out : ℕ) → SafeAt (length (g .line)) (Ready (length (g .vars)) out) (expanded g out)
 unfolding expanded
 expanded-safe g out =
@@ -181,9 +203,11 @@ expanded-safe g out =
     (λ _ l. safe-then _ (some-safe (length (g .line)) badVariables (variablesOf (take (g .varsUsed) (g .vars))) refl)
     (λ v e. safe-then _ (some-safe (length (g .line)) badHomes (homesOf (g .homes)) refl)
     (λ h f. safe-then _ (some-safe (length (g .line)) badPaths (pathsOf (g .paths)) refl)
-    (λ p i. line-safe (record { lent = record { room = length (g .vars); homes = h }; out = out; paths = p }) (homes-fine (g .homes) h f)
+    (λ p i. safe-then _ (some-safe (length (g .line)) badParameters (fieldsOf (g .params)) refl)
+    (λ ps j. line-safe (record { lent = record { room = length (g .vars); homes = h; params = ps }; out = out; paths = p })
+    (record { homes = homes-fine (g .homes) h f; params = fields-fine (g .params) ps j })
     (paths-fine (g .paths) p i) (g .line) v
-    (vars-kept (g .vars) (g .varsUsed) v (leb-true (g .varsUsed) (length (g .vars)) l) e))))))
+    (vars-kept (g .vars) (g .varsUsed) v (leb-true (g .varsUsed) (length (g .vars)) l) e)))))))
 
 -- the expander
 

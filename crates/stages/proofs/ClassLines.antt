@@ -18,11 +18,11 @@ abbrev removal : String → String
 removal p = joined "\"${v#" (joined p "}\"")
 
 abbrev leaves : String → String → String → Case
-leaves v p t = record { line = removal p; vars = set v; homes = []; paths = []; answer = doneAt (t ∷ [], set v) }
+leaves v p t = record { line = removal p; vars = set v; homes = []; paths = []; params = []; answer = doneAt (t ∷ [], set v) }
 
 -- the same pattern is 19, whatever the value
 abbrev bad : String → Case
-bad p = record { line = removal p; vars = []; homes = []; paths = []; answer = refusedAt 19 0 }
+bad p = record { line = removal p; vars = []; homes = []; paths = []; params = []; answer = refusedAt 19 0 }
 
 -- "Add the twelve POSIX classes": one may stand anywhere in a bracket, from a value too; no other byte of the bracket means something else
 members : List Case
@@ -110,11 +110,12 @@ finds s l = record {
   vars = [];
   homes = [];
   paths = "-" ∷ ".a" ∷ "A" ∷ "[d-/x]" ∷ "a" ∷ "a-b" ∷ "a.b" ∷ "a/1" ∷ "a/b" ∷ "p1" ∷ "p12" ∷ "p2" ∷ "pq" ∷ [];
+  params = [];
   answer = doneAt (l, []);
 }
 
 abbrev badPath : String → Case
-badPath s = record { line = s; vars = []; homes = []; paths = []; answer = refusedAt 19 0 }
+badPath s = record { line = s; vars = []; homes = []; paths = []; params = []; answer = refusedAt 19 0 }
 
 found : List Case
 found =

@@ -25,12 +25,11 @@ use Rattle.stages.proofs.Tables.{
   homes-are,
   paths-of,
   paths-are,
-  fields-held,
   fields-image,
   fields-are,
-  texts-held-fine,
+  fields-of,
 }
-use Rattle.stages.proofs.Answers.{FieldsImage, QuotedLine, expander-fits, normaliser-fits}
+use Rattle.stages.proofs.Answers.{fields-fine, FieldsImage, QuotedLine, expander-fits, normaliser-fits}
 use Rattle.stages.proofs.RoundTrip.{quoted-image, quoted-expands}
 use Rattle.stages.proofs.Rooms.{over-front}
 
@@ -42,6 +41,7 @@ pub record WellFormed (h : Given) : Type 0 where
   pub vars : isSome (variablesOf (take (h .varsUsed) (h .vars))) ≡ true
   pub homes : isSome (homesOf (h .homes)) ≡ true
   pub paths : isSome (pathsOf (h .paths)) ≡ true
+  pub params : isSome (fieldsOf (h .params)) ≡ true
 
 -- the answer that accepts, writes this text to the output and these bytes to the variables' buffer
 abbrev writes : Given → Text → Text → Answer
@@ -77,10 +77,6 @@ quoted-in : (l : Fields) (out : ℕ) → length (quotedLine l) ≤ lineLimit →
 unfolding quotedIn
 quoted-in l out short o = rw (le-leb (length (quotedLine l)) lineLimit short, le-leb (length (quotedLine l)) out o)
 
--- fields of an image hold no zero byte
-fields-fine : (t : Text) (l : Fields) → fieldsOf t ≡ some l → Fine l
-fields-fine t l e = rw (fields-held t l e .0) at (texts-held-fine t (fields-held t l e .1 .table))
-
 module _ (h : Given) (r : WellFormed h) where
   -- the variables that are given
   abbrev given : Pairs
@@ -107,6 +103,7 @@ module _ (h : Given) (r : WellFormed h) where
           variables-are (take (h .varsUsed) (h .vars)) (vars-of (take (h .varsUsed) (h .vars)) (r .vars)),
           homes-are (h .homes) (homes-of (h .homes) (r .homes)),
           paths-are (h .paths) (paths-of (h .paths) (r .paths)),
+          fields-are (h .params) (fields-of (h .params) (r .params)),
           e,
         )
         (quoted-expands _ l given f short o)
@@ -154,6 +151,7 @@ asking l = record {
   varsUsed = length (image []);
   homes = image [];
   paths = image [];
+  params = image [];
   line = quotedLine l;
   out = replicate imageLimit 0;
 }
@@ -164,7 +162,7 @@ version-byte zero = omega arith
 version-byte (suc i) = omega arith
 
 pub asked : (l : Fields) → length (quotedLine l) ≤ lineLimit → Asks (asking l) l
-unfolding image written variablesOf homesOf pathsOf
+unfolding image written variablesOf homesOf pathsOf fieldsOf
 asked l short = record {
   formed = record {
     work = omega (arith, length-replicate {A = ℕ} workLeast 0);
@@ -173,6 +171,7 @@ asked l short = record {
     vars = refl;
     homes = refl;
     paths = refl;
+    params = refl;
   };
   line = refl;
   room = omega (arith, length-image l, quoted-image l, length-replicate {A = ℕ} imageLimit 0);

@@ -55,6 +55,7 @@ withTables g homes paths = record {
   varsUsed = g .varsUsed;
   homes = homes;
   paths = paths;
+  params = g .params;
   line = g .line;
   out = g .out;
 }
@@ -90,30 +91,30 @@ normaliser-beyond : (g : Given) → workLeast ≤ length (g .work) → length (g
 unfolding normaliser
 normaliser-beyond g w b = rw (expanded-beyond g imageLimit w b)
 
-module _ (homes paths buffer : Text) where
+module _ (homes paths params buffer : Text) where
   abbrev beyond : ℕ → Variables
   beyond used = record { buffer = buffer; varsUsed = used }
 
   answer-beyond : (l : Text) (used : ℕ) → length buffer < used
-      → normaliser (givenLine homes paths l (beyond used)) ≡ answered (givenLine homes paths l (beyond used)) (refusedAt badVariables 0)
+      → normaliser (givenLine homes paths params l (beyond used)) ≡ answered (givenLine homes paths params l (beyond used)) (refusedAt badVariables 0)
   unfolding givenLine
-  answer-beyond l used b = normaliser-beyond (givenLine homes paths l (beyond used)) (omega (arith, length-replicate {A = ℕ} workLeast 0)) b
+  answer-beyond l used b = normaliser-beyond (givenLine homes paths params l (beyond used)) (omega (arith, length-replicate {A = ℕ} workLeast 0)) b
 
   said-beyond : (ls : List Text) (m n : ℕ) → length buffer < m → length buffer < n
-      → saidOf homes paths (beyond m) ls ≡ saidOf homes paths (beyond n) ls
+      → saidOf homes paths params (beyond m) ls ≡ saidOf homes paths params (beyond n) ls
   unfolding saidOf afterLine answered givenLine said
   said-beyond [] m n b c = refl
   said-beyond (l ∷ ls) m n b c = rw (answer-beyond l m b, answer-beyond l n c, said-beyond ls m n b c)
 
 -- the program, whose files may be cut
 
-said-tables : (homes paths : Text) (v : Variables) (ls : List Text)
-    → saidOf (take (suc imageLimit) homes) (take (suc pathsLimit) paths) v ls ≡ saidOf homes paths v ls
+said-tables : (homes paths params : Text) (v : Variables) (ls : List Text)
+    → saidOf (take (suc imageLimit) homes) (take (suc pathsLimit) paths) params v ls ≡ saidOf homes paths params v ls
 unfolding saidOf givenLine
-said-tables homes paths v [] = refl
-said-tables homes paths v (l ∷ ls) =
-    rw (normaliser-tables (givenLine homes paths l v) homes paths)
-    (ap (λ (s : Text). said (normaliser (givenLine homes paths l v)) ++ s) (said-tables homes paths _ ls))
+said-tables homes paths params v [] = refl
+said-tables homes paths params v (l ∷ ls) =
+    rw (normaliser-tables (givenLine homes paths params l v) homes paths)
+    (ap (λ (s : Text). said (normaliser (givenLine homes paths params l v)) ++ s) (said-tables homes paths params _ ls))
 
 table-cut : (n : ℕ) (file : Option Text) → tableOr (cutFile n file) ≡ take (suc n) (tableOr file)
 unfolding tableOr image written
@@ -176,30 +177,31 @@ module _ (t : Text) where
 abbrev begun : Text → Variables
 begun t = record { buffer = buffered t; varsUsed = length t }
 
-module _ (homes paths : Text) (ls : List Text) where
-  begun-cut : (t : Text) → saidOf homes paths (begun (take (suc imageLimit) t)) ls ≡ saidOf homes paths (begun t) ls
+module _ (homes paths params : Text) (ls : List Text) where
+  begun-cut : (t : Text) → saidOf homes paths params (begun (take (suc imageLimit) t)) ls ≡ saidOf homes paths params (begun t) ls
   begun-cut t = either (leb (length t) imageLimit) short long
     where
-      short : leb (length t) imageLimit ≡ true → saidOf homes paths (begun (take (suc imageLimit) t)) ls ≡ saidOf homes paths (begun t) ls
+      short : leb (length t) imageLimit ≡ true → saidOf homes paths params (begun (take (suc imageLimit) t)) ls ≡ saidOf homes paths params (begun t) ls
       short e =
           let l : length t ≤ imageLimit = leb-true (length t) imageLimit e in
-          ap (λ (u : Text). saidOf homes paths (begun u) ls) (take-all (suc imageLimit) t (omega arith))
+          ap (λ (u : Text). saidOf homes paths params (begun u) ls) (take-all (suc imageLimit) t (omega arith))
 
-      long : leb (length t) imageLimit ≡ false → saidOf homes paths (begun (take (suc imageLimit) t)) ls ≡ saidOf homes paths (begun t) ls
+      long : leb (length t) imageLimit ≡ false → saidOf homes paths params (begun (take (suc imageLimit) t)) ls ≡ saidOf homes paths params (begun t) ls
       long e =
           let l : imageLimit < length t = leb-false (length t) imageLimit e in
           rw (buffered-cut t l, cut-length t l)
-          (said-beyond homes paths (buffered t) ls (suc imageLimit) (length t) (omega (arith, buffered-short t l)) (omega (arith, buffered-short t l)))
+          (said-beyond homes paths params (buffered t) ls (suc imageLimit) (length t) (omega (arith, buffered-short t l)) (omega (arith, buffered-short t l)))
 
-  first-cut : (vars : Option Text) → saidOf homes paths (firstVariables (cutFile imageLimit vars)) ls ≡ saidOf homes paths (firstVariables vars) ls
+  first-cut : (vars : Option Text) → saidOf homes paths params (firstVariables (cutFile imageLimit vars)) ls
+      ≡ saidOf homes paths params (firstVariables vars) ls
   unfolding firstVariables
   first-cut vars = rw (table-cut imageLimit vars) (begun-cut (tableOr vars))
 
 -- the program says the same of files that are cut
-pub program-cut : (vars homes paths : Option Text) (input : Text)
-    → program (cutFile imageLimit vars) (cutFile imageLimit homes) (cutFile pathsLimit paths) input ≡ program vars homes paths input
+pub program-cut : (vars homes paths : Option Text) (arguments : List Text) (input : Text)
+    → program (cutFile imageLimit vars) (cutFile imageLimit homes) (cutFile pathsLimit paths) arguments input ≡ program vars homes paths arguments input
 unfolding program
-program-cut vars homes paths input =
+program-cut vars homes paths arguments input =
     rw (table-cut imageLimit homes, table-cut pathsLimit paths)
-    (said-tables (tableOr homes) (tableOr paths) (firstVariables (cutFile imageLimit vars)) (linesOf input)
-    ∙ first-cut (tableOr homes) (tableOr paths) (linesOf input) vars)
+    (said-tables (tableOr homes) (tableOr paths) (image arguments) (firstVariables (cutFile imageLimit vars)) (linesOf input)
+    ∙ first-cut (tableOr homes) (tableOr paths) (image arguments) (linesOf input) vars)

@@ -29,3 +29,7 @@ pub mod Demand
 pub mod Searches
 pub mod Members
 pub mod Classes
+pub mod Spreads  -- E5: what `"$@"` gives
+pub mod SpreadLines  -- E5: lines with positional parameters
+pub mod Barred  -- E5: where `$@` and `$*` may stand
+pub mod Unbroken  -- E5: where no break mark comes

@@ -2,9 +2,10 @@
 use Prim.Native.Nat.{ℕ, _<_, _≤_, _-_}
 use native.Mathlib.Omega.{arith}
 use mathlib.Core.Path.{_≡_, refl}
-use mathlib.Core.Bool.{Bool, true, false}
+use mathlib.Core.Bool.{Bool, true, false, _||_}
 use mathlib.Core.List.{List, [], _∷_, _++_}
-use Rattle.stages.specs.Numbers.{workTooSmall, zeroByte, unended, outputRoom}
+use lib.Dec.{eqb}
+use Rattle.stages.specs.Numbers.{workTooSmall, zeroByte, unended, outputRoom, badParameters}
 use Rattle.stages.specs.Bytes.{between}
 use Rattle.stages.specs.Recur.{below, below-ok, fix, fix-eq, by-size}
 use Rattle.stages.specs.Outcome.{Outcome, refused, done, _>>=_, Placed, refusedAt, doneAt, placedAt, _then_, require, choose}
@@ -73,11 +74,11 @@ safe-where false f g p q = q
 pub safe-choose : {A : Type 0} {P : A → Type 0} (x : Bool) (f g : Unit {0} → Outcome A) → Safe P (f tt) → Safe P (g tt) → Safe P (choose x f g)
 safe-choose x f g p q = safe-where x f g (λ e. p) q
 
--- the numbers 1 to 6, of what is looked at before the line is read
+-- the numbers 1 to 6 and E5's 23, of what is looked at before the line is read
 abbrev pub isEarly : ℕ → Bool
-isEarly n = between workTooSmall n zeroByte
+isEarly n = between workTooSmall n zeroByte || eqb n badParameters
 
--- the same for a line of so many bytes: 1 to 6 at place 0, or one of the other numbers at the place of a byte of the line, or at 0
+-- the same for a line of so many bytes: 1 to 6 or 23 at place 0, or one of the other numbers at the place of a byte of the line, or at 0
 pub data SafeAt {A : Type 0} (size : ℕ) (P : A → Type 0) : Placed A → Type 0 where
   early : {n : ℕ} → isEarly n ≡ true → SafeAt size P (refusedAt n 0)
   refusesAt : {n place : ℕ} → isFault n ≡ true → place ≤ size - 1 → SafeAt size P (refusedAt n place)

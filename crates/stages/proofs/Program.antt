@@ -41,7 +41,7 @@ line-cut a t v = either (leb (length t) lineLimit) short long
 
 -- what is given, with another line
 abbrev pub withLine : Given → Text → Given
-withLine g t = record { work = g .work; vars = g .vars; varsUsed = g .varsUsed; homes = g .homes; paths = g .paths; line = t; out = g .out }
+withLine g t = record { work = g .work; vars = g .vars; varsUsed = g .varsUsed; homes = g .homes; paths = g .paths; params = g .params; line = t; out = g .out }
 
 module _ (g : Given) (t : Text) where
   expanded-cut : (out : ℕ) → expanded (withLine g (cutLine t)) out ≡ expanded (withLine g t) out
@@ -71,38 +71,39 @@ abbrev pub cutLines : List Text → List Text
 cutLines [] = []
 cutLines (l ∷ ls) = cutLine l ∷ cutLines ls
 
-module _ (homes paths : Text) where
-  pub answer-cut : (l : Text) (v : Variables) → normaliser (givenLine homes paths (cutLine l) v) ≡ normaliser (givenLine homes paths l v)
+module _ (homes paths params : Text) where
+  pub answer-cut : (l : Text) (v : Variables) → normaliser (givenLine homes paths params (cutLine l) v) ≡ normaliser (givenLine homes paths params l v)
   unfolding givenLine
-  answer-cut l v = normaliser-cut (givenLine homes paths l v) l
+  answer-cut l v = normaliser-cut (givenLine homes paths params l v) l
 
-  after-cut : (v : Variables) (l : Text) → afterLine homes paths v (cutLine l) ≡ afterLine homes paths v l
+  after-cut : (v : Variables) (l : Text) → afterLine homes paths params v (cutLine l) ≡ afterLine homes paths params v l
   unfolding afterLine
   after-cut v l = rw (answer-cut l v)
 
-  pub said-cut : (v : Variables) (ls : List Text) → saidOf homes paths v (cutLines ls) ≡ saidOf homes paths v ls
+  pub said-cut : (v : Variables) (ls : List Text) → saidOf homes paths params v (cutLines ls) ≡ saidOf homes paths params v ls
   unfolding saidOf
   said-cut v [] = refl
-  said-cut v (l ∷ ls) = rw (answer-cut l v) (ap (λ (s : Text). said (normaliser (givenLine homes paths l v)) ++ s) (said-cut _ ls))
+  said-cut v (l ∷ ls) = rw (answer-cut l v) (ap (λ (s : Text). said (normaliser (givenLine homes paths params l v)) ++ s) (said-cut _ ls))
 
-  pub after-lines-cut : (v : Variables) (ls : List Text) → afterLines homes paths v (cutLines ls) ≡ afterLines homes paths v ls
+  pub after-lines-cut : (v : Variables) (ls : List Text) → afterLines homes paths params v (cutLines ls) ≡ afterLines homes paths params v ls
   unfolding afterLines
   after-lines-cut v [] = refl
-  after-lines-cut v (l ∷ ls) = ap (λ (w : Variables). afterLines homes paths w (cutLines ls)) (after-cut v l) ∙ after-lines-cut _ ls
+  after-lines-cut v (l ∷ ls) = ap (λ (w : Variables). afterLines homes paths params w (cutLines ls)) (after-cut v l) ∙ after-lines-cut _ ls
 
   -- lines one by one: what is said of some and then of others, and the variables after them
   pub said-append : (v : Variables) (ls ms : List Text)
-      → saidOf homes paths v (ls ++ ms) ≡ saidOf homes paths v ls ++ saidOf homes paths (afterLines homes paths v ls) ms
+      → saidOf homes paths params v (ls ++ ms) ≡ saidOf homes paths params v ls ++ saidOf homes paths params (afterLines homes paths params v ls) ms
   unfolding saidOf afterLines
   said-append v [] ms = refl
   said-append v (l ∷ ls) ms =
-      ap (λ (s : Text). said (normaliser (givenLine homes paths l v)) ++ s) (said-append (afterLine homes paths v l) ls ms)
-      ∙ sym (append-assoc (said (normaliser (givenLine homes paths l v))) _ _)
+      ap (λ (s : Text). said (normaliser (givenLine homes paths params l v)) ++ s) (said-append (afterLine homes paths params v l) ls ms)
+      ∙ sym (append-assoc (said (normaliser (givenLine homes paths params l v))) _ _)
 
-  pub after-append : (v : Variables) (ls ms : List Text) → afterLines homes paths v (ls ++ ms) ≡ afterLines homes paths (afterLines homes paths v ls) ms
+  pub after-append : (v : Variables) (ls ms : List Text) → afterLines homes paths params v (ls ++ ms)
+      ≡ afterLines homes paths params (afterLines homes paths params v ls) ms
   unfolding afterLines
   after-append v [] ms = refl
-  after-append v (l ∷ ls) ms = after-append (afterLine homes paths v l) ls ms
+  after-append v (l ∷ ls) ms = after-append (afterLine homes paths params v l) ls ms
 
 -- lines
 

@@ -4,11 +4,11 @@ use Prim.Native.Nat.{ℕ}
 use mathlib.Core.Path.{_≡_, refl, ap, _∙_}
 use mathlib.Core.Bool.{true, false}
 use mathlib.Core.List.{List, [], _∷_}
-use Rattle.stages.specs.Bytes.{Text, text, all, isBareByte}
+use Rattle.stages.specs.Bytes.{Text, all, isBareByte}
 use Rattle.stages.specs.Outcome.{done}
-use Rattle.stages.specs.Images.{Pairs, lookup}
+use Rattle.stages.specs.Images.{Pairs}
 use Rattle.stages.specs.Units.{Mark, L, Q, Cell, cell, N, Row, marked, bytes}
-use Rattle.stages.specs.Split.{dropWhite, dropHard, otherRun, fieldsStep, fieldsFrom, split, ifsOr, fieldsOfRow}
+use Rattle.stages.specs.Split.{dropWhite, dropHard, otherRun, fieldsStep, fieldsFrom, split, ifsNow, longerPart, broken, splitParts, fieldsOfRow}
 use Rattle.stages.specs.Pattern.{signs, elements, hasClass, pattern}
 use Rattle.stages.specs.Paths.{active, pathsFor, textsOfFields}
 use Rattle.stages.proofs.Bools.{and-left, and-right}
@@ -48,23 +48,31 @@ quiet-white ifs (a-byte q) = refl
 quiet-white ifs (a-literal p q) = refl
 
 -- a row that has units is one field
-quiet-split : (ifs : Text) {c : Cell} {r : Row} → Quiet (c ∷ r) → split ifs (c ∷ r) ≡ (c ∷ r) ∷ []
+pub quiet-split : (ifs : Text) {c : Cell} {r : Row} → Quiet (c ∷ r) → split ifs (c ∷ r) ≡ (c ∷ r) ∷ []
 unfolding split fieldsFrom fieldsStep dropWhite dropHard
 quiet-split ifs {c} {r} q = ap (fieldsFrom ifs) (quiet-white ifs q) ∙ fields-from ifs (c ∷ r) ∙ rw (quiet-run ifs q)
 
+-- no break mark stands in it
+pub quiet-broken : {r : Row} → Quiet r → broken r ≡ r ∷ []
+unfolding broken longerPart
+quiet-broken no-units = refl
+quiet-broken (a-mark q) = rw (quiet-broken q)
+quiet-broken (a-byte q) = rw (quiet-broken q)
+quiet-broken (a-literal p q) = rw (quiet-broken q)
+
 quiet-field : (v : Pairs) {c : Cell} {r : Row} → Quiet (c ∷ r) → fieldsOfRow v (c ∷ r) ≡ (c ∷ r) ∷ []
-unfolding fieldsOfRow
-quiet-field v q = quiet-split (ifsOr (lookup (text "IFS") v)) q
+unfolding fieldsOfRow splitParts
+quiet-field v q = rw (quiet-broken q, quiet-split (ifsNow v) q)
 
 -- no bracket class, nothing active
-quiet-class : {r : Row} → Quiet r → hasClass true 0 (signs r) ≡ false
+pub quiet-class : {r : Row} → Quiet r → hasClass true 0 (signs r) ≡ false
 unfolding hasClass signs
 quiet-class no-units = refl
 quiet-class (a-mark q) = quiet-class q
 quiet-class (a-byte q) = quiet-class q
 quiet-class (a-literal p q) = rw (p .bracket) (quiet-class q)
 
-quiet-active : {r : Row} → Quiet r → active (elements true 0 (signs r)) ≡ false
+pub quiet-active : {r : Row} → Quiet r → active (elements true 0 (signs r)) ≡ false
 unfolding active elements signs
 quiet-active no-units = refl
 quiet-active (a-mark q) = quiet-active q

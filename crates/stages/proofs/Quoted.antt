@@ -11,7 +11,7 @@ use lib.ListN.{length, length-append}
 use Rattle.stages.specs.Numbers.{depthLimit}
 use Rattle.stages.specs.Bytes.{Text, text, all, isBareByte, isBlank, isOperator}
 use Rattle.stages.specs.Outcome.{done, doneAt, pick}
-use Rattle.stages.specs.Syntax.{escaped, unescaped, Parts, Word, end, lit, quo, par, len, ari, til, Start, fresh, begun, word, single}
+use Rattle.stages.specs.Syntax.{escaped, unescaped, Parts, Word, end, lit, quo, par, len, lst, ari, til, Start, fresh, begun, word, single}
 use Rattle.stages.specs.Items.{item, itemOf, sort, beginsTilde, byte}
 use Rattle.stages.specs.Read.{parts, put, nest, readItem, words, wordAt, readLine}
 use Rattle.stages.specs.Quote.{Way, bare, singled, isBare, wayOf, quotedBytes, written, quotedField, quotedLine, blanked}
@@ -166,6 +166,7 @@ plainBytes (lit q b p) = b ∷ plainBytes p
 plainBytes (quo q p) = plainBytes q ++ plainBytes p
 plainBytes (par x f q p) = []
 plainBytes (len x p) = []
+plainBytes (lst s p) = []
 plainBytes (ari q p) = []
 plainBytes (til x p) = []
 

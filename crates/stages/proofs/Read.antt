@@ -11,9 +11,10 @@ use lib.Seq.{drop-drop}
 use Rattle.stages.specs.Recur.{below, below-ok, fix-eq, by-size}
 use Rattle.stages.specs.Bytes.{Text, between, isBlank}
 use Rattle.stages.specs.Outcome.{refused, done}
-use Rattle.stages.specs.Syntax.{Form, plain, Escape, unescaped, Parts, end, lit, quo, par, len, ari, til}
+use Rattle.stages.specs.Syntax.{Form, plain, Escape, unescaped, Parts, end, lit, quo, par, len, lst, ari, til}
+use Rattle.stages.specs.Syntax.{Param, Counted, Spread}
 use Rattle.stages.specs.Syntax.{Start, Mode, word, bare, single, double, quotedOperand, arith as sums}
-use Rattle.stages.specs.Items.{Item, fault, stop, byte, paren, quote, valueOf, count, inner, sum, homeOf, item, ended, onward}
+use Rattle.stages.specs.Items.{Item, fault, stop, byte, paren, quote, valueOf, count, spread, inner, sum, homeOf, item, ended, onward}
 use Rattle.stages.specs.Read.{Taken, Reader, put, nest, readItem, Ask, askSize, askStep, parts}
 use Rattle.stages.proofs.Texts.{drop-short}
 use Rattle.stages.proofs.Items.{
@@ -25,6 +26,7 @@ use Rattle.stages.proofs.Items.{
   a-quote,
   a-value,
   a-count,
+  a-spread,
   an-inner,
   a-sum,
   a-home,
@@ -63,6 +65,7 @@ module _ (k : ℕ) (rec : Reader) (g : (m : Mode) (d : ℕ) (t : Text) → lengt
   going-good m d b t (a-quote {m = n}) h = nest-good quo (onward m) d (length t) (length t) (g n d t h) h (omega arith)
   going-good m d b t (a-value {k = n} _) h = let e = drop-short n t in put-good _ (g (onward m) d (drop n t) (omega arith)) e
   going-good m d b t (a-count {k = n} _) h = let e = drop-short n t in put-good _ (g (onward m) d (drop n t) (omega arith)) e
+  going-good m d b t (a-spread {k = n}) h = let e = drop-short n t in put-good _ (g (onward m) d (drop n t) (omega arith)) e
   going-good m d b t (an-inner {x = x} {f = f} {m = n} {k = j} _) h =
       let e = drop-short j t in nest-good (par x f) (onward m) d (length (drop j t)) (length t) (g n (d - 1) (drop j t) (omega arith)) (omega arith) e
   going-good m d b t a-sum h =
@@ -77,10 +80,10 @@ module _ (k : ℕ) (rec : Reader) (g : (m : Mode) (d : ℕ) (t : Text) → lengt
   item-good : (m : Mode) (d : ℕ) (t : Text) → length t ≤ k → Good (length t) (readItem rec m d t (item m d t))
   unfolding readItem item ended
   item-good (word s) d [] h = leaves {p = (end, [])} (omega arith)
-  item-good (bare s) d [] h = stays refl
+  item-good (bare s l) d [] h = stays refl
   item-good single d [] h = stays refl
-  item-good double d [] h = stays refl
-  item-good quotedOperand d [] h = stays refl
+  item-good (double l) d [] h = stays refl
+  item-good (quotedOperand l) d [] h = stays refl
   item-good (sums n) d [] h = stays refl
   item-good m d (b ∷ t) h = fair-good m d b t (view (item-fair m d b t)) (omega arith)
 
@@ -139,6 +142,7 @@ module _ (m : Mode) (d b : ℕ) (t : Text) where
   by-item (quote n) = nested-ok quo n d 0
   by-item (valueOf x n) = put-ok (par x plain end) n
   by-item (count x n) = put-ok (len x) n
+  by-item (spread s n) = put-ok (lst s) n
   by-item (inner x f n j) = nested-ok (par x f) n (d - 1) j
   by-item sum = nested-ok ari (sums 0) (d - 1) 2
   by-item (homeOf x n) = put-ok (til x) n
@@ -146,10 +150,10 @@ module _ (m : Mode) (d b : ℕ) (t : Text) where
 by-ended : (m : Mode) (d : ℕ) → readItem (shorter 0) m d [] (item m d []) ≡ readItem parts m d [] (item m d [])
 unfolding readItem item ended
 by-ended (word s) d = refl
-by-ended (bare s) d = refl
+by-ended (bare s l) d = refl
 by-ended single d = refl
-by-ended double d = refl
-by-ended quotedOperand d = refl
+by-ended (double l) d = refl
+by-ended (quotedOperand l) d = refl
 by-ended (sums n) d = refl
 
 by-first : (m : Mode) (d : ℕ) (t : Text) → readItem (shorter (length t)) m d t (item m d t) ≡ readItem parts m d t (item m d t)
@@ -189,15 +193,20 @@ module _ (text : Text) (at : ℕ) where
     unfolding readItem
     at-paren b n h = parts-item m d (drop at text) h ∙ ap (λ (t : Text). put (lit unescaped b) (parts (sums n) d t)) (drop-drop 1 at text)
 
-    pub at-value : (x : Text) (next : ℕ) → item m d (drop at text) ≡ valueOf x (next - suc at) → at < next → here
+    pub at-value : (x : Param) (next : ℕ) → item m d (drop at text) ≡ valueOf x (next - suc at) → at < next → here
         (put (par x plain end) (parts (onward m) d (drop next text)))
     unfolding readItem
     at-value x next h l = parts-item m d (drop at text) h ∙ ap (λ (t : Text). put (par x plain end) (parts (onward m) d t)) (place next l)
 
-    pub at-count : (x : Text) (next : ℕ) → item m d (drop at text) ≡ count x (next - suc at) → at < next → here
+    pub at-count : (x : Counted) (next : ℕ) → item m d (drop at text) ≡ count x (next - suc at) → at < next → here
         (put (len x) (parts (onward m) d (drop next text)))
     unfolding readItem
     at-count x next h l = parts-item m d (drop at text) h ∙ ap (λ (t : Text). put (len x) (parts (onward m) d t)) (place next l)
+
+    pub at-spread : (s : Spread) (next : ℕ) → item m d (drop at text) ≡ spread s (next - suc at) → at < next → here
+        (put (lst s) (parts (onward m) d (drop next text)))
+    unfolding readItem
+    at-spread s next h l = parts-item m d (drop at text) h ∙ ap (λ (t : Text). put (lst s) (parts (onward m) d t)) (place next l)
 
     pub at-home : (x : Text) (next : ℕ) → item m d (drop at text) ≡ homeOf x (next - suc at) → at < next → here
         (put (til x) (parts (onward m) d (drop next text)))
@@ -208,7 +217,7 @@ module _ (text : Text) (at : ℕ) where
     unfolding readItem
     at-quote n h = parts-item m d (drop at text) h ∙ ap (λ (t : Text). nest quo (parts n d t) (parts (onward m) d)) (drop-drop 1 at text)
 
-    pub at-inner : (x : Text) (f : Form) (n : Mode) (next : ℕ) → item m d (drop at text) ≡ inner x f n (next - suc at) → at < next
+    pub at-inner : (x : Param) (f : Form) (n : Mode) (next : ℕ) → item m d (drop at text) ≡ inner x f n (next - suc at) → at < next
         → here (nest (par x f) (parts n (d - 1) (drop next text)) (parts (onward m) d))
     unfolding readItem
     at-inner x f n next h l = parts-item m d (drop at text) h ∙ ap (λ (t : Text). nest (par x f) (parts n (d - 1) t) (parts (onward m) d)) (place next l)

@@ -18,12 +18,13 @@ use Rattle.stages.specs.Call.{Given, over, expander}
 abbrev pub Settings : Type 0
 Settings = List (String × String)
 
--- a row: the line, the variables, homes and paths that it meets, and the answer, with all variables as they are behind it
+-- a row: the line, the variables, homes, paths and positional parameters that it meets, and the answer, with all variables as they are behind it
 pub record Case : Type 0 where
   pub line : String
   pub vars : Settings
   pub homes : Settings
   pub paths : List String
+  pub params : List String
   pub answer : Placed (List String × Settings)
 
 abbrev textsOf : List String → List Text
@@ -53,7 +54,11 @@ same (doneAt a) (refusedAt m p) = false
 same (doneAt a) (doneAt b) = eqTexts (a .0) (textsOf (b .0)) && eqPairs (a .1) (pairsOf (b .1))
 
 around : Case → Around
-around c = record { lent = record { room = 8192; homes = pairsOf (c .homes) }; out = 8192; paths = textsOf (c .paths) }
+around c = record {
+  lent = record { room = 8192; homes = pairsOf (c .homes); params = textsOf (c .params) };
+  out = 8192;
+  paths = textsOf (c .paths);
+}
 
 passes : Case → Bool
 unfolding same around expandLine choose
@@ -73,7 +78,7 @@ card = ".hid.raw" ∷ "a b.raw" ∷ "n/p1.raw" ∷ "p1.raw" ∷ "p2.raw" ∷ []
 
 -- a row among these tables whose line stores nothing
 abbrev gives : String → List String → Case
-gives s fs = record { line = s; vars = season; homes = []; paths = card; answer = doneAt (fs, season) }
+gives s fs = record { line = s; vars = season; homes = []; paths = card; params = []; answer = doneAt (fs, season) }
 
 abbrev C1 : Case
 C1 = gives "cp \"$job\" $job" ("cp" ∷ "north field" ∷ "north" ∷ "field" ∷ [])
@@ -96,6 +101,7 @@ C6 = record {
   vars = season;
   homes = [];
   paths = card;
+  params = [];
   answer = doneAt ("a" ∷ "b" ∷ [], ("HOME", "/home/crew") ∷ ("job", "north field") ∷ ("note", "") ∷ ("tilt", "a b") ∷ []);
 }
 
@@ -104,7 +110,7 @@ abbrev colons : Settings
 colons = ("HOME", "/home/crew") ∷ ("IFS", ":") ∷ ("job", "north field") ∷ ("note", "") ∷ ("x", ":a::b:") ∷ []
 
 abbrev C7 : Case
-C7 = record { line = "$x"; vars = colons; homes = []; paths = card; answer = doneAt ("" ∷ "a" ∷ "" ∷ "b" ∷ [], colons) }
+C7 = record { line = "$x"; vars = colons; homes = []; paths = card; params = []; answer = doneAt ("" ∷ "a" ∷ "" ∷ "b" ∷ [], colons) }
 
 abbrev C8 : Case
 C8 = gives "${job%% *} ${job##*o}" ("north" ∷ "rth" ∷ "field" ∷ [])
@@ -116,7 +122,7 @@ abbrev C10 : Case
 C10 = gives "~/out '~'/out ~nobody" ("/home/crew/out" ∷ "~/out" ∷ "~nobody" ∷ [])
 
 abbrev C11 : Case
-C11 = record { line = "${note:?}"; vars = season; homes = []; paths = card; answer = refusedAt 13 0 }
+C11 = record { line = "${note:?}"; vars = season; homes = []; paths = card; params = []; answer = refusedAt 13 0 }
 
 abbrev C12 : Case
 C12 = gives "''" ("" ∷ [])
@@ -139,6 +145,7 @@ call c =
       varsUsed = length vars;
       homes = image (flat (pairsOf (c .homes)));
       paths = image (textsOf (c .paths));
+      params = image (textsOf (c .params));
       line = text (c .line);
       out = replicate imageLimit 0;
     }
@@ -169,7 +176,7 @@ verdict (doneAt r) = 100 + length (r .0)
 
 alone : Text → Pairs → ℕ
 unfolding expandLine verdict choose
-alone t v = verdict (expandLine (record { lent = record { room = 8192; homes = [] }; out = 8192; paths = [] }) t v)
+alone t v = verdict (expandLine (record { lent = record { room = 8192; homes = []; params = [] }; out = 8192; paths = [] }) t v)
 
 record Edge : Type 0 where
   line : Text

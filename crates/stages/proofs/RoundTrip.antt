@@ -15,7 +15,8 @@ use Rattle.stages.specs.Images.{Pairs, recordBytes, imageLength}
 use Rattle.stages.specs.Syntax.{Parts, Word}
 use Rattle.stages.specs.Read.{readLine}
 use Rattle.stages.specs.Units.{L, Q, cell, N, Row, marked, bytes}
-use Rattle.stages.specs.Expand.{Lent, expand}
+use Rattle.stages.specs.Params.{Lent}
+use Rattle.stages.specs.Expand.{expand, inQuotes}
 use Rattle.stages.specs.Split.{fieldsOfRow}
 use Rattle.stages.specs.Paths.{textsOfFields}
 use Rattle.stages.specs.Quote.{Way, singled, isBare, quotedBytes, written, quotedField, quotedLine, blanked}
@@ -41,18 +42,18 @@ singledRow t = N ∷ rows t .0 ++ rows t .1
 -- a field's parts expand to its row, behind n units
 module _ (a : Lent) (v : Pairs) where
   record Gives (t : Text) : Type 0 where
-    first : (n : ℕ) → n + length (rows t .0) ≤ rowLimit → expand a (runs t .0) Q n v ≡ done (rows t .0, v)
-    others : (n : ℕ) → n + length (rows t .1) ≤ rowLimit → expand a (runs t .1) L n v ≡ done (rows t .1, v)
+    first : (n : ℕ) → n + length (rows t .0) ≤ rowLimit → expand a (runs t .0) Q n v ≡ done (rows t .0, v, false)
+    others : (n : ℕ) → n + length (rows t .1) ≤ rowLimit → expand a (runs t .1) L n v ≡ done (rows t .1, v, false)
 
   whole : (t : Text) → Gives t → (n : ℕ) → n + length (singledRow t) ≤ rowLimit → expand a (wayParts singled t) L n v ≡ done
-      (singledRow t, v)
+      (singledRow t, v, false)
   unfolding expand
   whole t g n h =
       let e : length (rows t .0 ++ rows t .1) ≡ length (rows t .0) + length (rows t .1) = length-append (rows t .0) (rows t .1) in
       rw (
         fit-ok n 1 (omega arith),
         g .first (n + 1) (omega arith),
-        g .others (n + 1 + length (rows t .0)) (omega arith),
+        g .others (n + suc (length (rows t .0))) (omega arith),
       )
 
   gives-quote : (t : Text) → Gives t → Gives (39 ∷ t)
@@ -69,12 +70,12 @@ module _ (a : Lent) (v : Pairs) where
     others = rw e (g .others);
   }
 
-  singled-expands : (t : Text) → length (singledRow t) ≤ rowLimit → expand a (wayParts singled t) L 0 v ≡ done (singledRow t, v)
+  singled-expands : (t : Text) → length (singledRow t) ≤ rowLimit → expand a (wayParts singled t) L 0 v ≡ done (singledRow t, v, false)
   unfolding expand
   singled-expands t h = whole t (by-quotes Gives (record { first = λ n h. refl; others = λ n h. refl }) gives-quote gives-other t) 0 (omega arith)
 
   -- those of a bare field
-  bare-expands : (t : Text) (n : ℕ) → n + length t ≤ rowLimit → expand a (bareParts t) L n v ≡ done (marked L t, v)
+  bare-expands : (t : Text) (n : ℕ) → n + length t ≤ rowLimit → expand a (bareParts t) L n v ≡ done (marked L t, v, false)
   unfolding expand marked
   bare-expands [] n h = refl
   bare-expands (b ∷ t) n h = rw (fit-ok n 1 (omega arith), bare-expands t (n + 1) (omega arith))
@@ -110,7 +111,7 @@ singled-length t = simp length-append (omega arith)
 -- THE FIELD
 
 -- a word's row and its fields make the word
-word-steps : (a : Around) (p : Parts) (v w : Pairs) (r : Row) (l : Fields) → expand (a .lent) p L 0 v ≡ done (r, w)
+pub word-steps : (a : Around) (p : Parts) (v w : Pairs) (r : Row) (l : Fields) → expand (a .lent) p L 0 v ≡ done (r, w, false)
     → textsOfFields (a .paths) (fieldsOfRow w r) ≡ done l → wordFields a p v ≡ done (l, w)
 unfolding wordFields
 word-steps a p v w r l e f = rw (e, f)
@@ -130,7 +131,7 @@ pub record OneField (t w : Text) (p : Parts) : Type 0 where
   pub long : 2 * (2 + length t) ≤ 3 * suc (length w)
 
 module _ (a : Around) (v : Pairs) where
-  singled-row : (t : Text) → length (written singled t) ≤ lineLimit → expand (a .lent) (wayParts singled t) L 0 v ≡ done (singledRow t, v)
+  singled-row : (t : Text) → length (written singled t) ≤ lineLimit → expand (a .lent) (wayParts singled t) L 0 v ≡ done (singledRow t, v, false)
   singled-row t h = singled-expands (a .lent) v t (omega (arith, singled-length t, lengths t .row-fits))
 
   singled-becomes : (t : Text) → length (written singled t) ≤ lineLimit → wordFields a (wayParts singled t) v ≡ done (t ∷ [], v)

@@ -1,4 +1,4 @@
--- A line without a zero byte is read as parts without one, whose names are names.
+-- A line without a zero byte is read as parts without one, whose parameters are parameters.
 use Prim.Native.Nat.{ℕ, suc, _-_, _≤_, _<_}
 use native.Mathlib.Omega.{arith}
 use mathlib.Core.Path.{_≡_, refl}
@@ -8,14 +8,14 @@ use lib.ListN.{length, drop}
 use Rattle.stages.specs.Numbers.{unended, tooDeep, outputRoom}
 use Rattle.stages.specs.Bytes.{between, Text, all, notZero}
 use Rattle.stages.specs.Outcome.{refused, done}
-use Rattle.stages.specs.Images.{isName}
 use Rattle.stages.specs.Syntax.{plain, unescaped, Parts, Mode, end, lit, quo, par}
-use Rattle.stages.specs.Syntax.{len, ari, til, word, bare, single, double, quotedOperand, arith as sums}
+use Rattle.stages.specs.Syntax.{len, lst, ari, til, word, bare, single, double, quotedOperand, arith as sums}
 use Rattle.stages.specs.Items.{Item, item, ended, onward}
 use Rattle.stages.specs.Read.{Taken, Reader, put, nest, readItem, Ask, askSize, askStep, parts}
 use Rattle.stages.proofs.Bools.{and-left, and-right, and-both, between-bounds, between-true}
 use Rattle.stages.proofs.Texts.{drop-short, all-drop}
-use Rattle.stages.proofs.Items.{Fair, faults, stops, a-byte, a-paren, a-quote, a-value, a-count, an-inner, a-sum, a-home, item-passes}
+use Rattle.stages.proofs.Items.{IsParam, IsCounted, Fair, faults, stops, a-byte, a-paren, a-quote, a-value, a-count, a-spread, an-inner, a-sum}
+use Rattle.stages.proofs.Items.{a-home, item-passes}
 use Rattle.stages.proofs.Outcomes.{Each, isFault, Safe, refuses, gives, safe-bind, by-fix}
 
 abbrev pub NoZero : Text → Type 0
@@ -37,13 +37,14 @@ reading-fault n e =
     let b : (unended ≤ n) × (n ≤ tooDeep) = between-bounds unended n tooDeep e in
     between-true unended n outputRoom (b .0) (omega (arith, b .1))
 
--- parts whose bytes are not zero and whose names are names
+-- parts whose bytes are not zero and whose parameters are parameters
 abbrev pub SafeParts : Parts → Type 0
 SafeParts end = Unit {0}
 SafeParts (lit q b p) = (notZero b ≡ true) × SafeParts p
 SafeParts (quo q p) = SafeParts q × SafeParts p
-SafeParts (par x f q p) = (isName x ≡ true) × SafeParts q × SafeParts p
-SafeParts (len x p) = (isName x ≡ true) × SafeParts p
+SafeParts (par x f q p) = IsParam x × SafeParts q × SafeParts p
+SafeParts (len x p) = IsCounted x × SafeParts p
+SafeParts (lst j p) = SafeParts p
 SafeParts (ari q p) = SafeParts q × SafeParts p
 SafeParts (til x p) = NoZero x × SafeParts p
 
@@ -86,6 +87,7 @@ module _ (b : ℕ) (u : Text) (rec : Ask → Taken)
   read-safe m d y (a-quote {m = n}) = nest-safe quo n d 0 (onward m) d (λ q p r s. (r, s))
   read-safe m d y (a-value {x = x} {k = k} e) = next-safe (par x plain end) (onward m) d k (λ p s. (e, tt, s))
   read-safe m d y (a-count {x = x} {k = k} e) = next-safe (len x) (onward m) d k (λ p s. (e, s))
+  read-safe m d y (a-spread {j = j} {k = k}) = next-safe (lst j) (onward m) d k (λ p s. s)
   read-safe m d y (an-inner {x = x} {f = f} {m = n} {k = k} e) = nest-safe (par x f) n (d - 1) k (onward m) d (λ q p r s. (e, r, s))
   read-safe m d y a-sum = nest-safe ari (sums 0) (d - 1) 2 (onward m) d (λ q p r s. (r, s))
   read-safe m d y (a-home {x = x} {k = k} e) = next-safe (til x) (onward m) d k (λ p s. (all-bytes x e, s))
@@ -93,10 +95,10 @@ module _ (b : ℕ) (u : Text) (rec : Ask → Taken)
 ended-read : (rec : Reader) (m : Mode) (d : ℕ) → Safe (SafeTaken []) (readItem rec m d [] (ended m))
 unfolding readItem ended
 ended-read rec (word s) d = gives {a = (end, [])} (record { clean = tt; behind = refl; short = omega arith })
-ended-read rec (bare s) d = refuses refl
+ended-read rec (bare s l) d = refuses refl
 ended-read rec single d = refuses refl
-ended-read rec double d = refuses refl
-ended-read rec quotedOperand d = refuses refl
+ended-read rec (double l) d = refuses refl
+ended-read rec (quotedOperand l) d = refuses refl
 ended-read rec (sums n) d = refuses refl
 
 step-safe : (a : Ask) (rec : Ask → Taken) → ((b : Ask) → askSize b < askSize a → NoZero (b .2) → Safe (SafeTaken (b .2)) (rec b)) → NoZero (a .2)

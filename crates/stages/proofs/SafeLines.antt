@@ -11,7 +11,7 @@ use borrow.Author.Tests.{leb-true, le-leb}
 use Rattle.stages.specs.Recur.{by-size}
 use Rattle.stages.specs.Numbers.{depthLimit, imageLimit, lineLimit, lineTooLong, zeroByte, outputRoom}
 use Rattle.stages.specs.Bytes.{Text, all, notZero, isIn, isBlank, isOperator}
-use Rattle.stages.specs.Images.{Pairs, flat, recordBytes, imageLength}
+use Rattle.stages.specs.Images.{Pairs, recordBytes, imageLength}
 use Rattle.stages.specs.Syntax.{Parts, Word, fresh, word}
 use Rattle.stages.specs.Read.{Taken, parts, wordAt, wordsSize, words, readLine}
 use Rattle.stages.specs.Units.{L}
@@ -38,7 +38,7 @@ use Rattle.stages.proofs.Outcomes.{
 }
 use Rattle.stages.proofs.Split.{fields-each}
 use Rattle.stages.proofs.Safe.{NoZero, SafeParts, parts-safe}
-use Rattle.stages.proofs.SafeRows.{SafeCell, Kept, expand-safe, named-safe}
+use Rattle.stages.proofs.SafeRows.{SafeLent, SafeCell, Kept, expand-safe, named-safe}
 
 -- words
 
@@ -92,7 +92,7 @@ pub record Ready (room out : ℕ) (r : Fields × Pairs) : Type 0 where
   pub fits : imageLength (r .0) ≤ out
   pub small : imageLength (r .0) ≤ imageLimit
 
-module _ (a : Around) (f : Fine (flat (a .lent .homes))) (g : Fine (a .paths)) where
+module _ (a : Around) (f : SafeLent (a .lent)) (g : Fine (a .paths)) where
   fields-safe : (p : Parts) (v : Pairs) → SafeParts p → Kept (a .lent .room) v → Safe (λ r. Fine (r .0) × Kept (a .lent .room) (r .1)) (wordFields a p v)
   unfolding wordFields
   fields-safe p v s k =

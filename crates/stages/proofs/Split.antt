@@ -6,9 +6,9 @@ use mathlib.Core.Path.{_≡_, refl, ap, _∙_}
 use mathlib.Core.List.{List, [], _∷_, _++_}
 use lib.ListN.{length}
 use Rattle.stages.specs.Recur.{below-ok, fix-eq}
-use Rattle.stages.specs.Bytes.{Text, text}
-use Rattle.stages.specs.Images.{Pairs, lookup}
-use Rattle.stages.specs.Units.{Cell, Row}
+use Rattle.stages.specs.Bytes.{Text}
+use Rattle.stages.specs.Images.{Pairs}
+use Rattle.stages.specs.Units.{Cell, cell, N, B, Row}
 use Rattle.stages.specs.Split.{
   Delimiter,
   white,
@@ -21,10 +21,13 @@ use Rattle.stages.specs.Split.{
   fieldsStep,
   fieldsFrom,
   split,
-  ifsOr,
+  ifsNow,
+  longerPart,
+  broken,
+  splitParts,
   fieldsOfRow,
 }
-use Rattle.stages.proofs.Outcomes.{Each, by-fix}
+use Rattle.stages.proofs.Outcomes.{Each, each-append, by-fix}
 
 -- what is behind a field and its delimiters
 abbrev pub behindField : Text → Row → Row
@@ -142,6 +145,25 @@ module _ (ifs : Text) where
     split-each r h =
         by-fix length [] (fieldsStep ifs) (λ (s : Row) (l : List Row). Each P s → Each (Each P) l) step-each (dropWhite ifs r) (white-each r h)
 
-pub fields-each : (P : Cell → Type 0) (v : Pairs) (r : Row) → Each P r → Each (Each P) (fieldsOfRow v r)
-unfolding fieldsOfRow
-fields-each P v r h = split-each (ifsOr (lookup (text "IFS") v)) P r h
+-- E5: the units of the parts between break marks are units of the row
+module _ (P : Cell → Type 0) where
+  longer-each : (c : Cell) (rs : List Row) → P c → Each (Each P) rs → Each (Each P) (longerPart c rs)
+  unfolding longerPart
+  longer-each c [] p h = ((p, tt), tt)
+  longer-each c (r ∷ rs) p h = ((p, h .0), h .1)
+
+  broken-each : (r : Row) → Each P r → Each (Each P) (broken r)
+  unfolding broken
+  broken-each [] h = (tt, tt)
+  broken-each (cell m b ∷ r) h = longer-each (cell m b) (broken r) (h .0) (broken-each r (h .1))
+  broken-each (N ∷ r) h = longer-each N (broken r) (h .0) (broken-each r (h .1))
+  broken-each (B ∷ r) h = (tt, broken-each r (h .1))
+
+  parts-each : (ifs : Text) (rs : List Row) → Each (Each P) rs → Each (Each P) (splitParts ifs rs)
+  unfolding splitParts
+  parts-each ifs [] h = tt
+  parts-each ifs (r ∷ rs) h = each-append (Each P) (split ifs r) (splitParts ifs rs) (split-each ifs P r (h .0)) (parts-each ifs rs (h .1))
+
+  pub fields-each : (v : Pairs) (r : Row) → Each P r → Each (Each P) (fieldsOfRow v r)
+  unfolding fieldsOfRow
+  fields-each v r h = parts-each (ifsNow v) (broken r) (broken-each r h)

@@ -15,7 +15,7 @@ houses = ("crew", "/c d") ∷ []
 
 -- a line among these that stores nothing, and its fields
 abbrev gives : String → List String → Case
-gives s fs = record { line = s; vars = set; homes = houses; paths = []; answer = doneAt (fs, set) }
+gives s fs = record { line = s; vars = set; homes = houses; paths = []; params = []; answer = doneAt (fs, set) }
 
 -- "a bare `~` that begins an operand read as bare text is looked at too, its login ending at the first `/` or the operand's end"
 looked : List Case
@@ -35,13 +35,14 @@ covered =
       vars = set;
       homes = houses;
       paths = [];
+      params = [];
       answer = doneAt ("/h" ∷ "*/a" ∷ [], ("HOME", "/h *") ∷ ("n", "/h *7") ∷ ("x", "/h */a") ∷ ("y", "/h */a") ∷ []);
     }
     ∷ gives "${x#~}" ("/a" ∷ [])
     ∷ gives "${x##~/}" ("a" ∷ [])
     ∷ gives "${x%~*} ${x%%~*}" ("/h" ∷ "*/a" ∷ "/h" ∷ "*/a" ∷ [])
     ∷ gives "\"${x#~}\" $((${n#~}))" ("/a" ∷ "7" ∷ [])
-    ∷ record { line = "${y?~}"; vars = set; homes = houses; paths = []; answer = refusedAt 13 0 }
+    ∷ record { line = "${y?~}"; vars = set; homes = houses; paths = []; params = []; answer = refusedAt 13 0 }
     ∷ []
 
 -- "Operands read as double-quoted text stay without it."; and a `:`, a blank, a quote, a backslash or something before the tilde leaves it literal

@@ -5,7 +5,8 @@ use mathlib.Core.List.{_++_}
 use mathlib.Core.Option.{Option, none, some}
 use lib.Dec.{leb}
 use lib.ListN.{length, take, drop, replicate}
-use Rattle.stages.specs.Numbers.{accepted, workTooSmall, badVariables, badHomes, badPaths, outputRoom, badFields, workLeast, lineLimit, imageLimit}
+use Rattle.stages.specs.Numbers.{accepted, workTooSmall, badVariables, badHomes, badPaths, outputRoom, badFields, badParameters, workLeast}
+use Rattle.stages.specs.Numbers.{lineLimit, imageLimit}
 use Rattle.stages.specs.Bytes.{Text}
 use Rattle.stages.specs.Outcome.{Placed, refusedAt, doneAt, _then_, require}
 use Rattle.stages.specs.Images.{Pairs, flat, image, variablesOf, homesOf, pathsOf, fieldsOf}
@@ -19,6 +20,7 @@ pub record Given : Type 0 where
   pub varsUsed : ℕ
   pub homes : Text
   pub paths : Text
+  pub params : Text  -- E5: "lent as a fields image"
   pub line : Text
   pub out : Text
 
@@ -40,16 +42,17 @@ unfoldable pub orRefused : {A : Type 0} → ℕ → Option A → Placed A
 orRefused n none = refusedAt n 0
 orRefused n (some a) = doneAt a
 
--- "Order: 1 to 6 as numbered": the fields and the variables, for an output of so many bytes
+-- 01: "Order: 1 to 6 as numbered"; E5: 23 is "checked after 4": the fields and the variables, for an output of so many bytes
 unfoldable pub expanded : Given → ℕ → Placed (Fields × Pairs)
-unfolding orRefused variablesOf homesOf pathsOf expandLine
+unfolding orRefused variablesOf homesOf pathsOf fieldsOf expandLine
 expanded g out =
     require (leb workLeast (length (g .work))) workTooSmall 0 then λ _.
     require (leb (g .varsUsed) (length (g .vars))) badVariables 0 then λ _.
     orRefused badVariables (variablesOf (take (g .varsUsed) (g .vars))) then λ v.
     orRefused badHomes (homesOf (g .homes)) then λ h.
     orRefused badPaths (pathsOf (g .paths)) then λ p.
-    expandLine (record { lent = record { room = length (g .vars); homes = h }; out = out; paths = p }) (g .line) v
+    orRefused badParameters (fieldsOf (g .params)) then λ ps.
+    expandLine (record { lent = record { room = length (g .vars); homes = h; params = ps }; out = out; paths = p }) (g .line) v
 
 -- "The work area is zero throughout after every call of expander or normaliser, number 1 included."
 unfoldable pub cleared : Text → Text

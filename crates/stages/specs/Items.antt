@@ -1,16 +1,17 @@
--- Document 01, "Reading a line", and document 02, E1: what stands at the head of a text. Every rule of reading is here, and nothing here recurs.
-use Prim.Native.Nat.{ℕ, zero, suc, _+_, _-_}
+-- Document 01, "Reading a line", and document 02, E1 and E5: what stands at the head of a text. Every rule of reading is here, and nothing here recurs.
+use Prim.Native.Nat.{ℕ, zero, suc, _+_, _-_, _*_}
 use Prim.Native.Char.{code}
-use mathlib.Core.Bool.{Bool, true, false, _||_}
+use mathlib.Core.Bool.{Bool, true, false, _&&_, _||_}
 use mathlib.Core.List.{[], _∷_}
 use lib.Dec.{eqb}
 use lib.ListN.{length}
 use Rattle.stages.specs.Numbers.{unended, bareOperator, substitution, unserved, badSyntax, tooDeep}
-use Rattle.stages.specs.Bytes.{Text, text, isIn, span, isNameStart, isNameByte, isDigit, isLoginByte, isBlank, isOperator}
+use Rattle.stages.specs.Bytes.{Text, text, isIn, between, span, isNameStart, isNameByte, isDigit, isLoginByte, isBlank, isOperator}
 use Rattle.stages.specs.Outcome.{pick}
 use Rattle.stages.specs.Syntax.{Start, fresh, begun, Mode, word, bare, single, double, quotedOperand, arith, Escape, escaped, unescaped}
 use Rattle.stages.specs.Syntax.{Colon, withColon, noColon, Side, suffix, prefix, shortest, longest}
 use Rattle.stages.specs.Syntax.{Form, minus, equals, query, plus, removal}
+use Rattle.stages.specs.Syntax.{Param, var, nth, Counted, bytesOf, parameters, Spread, apart, joint, Lists, served, barred}
 
 -- what a byte is where it stands
 pub data Sort : Type 0 where
@@ -29,14 +30,14 @@ unfolding beginsTilde isBlank isOperator
 sort (word s) b =
     pick (beginsTilde s b) tilde (pick (eqb b (code "`")) backquote (pick (isBlank b) closes (pick (isOperator b) operator (pick (eqb b (code "'")) quotes
     (pick (eqb b (code "\"")) quotes2 (pick (eqb b (code "\\")) backslash (pick (eqb b (code "$")) dollar literal)))))))
-sort (bare s) b =
+sort (bare s l) b =
     pick (beginsTilde s b) tilde (pick (eqb b (code "`")) backquote (pick (eqb b (code "}")) closes (pick (eqb b (code "'")) quotes
     (pick (eqb b (code "\"")) quotes2 (pick (eqb b (code "\\")) backslash (pick (eqb b (code "$")) dollar literal))))))
 sort single b = pick (eqb b (code "'")) closes literal
-sort double b =
+sort (double l) b =
     pick (eqb b (code "`")) backquote (pick (eqb b (code "\"")) closes
     (pick (eqb b (code "\\")) backslash (pick (eqb b (code "$")) dollar literal)))
-sort quotedOperand b =
+sort (quotedOperand l) b =
     pick (eqb b (code "`")) backquote (pick (eqb b (code "}")) closes (pick (eqb b (code "\"")) bad
     (pick (eqb b (code "\\")) backslash (pick (eqb b (code "$")) dollar literal))))
 sort (arith n) b =
@@ -50,9 +51,10 @@ pub data Item : Type 0 where
   byte : Escape → ℕ → ℕ → Item  -- a byte that stands for itself
   paren : ℕ → ℕ → Item  -- a parenthesis of an arithmetic text; how many are open behind it
   quote : Mode → Item  -- a quote opens
-  valueOf : Text → ℕ → Item  -- $name, ${name}
-  count : Text → ℕ → Item  -- ${#name}
-  inner : Text → Form → Mode → ℕ → Item  -- ${name FORM, and the operand's mode
+  valueOf : Param → ℕ → Item  -- $name, ${name}
+  count : Counted → ℕ → Item  -- ${#name}, $#, ${#}
+  spread : Spread → ℕ → Item  -- $@, ${@}, $*, ${*}
+  inner : Param → Form → Mode → ℕ → Item  -- ${name FORM, and the operand's mode
   sum : Item  -- $((
   homeOf : Text → ℕ → Item  -- ~login
 
@@ -65,10 +67,10 @@ wrong n (b ∷ t) = pick (eqb b (code "`")) (fault substitution) (fault n)
 -- where a backslash is literal, nor of arithmetic, where it is 11
 unfoldable pub quotable : Mode → ℕ → Bool
 quotable (word s) b = true
-quotable (bare s) b = true
+quotable (bare s l) b = true
 quotable single b = false
-quotable double b = isIn b (text "$`\"\\")
-quotable quotedOperand b = isIn b (text "$`\"\\}")
+quotable (double l) b = isIn b (text "$`\"\\")
+quotable (quotedOperand l) b = isIn b (text "$`\"\\}")
 quotable (arith n) b = false
 
 -- behind a backslash: "before a newline it is 11, also in double quotes"; "otherwise it is itself"
@@ -77,63 +79,143 @@ unfolding quotable
 behindBackslash m [] = fault unended
 behindBackslash m (b ∷ t) = pick (eqb b (code "\n")) (fault badSyntax) (pick (quotable m b) (byte escaped b 1) (byte unescaped (code "\\") 0))
 
--- "inside double quotes or arithmetic, the operands of `-=?+` are read as double-quoted text". Never asked of '...', where a `$` is literal
-unfoldable pub operandMode : Mode → Mode
-operandMode (word s) = bare fresh
-operandMode (bare s) = bare fresh
-operandMode single = bare fresh
-operandMode double = quotedOperand
-operandMode quotedOperand = quotedOperand
-operandMode (arith n) = quotedOperand
+-- E5: whether `$@` and `$*` may stand in a text
+unfoldable pub listsIn : Mode → Lists
+listsIn (word s) = served
+listsIn (bare s l) = l
+listsIn single = barred
+listsIn (double l) = l
+listsIn (quotedOperand l) = l
+listsIn (arith n) = barred
+
+-- E5, "At any depth": they may stand in an operand where they may around it and its form lets them
+unfoldable pub both : Lists → Lists → Lists
+both served l = l
+both barred l = barred
+
+-- E5, "in operands of `=`, `?`": those of `-` and `+` let them
+unfoldable pub letBy : ℕ → Lists
+letBy b = pick (isIn b (text "-+")) served barred
+
+-- "inside double quotes or arithmetic, the operands of `-=?+` are read as double-quoted text"; the second is whether the form lets lists stand. Never
+-- asked of '...', where a `$` is literal
+unfoldable pub operandMode : Mode → Lists → Mode
+unfolding both
+operandMode (word s) k = bare fresh k
+operandMode (bare s l) k = bare fresh (both l k)
+operandMode single k = bare fresh barred
+operandMode (double l) k = quotedOperand (both l k)
+operandMode (quotedOperand l) k = quotedOperand (both l k)
+operandMode (arith n) k = quotedOperand barred
 
 -- the form of one of `-=?+`
 unfoldable pub signForm : ℕ → Colon → Form
 signForm b colon = pick (eqb b (code "-")) (minus colon) (pick (eqb b (code "=")) (equals colon) (pick (eqb b (code "?")) (query colon) (plus colon)))
 
+-- E5: "`=` on one stays 10"
+unfoldable pub isNumbered : Param → Bool
+isNumbered (var x) = false
+isNumbered (nth k) = true
+
+-- behind one of `-=?+`, the sign b: its operand
+unfoldable pub behindSign : Mode → Param → Colon → ℕ → ℕ → Item
+unfolding letBy operandMode signForm isNumbered
+behindSign m x colon k b = pick (isNumbered x && eqb b (code "=")) (fault unserved) (inner x (signForm b colon) (operandMode m (letBy b)) k)
+
 -- behind `${name:`, k bytes with the next one: "`:` and one of `-=?+`"
-unfoldable pub behindColon : Mode → Text → ℕ → Text → Item
-unfolding wrong operandMode signForm
+unfoldable pub behindColon : Mode → Param → ℕ → Text → Item
+unfolding wrong behindSign
 behindColon m x k [] = wrong badSyntax []
-behindColon m x k (b ∷ t) = pick (isIn b (text "-=?+")) (inner x (signForm b withColon) (operandMode m) k) (wrong badSyntax (b ∷ t))
+behindColon m x k (b ∷ t) = pick (isIn b (text "-=?+")) (behindSign m x withColon k b) (wrong badSyntax (b ∷ t))
 
 -- behind `${name%` or `${name#`: "the longer of `%%`, `%`, or of `##`, `#`"; "Operands of the four removals are always read as bare text"
-unfoldable pub behindRemoval : Text → Side → ℕ → ℕ → Text → Item
-behindRemoval x side sign k [] = inner x (removal side shortest) (bare fresh) k
-behindRemoval x side sign k (b ∷ t) = pick (eqb b sign) (inner x (removal side longest) (bare fresh) (suc k)) (inner x (removal side shortest) (bare fresh) k)
+unfoldable pub behindRemoval : Param → Side → ℕ → ℕ → Text → Item
+behindRemoval x side sign k [] = inner x (removal side shortest) (bare fresh barred) k
+behindRemoval x side sign k (b ∷ t) =
+    pick (eqb b sign) (inner x (removal side longest) (bare fresh barred) (suc k)) (inner x (removal side shortest) (bare fresh barred) k)
 
 -- behind `${name`, k bytes with the next one: "After `${name` comes `}`, or `:` and one of `-=?+`, or one of these alone, or the longer of
 -- `%%`, `%`, or of `##`, `#`; anything else is 11."
-unfoldable pub behindName : Mode → Text → ℕ → Text → Item
-unfolding wrong operandMode signForm behindColon behindRemoval
+unfoldable pub behindName : Mode → Param → ℕ → Text → Item
+unfolding wrong behindSign behindColon behindRemoval
 behindName m x k [] = wrong badSyntax []
 behindName m x k (b ∷ t) =
     pick (eqb b (code "}")) (valueOf x k)
     (pick (eqb b (code ":")) (behindColon m x (suc k) t)
-    (pick (isIn b (text "-=?+")) (inner x (signForm b noColon) (operandMode m) k)
+    (pick (isIn b (text "-=?+")) (behindSign m x noColon k b)
     (pick (eqb b (code "%")) (behindRemoval x suffix b k t)
     (pick (eqb b (code "#")) (behindRemoval x prefix b k t) (wrong badSyntax (b ∷ t))))))
 
 -- behind `${#name`: "only `}` may come"
-unfoldable pub behindLength : Text → ℕ → Text → Item
+unfoldable pub behindLength : Param → ℕ → Text → Item
 unfolding wrong
 behindLength x k [] = wrong badSyntax []
-behindLength x k (b ∷ t) = pick (eqb b (code "}")) (count x k) (wrong badSyntax (b ∷ t))
+behindLength x k (b ∷ t) = pick (eqb b (code "}")) (count (bytesOf x) k) (wrong badSyntax (b ∷ t))
 
--- a name, and what it is followed by: "a byte that cannot begin the name is 10"
-unfoldable pub nameThen : (Text → Text → Item) → Text → Item
-unfolding wrong isNameStart isNameByte span
+-- E5: a digit that may begin a number: "a leading zero stays 10"
+unfoldable pub isFirstDigit : ℕ → Bool
+isFirstDigit b = between (code "1") b (code "9")
+
+-- the number that decimal digits go on to from n
+unfoldable pub numberOf : ℕ → Text → ℕ
+numberOf n [] = n
+numberOf n (b ∷ t) = numberOf (n * 10 + (b - code "0")) t
+
+-- a name, or by E5 a number, how many bytes it has, and what it is followed by: "a byte that cannot begin the name is 10"
+unfoldable pub nameThen : (Param → ℕ → Text → Item) → Text → Item
+unfolding wrong isNameStart isNameByte isFirstDigit isDigit numberOf span
 nameThen behind [] = wrong unserved []
-nameThen behind (b ∷ t) = pick (isNameStart b) (behind (span isNameByte (b ∷ t) .0) (span isNameByte (b ∷ t) .1)) (wrong unserved (b ∷ t))
+nameThen behind (b ∷ t) =
+    pick (isNameStart b) (behind (var (span isNameByte (b ∷ t) .0)) (length (span isNameByte (b ∷ t) .0)) (span isNameByte (b ∷ t) .1))
+    (pick (isFirstDigit b) (behind (nth (numberOf 0 (span isDigit (b ∷ t) .0))) (length (span isDigit (b ∷ t) .0)) (span isDigit (b ∷ t) .1))
+    (wrong unserved (b ∷ t)))
+
+-- behind `${#`: E5's `$#` in braces, or a length
+unfoldable pub behindHash : Text → Item
+unfolding wrong nameThen behindLength
+behindHash [] = wrong unserved []
+behindHash (b ∷ t) = pick (eqb b (code "}")) (count parameters 3) (nameThen (λ x k u. behindLength x (k + 3) u) (b ∷ t))
+
+-- E5: `$@` is given apart, `$*` joint
+unfoldable pub spreadOf : ℕ → Spread
+spreadOf b = pick (eqb b (code "*")) joint apart
+
+-- E5: the sign b of `$@` or `$*` where it may stand, k bytes being behind the `$`
+unfoldable pub spreadAt : Lists → ℕ → ℕ → Item
+unfolding spreadOf
+spreadAt served b k = spread (spreadOf b) k
+spreadAt barred b k = fault unserved
+
+-- E5, "so do length and operators on them": behind `${@:` or `${*:` ..
+unfoldable pub behindListColon : Text → Item
+unfolding wrong
+behindListColon [] = wrong badSyntax []
+behindListColon (b ∷ t) = pick (isIn b (text "-=?+")) (fault unserved) (wrong badSyntax (b ∷ t))
+
+-- .. and behind `${@` or `${*`, c being the sign
+unfoldable pub behindList : ℕ → Text → Item
+unfolding wrong spreadOf behindListColon
+behindList c [] = wrong badSyntax []
+behindList c (b ∷ t) =
+    pick (eqb b (code "}")) (spread (spreadOf c) 3)
+    (pick (eqb b (code ":")) (behindListColon t)
+    (pick (isIn b (text "-=?+%#")) (fault unserved) (wrong badSyntax (b ∷ t))))
+
+-- "`$@`, `$*` and these .. in braces", c being the sign
+unfoldable pub bracedList : Lists → ℕ → Text → Item
+unfolding behindList
+bracedList served c t = behindList c t
+bracedList barred c t = fault unserved
 
 -- behind `${`, where d expansions may still open: "`${` takes a name, or `#` and a name for the length"
 unfoldable pub braced : Mode → ℕ → Text → Item
-unfolding wrong nameThen behindName behindLength
+unfolding wrong nameThen behindName behindHash listsIn bracedList
 braced m zero t = fault tooDeep
 braced m (suc d) [] = wrong unserved []
 braced m (suc d) (b ∷ t) =
-    pick (eqb b (code "#"))
-    (nameThen (λ x u. behindLength x (length x + 3) u) t)
-    (nameThen (λ x u. behindName m x (length x + 2) u) (b ∷ t))
+    pick (eqb b (code "#")) (behindHash t)
+    (pick (isIn b (text "@*")) (bracedList (listsIn m) b t)
+    (nameThen (λ x k u. behindName m x (k + 2) u) (b ∷ t)))
 
 -- behind `$(`: "`$((` opens arithmetic; `$(` otherwise is 9"
 unfoldable pub parenthesis : ℕ → Text → Item
@@ -141,25 +223,27 @@ parenthesis d [] = fault substitution
 parenthesis zero (b ∷ t) = pick (eqb b (code "(")) (fault tooDeep) (fault substitution)
 parenthesis (suc d) (b ∷ t) = pick (eqb b (code "(")) sum (fault substitution)
 
--- "`$` before a digit or one of `@*#?-$!` is 10, and so is `$'` in bare text". Never asked of '...', where a `$` is literal
+-- 01: "`$` before a digit or one of `@*#?-$!` is 10, and so is `$'` in bare text", but for what E5 serves. Never asked of '...', where a `$` is literal
 unfoldable pub notServed : Mode → ℕ → Bool
-unfolding isDigit
-notServed (word s) b = isDigit b || isIn b (text "@*#?-$!'")
-notServed (bare s) b = isDigit b || isIn b (text "@*#?-$!'")
+notServed (word s) b = isIn b (text "0?-$!'")
+notServed (bare s l) b = isIn b (text "0?-$!'")
 notServed single b = false
-notServed double b = isDigit b || isIn b (text "@*#?-$!")
-notServed quotedOperand b = isDigit b || isIn b (text "@*#?-$!")
-notServed (arith n) b = isDigit b || isIn b (text "@*#?-$!")
+notServed (double l) b = isIn b (text "0?-$!")
+notServed (quotedOperand l) b = isIn b (text "0?-$!")
+notServed (arith n) b = isIn b (text "0?-$!")
 
--- behind `$`: "`$` before a letter or `_` takes the longest name." "Any other `$` is literal."
+-- behind `$`: "`$` before a letter or `_` takes the longest name." "Any other `$` is literal." E5: "`$1` to `$9`, .. `$#`, `$@`, `$*`"
 unfoldable pub expansion : Mode → ℕ → Text → Item
-unfolding isNameStart isNameByte span parenthesis braced notServed
+unfolding isNameStart isNameByte span parenthesis braced isFirstDigit listsIn spreadAt notServed
 expansion m d [] = byte unescaped (code "$") 0
 expansion m d (b ∷ t) =
-    pick (isNameStart b) (valueOf (span isNameByte (b ∷ t) .0) (length (span isNameByte (b ∷ t) .0)))
+    pick (isNameStart b) (valueOf (var (span isNameByte (b ∷ t) .0)) (length (span isNameByte (b ∷ t) .0)))
     (pick (eqb b (code "(")) (parenthesis d t)
     (pick (eqb b (code "{")) (braced m d t)
-    (pick (notServed m b) (fault unserved) (byte unescaped (code "$") 0))))
+    (pick (isFirstDigit b) (valueOf (nth (b - code "0")) 1)
+    (pick (eqb b (code "#")) (count parameters 1)
+    (pick (isIn b (text "@*")) (spreadAt (listsIn m) b 1)
+    (pick (notServed m b) (fault unserved) (byte unescaped (code "$") 0)))))))
 
 -- behind an outer `)`: "ends at `))`; an outer `)` followed by another byte or the line's end .. is 11"
 unfoldable pub outer : Text → Item
@@ -169,39 +253,39 @@ outer (b ∷ t) = pick (eqb b (code ")")) (stop 2) (pick (eqb b (code "`")) (fau
 -- "Arithmetic text balances its parentheses". Never asked: the first five cases, since only arithmetic has the sort `opening`
 unfoldable pub opened : Mode → ℕ → Item
 opened (word s) b = byte unescaped b 0
-opened (bare s) b = byte unescaped b 0
+opened (bare s l) b = byte unescaped b 0
 opened single b = byte unescaped b 0
-opened double b = byte unescaped b 0
-opened quotedOperand b = byte unescaped b 0
+opened (double l) b = byte unescaped b 0
+opened (quotedOperand l) b = byte unescaped b 0
 opened (arith n) b = paren b (suc n)
 
 -- The same for the sort `closing`. Never asked: the first five cases
 unfoldable pub closed : Mode → ℕ → Text → Item
 unfolding outer
 closed (word s) b t = byte unescaped b 0
-closed (bare s) b t = byte unescaped b 0
+closed (bare s l) b t = byte unescaped b 0
 closed single b t = byte unescaped b 0
-closed double b t = byte unescaped b 0
-closed quotedOperand b t = byte unescaped b 0
+closed (double l) b t = byte unescaped b 0
+closed (quotedOperand l) b t = byte unescaped b 0
 closed (arith zero) b t = outer t
 closed (arith (suc n)) b t = paren b n
 
 -- how many bytes end a text: a word's blank is not part of it. Never asked of arithmetic, where no byte has the sort `closes`
 unfoldable pub closerLength : Mode → ℕ
 closerLength (word s) = 0
-closerLength (bare s) = 1
+closerLength (bare s l) = 1
 closerLength single = 1
-closerLength double = 1
-closerLength quotedOperand = 1
+closerLength (double l) = 1
+closerLength (quotedOperand l) = 1
 closerLength (arith n) = 1
 
 -- "line ends inside a quote, brace or arithmetic"
 unfoldable pub ended : Mode → Item
 ended (word s) = stop 0
-ended (bare s) = fault unended
+ended (bare s l) = fault unended
 ended single = fault unended
-ended double = fault unended
-ended quotedOperand = fault unended
+ended (double l) = fault unended
+ended (quotedOperand l) = fault unended
 ended (arith n) = fault unended
 
 -- the bytes of the text that end a login
@@ -236,12 +320,12 @@ behindTilde m b t =
     pick (endsLogin m (span isLoginByte t .1)) (homeOf (span isLoginByte t .0) (length (span isLoginByte t .0))) (byte unescaped b 0)
 
 unfoldable pub itemOf : Sort → Mode → ℕ → ℕ → Text → Item
-unfolding closerLength behindBackslash expansion opened closed behindTilde
+unfolding closerLength behindBackslash expansion opened closed behindTilde listsIn
 itemOf backquote m d b t = fault substitution
 itemOf closes m d b t = stop (closerLength m)
 itemOf operator m d b t = fault bareOperator
 itemOf quotes m d b t = quote single
-itemOf quotes2 m d b t = quote double
+itemOf quotes2 m d b t = quote (double (listsIn m))
 itemOf backslash m d b t = behindBackslash m t
 itemOf dollar m d b t = expansion m d t
 itemOf bad m d b t = fault badSyntax
@@ -259,8 +343,8 @@ item m d (b ∷ t) = itemOf (sort m b) m d b t
 -- the mode in which a text goes on behind its first item
 unfoldable pub onward : Mode → Mode
 onward (word s) = word begun
-onward (bare s) = bare begun
+onward (bare s l) = bare begun l
 onward single = single
-onward double = double
-onward quotedOperand = quotedOperand
+onward (double l) = double l
+onward (quotedOperand l) = quotedOperand l
 onward (arith n) = arith n

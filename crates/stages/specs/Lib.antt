@@ -13,8 +13,9 @@ pub mod Arith  -- "Arithmetic": tokens, the tree of a text, what it comes to
 pub mod Classes  -- E3: the twelve classes that brackets may name
 pub mod Pattern  -- "Patterns": what a pattern's units are, and what it matches
 pub mod Removal  -- the four removals: what remains of a value
-pub mod Expand  -- "Units and expansion": parts to rows, the tilde, the forms
+pub mod Params  -- what is lent to an expansion, what a parameter holds, stores
 pub mod Split  -- "Splitting": a row to the rows of its fields
+pub mod Expand  -- "Units and expansion": parts to rows, the tilde, the forms
 pub mod Paths  -- "Patterns", for paths: the rows of fields to texts
 pub mod Quote  -- "The quoted line"
 pub mod Line  -- a line to its fields, from its length on

@@ -11,7 +11,8 @@ use Rattle.stages.specs.Images.{Pairs, recordBytes}
 use Rattle.stages.specs.Syntax.{Parts, Word}
 use Rattle.stages.specs.Read.{readLine}
 use Rattle.stages.specs.Units.{L}
-use Rattle.stages.specs.Expand.{Lent, expand}
+use Rattle.stages.specs.Params.{Lent}
+use Rattle.stages.specs.Expand.{expand}
 use Rattle.stages.specs.Split.{fieldsOfRow}
 use Rattle.stages.specs.Paths.{textsOfFields}
 

@@ -95,6 +95,10 @@ outputRoom = 21
 abbrev pub badFields : ℕ
 badFields = 22
 
+-- E5: "A malformed or too long list is new refusal 23, place 0, checked after 4."
+abbrev pub badParameters : ℕ
+badParameters = 23
+
 -- "work area below 65,536 bytes"
 abbrev pub workLeast : ℕ
 workLeast = 65536

@@ -10,7 +10,7 @@ use Rattle.stages.specs.Numbers.{bracketClass}
 use Rattle.stages.specs.Bytes.{Text, text, isIn, between}
 use Rattle.stages.specs.Outcome.{Outcome, refused, done, pick}
 use Rattle.stages.specs.Classes.{NamedClass, classes, written}
-use Rattle.stages.specs.Units.{L, E, Q, cell, N, Row}
+use Rattle.stages.specs.Units.{L, E, Q, cell, N, B, Row}
 
 -- a unit as patterns see it: whether it is active, and its byte
 pub record Sign : Type 0 where
@@ -20,13 +20,14 @@ pub record Sign : Type 0 where
 abbrev pub Signs : Type 0
 Signs = List Sign
 
--- "L and E bytes are active, Q bytes stand for themselves, N vanishes."
+-- "L and E bytes are active, Q bytes stand for themselves, N vanishes." Never asked: a break mark, which no field and no removal's operand holds
 unfoldable pub signs : Row → Signs
 signs [] = []
 signs (cell L b ∷ r) = record { live = true; byte = b } ∷ signs r
 signs (cell E b ∷ r) = record { live = true; byte = b } ∷ signs r
 signs (cell Q b ∷ r) = record { live = false; byte = b } ∷ signs r
 signs (N ∷ r) = signs r
+signs (B ∷ r) = signs r
 
 -- the unit is this byte, and active
 abbrev pub isLive : ℕ → Sign → Bool

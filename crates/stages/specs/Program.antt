@@ -38,13 +38,14 @@ pub record Variables : Type 0 where
   pub buffer : Text
   pub varsUsed : ℕ
 
-unfoldable pub givenLine : Text → Text → Text → Variables → Given
-givenLine homes paths line v = record {
+unfoldable pub givenLine : Text → Text → Text → Text → Variables → Given
+givenLine homes paths params line v = record {
   work = replicate workLeast 0;
   vars = v .buffer;
   varsUsed = v .varsUsed;
   homes = homes;
   paths = paths;
+  params = params;
   line = line;
   out = replicate imageLimit 0;
 }
@@ -59,28 +60,32 @@ said a =
     ]
 
 -- "Variables carry over": the variables after a line
-unfoldable pub afterLine : Text → Text → Variables → Text → Variables
+unfoldable pub afterLine : Text → Text → Text → Variables → Text → Variables
 unfolding givenLine normaliser
-afterLine homes paths v l = record { buffer = normaliser (givenLine homes paths l v) .vars; varsUsed = normaliser (givenLine homes paths l v) .varsUsed }
+afterLine homes paths params v l = record {
+  buffer = normaliser (givenLine homes paths params l v) .vars;
+  varsUsed = normaliser (givenLine homes paths params l v) .varsUsed;
+}
 
 -- and after lines, one by one
-unfoldable pub afterLines : Text → Text → Variables → List Text → Variables
+unfoldable pub afterLines : Text → Text → Text → Variables → List Text → Variables
 unfolding afterLine
-afterLines homes paths v [] = v
-afterLines homes paths v (l ∷ ls) = afterLines homes paths (afterLine homes paths v l) ls
+afterLines homes paths params v [] = v
+afterLines homes paths params v (l ∷ ls) = afterLines homes paths params (afterLine homes paths params v l) ls
 
 -- what is said of lines, of each one among the variables after those before it
-unfoldable pub saidOf : Text → Text → Variables → List Text → Text
+unfoldable pub saidOf : Text → Text → Text → Variables → List Text → Text
 unfolding givenLine normaliser said afterLine
-saidOf homes paths v [] = []
-saidOf homes paths v (l ∷ ls) = said (normaliser (givenLine homes paths l v)) ++ saidOf homes paths (afterLine homes paths v l) ls
+saidOf homes paths params v [] = []
+saidOf homes paths params v (l ∷ ls) = said (normaliser (givenLine homes paths params l v)) ++ saidOf homes paths params (afterLine homes paths params v l) ls
 
 -- the variables before the first line, by the file `vars.tab`
 unfoldable pub firstVariables : Option Text → Variables
 unfolding tableOr buffered
 firstVariables vars = record { buffer = buffered (tableOr vars); varsUsed = length (tableOr vars) }
 
--- what the program writes: the files `vars.tab`, `homes.tab`, `paths.tab` where they are there, and standard input
-unfoldable pub program : Option Text → Option Text → Option Text → Text → Text
-unfolding tableOr firstVariables saidOf linesOf
-program vars homes paths input = saidOf (tableOr homes) (tableOr paths) (firstVariables vars) (linesOf input)
+-- what the program writes: the files `vars.tab`, `homes.tab`, `paths.tab` where they are there, its arguments, which are the positional parameters, and
+-- standard input
+unfoldable pub program : Option Text → Option Text → Option Text → List Text → Text → Text
+unfolding tableOr firstVariables saidOf linesOf image
+program vars homes paths arguments input = saidOf (tableOr homes) (tableOr paths) (image arguments) (firstVariables vars) (linesOf input)

@@ -1,4 +1,4 @@
--- Document 01, "Reading a line", and document 02, E1: a text's parts, item by item, and the words of a line.
+-- Document 01, "Reading a line", and document 02, E1 and E5: a text's parts, item by item, and the words of a line.
 use Prim.Native.Nat.{ℕ, suc, _+_, _-_}
 use Prim.Native.Char.{code}
 use mathlib.Core.Bool.{_||_}
@@ -9,8 +9,8 @@ use Rattle.stages.specs.Recur.{fix}
 use Rattle.stages.specs.Numbers.{bareOperator, depthLimit}
 use Rattle.stages.specs.Bytes.{Text, isBlank, isOperator}
 use Rattle.stages.specs.Outcome.{Outcome, refused, done, _>>=_, Placed, refusedAt, doneAt, placedAt, _then_, cases}
-use Rattle.stages.specs.Syntax.{Parts, Mode, Word, plain, unescaped, fresh, word, arith, end, lit, quo, par, len, ari, til}
-use Rattle.stages.specs.Items.{Item, item, fault, stop, byte, paren, quote, valueOf, count, inner, sum, homeOf, onward}
+use Rattle.stages.specs.Syntax.{Parts, Mode, Word, plain, unescaped, fresh, word, arith, end, lit, quo, par, len, lst, ari, til}
+use Rattle.stages.specs.Items.{Item, item, fault, stop, byte, paren, quote, valueOf, count, spread, inner, sum, homeOf, onward}
 
 -- a text's parts, and what is behind the text
 abbrev pub Taken : Type 0
@@ -38,6 +38,7 @@ readItem rec m d t (paren b n) = put (lit unescaped b) (rec (arith n) d (drop 1 
 readItem rec m d t (quote n) = nest quo (rec n d (drop 1 t)) (rec (onward m) d)
 readItem rec m d t (valueOf x k) = put (par x plain end) (rec (onward m) d (drop (suc k) t))
 readItem rec m d t (count x k) = put (len x) (rec (onward m) d (drop (suc k) t))
+readItem rec m d t (spread s k) = put (lst s) (rec (onward m) d (drop (suc k) t))
 readItem rec m d t (inner x f n k) = nest (par x f) (rec n (d - 1) (drop (suc k) t)) (rec (onward m) d)
 readItem rec m d t sum = nest ari (rec (arith 0) (d - 1) (drop 3 t)) (rec (onward m) d)
 readItem rec m d t (homeOf x k) = put (til x) (rec (onward m) d (drop (suc k) t))

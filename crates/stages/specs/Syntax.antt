@@ -1,4 +1,4 @@
--- Document 01, "Reading a line", and document 02, E1: what a word is read as.
+-- Document 01, "Reading a line", and document 02, E1 and E5: what a word is read as.
 use Prim.Native.Nat.{ℕ}
 use Rattle.stages.specs.Bytes.{Text}
 
@@ -24,13 +24,28 @@ pub data Form : Type 0 where
 pub data Escape : Type 0 where
   escaped unescaped : Escape
 
+-- what a parameter is called: a name, or by E5 a number from 1 on
+pub data Param : Type 0 where
+  var : Text → Param
+  nth : ℕ → Param
+
+-- what is counted: the bytes of a parameter's value, or by E5 the positional parameters
+pub data Counted : Type 0 where
+  bytesOf : Param → Counted
+  parameters : Counted
+
+-- E5: how the positional parameters are given, `$@` or `$*`
+pub data Spread : Type 0 where
+  apart joint : Spread
+
 -- A text is a row of parts; each constructor has the rest of the row last.
 pub data Parts : Type 0 where
   end : Parts
   lit : Escape → ℕ → Parts → Parts  -- a byte that stands for itself
   quo : Parts → Parts → Parts  -- '...' or "..."
-  par : Text → Form → Parts → Parts → Parts  -- $name, ${name}, ${name FORM operand}
-  len : Text → Parts → Parts  -- ${#name}
+  par : Param → Form → Parts → Parts → Parts  -- $name, ${name}, ${name FORM operand}
+  len : Counted → Parts → Parts  -- ${#name}, $#
+  lst : Spread → Parts → Parts  -- $@, $*
   ari : Parts → Parts → Parts  -- $((...))
   til : Text → Parts → Parts  -- ~login
 
@@ -38,11 +53,17 @@ pub data Parts : Type 0 where
 pub data Start : Type 0 where
   fresh begun : Start
 
+-- E5: whether `$@` and `$*` may stand in a text: "At any depth in operands of `=`, `?`, of removals and in arithmetic, `$@` and `$*` stay 10"
+pub data Lists : Type 0 where
+  served barred : Lists
+
 -- where a text stands: a word of the line, an operand read as bare text, '...', "...", an operand read as double-quoted text,
 -- arithmetic with so many open parentheses
 pub data Mode : Type 0 where
-  word bare : Start → Mode
-  single double quotedOperand : Mode
+  word : Start → Mode
+  bare : Start → Lists → Mode
+  single : Mode
+  double quotedOperand : Lists → Mode
   arith : ℕ → Mode
 
 -- a word of the line, and the offset of its first byte

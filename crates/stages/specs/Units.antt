@@ -13,10 +13,10 @@ use Rattle.stages.specs.Syntax.{Escape, escaped, unescaped}
 pub data Mark : Type 0 where
   L E Q : Mark
 
--- "Each is a byte marked .. or the empty mark N."
+-- 01: "Each is a byte marked .. or the empty mark N."; E5: "The row gains a break mark"
 pub data Cell : Type 0 where
   cell : Mark → ℕ → Cell
-  N : Cell
+  N B : Cell
 
 -- "A word becomes a row of units."
 abbrev pub Row : Type 0
@@ -31,6 +31,7 @@ unfoldable pub bytes : Row → Text
 bytes [] = []
 bytes (cell m b ∷ r) = b ∷ bytes r
 bytes (N ∷ r) = bytes r
+bytes (B ∷ r) = bytes r
 
 -- the mark of what is expanded where literal bytes have the mark m: "within double quotes everything is Q"
 abbrev pub expandedMark : Mark → Mark
