@@ -11,7 +11,7 @@ use borrow.Author.Tests.{eqb-true}
 use Rattle.stages.specs.Numbers.{bracketClass}
 use Rattle.stages.specs.Outcome.{refused, done, pick}
 use Rattle.stages.specs.Bytes.{Text}
-use Rattle.stages.specs.Units.{L, E, Q, cell, N, Row, bytes}
+use Rattle.stages.specs.Units.{L, E, Q, cell, N, B, Row, bytes}
 use Rattle.stages.specs.Pattern.{Sign, Signs, signs, hasClass, elements, Purpose, isForPaths, pattern}
 use Rattle.stages.proofs.Bools.{either}
 use Rattle.text.proofs.Rows.{rowOf-rowBytes}
@@ -22,15 +22,16 @@ use Rattle.pattern_row.specs.Kept.{withoutEmpty, kept, NoEmpty, Dropped}
 -- the first unit of a row stays if its mark is that of a byte
 kept-first : (b m : ℕ) (t : Text) → kept (b ∷ m ∷ t) ≡ pick (isMark m) (b ∷ m ∷ kept t) (kept t)
 unfolding kept withoutEmpty rowBytes rowOf unitOf
-kept-first b m t = go (eqb m 1) (eqb m 2) (eqb m 3) (λ e. eqb-true m 1 e) (λ e. eqb-true m 2 e) (λ e. eqb-true m 3 e)
+kept-first b m t = go (eqb m 1) (eqb m 2) (eqb m 3) (eqb m 4) (λ e. eqb-true m 1 e) (λ e. eqb-true m 2 e) (λ e. eqb-true m 3 e)
   where
-    go : (x y z : Bool) → (x ≡ true → m ≡ 1) → (y ≡ true → m ≡ 2) → (z ≡ true → m ≡ 3)
-        → rowBytes (withoutEmpty (pick x (cell L b) (pick y (cell E b) (pick z (cell Q b) N)) ∷ rowOf t)) ≡ pick (x || (y || z))
+    go : (x y z w : Bool) → (x ≡ true → m ≡ 1) → (y ≡ true → m ≡ 2) → (z ≡ true → m ≡ 3)
+        → rowBytes (withoutEmpty (pick x (cell L b) (pick y (cell E b) (pick z (cell Q b) (pick w B N))) ∷ rowOf t)) ≡ pick (x || (y || z))
         (b ∷ m ∷ kept t) (kept t)
-    go true y z e f g = ap (λ (n : ℕ). b ∷ n ∷ kept t) (sym (e refl))
-    go false true z e f g = ap (λ (n : ℕ). b ∷ n ∷ kept t) (sym (f refl))
-    go false false true e f g = ap (λ (n : ℕ). b ∷ n ∷ kept t) (sym (g refl))
-    go false false false e f g = refl
+    go true y z w e f g = ap (λ (n : ℕ). b ∷ n ∷ kept t) (sym (e refl))
+    go false true z w e f g = ap (λ (n : ℕ). b ∷ n ∷ kept t) (sym (f refl))
+    go false false true w e f g = ap (λ (n : ℕ). b ∷ n ∷ kept t) (sym (g refl))
+    go false false false true e f g = refl
+    go false false false false e f g = refl
 
 kept-few : (t : Text) → length t ≤ 1 → kept t ≡ []
 unfolding kept withoutEmpty rowBytes rowOf
@@ -135,14 +136,15 @@ unfolding signsOf signs rowOf
 kept-signs [] = ap signsOf (kept-few [] (omega arith))
 kept-signs (b ∷ []) = ap signsOf (kept-few (b ∷ []) (omega arith))
 kept-signs (b ∷ m ∷ t) =
-    ap signsOf (kept-first b m t) ∙ go (eqb m 1) (eqb m 2) (eqb m 3) (λ e. eqb-true m 1 e) (λ e. eqb-true m 2 e) (λ e. eqb-true m 3 e) (kept-signs t)
+    ap signsOf (kept-first b m t) ∙ go (eqb m 1) (eqb m 2) (eqb m 3) (eqb m 4) (λ e. eqb-true m 1 e) (λ e. eqb-true m 2 e) (λ e. eqb-true m 3 e) (kept-signs t)
   where
-    go : (x y z : Bool) → (x ≡ true → m ≡ 1) → (y ≡ true → m ≡ 2) → (z ≡ true → m ≡ 3) → signsOf (kept t) ≡ signs (rowOf t)
-        → signsOf (pick (x || (y || z)) (b ∷ m ∷ kept t) (kept t)) ≡ signs (pick x (cell L b) (pick y (cell E b) (pick z (cell Q b) N)) ∷ rowOf t)
-    go true y z e f g h = rw (e refl, h)
-    go false true z e f g h = rw (f refl, h)
-    go false false true e f g h = rw (g refl, h)
-    go false false false e f g h = h
+    go : (x y z w : Bool) → (x ≡ true → m ≡ 1) → (y ≡ true → m ≡ 2) → (z ≡ true → m ≡ 3) → signsOf (kept t) ≡ signs (rowOf t)
+        → signsOf (pick (x || (y || z)) (b ∷ m ∷ kept t) (kept t)) ≡ signs (pick x (cell L b) (pick y (cell E b) (pick z (cell Q b) (pick w B N))) ∷ rowOf t)
+    go true y z w e f g h = rw (e refl, h)
+    go false true z w e f g h = rw (f refl, h)
+    go false false true w e f g h = rw (g refl, h)
+    go false false false true e f g h = h
+    go false false false false e f g h = h
 
 -- what is kept is a row without its N, which neither patterns nor the row's bytes see
 kept-row : (t : Text) → rowOf (kept t) ≡ withoutEmpty (rowOf t)
@@ -156,12 +158,14 @@ signs-without (cell L b ∷ r) = ap (λ (s : Signs). record { live = true; byte 
 signs-without (cell E b ∷ r) = ap (λ (s : Signs). record { live = true; byte = b } ∷ s) (signs-without r)
 signs-without (cell Q b ∷ r) = ap (λ (s : Signs). record { live = false; byte = b } ∷ s) (signs-without r)
 signs-without (N ∷ r) = signs-without r
+signs-without (B ∷ r) = signs-without r
 
 bytes-without : (r : Row) → bytes (withoutEmpty r) ≡ bytes r
 unfolding bytes withoutEmpty
 bytes-without [] = refl
 bytes-without (cell m b ∷ r) = ap (λ (t : Text). b ∷ t) (bytes-without r)
 bytes-without (N ∷ r) = bytes-without r
+bytes-without (B ∷ r) = bytes-without r
 
 kept-row-signs : (t : Text) → signs (rowOf (kept t)) ≡ signs (rowOf t)
 kept-row-signs t = ap signs (kept-row t) ∙ signs-without (rowOf t)

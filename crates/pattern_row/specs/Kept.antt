@@ -1,18 +1,19 @@
--- A row without its N units: what the first pass over a pattern leaves.
+-- A row without the units that are no bytes: what the first pass over a pattern leaves.
 use Prim.Native.Nat.{ℕ}
 use mathlib.Core.Path.{_≡_}
 use mathlib.Core.List.{[], _∷_, _++_}
 use lib.ListN.{length, drop}
 use Rattle.stages.specs.Bytes.{Text}
-use Rattle.stages.specs.Units.{cell, N, Row}
+use Rattle.stages.specs.Units.{cell, N, B, Row}
 use Rattle.stages.specs.Pattern.{signs}
 use Rattle.text.specs.Rows.{rowBytes, rowOf, signsOf}
 
--- "N vanishes"
+-- "N vanishes", and a break mark likewise, of which none comes to a pattern
 unfoldable pub withoutEmpty : Row → Row
 withoutEmpty [] = []
 withoutEmpty (cell m b ∷ r) = cell m b ∷ withoutEmpty r
 withoutEmpty (N ∷ r) = withoutEmpty r
+withoutEmpty (B ∷ r) = withoutEmpty r
 
 -- the bytes of a row's units that stay
 unfoldable pub kept : Text → Text

@@ -10,7 +10,7 @@ use lib.ListN.{length, take, drop, getD, set, length-append, length-drop}
 use lib.Seq.{drop-cons}
 use Rattle.stages.specs.Bytes.{Text}
 use Rattle.stages.specs.Outcome.{pick}
-use Rattle.stages.specs.Units.{Mark, L, E, Q, cell, N, Row, marked, bytes}
+use Rattle.stages.specs.Units.{Mark, L, E, Q, cell, N, B, Row, marked, bytes}
 use Rattle.stages.proofs.Bools.{no}
 use Rattle.text.specs.Rows.{markByte, isMark, rowBytes, rowOf, unitOf}
 use Rattle.row.specs.Stands.{fronted, Stripped}
@@ -72,23 +72,24 @@ front-length t s l = simp (length-append, length-drop) (omega arith)
 -- what a unit adds to the bytes of its row
 unit-bytes : (b m : ℕ) (r : Row) → isMark m ≡ true → bytes (unitOf b m ∷ r) ≡ b ∷ bytes r
 unfolding bytes unitOf
-unit-bytes b m r e = go (eqb m 1) (eqb m 2) (eqb m 3) e
+unit-bytes b m r e = go (eqb m 1) (eqb m 2) (eqb m 3) (eqb m 4) e
   where
-    go : (x y z : Bool) → (x || (y || z)) ≡ true → bytes (pick x (cell L b) (pick y (cell E b) (pick z (cell Q b) N)) ∷ r) ≡ b ∷ bytes r
-    go true y z e = refl
-    go false true z e = refl
-    go false false true e = refl
-    go false false false e = absurd (no e)
+    go : (x y z w : Bool) → (x || (y || z)) ≡ true → bytes (pick x (cell L b) (pick y (cell E b) (pick z (cell Q b) (pick w B N))) ∷ r) ≡ b ∷ bytes r
+    go true y z w e = refl
+    go false true z w e = refl
+    go false false true w e = refl
+    go false false false w e = absurd (no e)
 
 empty-bytes : (b m : ℕ) (r : Row) → isMark m ≡ false → bytes (unitOf b m ∷ r) ≡ bytes r
 unfolding bytes unitOf
-empty-bytes b m r e = go (eqb m 1) (eqb m 2) (eqb m 3) e
+empty-bytes b m r e = go (eqb m 1) (eqb m 2) (eqb m 3) (eqb m 4) e
   where
-    go : (x y z : Bool) → (x || (y || z)) ≡ false → bytes (pick x (cell L b) (pick y (cell E b) (pick z (cell Q b) N)) ∷ r) ≡ bytes r
-    go true y z e = absurd (no (sym e))
-    go false true z e = absurd (no (sym e))
-    go false false true e = absurd (no (sym e))
-    go false false false e = refl
+    go : (x y z w : Bool) → (x || (y || z)) ≡ false → bytes (pick x (cell L b) (pick y (cell E b) (pick z (cell Q b) (pick w B N))) ∷ r) ≡ bytes r
+    go true y z w e = absurd (no (sym e))
+    go false true z w e = absurd (no (sym e))
+    go false false true w e = absurd (no (sym e))
+    go false false false true e = refl
+    go false false false false e = refl
 
 -- the walk: `kept` bytes stand at the front of the row, and i bytes of it are passed
 pub record Stripping (row₀ row : Text) (kept i : ℕ) : Type 0 where

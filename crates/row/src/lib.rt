@@ -1,9 +1,10 @@
-// Rows of units in lent bytes. A unit is two bytes, its byte and behind it its mark; the empty mark N is two zeros.
+// Rows of units in lent bytes. A unit is two bytes, its byte and behind it its mark; the empty mark N is two zeros, the break mark B a zero and
+// its own mark.
 ghost use mathlib.Core.Path.{_≡_};
 ghost use mathlib.Core.List.{_∷_, []};
 ghost use Prim.Native.Nat.{_*_, _≤_};
 ghost use lib.ListN.{length};
-ghost use Rattle.stages.specs.Units.{cell, N, marked, bytes, expandedMark, litMark};
+ghost use Rattle.stages.specs.Units.{cell, N, B, marked, bytes, expandedMark, litMark};
 ghost use Rattle.text.specs.Cases.{escapeOf};
 ghost use Rattle.text.specs.Rows.{markByte, rowBytes};
 ghost use Rattle.row.specs.Marks.{markOf};
@@ -70,6 +71,15 @@ pub fn put_empty(area: &mut [u8])
     area[1] = 0;
 }
 
+// Puts the break mark at the front.
+pub fn put_break(area: &mut [u8])
+    requires { ⌜ 2 ≤ length (now area) ⌝ }
+    ensures { λ _. ⌜ now (area .exit) ≡ fronted (rowBytes (B ∷ [])) (now (area .entry)) ⌝ }
+{
+    area[0] = 0;
+    area[1] = marks::BREAK;
+}
+
 // Puts the bytes of a text at the front, each with the mark.
 pub fn put_marked(text: &[u8], mark: Mark, area: &mut [u8])
     requires { ⌜ 2 * length (now text) ≤ length (now area) ⌝ }
@@ -84,7 +94,7 @@ pub fn put_marked(text: &[u8], mark: Mark, area: &mut [u8])
     }
 }
 
-// Leaves the bytes of a row at its front, N vanished and the marks gone, and answers how many they are. An odd last byte counts for nothing.
+// Leaves the bytes of a row at its front, N and B vanished and the marks gone, and answers how many they are. An odd last byte counts for nothing.
 pub fn strip_marks(row: &mut [u8]) -> usize
     ensures { λ r. ⌜ Stripped (now (row .entry)) (now (row .exit)) r ⌝ }
 {

@@ -7,7 +7,6 @@ use mathlib.Core.Option.{Option, none, some}
 use lib.ListN.{length}
 use Rattle.stages.specs.Bytes.{Text, part}
 use Rattle.stages.specs.Images.{lookup, held, orEmpty}
-use Rattle.stages.specs.Expand.{value}
 use Rattle.table.specs.Places.{placeOf, spotBy, spotIn, foundBy, foundIn, Hole, Holds, Rooms, known, fresh, Placed, Shown, shown, absent, Looked}
 use Rattle.table.specs.declared.Spot.{Spot}
 use Rattle.table.specs.declared.Spot.the-variants.{Known, Fresh}
@@ -40,12 +39,10 @@ module _ {t key : Text} {r : Found} (s : Looked t key r) where
   pub is-absent : r ≡ Missing → lookup key (held t) ≡ none
   is-absent e = absent-of (rw e at (s .shows))
 
-  pub shown-value : (start end : ℕ) → r ≡ At start end → part t start end ≡ value (held t) key
-  unfolding value
+  pub shown-value : (start end : ℕ) → r ≡ At start end → part t start end ≡ orEmpty (lookup key (held t))
   shown-value start end e = sym (ap orEmpty (is-shown start end e .gets))
 
-  pub absent-value : r ≡ Missing → _≡_ {A = Text} [] (value (held t) key)
-  unfolding value
+  pub absent-value : r ≡ Missing → _≡_ {A = Text} [] (orEmpty (lookup key (held t)))
   absent-value e = sym (ap orEmpty (is-absent e))
 
 spot-found : (key : Text) (p : ℕ) (o : Option Text) (at mid end : ℕ) → Known at mid end ≡ spotBy key p o → At (mid + 2) end ≡ foundBy

@@ -7,11 +7,15 @@ use mathlib.Core.Option.{Option, none, some}
 use lib.ListN.{length, take, drop}
 use Rattle.stages.specs.Bytes.{Text, part, eqText, ltText}
 use Rattle.stages.specs.Outcome.{pick}
-use Rattle.stages.specs.Images.{Pairs, texts, pairsOf, keys, rising, flat, written, image, imageLength, lookup, held}
+use Rattle.stages.specs.Images.{Pairs, texts, pairsOf, keys, rising, flat, written, image, imageLength, lookup, held, heldTexts}
 use Rattle.table.specs.declared.Spot.{Spot}
 use Rattle.table.specs.declared.Spot.the-variants.{Known, Fresh}
 use Rattle.table.specs.declared.Found.{Found}
 use Rattle.table.specs.declared.Found.the-variants.{At, Missing}
+
+-- the bytes are an image of texts: those that it holds
+abbrev pub Listed : Text → Type 0
+Listed t = texts t ≡ some (heldTexts t)
 
 -- an image of pairs in rising order of their keys: variables or homes
 pub record Table (t : Text) : Type 0 where

@@ -1,3 +1,4 @@
 pub mod Frames
 pub mod Spots
+pub mod Numbering
 pub mod Determined

@@ -14,7 +14,7 @@ use Rattle.stages.specs.Numbers.{variableRoom, outputRoom, imageLimit}
 use Rattle.stages.specs.Bytes.{Text, all, notZero, eqText}
 use Rattle.stages.specs.Outcome.{Outcome, refused, done}
 use Rattle.stages.specs.Images.{Pairs, isName, framed, written, image, imageLength, flat, lookup, stored, held}
-use Rattle.stages.specs.Expand.{store}
+use Rattle.stages.specs.Params.{store}
 use Rattle.stages.specs.Call.{over}
 use Rattle.stages.proofs.Bools.{and-left, and-right}
 use Rattle.stages.proofs.Images.{length-image}

@@ -12,7 +12,7 @@ use Rattle.stages.specs.Numbers.{variableRoom, imageLimit}
 use Rattle.stages.specs.Bytes.{Text, part}
 use Rattle.stages.specs.Outcome.{Outcome, refused, done, pick}
 use Rattle.stages.specs.Images.{Pairs, framed, written, image, imageLength, flat, stored, held}
-use Rattle.stages.specs.Expand.{store}
+use Rattle.stages.specs.Params.{store}
 use Rattle.stages.proofs.Bools.{and-both}
 use Rattle.stages.proofs.Images.{written-append, flat-append, length-image}
 use Rattle.table.specs.Places.{Hole, before, behind}

@@ -9,7 +9,7 @@ use Rattle.stages.specs.Numbers.{variableRoom, outputRoom}
 use Rattle.stages.specs.Bytes.{Text}
 use Rattle.stages.specs.Outcome.{Outcome, refused, done, _>>=_, pick}
 use Rattle.stages.specs.Images.{Pairs, framed, image, flat}
-use Rattle.stages.specs.Expand.{store}
+use Rattle.stages.specs.Params.{store}
 use Rattle.stages.specs.Call.{over}
 use Rattle.table_store.specs.declared.Put.{Put}
 use Rattle.table_store.specs.declared.Put.the-variants.{Len, NoRoom}

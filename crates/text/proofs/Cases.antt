@@ -3,7 +3,8 @@ use mathlib.Core.Path.{_≡_, refl}
 use mathlib.Core.Bool.{Bool, true, false}
 use Rattle.stages.specs.Syntax.{Escape, escaped, unescaped}
 use Rattle.stages.specs.Pattern.{isForPaths}
-use Rattle.text.specs.Cases.{escapeOf, isEscaped, colonOf, hasColon, reachOf, isLongest, purposeOf, startOf, isFresh}
+use Rattle.text.specs.Cases.{escapeOf, isEscaped, colonOf, hasColon, reachOf, isLongest, purposeOf, startOf, isFresh, spreadOf, isApart, listsOf}
+use Rattle.text.specs.Cases.{isServed}
 
 pub escape-back : (b : Bool) → b ≡ isEscaped (escapeOf b)
 escape-back true = refl
@@ -28,3 +29,11 @@ purpose-back false = refl
 pub start-back : (b : Bool) → b ≡ isFresh (startOf b)
 start-back true = refl
 start-back false = refl
+
+pub spread-back : (b : Bool) → b ≡ isApart (spreadOf b)
+spread-back true = refl
+spread-back false = refl
+
+pub lists-back : (b : Bool) → b ≡ isServed (listsOf b)
+lists-back true = refl
+lists-back false = refl

@@ -1,6 +1,7 @@
 -- The two-case types of the stages by the Booleans of the code, and back.
 use mathlib.Core.Bool.{Bool, true, false}
 use Rattle.stages.specs.Syntax.{Escape, escaped, unescaped, Colon, withColon, noColon, Side, suffix, prefix, Reach, shortest, longest, Start, fresh, begun}
+use Rattle.stages.specs.Syntax.{Spread, apart, joint, Lists, served, barred}
 use Rattle.stages.specs.Pattern.{Purpose, forPaths, forRemoval}
 
 -- whether a backslash quotes a byte
@@ -52,3 +53,21 @@ startOf false = begun
 abbrev pub isFresh : Start → Bool
 isFresh fresh = true
 isFresh begun = false
+
+-- whether the positional parameters are given by `$@`
+abbrev pub spreadOf : Bool → Spread
+spreadOf true = apart
+spreadOf false = joint
+
+abbrev pub isApart : Spread → Bool
+isApart apart = true
+isApart joint = false
+
+-- whether `$@` and `$*` may stand in a text
+abbrev pub listsOf : Bool → Lists
+listsOf true = served
+listsOf false = barred
+
+abbrev pub isServed : Lists → Bool
+isServed served = true
+isServed barred = false

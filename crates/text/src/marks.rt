@@ -1,4 +1,4 @@
-// The byte that stands for a unit's mark, behind the unit's own byte; 0 for the empty mark N.
+// The byte that stands for a unit's mark, behind the unit's own byte; 0 for the empty mark N, whose own byte and that of the break mark are 0.
 ghost use mathlib.Core.Path.{_≡_};
 ghost use Rattle.text.specs.Rows.{isMark};
 
@@ -11,7 +11,10 @@ pub const EXPANDED: u8 = 2;
 // Q
 pub const QUOTED: u8 = 3;
 
-// Whether a byte stands for a mark; what does not stands for N.
+// B, "a break mark"
+pub const BREAK: u8 = 4;
+
+// Whether a byte stands for the mark of a unit that is a byte: no other unit has a byte of its own.
 pub fn is_mark(b: u8) -> bool
     ensures { λ r. ⌜ r ≡ isMark b ⌝ }
 {

@@ -1,4 +1,4 @@
-// Document 01's numbers and limits, each under one name: what a call answers by, and what its texts, rows and images may come to.
+// The numbers and limits of documents 01 and 02, each under one name: what a call answers by, and what its texts, rows and images may come to.
 
 // "accepted, place 0"
 pub const ACCEPTED: u8 = 0;
@@ -68,6 +68,9 @@ pub const REFUSED_OUTPUT: u8 = 21;
 
 // "fields image malformed or too long"
 pub const REFUSED_FIELDS: u8 = 22;
+
+// "A malformed or too long list" of positional parameters
+pub const REFUSED_PARAMETERS: u8 = 23;
 
 // "work area below 65,536 bytes"
 pub const WORK_LEAST: usize = 65536;
