@@ -1,3 +1,4 @@
 pub mod Showing
 pub mod Names
+pub mod Braces
 pub mod Determined

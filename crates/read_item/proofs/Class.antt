@@ -3,19 +3,17 @@ use Prim.Native.Nat.{ℕ, zero, suc, _+_, _-_, _≤_, _<_}
 use native.Mathlib.Omega.{arith}
 use native.Mathlib.Numerals.{add-one}
 use mathlib.Core.Path.{_≡_, refl, sym, ap, _∙_, subst}
-use mathlib.Core.Bool.{true, false}
+use mathlib.Core.Bool.{Bool, true, false}
 use mathlib.Core.List.{[], _∷_}
 use borrow.Author.Tests.{eq-eqb, ne-eqb}
 use lib.ListN.{length, drop, getD, drop-of-length-le}
 use lib.Seq.{drop-cons}
-use Rattle.stages.specs.Numbers.{unended, bareOperator, substitution, unserved, badSyntax, tooDeep}
-use Rattle.stages.specs.Bytes.{Text, part, isNameStart}
-use Rattle.stages.specs.Syntax.{escaped, unescaped, Mode, arith as sums}
-use Rattle.stages.specs.Items.{Item, fault, stop, paren, valueOf, sum, item, itemOf, ended, behindBackslash, quotable}
-use Rattle.stages.specs.Items.{wrong, expansion, notServed, parenthesis, braced, opened, closed, outer}
-use Rattle.text.specs.Classes.{Runs}
-use Rattle.text.specs.declared.Class.the-variants.{NameByte}
-use Rattle.text.proofs.Parts.{part-length}
+use Rattle.stages.specs.Numbers.{unended, bareOperator, substitution, badSyntax, tooDeep}
+use Rattle.stages.specs.Bytes.{Text}
+use Rattle.stages.specs.Syntax.{escaped, unescaped, Lists, double, Mode, arith as sums}
+use Rattle.stages.specs.Items.{Item, fault, stop, paren, quote, sum, item, itemOf, ended, behindBackslash, quotable, listsIn}
+use Rattle.stages.specs.Items.{wrong, expansion, parenthesis, opened, closed, outer}
+use Rattle.text.specs.Cases.{listsOf}
 use Rattle.read_mode.specs.Modes.{modeOf, openIn, sortOf, Sorted}
 use Rattle.read_mode.specs.declared.Cursor.{Cursor}
 use Rattle.read_mode.specs.declared.Mode as code-mode
@@ -24,8 +22,8 @@ use Rattle.read_mode.specs.declared.Sort.{Sort}
 use Rattle.read_mode.specs.declared.Sort.the-variants as sort-of
 use Rattle.read_brace.specs.Shows.{Shows, isAt}
 use Rattle.read_brace.specs.declared.Item as code-item
-use Rattle.read_brace.specs.declared.Item.the-variants.{Fault, Stop, Byte, Paren, Quote, Value, Sum}
-use Rattle.read_brace.proofs.Showing.{same-item, shows-byte, shows-value, shows-stop, plain-name, at-within}
+use Rattle.read_brace.specs.declared.Item.the-variants.{Fault, Stop, Byte, Paren, Quote, Sum}
+use Rattle.read_brace.proofs.Showing.{same-item, shows-byte, shows-stop, at-within}
 use Rattle.read_item.specs.After.{ItemAt}
 use Rattle.read_item.proofs.Tildes.{Looks}
 
@@ -63,7 +61,7 @@ module _ {s : Text} {from : Cursor} (h : Second s from) where
 
 -- After `$(`.
 
-abbrev Parens : Text → Cursor → code-item.Item → Type 0
+abbrev pub Parens : Text → Cursor → code-item.Item → Type 0
 Parens s from r = Shows s (from .at) (from .depth) r (parenthesis (from .depth) (drop (from .at + 2) s))
 
 other : (d : ℕ) (t : Text) → isAt 40 t ≡ false → parenthesis d t ≡ fault substitution
@@ -96,67 +94,6 @@ module _ (s : Text) (from : Cursor) where
     paren-opens z =
         let w = at-within 40 (from .at + 2) s e in
         (opens (from .depth) (drop (from .at + 2) s) e z, refl, omega arith, omega (arith, z))
-
--- After `$`.
-
-abbrev Expands : Text → Cursor → code-item.Item → Type 0
-Expands s from r = Shows s (from .at) (from .depth) r (expansion (modeOf (from .mode)) (from .depth) (drop (from .at + 1) s))
-
--- no name stands after the `$`
-pub record NoName (s : Text) (from : Cursor) : Type 0 where
-  pub second : Second s from
-  pub none : isNameStart (getD s (from .at + 1) 0) ≡ false
-
-module _ (s : Text) (from : Cursor) where
-  top : from .at + 1 < length s
-      → expansion (modeOf (from .mode)) (from .depth) (drop (from .at + 1) s)
-      ≡ expansion (modeOf (from .mode)) (from .depth) (getD s (from .at + 1) 0 ∷ drop (suc (from .at + 1)) s)
-  top l = ap (expansion (modeOf (from .mode)) (from .depth)) (drop-cons s (from .at + 1) 0 l)
-
-  two : suc (from .at + 1) ≡ from .at + 2
-  two = omega arith
-
-  pub dollar-end : from .at < length s → length s ≤ from .at + 1 → Expands s from (Byte false 36 (from .at + 1))
-  unfolding expansion
-  dollar-end w l =
-      shows-byte s (from .at) (from .depth) (from .at + 1) 0 (omega arith) (omega arith) unescaped 36
-      (ap (expansion (modeOf (from .mode)) (from .depth)) (drop-of-length-le s l))
-
-pub dollar-name : {s : Text} {from : Cursor} → Second s from → isNameStart (getD s (from .at + 1) 0) ≡ true → (to : ℕ)
-    → Runs s (from .at + 1) NameByte to → Expands s from (Value (from .at + 1) to to)
-unfolding expansion
-dollar-name {s = s} {from = from} h e to r =
-    let l = h .there in
-    shows-value s (from .at) (from .depth) to (to - (from .at + 1)) (omega (arith, r .onward)) (r .within) (from .at + 1) to (r .onward) (r .within)
-    (plain-name (from .at) to (r .onward))
-    (top s from l
-    ∙ rw e
-    (rw (← drop-cons s (from .at + 1) 0 l)
-    (ap (λ (p : Text × Text). valueOf (p .0) (length (p .0))) (r .is) ∙ ap (valueOf (part s (from .at + 1) to))
-    (part-length s (from .at + 1) to (r .onward) (r .within)))))
-
-module _ {s : Text} {from : Cursor} (h : NoName s from) where
-  pub dollar-paren : getD s (from .at + 1) 0 ≡ 40 → (r : code-item.Item) → Parens s from r → Expands s from r
-  unfolding expansion
-  dollar-paren f r q = same-item s (from .at) (from .depth) r (top s from (h .second .there) ∙ rw (h .none, eq-eqb _ _ f) (rw (two s from))) q
-
-  module _ (f : getD s (from .at + 1) 0 ≡ 40 → ⊥) where
-    pub dollar-brace : getD s (from .at + 1) 0 ≡ 123 → (r : code-item.Item)
-        → Shows s (from .at) (from .depth) r (braced (modeOf (from .mode)) (from .depth) (drop (from .at + 2) s)) → Expands s from r
-    unfolding expansion
-    dollar-brace g r q =
-        same-item s (from .at) (from .depth) r (top s from (h .second .there) ∙ rw (h .none, ne-eqb _ _ f, eq-eqb _ _ g) (rw (two s from))) q
-
-    module _ (g : getD s (from .at + 1) 0 ≡ 123 → ⊥) where
-      pub dollar-other : notServed (modeOf (from .mode)) (getD s (from .at + 1) 0) ≡ true → Expands s from (Fault unserved)
-      unfolding expansion
-      dollar-other k = top s from (h .second .there) ∙ rw (h .none, ne-eqb _ _ f, ne-eqb _ _ g, k)
-
-      pub dollar-plain : notServed (modeOf (from .mode)) (getD s (from .at + 1) 0) ≡ false → Expands s from (Byte false 36 (from .at + 1))
-      unfolding expansion
-      dollar-plain k =
-          shows-byte s (from .at) (from .depth) (from .at + 1) 0 (omega arith) (omega (arith, h .second .there)) unescaped 36
-          (top s from (h .second .there) ∙ rw (h .none, ne-eqb _ _ f, ne-eqb _ _ g, k))
 
 -- After a `)` of arithmetic.
 
@@ -201,10 +138,10 @@ item-end s from l e = ap (item (modeOf (from .mode)) (from .depth)) (drop-of-len
 
 open-is : (m : code-mode.Mode) (n : ℕ) → modeOf m ≡ sums n → openIn m ≡ n
 open-is (mode.Word f) n e = absurd (let z : _≡_ {A = ℕ} 0 1 = cc in omega arith)
-open-is (mode.Bare f) n e = absurd (let z : _≡_ {A = ℕ} 0 1 = cc in omega arith)
+open-is (mode.Bare f l) n e = absurd (let z : _≡_ {A = ℕ} 0 1 = cc in omega arith)
 open-is mode.Single n e = absurd (let z : _≡_ {A = ℕ} 0 1 = cc in omega arith)
-open-is mode.Double n e = absurd (let z : _≡_ {A = ℕ} 0 1 = cc in omega arith)
-open-is mode.Operand n e = absurd (let z : _≡_ {A = ℕ} 0 1 = cc in omega arith)
+open-is (mode.Double l) n e = absurd (let z : _≡_ {A = ℕ} 0 1 = cc in omega arith)
+open-is (mode.Operand l) n e = absurd (let z : _≡_ {A = ℕ} 0 1 = cc in omega arith)
 open-is (mode.Arith k) n e = cc
 
 -- a byte stands where the text is read, and this is its sort
@@ -244,15 +181,16 @@ module _ {s : Text} {from : Cursor} {r : Sort} (h : Sees s from r) where
   unfolding itemOf
   item-quotes e = (by-sort e, h .there, refl)
 
-  pub item-quotes2 : r ≡ sort-of.Quotes2 → ItemAt s from (Quote mode.Double)
+  pub item-quotes2 : r ≡ sort-of.Quotes2 → (l : Bool) → listsOf l ≡ listsIn (modeOf (from .mode)) → ItemAt s from (Quote (mode.Double l))
   unfolding itemOf
-  item-quotes2 e = (by-sort e, h .there, refl)
+  item-quotes2 e l g = (by-sort e ∙ ap (λ (x : Lists). quote (double x)) (sym g), h .there, refl)
 
   pub item-backslash : r ≡ sort-of.Backslash → (i : code-item.Item) → Escapes s from i → ItemAt s from i
   unfolding itemOf
   item-backslash e i q = same-item s (from .at) (from .depth) i (by-sort e) q
 
-  pub item-dollar : r ≡ sort-of.Dollar → (i : code-item.Item) → Expands s from i → ItemAt s from i
+  pub item-dollar : r ≡ sort-of.Dollar → (i : code-item.Item)
+      → Shows s (from .at) (from .depth) i (expansion (modeOf (from .mode)) (from .depth) (drop (from .at + 1) s)) → ItemAt s from i
   unfolding itemOf
   item-dollar e i q = same-item s (from .at) (from .depth) i (by-sort e) q
 

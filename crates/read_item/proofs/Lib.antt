@@ -2,3 +2,4 @@ pub mod After
 pub mod Tildes
 pub mod Class
 pub mod Determined
+pub mod Dollars

@@ -1,19 +1,36 @@
 -- The item where a text is read, and what comes after it.
+use Prim.Native.Nat.{ℕ, _-_}
+use Prim.Native.Char.{code}
 use mathlib.Core.Bool.{Bool, true, false}
+use lib.Dec.{eqb}
 use lib.ListN.{drop}
-use Rattle.stages.specs.Bytes.{Text}
-use Rattle.stages.specs.Items.{item}
+use Rattle.stages.specs.Numbers.{unserved}
+use Rattle.stages.specs.Bytes.{Text, text, isIn}
+use Rattle.stages.specs.Outcome.{pick}
+use Rattle.stages.specs.Syntax.{unescaped, nth, parameters}
+use Rattle.stages.specs.Syntax as syntax
+use Rattle.stages.specs.Items.{item, fault, byte, valueOf, count, isFirstDigit, listsIn, spreadAt, notServed}
+use Rattle.stages.specs.Items as items
 use Rattle.read_mode.specs.Modes.{modeOf, modeOnward}
 use Rattle.read_mode.specs.declared.Cursor.{Cursor}
 use Rattle.read_mode.specs.declared.Mode.{Mode}
 use Rattle.read_mode.specs.declared.Mode.the-variants.{Arith}
 use Rattle.read_brace.specs.Shows.{Shows}
 use Rattle.read_brace.specs.declared.Item.{Item}
-use Rattle.read_brace.specs.declared.Item.the-variants.{Fault, Stop, Byte, Paren, Quote, Value, Count, Inner, Sum, Home}
+use Rattle.read_brace.specs.declared.Item.the-variants.{Fault, Stop, Byte, Paren, Quote, Value, Count, Total, Spread, Inner, Sum, Home}
 
 -- the item is what stands where the text is read
 abbrev pub ItemAt : Text → Cursor → Item → Type 0
 ItemAt text from i = Shows text (from .at) (from .depth) i (item (modeOf (from .mode)) (from .depth) (drop (from .at) text))
+
+-- what `$` is before a byte that begins no name, no parenthesis and no brace
+unfoldable pub special : syntax.Mode → ℕ → items.Item
+unfolding isFirstDigit listsIn spreadAt notServed
+special m b =
+    pick (isFirstDigit b) (valueOf (nth (b - code "0")) 1)
+    (pick (eqb b (code "#")) (count parameters 1)
+    (pick (isIn b (text "@*")) (spreadAt (listsIn m) b 1)
+    (pick (notServed m b) (fault unserved) (byte unescaped (code "$") 0))))
 
 -- the mode in which the text goes on: a parenthesis changes it, and behind its first item a text has begun
 abbrev pub modeAfter : Item → Mode → Mode
@@ -22,9 +39,11 @@ modeAfter (Stop next) m = modeOnward m
 modeAfter (Byte q b next) m = modeOnward m
 modeAfter (Paren b n) m = Arith n
 modeAfter (Quote inner) m = modeOnward m
-modeAfter (Value from to next) m = modeOnward m
-modeAfter (Count from to next) m = modeOnward m
-modeAfter (Inner from to f inner next) m = modeOnward m
+modeAfter (Value p next) m = modeOnward m
+modeAfter (Count p next) m = modeOnward m
+modeAfter (Total next) m = modeOnward m
+modeAfter (Spread a next) m = modeOnward m
+modeAfter (Inner p f inner next) m = modeOnward m
 modeAfter (Sum next) m = modeOnward m
 modeAfter (Home to) m = modeOnward m
 
@@ -35,8 +54,10 @@ isStop (Stop next) = true
 isStop (Byte q b next) = false
 isStop (Paren b n) = false
 isStop (Quote inner) = false
-isStop (Value from to next) = false
-isStop (Count from to next) = false
-isStop (Inner from to f inner next) = false
+isStop (Value p next) = false
+isStop (Count p next) = false
+isStop (Total next) = false
+isStop (Spread a next) = false
+isStop (Inner p f inner next) = false
 isStop (Sum next) = false
 isStop (Home to) = false

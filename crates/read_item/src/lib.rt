@@ -1,6 +1,7 @@
 // What stands at a place of a text: document 01's "Reading a line", a question for each function, none of them recursive. A text is read from the first
 // byte of what stands there.
 use read_brace::Item;
+use read_brace::Param;
 use read_mode::Cursor;
 use read_mode::Mode;
 use read_mode::Sort;
@@ -10,10 +11,10 @@ ghost use mathlib.Core.Path.{_≡_};
 ghost use Prim.Native.Nat.{_+_, _≤_, _<_};
 ghost use lib.ListN.{length, drop, getD};
 ghost use Rattle.stages.specs.Syntax.{arith};
-ghost use Rattle.stages.specs.Items.{item, behindBackslash, expansion, parenthesis, closed, behindTilde};
+ghost use Rattle.stages.specs.Items.{item, behindBackslash, expansion, parenthesis, spreadAt, listsIn, closed, behindTilde};
 ghost use Rattle.read_mode.specs.Modes.{modeOf, openIn};
 ghost use Rattle.read_brace.specs.Shows.{Shows};
-ghost use Rattle.read_item.specs.After.{modeAfter, isStop};
+ghost use Rattle.read_item.specs.After.{modeAfter, isStop, special};
 
 // What a backslash is.
 fn escaped_at(text: &[u8], from: Cursor) -> Item
@@ -60,6 +61,58 @@ fn parenthesis_at(text: &[u8], from: Cursor) -> Item
     Item::Fault(numbers::REFUSED_SUBSTITUTION)
 }
 
+// What `$@` or `$*` is.
+fn spread_at(text: &[u8], from: Cursor) -> Item
+    requires { ⌜ from .at + 1 < length (now text) ⌝ }
+    ensures { λ r. ⌜ Shows (now (text .entry)) (from .at) (from .depth) r
+        (spreadAt (listsIn (modeOf (from .mode))) (getD (now (text .entry)) (from .at + 1) 0) 1) ⌝ }
+{
+    let at = from.at;
+    let mode = from.mode;
+    if read_mode::lists_in(mode) {
+        return Item::Spread {
+            apart: read_brace::is_apart(text[at + 1]),
+            next: at + 2,
+        };
+    }
+    Item::Fault(numbers::REFUSED_UNSERVED)
+}
+
+// What `$` is before a byte that begins no name, no parenthesis and no brace.
+fn special_at(text: &[u8], from: Cursor) -> Item
+    requires { ⌜ from .at + 1 < length (now text) ⌝ }
+    ensures { λ r. ⌜ Shows (now (text .entry)) (from .at) (from .depth) r
+        (special (modeOf (from .mode)) (getD (now (text .entry)) (from .at + 1) 0)) ⌝ }
+{
+    let at = from.at;
+    let mode = from.mode;
+    let b = text[at + 1];
+    if read_brace::is_first_digit(b) {
+        return Item::Value {
+            param: Param {
+                numbered: true,
+                from: at + 1,
+                to: at + 2,
+            },
+            next: at + 2,
+        };
+    }
+    if b == b'#' {
+        return Item::Total { next: at + 2 };
+    }
+    if text::is_in(b, b"@*") {
+        return spread_at(text, from);
+    }
+    if read_mode::is_not_served(mode, b) {
+        return Item::Fault(numbers::REFUSED_UNSERVED);
+    }
+    Item::Byte {
+        quoted: false,
+        byte: b'$',
+        next: at + 1,
+    }
+}
+
 // What `$` is.
 fn expansion_at(text: &[u8], from: Cursor) -> Item
     requires { ⌜ from .at < length (now text) ⌝ }
@@ -67,7 +120,6 @@ fn expansion_at(text: &[u8], from: Cursor) -> Item
         (expansion (modeOf (from .mode)) (from .depth) (drop (from .at + 1) (now (text .entry)))) ⌝ }
 {
     let at = from.at;
-    let mode = from.mode;
     if at + 1 >= text.len() {
         return Item::Byte {
             quoted: false,
@@ -79,8 +131,11 @@ fn expansion_at(text: &[u8], from: Cursor) -> Item
     if text::in_class(Class::NameStart, b) {
         let to = text::run_end(text, at + 1, Class::NameByte);
         return Item::Value {
-            from: at + 1,
-            to: to,
+            param: Param {
+                numbered: false,
+                from: at + 1,
+                to: to,
+            },
             next: to,
         };
     }
@@ -90,14 +145,7 @@ fn expansion_at(text: &[u8], from: Cursor) -> Item
     if b == b'{' {
         return read_brace::braced_at(text, from);
     }
-    if read_mode::is_not_served(mode, b) {
-        return Item::Fault(numbers::REFUSED_UNSERVED);
-    }
-    Item::Byte {
-        quoted: false,
-        byte: b'$',
-        next: at + 1,
-    }
+    special_at(text, from)
 }
 
 // What a `)` of an arithmetic text is, with so many open parentheses before it.
@@ -166,7 +214,7 @@ pub fn item_at(text: &[u8], from: Cursor) -> Item
         Sort::Closes(taken) => Item::Stop(at + taken),
         Sort::Operator => Item::Fault(numbers::REFUSED_OPERATOR),
         Sort::Quotes => Item::Quote(Mode::Single),
-        Sort::Quotes2 => Item::Quote(Mode::Double),
+        Sort::Quotes2 => Item::Quote(Mode::Double(read_mode::lists_in(mode))),
         Sort::Backslash => escaped_at(text, from),
         Sort::Dollar => expansion_at(text, from),
         Sort::Bad => Item::Fault(numbers::REFUSED_SYNTAX),

@@ -6,20 +6,22 @@ use mathlib.Core.Bool.{Bool, true, false}
 use lib.ListN.{length, drop}
 use Rattle.stages.specs.Bytes.{Text, part}
 use Rattle.stages.specs.Outcome.{refused, done}
-use Rattle.stages.specs.Syntax.{unescaped, Parts, plain, end, lit, quo, par, len, ari, til, arith as sums}
+use Rattle.stages.specs.Syntax.{unescaped, Parts, plain, end, lit, quo, par, len, lst, ari, til, bytesOf, parameters, arith as sums}
 use Rattle.stages.specs.Syntax as syntax
 use Rattle.stages.specs.Items.{onward}
 use Rattle.stages.specs.Read.{Taken, put, nest, parts}
-use Rattle.text.specs.Cases.{escapeOf}
-use Rattle.stages.proofs.Read.{at-fault, at-stop, at-byte, at-paren, at-value, at-count, at-quote, at-inner, at-sum, at-home}
+use Rattle.text.specs.Cases.{escapeOf, spreadOf}
+use Rattle.stages.proofs.Read.{at-fault, at-stop, at-byte, at-paren, at-value, at-count, at-spread, at-quote, at-inner, at-sum, at-home}
 use Rattle.text.specs.Places.{Behind}
 use Rattle.read_mode.specs.Modes.{modeOf, openIn, modeOnward, formOf}
 use Rattle.read_mode.specs.declared.Cursor.{Cursor}
 use Rattle.read_mode.specs.declared.Mode.{Mode}
 use Rattle.read_mode.specs.declared.Form.{Form}
 use Rattle.read_mode.proofs.GoingOn.{onward-mode, onward-open}
+use Rattle.read_brace.specs.Shows.{paramOf}
+use Rattle.read_brace.specs.declared.Param.{Param}
 use Rattle.read_brace.specs.declared.Item.{Item}
-use Rattle.read_brace.specs.declared.Item.the-variants.{Fault, Stop, Byte, Paren, Quote, Value, Count, Inner, Sum, Home}
+use Rattle.read_brace.specs.declared.Item.the-variants.{Fault, Stop, Byte, Paren, Quote, Value, Count, Total, Spread, Inner, Sum, Home}
 use Rattle.read_item.specs.After.{ItemAt, modeAfter, isStop}
 use Rattle.read_line.specs.Says.{ReadTo, ReadSays, readFrom, Here, ReadMore, ItemSays}
 use Rattle.read_line.specs.declared.Reading.{Reading}
@@ -93,19 +95,33 @@ module _ {text : Text} {from : Cursor} {i : Item} (h : Here text from i) where
         few = s .2;
       })
 
-  pub item-value : {x y next : ℕ} → i ≡ Value x y next → ItemSays i text from (reading.End next)
-  item-value {x = x} {y = y} {next = next} e =
+  pub item-value : {x : Param} {next : ℕ} → i ≡ Value x next → ItemSays i text from (reading.End next)
+  item-value {x = x} {next = next} e =
       let s = known e in
       told e (reading.End next)
-      (on text from (h .few) (par (part text x y) plain end) next
-      (at-value text (from .at) (modeOf (from .mode)) (from .depth) (part text x y) next (s .0) (s .1 .onward)) (s .1))
+      (on text from (h .few) (par (paramOf text x) plain end) next
+      (at-value text (from .at) (modeOf (from .mode)) (from .depth) (paramOf text x) next (s .0) (s .1 .onward)) (s .1))
 
-  pub item-count : {x y next : ℕ} → i ≡ Count x y next → ItemSays i text from (reading.End next)
-  item-count {x = x} {y = y} {next = next} e =
+  pub item-count : {x : Param} {next : ℕ} → i ≡ Count x next → ItemSays i text from (reading.End next)
+  item-count {x = x} {next = next} e =
       let s = known e in
       told e (reading.End next)
-      (on text from (h .few) (len (part text x y)) next
-      (at-count text (from .at) (modeOf (from .mode)) (from .depth) (part text x y) next (s .0) (s .1 .onward)) (s .1))
+      (on text from (h .few) (len (bytesOf (paramOf text x))) next
+      (at-count text (from .at) (modeOf (from .mode)) (from .depth) (bytesOf (paramOf text x)) next (s .0) (s .1 .onward)) (s .1))
+
+  pub item-total : {next : ℕ} → i ≡ Total next → ItemSays i text from (reading.End next)
+  item-total {next = next} e =
+      let s = known e in
+      told e (reading.End next)
+      (on text from (h .few) (len parameters) next
+      (at-count text (from .at) (modeOf (from .mode)) (from .depth) parameters next (s .0) (s .1 .onward)) (s .1))
+
+  pub item-spread : {a : Bool} {next : ℕ} → i ≡ Spread a next → ItemSays i text from (reading.End next)
+  item-spread {a = a} {next = next} e =
+      let s = known e in
+      told e (reading.End next)
+      (on text from (h .few) (lst (spreadOf a)) next
+      (at-spread text (from .at) (modeOf (from .mode)) (from .depth) (spreadOf a) next (s .0) (s .1 .onward)) (s .1))
 
   pub item-home : {to : ℕ} → i ≡ Home to → ItemSays i text from (reading.End to)
   item-home {to = to} e =
@@ -121,13 +137,13 @@ module _ {text : Text} {from : Cursor} {i : Item} (h : Here text from i) where
       (inside text from (h .few) (Quote n) refl refl quo (from .at + 1) _ (omega arith)
       (at-quote text (from .at) (modeOf (from .mode)) (from .depth) (modeOf n) (known e .0)) got g)
 
-  pub item-inner : {x y : ℕ} {p : Form} {n : Mode} {start : ℕ} → i ≡ Inner x y p n start → (got : Reading)
+  pub item-inner : {x : Param} {p : Form} {n : Mode} {start : ℕ} → i ≡ Inner x p n start → (got : Reading)
       → ReadSays text start (parts (modeOf n) (from .depth - 1) (drop start text)) got → ItemSays i text from got
-  item-inner {x = x} {y = y} {p = p} {n = n} {start = start} e got g =
+  item-inner {x = x} {p = p} {n = n} {start = start} e got g =
       let s = known e in
       told e got
-      (inside text from (h .few) (Inner x y p n start) refl refl (par (part text x y) (formOf p)) start _ (s .1 .onward)
-      (at-inner text (from .at) (modeOf (from .mode)) (from .depth) (part text x y) (formOf p) (modeOf n) start (s .0) (s .1 .onward)) got g)
+      (inside text from (h .few) (Inner x p n start) refl refl (par (paramOf text x) (formOf p)) start _ (s .1 .onward)
+      (at-inner text (from .at) (modeOf (from .mode)) (from .depth) (paramOf text x) (formOf p) (modeOf n) start (s .0) (s .1 .onward)) got g)
 
   pub item-sum : {start : ℕ} → i ≡ Sum start → (got : Reading) → ReadSays text start (parts (sums 0) (from .depth - 1) (drop start text)) got
       → ItemSays i text from got

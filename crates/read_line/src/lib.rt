@@ -48,16 +48,8 @@ fn read_item(item: Item, text: &[u8], from: Cursor) -> Reading
             next,
         } => Reading::End(next),
         Item::Paren { byte: _, parens: _ } => Reading::End(at + 1),
-        Item::Value {
-            from: _,
-            to: _,
-            next,
-        } => Reading::End(next),
-        Item::Count {
-            from: _,
-            to: _,
-            next,
-        } => Reading::End(next),
+        Item::Value { param: _, next } => Reading::End(next),
+        Item::Count { param: _, next } => Reading::End(next),
         Item::Quote(inner) => read_text(
             text,
             Cursor {
@@ -67,8 +59,7 @@ fn read_item(item: Item, text: &[u8], from: Cursor) -> Reading
             },
         ),
         Item::Inner {
-            from: _,
-            to: _,
+            param: _,
             form: _,
             mode: inner,
             next,
@@ -89,6 +80,8 @@ fn read_item(item: Item, text: &[u8], from: Cursor) -> Reading
             },
         ),
         Item::Home(to) => Reading::End(to),
+        Item::Total { next } => Reading::End(next),
+        Item::Spread { apart: _, next } => Reading::End(next),
     }
 }
 

@@ -7,10 +7,10 @@ use mathlib.Core.Bool.{Bool, true, false}
 use mathlib.Core.List.{[], _∷_}
 use Rattle.stages.specs.Syntax.{word, bare, single, double, quotedOperand, arith as sums, plain, minus, equals, query, plus, removal, suffix, prefix, Colon}
 use Rattle.stages.specs.Syntax as syntax
-use Rattle.stages.specs.Items.{ended, quotable, notServed, wrong, fault, signForm, closerLength, endsLogin}
+use Rattle.stages.specs.Items.{ended, quotable, notServed, listsIn, letBy, wrong, fault, signForm, closerLength, endsLogin}
 use Rattle.stages.specs.Items as items
-use Rattle.text.specs.Cases.{hasColon, isLongest, isFresh}
-use Rattle.text.proofs.Cases.{colon-back, reach-back, start-back}
+use Rattle.text.specs.Cases.{hasColon, isLongest, isFresh, isServed, listsOf}
+use Rattle.text.proofs.Cases.{colon-back, reach-back, start-back, lists-back}
 use Rattle.text.proofs.Determined.{one-answer}
 use Rattle.read_mode.specs.Modes.{modeOf, modeOnward, formOf, sortOf, Carries, Sorted, Operands, endsLine}
 use Rattle.read_mode.specs.declared.Mode.{Mode}
@@ -27,18 +27,21 @@ taken-back f g h r s e = h r ∙ ap g e ∙ sym (h s)
 
 abbrev pub modeBack : syntax.Mode → Mode
 modeBack (word s) = Word (isFresh s)
-modeBack (bare s) = Bare (isFresh s)
+modeBack (bare s l) = Bare (isFresh s) (isServed l)
 modeBack single = Single
-modeBack double = Double
-modeBack quotedOperand = Operand
+modeBack (double l) = Double (isServed l)
+modeBack (quotedOperand l) = Operand (isServed l)
 modeBack (sums n) = Arith n
+
+bare-same : {a b c d : Bool} → a ≡ b → c ≡ d → Bare a c ≡ Bare b d
+bare-same p q = cc
 
 pub mode-back : (m : Mode) → m ≡ modeBack (modeOf m)
 mode-back (Word s) = ap Word (start-back s)
-mode-back (Bare s) = ap Bare (start-back s)
+mode-back (Bare s l) = bare-same (start-back s) (lists-back l)
 mode-back Single = refl
-mode-back Double = refl
-mode-back Operand = refl
+mode-back (Double l) = ap Double (lists-back l)
+mode-back (Operand l) = ap Operand (lists-back l)
 mode-back (Arith n) = refl
 
 pub mode-determined : (r s : Mode) → modeOf r ≡ modeOf s → r ≡ s
@@ -67,10 +70,10 @@ form-determined r s e = taken-back formOf formBack form-back r s e
 -- a sort with what it carries
 abbrev parensOf : syntax.Mode → ℕ
 parensOf (word s) = 0
-parensOf (bare s) = 0
+parensOf (bare s l) = 0
 parensOf single = 0
-parensOf double = 0
-parensOf quotedOperand = 0
+parensOf (double l) = 0
+parensOf (quotedOperand l) = 0
 parensOf (sums n) = n
 
 abbrev sortBack : syntax.Mode → items.Sort → Sort
@@ -110,8 +113,17 @@ is-quotable-determined m b r s = one-answer
 pub is-not-served-determined : (m : syntax.Mode) (b : ℕ) (r s : Bool) → r ≡ notServed m b → s ≡ notServed m b → r ≡ s
 is-not-served-determined m b r s = one-answer
 
-pub operand-mode-determined : (m : syntax.Mode) (r s : Mode) → Operands m r → Operands m s → r ≡ s
-operand-mode-determined m r s p q = mode-determined r s (one-answer (p .is) (q .is))
+lists-determined : (k : syntax.Lists) (r s : Bool) → listsOf r ≡ k → listsOf s ≡ k → r ≡ s
+lists-determined k r s p q = taken-back listsOf isServed lists-back r s (one-answer p q)
+
+pub lists-in-determined : (m : syntax.Mode) (r s : Bool) → listsOf r ≡ listsIn m → listsOf s ≡ listsIn m → r ≡ s
+lists-in-determined m = lists-determined (listsIn m)
+
+pub let-by-determined : (b : ℕ) (r s : Bool) → listsOf r ≡ letBy b → listsOf s ≡ letBy b → r ≡ s
+let-by-determined b = lists-determined (letBy b)
+
+pub operand-mode-determined : (m : syntax.Mode) (k : syntax.Lists) (r s : Mode) → Operands m k r → Operands m k s → r ≡ s
+operand-mode-determined m k r s p q = mode-determined r s (one-answer (p .is) (q .is))
 
 ends-back : (r s : Bool) → endsLine r ≡ endsLine s → r ≡ s
 ends-back true true e = refl

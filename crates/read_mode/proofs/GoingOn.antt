@@ -8,16 +8,16 @@ use Rattle.read_mode.specs.declared.Mode.the-variants.{Word, Bare, Singl
 pub onward-mode : (m : Mode) → onward (modeOf m) ≡ modeOf (modeOnward m)
 unfolding onward
 onward-mode (Word fresh) = refl
-onward-mode (Bare fresh) = refl
+onward-mode (Bare fresh lists) = refl
 onward-mode Single = refl
-onward-mode Double = refl
-onward-mode Operand = refl
+onward-mode (Double lists) = refl
+onward-mode (Operand lists) = refl
 onward-mode (Arith n) = refl
 
 pub onward-open : (m : Mode) → openIn (modeOnward m) ≡ openIn m
 onward-open (Word fresh) = refl
-onward-open (Bare fresh) = refl
+onward-open (Bare fresh lists) = refl
 onward-open Single = refl
-onward-open Double = refl
-onward-open Operand = refl
+onward-open (Double lists) = refl
+onward-open (Operand lists) = refl
 onward-open (Arith n) = refl

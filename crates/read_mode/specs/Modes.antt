@@ -10,7 +10,7 @@ use Rattle.stages.specs.Syntax.{word, bare, single, double, quotedOperand, arit
 use Rattle.stages.specs.Syntax as syntax
 use Rattle.stages.specs.Items.{Item, fault, stop, operandMode, closerLength, sort}
 use Rattle.stages.specs.Items as items
-use Rattle.text.specs.Cases.{colonOf, reachOf, startOf}
+use Rattle.text.specs.Cases.{colonOf, reachOf, startOf, listsOf}
 use Rattle.read_mode.specs.declared.Mode.{Mode}
 use Rattle.read_mode.specs.declared.Mode.the-variants.{Word, Bare, Single, Double, Operand, Arith}
 use Rattle.read_mode.specs.declared.Form.{Form}
@@ -21,28 +21,28 @@ use Rattle.read_mode.specs.declared.Sort.the-variants.{Dollar, Bad, Open
 
 abbrev pub modeOf : Mode → syntax.Mode
 modeOf (Word fresh) = word (startOf fresh)
-modeOf (Bare fresh) = bare (startOf fresh)
+modeOf (Bare fresh lists) = bare (startOf fresh) (listsOf lists)
 modeOf Single = single
-modeOf Double = double
-modeOf Operand = quotedOperand
+modeOf (Double lists) = double (listsOf lists)
+modeOf (Operand lists) = quotedOperand (listsOf lists)
 modeOf (Arith n) = arith n
 
 -- the open parentheses of a mode
 abbrev pub openIn : Mode → ℕ
 openIn (Word fresh) = 0
-openIn (Bare fresh) = 0
+openIn (Bare fresh lists) = 0
 openIn Single = 0
-openIn Double = 0
-openIn Operand = 0
+openIn (Double lists) = 0
+openIn (Operand lists) = 0
 openIn (Arith n) = n
 
 -- the mode in which a text goes on after its first item
 abbrev pub modeOnward : Mode → Mode
 modeOnward (Word fresh) = Word false
-modeOnward (Bare fresh) = Bare false
+modeOnward (Bare fresh lists) = Bare false lists
 modeOnward Single = Single
-modeOnward Double = Double
-modeOnward Operand = Operand
+modeOnward (Double lists) = Double lists
+modeOnward (Operand lists) = Operand lists
 modeOnward (Arith n) = Arith n
 
 abbrev pub formOf : Form → syntax.Form
@@ -101,9 +101,9 @@ unfoldable pub quotesSort : ℕ → items.Sort
 unfolding plainSort
 quotesSort b = pick (eqb b (code "'")) items.quotes (pick (eqb b (code "\"")) items.quotes2 (plainSort b))
 
--- how an operand is read
-pub record Operands (m : syntax.Mode) (r : Mode) : Type 0 where
-  pub is : modeOf r ≡ operandMode m
+-- how an operand is read, by whether its sign lets `$@` and `$*` stand
+pub record Operands (m : syntax.Mode) (k : syntax.Lists) (r : Mode) : Type 0 where
+  pub is : modeOf r ≡ operandMode m k
   pub closed : openIn r ≡ 0
 
 -- the item at the line's end

@@ -1,12 +1,11 @@
 // What a byte is where it stands. A mode says where a text stands: in a word of the line, in an operand, in quotes, in arithmetic. Each function
 // answers one question about a byte in a mode; none looks at a second byte.
 ghost use mathlib.Core.Path.{_≡_};
-ghost use mathlib.Core.Bool.{_||_};
 ghost use mathlib.Core.List.{[], _∷_};
-ghost use Rattle.stages.specs.Bytes.{isDigit, isIn, text};
+ghost use Rattle.stages.specs.Bytes.{isIn, text};
 ghost use Rattle.stages.specs.Syntax.{word, bare, single, double, quotedOperand, arith};
-ghost use Rattle.text.specs.Cases.{colonOf, startOf};
-ghost use Rattle.stages.specs.Items.{quotable, notServed, ended, wrong, fault, signForm, beginsTilde, endsLogin};
+ghost use Rattle.text.specs.Cases.{colonOf, startOf, listsOf};
+ghost use Rattle.stages.specs.Items.{quotable, notServed, listsIn, both, letBy, ended, wrong, fault, signForm, beginsTilde, endsLogin};
 ghost use Rattle.read_mode.specs.Modes.{modeOf, formOf, modeOnward, Operands, Sorted, Shared, quotesSort, plainSort, endsLine};
 use text::numbers;
 
@@ -14,14 +13,14 @@ use text::numbers;
 pub enum Mode {
     // a word of the line; whether it is read from its first byte on, where alone a tilde is looked at
     Word(bool),
-    // an operand read as bare text; whether it is read from its first byte on
-    Bare(bool),
+    // an operand read as bare text; whether it is read from its first byte on, and whether `$@` and `$*` may stand in it
+    Bare { fresh: bool, lists: bool },
     // '...'
     Single,
-    // "..."
-    Double,
-    // an operand read as double-quoted text
-    Operand,
+    // "..."; whether `$@` and `$*` may stand in it
+    Double(bool),
+    // an operand read as double-quoted text; the same
+    Operand(bool),
     // arithmetic, with so many open parentheses
     Arith(usize),
 }
@@ -116,8 +115,8 @@ fn sort_word(fresh: bool, b: u8) -> Sort
     sort_quotes(b)
 }
 
-fn sort_bare(fresh: bool, b: u8) -> Sort
-    ensures { λ r. ⌜ Sorted (bare (startOf fresh)) b r ⌝ }
+fn sort_bare(fresh: bool, lists: bool, b: u8) -> Sort
+    ensures { λ r. ⌜ Sorted (bare (startOf fresh) (listsOf lists)) b r ⌝ }
 {
     if begins_tilde(fresh, b) {
         return Sort::Tilde;
@@ -140,8 +139,8 @@ fn sort_single(b: u8) -> Sort
     Sort::Literal
 }
 
-fn sort_double(b: u8) -> Sort
-    ensures { λ r. ⌜ Sorted double b r ⌝ }
+fn sort_double(lists: bool, b: u8) -> Sort
+    ensures { λ r. ⌜ Sorted (double (listsOf lists)) b r ⌝ }
 {
     if b == b'`' {
         return Sort::Backquote;
@@ -152,8 +151,8 @@ fn sort_double(b: u8) -> Sort
     sort_plain(b)
 }
 
-fn sort_operand(b: u8) -> Sort
-    ensures { λ r. ⌜ Sorted quotedOperand b r ⌝ }
+fn sort_operand(lists: bool, b: u8) -> Sort
+    ensures { λ r. ⌜ Sorted (quotedOperand (listsOf lists)) b r ⌝ }
 {
     if b == b'`' {
         return Sort::Backquote;
@@ -194,10 +193,10 @@ pub fn sort_at(mode: Mode, b: u8) -> Sort
 {
     match mode {
         Mode::Word(fresh) => sort_word(fresh, b),
-        Mode::Bare(fresh) => sort_bare(fresh, b),
+        Mode::Bare { fresh, lists } => sort_bare(fresh, lists, b),
         Mode::Single => sort_single(b),
-        Mode::Double => sort_double(b),
-        Mode::Operand => sort_operand(b),
+        Mode::Double(lists) => sort_double(lists, b),
+        Mode::Operand(lists) => sort_operand(lists, b),
         Mode::Arith(parens) => sort_arith(parens, b),
     }
 }
@@ -208,30 +207,24 @@ pub fn is_quotable(mode: Mode, b: u8) -> bool
 {
     match mode {
         Mode::Word(_) => true,
-        Mode::Bare(_) => true,
+        Mode::Bare { fresh: _, lists: _ } => true,
         Mode::Single => false,
-        Mode::Double => text::is_in(b, b"$`\"\\"),
-        Mode::Operand => text::is_in(b, b"$`\"\\}"),
+        Mode::Double(_) => text::is_in(b, b"$`\"\\"),
+        Mode::Operand(_) => text::is_in(b, b"$`\"\\}"),
         Mode::Arith(_) => false,
     }
 }
 
 fn is_unserved(b: u8) -> bool
-    ensures { λ r. ⌜ r ≡ (isDigit b || isIn b (text "@*#?-$!")) ⌝ }
+    ensures { λ r. ⌜ r ≡ isIn b (text "0?-$!") ⌝ }
 {
-    if text::in_class(text::Class::Digit, b) {
-        return true;
-    }
-    text::is_in(b, b"@*#?-$!")
+    text::is_in(b, b"0?-$!")
 }
 
 fn is_unserved_bare(b: u8) -> bool
-    ensures { λ r. ⌜ r ≡ (isDigit b || isIn b (text "@*#?-$!'")) ⌝ }
+    ensures { λ r. ⌜ r ≡ isIn b (text "0?-$!'") ⌝ }
 {
-    if text::in_class(text::Class::Digit, b) {
-        return true;
-    }
-    text::is_in(b, b"@*#?-$!'")
+    text::is_in(b, b"0?-$!'")
 }
 
 // Is a `$` before the byte a parameter that is not served?
@@ -240,25 +233,66 @@ pub fn is_not_served(mode: Mode, b: u8) -> bool
 {
     match mode {
         Mode::Word(_) => is_unserved_bare(b),
-        Mode::Bare(_) => is_unserved_bare(b),
+        Mode::Bare { fresh: _, lists: _ } => is_unserved_bare(b),
         Mode::Single => false,
-        Mode::Double => is_unserved(b),
-        Mode::Operand => is_unserved(b),
+        Mode::Double(_) => is_unserved(b),
+        Mode::Operand(_) => is_unserved(b),
         Mode::Arith(_) => is_unserved(b),
     }
 }
 
-// How is an operand of `-=?+` read?
-pub fn operand_mode(mode: Mode) -> Mode
-    ensures { λ r. ⌜ Operands (modeOf mode) r ⌝ }
+// May `$@` and `$*` stand in a text of this mode?
+pub fn lists_in(mode: Mode) -> bool
+    ensures { λ r. ⌜ listsOf r ≡ listsIn (modeOf mode) ⌝ }
 {
     match mode {
-        Mode::Word(_) => Mode::Bare(true),
-        Mode::Bare(_) => Mode::Bare(true),
-        Mode::Single => Mode::Bare(true),
-        Mode::Double => Mode::Operand,
-        Mode::Operand => Mode::Operand,
-        Mode::Arith(_) => Mode::Operand,
+        Mode::Word(_) => true,
+        Mode::Bare { fresh: _, lists } => lists,
+        Mode::Single => false,
+        Mode::Double(lists) => lists,
+        Mode::Operand(lists) => lists,
+        Mode::Arith(_) => false,
+    }
+}
+
+// Do both a text and a form in it let `$@` and `$*` stand?
+fn both_let(text: bool, form: bool) -> bool
+    ensures { λ r. ⌜ listsOf r ≡ both (listsOf text) (listsOf form) ⌝ }
+{
+    if text {
+        return form;
+    }
+    false
+}
+
+// Does the sign, one of `-=?+`, let `$@` and `$*` stand in its operand?
+pub fn let_by(b: u8) -> bool
+    ensures { λ r. ⌜ listsOf r ≡ letBy b ⌝ }
+{
+    text::is_in(b, b"-+")
+}
+
+// How is an operand of `-=?+` read, whose sign lets `$@` and `$*` stand or not?
+pub fn operand_mode(mode: Mode, let_by_sign: bool) -> Mode
+    ensures { λ r. ⌜ Operands (modeOf mode) (listsOf let_by_sign) r ⌝ }
+{
+    let lists = both_let(lists_in(mode), let_by_sign);
+    match mode {
+        Mode::Word(_) => Mode::Bare {
+            fresh: true,
+            lists: lists,
+        },
+        Mode::Bare { fresh: _, lists: _ } => Mode::Bare {
+            fresh: true,
+            lists: lists,
+        },
+        Mode::Single => Mode::Bare {
+            fresh: true,
+            lists: lists,
+        },
+        Mode::Double(_) => Mode::Operand(lists),
+        Mode::Operand(_) => Mode::Operand(lists),
+        Mode::Arith(_) => Mode::Operand(lists),
     }
 }
 
@@ -268,10 +302,10 @@ pub fn may_end(mode: Mode) -> bool
 {
     match mode {
         Mode::Word(_) => true,
-        Mode::Bare(_) => false,
+        Mode::Bare { fresh: _, lists: _ } => false,
         Mode::Single => false,
-        Mode::Double => false,
-        Mode::Operand => false,
+        Mode::Double(_) => false,
+        Mode::Operand(_) => false,
         Mode::Arith(_) => false,
     }
 }
@@ -282,10 +316,13 @@ pub fn onward(mode: Mode) -> Mode
 {
     match mode {
         Mode::Word(_) => Mode::Word(false),
-        Mode::Bare(_) => Mode::Bare(false),
+        Mode::Bare { fresh: _, lists } => Mode::Bare {
+            fresh: false,
+            lists: lists,
+        },
         Mode::Single => Mode::Single,
-        Mode::Double => Mode::Double,
-        Mode::Operand => Mode::Operand,
+        Mode::Double(lists) => Mode::Double(lists),
+        Mode::Operand(lists) => Mode::Operand(lists),
         Mode::Arith(parens) => Mode::Arith(parens),
     }
 }

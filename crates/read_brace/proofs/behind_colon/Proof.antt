@@ -1,22 +1,24 @@
 -- The byte after the colon decides.
 use mathlib.Core.Path.{sym, _∙_}
 use native.Mathlib.Omega.{arith}
-use Rattle.read_brace.proofs.Names.{Coloned, colon-end, colon-sign, colon-wrong}
+use Rattle.read_brace.proofs.Names.{Coloned, two-more, colon-end, colon-sign, colon-wrong}
 use borrow.Author.Needs.{needs}
 use Rattle.read_brace.proofs.behind_colon.Statement.{statement}
 use Rattle.read_brace.proofs.behind_colon.Tie as tie
 
 -- a byte stands after the colon
-coloned : (c : tie.Else1) → let a = c .before .before .args in Coloned (a .text .now) (a .from) (a .to)
+coloned : (c : tie.Else1) → let a = c .before .before .args in Coloned (a .text .now) (a .from) (a .param)
 coloned c =
     let p = c .before .before .pre in
-    record { ended = record { name = p .0; there = p .1; deep = p .2 }; there = omega (arith, c .if1 .left) }
+    record { ended = record { starts = p .0; onward = p .1; there = p .2; deep = p .3 }; there = omega (arith, c .if1 .left) }
 
 add-if1 : tie.Need-add-if1
 add-if1 c = search needs
 
 returns : tie.Need-returns
-returns c = let a = c .before .before .args in colon-end (a .text .now) (a .from) (a .to) (c .if1 .taken)
+returns c =
+    let a = c .before .before .args in
+    colon-end (a .text .now) (a .from) (a .param) (c .if1 .taken)
 
 add-b : tie.Need-add-b
 add-b c = search needs
@@ -30,32 +32,26 @@ slice-aggregate-is-in c = search needs
 is-in-requires : tie.Need-is-in-requires
 is-in-requires c κs = search needs
 
-add-t16 : tie.Need-add-t16
-add-t16 c = search needs
+add-behind-sign : tie.Need-add-behind-sign
+add-behind-sign c = search needs
 
-sign-form-requires : tie.Need-sign-form-requires
-sign-form-requires c κs = search needs
-
-operand-mode-requires : tie.Need-operand-mode-requires
-operand-mode-requires c κs = search needs
-
-add-t19 : tie.Need-add-t19
-add-t19 c = search needs
+behind-sign-requires : tie.Need-behind-sign-requires
+behind-sign-requires c κs =
+    let e = c .before .before .before .before in
+    let s = e .before .before in
+    (s .pre .0, s .pre .1, omega arith, two-more (s .args .param .to), omega (arith, e .if1 .left), s .pre .3)
 
 returns-2 : tie.Need-returns-2
 returns-2 c =
-    let sign = c .before .before in
-    let f = c .before .sign-form in
-    colon-sign (coloned (sign .before .before .before .before)) (sym (sign .before .is-in .ensures) ∙ sign .if2 .taken) (f .result)
-    (c .operand-mode .result) (f .ensures) (c .operand-mode .ensures)
+    colon-sign (coloned (c .before .before .before .before .before)) (sym (c .before .before .is-in .ensures) ∙ c .before .if2 .taken) (c .behind-sign .result)
+    (c .behind-sign .ensures)
 
 wrong-byte-requires : tie.Need-wrong-byte-requires
 wrong-byte-requires c κs = search needs
 
 returns-3 : tie.Need-returns-3
 returns-3 c =
-    let sign = c .before in
-    colon-wrong (coloned (sign .before .before .before .before)) (sym (sign .before .is-in .ensures) ∙ sign .if2 .left) (c .wrong-byte .ensures)
+    colon-wrong (coloned (c .before .before .before .before .before)) (sym (c .before .before .is-in .ensures) ∙ c .before .if2 .left) (c .wrong-byte .ensures)
 
 pub behind-colon-spec : {M : Type 1} → statement M
 behind-colon-spec =
@@ -67,10 +63,8 @@ behind-colon-spec =
     shared-slice-read-b
     slice-aggregate-is-in
     is-in-requires
-    add-t16
-    sign-form-requires
-    operand-mode-requires
-    add-t19
+    add-behind-sign
+    behind-sign-requires
     returns-2
     wrong-byte-requires
     returns-3)

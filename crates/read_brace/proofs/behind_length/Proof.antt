@@ -1,18 +1,14 @@
 -- The byte after the name decides.
-use Prim.Native.Nat.{_<_}
 use native.Mathlib.Omega.{arith}
-use lib.ListN.{length}
 use Rattle.read_brace.proofs.Names.{length-end, length-close, length-wrong}
 use borrow.Author.Needs.{needs}
 use Rattle.read_brace.proofs.behind_length.Statement.{statement}
 use Rattle.read_brace.proofs.behind_length.Tie as tie
 
--- a byte stands after the name
-there : (c : tie.Else1) → let a = c .before .before .args in a .to < length (a .text .now)
-there c = omega (arith, c .if1 .left)
-
 returns : tie.Need-returns
-returns c = let a = c .before .before .args in length-end (a .text .now) (a .from) (a .to) (c .if1 .taken)
+returns c =
+    let a = c .before .before .args in
+    length-end (a .text .now) (a .from) (a .param) (c .if1 .taken)
 
 shared-slice-read-b : tie.Need-shared-slice-read-b
 shared-slice-read-b c = search needs
@@ -23,28 +19,17 @@ wrong-byte-requires c κs = search needs
 returns-2 : tie.Need-returns-2
 returns-2 c =
     let a = c .before .before .before .before .before .args in
-    length-wrong (a .text .now) (a .from) (a .to) (there (c .before .before .before)) (c .before .if2 .taken) (c .wrong-byte .ensures)
+    length-wrong (a .text .now) (a .from) (a .param) (omega (arith, c .before .before .before .if1 .left)) (c .before .if2 .taken) (c .wrong-byte .ensures)
 
 add-t6 : tie.Need-add-t6
 add-t6 c = search needs
-
-add-t11 : tie.Need-add-t11
-add-t11 c = search needs
 
 returns-3 : tie.Need-returns-3
 returns-3 c =
     let s = c .before .before .before .before in
     let a = s .args in
-    length-close (a .text .now) (a .from) (a .to) (there (c .before .before)) (s .pre .0) (c .if2 .left)
+    length-close (a .text .now) (a .from) (a .param) (omega (arith, c .before .before .if1 .left)) (s .pre .0) (s .pre .1) (c .if2 .left)
 
 pub behind-length-spec : {M : Type 1} → statement M
 behind-length-spec =
-    tie.close
-    (tie.spec
-    returns
-    shared-slice-read-b
-    wrong-byte-requires
-    returns-2
-    add-t6
-    add-t11
-    returns-3)
+    tie.close (tie.spec returns shared-slice-read-b wrong-byte-requires returns-2 add-t6 returns-3)

@@ -1,22 +1,18 @@
 -- The byte after the `#` decides.
-use Prim.Native.Nat.{_+_, _<_}
-use mathlib.Core.Path.{sym, _∙_}
+use Prim.Native.Nat.{_+_}
 use native.Mathlib.Omega.{arith}
-use lib.ListN.{length}
-use Rattle.read_brace.proofs.Names.{counted-end, counted-name, counted-wrong}
+use Rattle.read_brace.proofs.Braces.{called-shown, hash-end, hash-total, hash-param, hash-wrong}
 use borrow.Author.Needs.{needs}
 use Rattle.read_brace.proofs.length_at.Statement.{statement}
 use Rattle.read_brace.proofs.length_at.Tie as tie
-
--- a byte stands after the `#`
-there : (c : tie.Else1) → let a = c .before .before .args in a .from .at + 3 < length (a .text .now)
-there c = omega (arith, c .if1 .left)
 
 add-if1 : tie.Need-add-if1
 add-if1 c = search needs
 
 returns : tie.Need-returns
-returns c = let a = c .before .before .args in counted-end (a .text .now) (a .from) (c .if1 .taken)
+returns c =
+    let a = c .before .before .args in
+    hash-end (a .text .now) (a .from) (c .if1 .taken)
 
 add-b : tie.Need-add-b
 add-b c = search needs
@@ -24,34 +20,50 @@ add-b c = search needs
 shared-slice-read-b : tie.Need-shared-slice-read-b
 shared-slice-read-b c = search needs
 
-in-class-requires : tie.Need-in-class-requires
-in-class-requires c κs = search needs
-
-add-run-end : tie.Need-add-run-end
-add-run-end c = search needs
-
-run-end-requires : tie.Need-run-end-requires
-run-end-requires c κs = search needs
-
-behind-length-requires : tie.Need-behind-length-requires
-behind-length-requires c κs = search needs
+add-t12 : tie.Need-add-t12
+add-t12 c = search needs
 
 returns-2 : tie.Need-returns-2
 returns-2 c =
-    let e = c .before .before .before in
-    let a = e .before .before .before .before .args in
-    let to = c .before .run-end in
-    counted-name (a .text .now) (a .from) (there (e .before .before)) (sym (e .in-class .ensures) ∙ c .before .before .if2 .taken) (to .result)
-    (to .ensures) (c .behind-length .result) (c .behind-length .ensures)
+    let a = c .before .before .before .before .args in
+    hash-total (a .text .now) (a .from) (omega (arith, c .before .before .if1 .left)) (c .if2 .taken)
+
+add-param-at : tie.Need-add-param-at
+add-param-at c = search needs
+
+param-at-requires : tie.Need-param-at-requires
+param-at-requires c κs = search needs
+
+enum-known-called : tie.Need-enum-known-called
+enum-known-called c = search needs
+
+behind-length-requires : tie.Need-behind-length-requires
+behind-length-requires c κs =
+    let a = c .before .before .before .before .before .before .before .before .args in
+    let p = called-shown (a .text .now) (a .from .at + 3) (c .before .before .before .param-at .ensures) (c .before .called .given .1) in
+    (p .starts, p .onward, p .within)
+
+enum-told : tie.Need-enum-told
+enum-told c = search needs
 
 wrong-byte-requires : tie.Need-wrong-byte-requires
 wrong-byte-requires c κs = search needs
 
 returns-3 : tie.Need-returns-3
 returns-3 c =
-    let e = c .before .before in
-    let a = e .before .before .before .before .args in
-    counted-wrong (a .text .now) (a .from) (there (e .before .before)) (sym (e .in-class .ensures) ∙ c .before .if2 .left) (c .wrong-byte .ensures)
+    let a = c .before .before .before .before .before .before .before .before .before .args in
+    hash-param (a .text .now) (a .from) (omega (arith, c .before .before .before .before .before .before .before .if1 .left))
+    (c .before .before .before .before .before .if2 .left) _
+    (called-shown (a .text .now) (a .from .at + 3) (c .before .before .before .before .param-at .ensures) (c .before .before .called .given .1))
+    (c .behind-length .result) (c .behind-length .ensures)
+
+returns-4 : tie.Need-returns-4
+returns-4 c =
+    let a = c .before .before .before .before .before .before .before .before .args in
+    hash-wrong (a .text .now) (a .from) (omega (arith, c .before .before .before .before .before .before .if1 .left))
+    (c .before .before .before .before .if2 .left)
+    (called-shown (a .text .now) (a .from .at + 3) (c .before .before .before .param-at .ensures) (c .before .enum-told .given .1))
+    (c .wrong-byte .ensures)
 
 pub length-at-spec : {M : Type 1} → statement M
 length-at-spec =
@@ -61,10 +73,13 @@ length-at-spec =
     returns
     add-b
     shared-slice-read-b
-    in-class-requires
-    add-run-end
-    run-end-requires
-    behind-length-requires
+    add-t12
     returns-2
+    add-param-at
+    param-at-requires
+    enum-known-called
+    behind-length-requires
+    enum-told
     wrong-byte-requires
-    returns-3)
+    returns-3
+    returns-4)

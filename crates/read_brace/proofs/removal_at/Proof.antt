@@ -10,8 +10,8 @@ use Rattle.read_brace.proofs.removal_at.Statement.{statement}
 use Rattle.read_brace.proofs.removal_at.Tie as tie
 
 -- where the name ends
-ended : (s : tie.Start) → Ended (s .args .text .now) (s .args .from) (s .args .to)
-ended s = record { name = s .pre .0; there = s .pre .1; deep = s .pre .2 }
+ended : (s : tie.Start) → let a = s .args in Ended (a .text .now) (a .from) (a .param)
+ended s = let p = s .pre in record { starts = p .0; onward = p .1; there = p .2; deep = p .3 }
 
 add-is-at : tie.Need-add-is-at
 add-is-at c = search needs
@@ -22,17 +22,14 @@ shared-slice-read-is-at c = search needs
 is-at-requires : tie.Need-is-at-requires
 is-at-requires c κs = search needs
 
-add-t14 : tie.Need-add-t14
-add-t14 c = search needs
-
 removal-form-requires : tie.Need-removal-form-requires
 removal-form-requires c κs = search needs
 
-add-t22 : tie.Need-add-t22
-add-t22 c = search needs
+add-t20 : tie.Need-add-t20
+add-t20 c = search needs
 
-add-t22-2 : tie.Need-add-t22-2
-add-t22-2 c = search needs
+add-t20-2 : tie.Need-add-t20-2
+add-t20-2 c = search needs
 
 returns : tie.Need-returns
 returns c =
@@ -55,9 +52,8 @@ removal-at-spec =
     add-is-at
     shared-slice-read-is-at
     is-at-requires
-    add-t14
     removal-form-requires
-    add-t22
-    add-t22-2
+    add-t20
+    add-t20-2
     returns
     returns-2)

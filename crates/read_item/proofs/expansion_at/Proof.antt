@@ -1,7 +1,8 @@
 -- The byte after the `$` decides.
 use mathlib.Core.Path.{sym, _∙_}
 use native.Mathlib.Omega.{arith}
-use Rattle.read_item.proofs.Class.{Second, NoName, dollar-end, dollar-name, dollar-paren, dollar-brace, dollar-other, dollar-plain}
+use Rattle.read_item.proofs.Class.{Second}
+use Rattle.read_item.proofs.Dollars.{NoName, dollar-end, dollar-name, dollar-paren, dollar-brace, dollar-special}
 use borrow.Author.Needs.{needs}
 use Rattle.read_item.proofs.expansion_at.Statement.{statement}
 use Rattle.read_item.proofs.expansion_at.Tie as tie
@@ -17,8 +18,8 @@ no-name c = record { second = second (c .before .before .before); none = sym (c 
 add-if1 : tie.Need-add-if1
 add-if1 c = search needs
 
-add-t10 : tie.Need-add-t10
-add-t10 c = search needs
+add-t9 : tie.Need-add-t9
+add-t9 c = search needs
 
 returns : tie.Need-returns
 returns c = let s = c .before .before in dollar-end (s .args .text .now) (s .args .from) (s .pre) (c .if1 .taken)
@@ -38,8 +39,8 @@ add-run-end c = search needs
 run-end-requires : tie.Need-run-end-requires
 run-end-requires c κs = search needs
 
-add-t15 : tie.Need-add-t15
-add-t15 c = search needs
+add-t14 : tie.Need-add-t14
+add-t14 c = search needs
 
 returns-2 : tie.Need-returns-2
 returns-2 c =
@@ -60,41 +61,31 @@ returns-4 c =
     dollar-brace (no-name (c .before .before .before)) (c .before .before .if3 .left) (c .before .if4 .taken) (c .braced-at .result)
     (c .braced-at .ensures)
 
-is-not-served-requires : tie.Need-is-not-served-requires
-is-not-served-requires c κs = search needs
+special-at-requires : tie.Need-special-at-requires
+special-at-requires c κs = search needs
 
 returns-5 : tie.Need-returns-5
 returns-5 c =
-    dollar-other (no-name (c .before .before .before .before)) (c .before .before .before .if3 .left) (c .before .before .if4 .left)
-    (sym (c .before .is-not-served .ensures) ∙ c .if5 .taken)
-
-add-t8 : tie.Need-add-t8
-add-t8 c = search needs
-
-returns-6 : tie.Need-returns-6
-returns-6 c =
-    dollar-plain (no-name (c .before .before .before .before)) (c .before .before .before .if3 .left) (c .before .before .if4 .left)
-    (sym (c .before .is-not-served .ensures) ∙ c .if5 .left)
+    dollar-special (no-name (c .before .before .before)) (c .before .before .if3 .left) (c .before .if4 .left) (c .special-at .result)
+    (c .special-at .ensures)
 
 pub expansion-at-spec : {M : Type 1} → statement M
 expansion-at-spec =
     tie.close
     (tie.spec
     add-if1
-    add-t10
+    add-t9
     returns
     add-b
     shared-slice-read-b
     in-class-requires
     add-run-end
     run-end-requires
-    add-t15
+    add-t14
     returns-2
     parenthesis-at-requires
     returns-3
     braced-at-requires
     returns-4
-    is-not-served-requires
-    returns-5
-    add-t8
-    returns-6)
+    special-at-requires
+    returns-5)

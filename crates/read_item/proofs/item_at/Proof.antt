@@ -69,6 +69,9 @@ enum-told-3 c = search needs
 enum-told-4 : tie.Need-enum-told-4
 enum-told-4 c = search needs
 
+lists-in-requires : tie.Need-lists-in-requires
+lists-in-requires c κs = search needs
+
 enum-told-5 : tie.Need-enum-told-5
 enum-told-5 c = search needs
 
@@ -87,8 +90,8 @@ enum-told-7 c = search needs
 enum-known-sort-2 : tie.Need-enum-known-sort-2
 enum-known-sort-2 c = search needs
 
-add-t19 : tie.Need-add-t19
-add-t19 c =
+add-t20 : tie.Need-add-t20
+add-t20 c =
     let s = c .before .before .before in
     omega (arith, opening-few (seen s) (s .before .before .before .before .pre .1) (c .before .sort2 .given .1), seen s .there)
 
@@ -109,8 +112,8 @@ tilde-at-requires c κs = search needs
 enum-told-9 : tie.Need-enum-told-9
 enum-told-9 c = search needs
 
-add-t20 : tie.Need-add-t20
-add-t20 c = search needs
+add-t21 : tie.Need-add-t21
+add-t21 c = search needs
 
 returns-3 : tie.Need-returns-3
 returns-3 c = item-backquote (seen (c .before .before)) (c .enum-told .given .1)
@@ -125,7 +128,7 @@ returns-6 : tie.Need-returns-6
 returns-6 c = item-quotes (seen (c .before .before)) (c .enum-told3 .given .1)
 
 returns-7 : tie.Need-returns-7
-returns-7 c = item-quotes2 (seen (c .before .before)) (c .enum-told4 .given .1)
+returns-7 c = item-quotes2 (seen (c .before .before .before)) (c .before .enum-told4 .given .1) (c .lists-in .result) (c .lists-in .ensures)
 
 returns-8 : tie.Need-returns-8
 returns-8 c = item-backslash (seen (c .before .before .before)) (c .before .enum-told5 .given .1) (c .escaped-at .result) (c .escaped-at .ensures)
@@ -165,19 +168,20 @@ item-at-spec =
     enum-told-2
     enum-told-3
     enum-told-4
+    lists-in-requires
     enum-told-5
     escaped-at-requires
     enum-told-6
     expansion-at-requires
     enum-told-7
     enum-known-sort-2
-    add-t19
+    add-t20
     enum-known-sort-3
     closed-at-requires
     enum-told-8
     tilde-at-requires
     enum-told-9
-    add-t20
+    add-t21
     returns-3
     returns-4
     returns-5

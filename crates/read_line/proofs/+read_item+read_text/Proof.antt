@@ -17,6 +17,8 @@ use Rattle.read_line.proofs.Items.{
   item-paren,
   item-value,
   item-count,
+  item-total,
+  item-spread,
   item-quote,
   item-inner,
   item-sum,
@@ -86,8 +88,8 @@ module _ (t : ℕ) where
   read-item-enum-told : read-item-lts.Need-enum-told (read-item-callees t) (read-item-at t) read-item.Post
   read-item-enum-told c = search needs
 
-  read-item-add-t17 : read-item-lts.Need-add-t17 (read-item-callees t) (read-item-at t) read-item.Post
-  read-item-add-t17 c = let s = stands (c .before .before .before) (c .enum-told .given .1) in omega (arith, s .1)
+  read-item-add-t19 : read-item-lts.Need-add-t19 (read-item-callees t) (read-item-at t) read-item.Post
+  read-item-add-t19 c = let s = stands (c .before .before .before) (c .enum-told .given .1) in omega (arith, s .1)
 
   read-item-enum-known-item-4 : read-item-lts.Need-enum-known-item-4 (read-item-callees t) (read-item-at t) read-item.Post
   read-item-enum-known-item-4 c = search needs
@@ -98,8 +100,8 @@ module _ (t : ℕ) where
   read-item-enum-known-item-6 : read-item-lts.Need-enum-known-item-6 (read-item-callees t) (read-item-at t) read-item.Post
   read-item-enum-known-item-6 c = search needs
 
-  read-item-add-t18 : read-item-lts.Need-add-t18 (read-item-callees t) (read-item-at t) read-item.Post
-  read-item-add-t18 c = let s = stands (c .before .before .before .before) (c .before .item6 .given .1) in omega (arith, s .1)
+  read-item-add-t20 : read-item-lts.Need-add-t20 (read-item-callees t) (read-item-at t) read-item.Post
+  read-item-add-t20 c = let s = stands (c .before .before .before .before) (c .before .item6 .given .1) in omega (arith, s .1)
 
   read-item-read-text-requires : read-item-lts.Need-read-text-requires (read-item-callees t) (read-item-at t) read-item.Post
   read-item-read-text-requires c κs =
@@ -110,8 +112,8 @@ module _ (t : ℕ) where
   read-item-enum-known-item-7 : read-item-lts.Need-enum-known-item-7 (read-item-callees t) (read-item-at t) read-item.Post
   read-item-enum-known-item-7 c = search needs
 
-  read-item-sub-t20 : read-item-lts.Need-sub-t20 (read-item-callees t) (read-item-at t) read-item.Post
-  read-item-sub-t20 c = let s = stands (c .before .before .before .before) (c .before .item7 .given .1) in omega (arith, s .3)
+  read-item-sub-t22 : read-item-lts.Need-sub-t22 (read-item-callees t) (read-item-at t) read-item.Post
+  read-item-sub-t22 c = let s = stands (c .before .before .before .before) (c .before .item7 .given .1) in omega (arith, s .3)
 
   read-item-read-text-requires-2 : read-item-lts.Need-read-text-requires-2 (read-item-callees t) (read-item-at t) read-item.Post
   read-item-read-text-requires-2 c κs =
@@ -122,8 +124,8 @@ module _ (t : ℕ) where
   read-item-enum-known-item-8 : read-item-lts.Need-enum-known-item-8 (read-item-callees t) (read-item-at t) read-item.Post
   read-item-enum-known-item-8 c = search needs
 
-  read-item-sub-t23 : read-item-lts.Need-sub-t23 (read-item-callees t) (read-item-at t) read-item.Post
-  read-item-sub-t23 c = let s = stands (c .before .before .before .before) (c .before .item8 .given .1) in omega (arith, s .3)
+  read-item-sub-t25 : read-item-lts.Need-sub-t25 (read-item-callees t) (read-item-at t) read-item.Post
+  read-item-sub-t25 c = let s = stands (c .before .before .before .before) (c .before .item8 .given .1) in omega (arith, s .3)
 
   read-item-read-text-requires-3 : read-item-lts.Need-read-text-requires-3 (read-item-callees t) (read-item-at t) read-item.Post
   read-item-read-text-requires-3 c κs =
@@ -133,6 +135,12 @@ module _ (t : ℕ) where
 
   read-item-enum-known-item-9 : read-item-lts.Need-enum-known-item-9 (read-item-callees t) (read-item-at t) read-item.Post
   read-item-enum-known-item-9 c = search needs
+
+  read-item-enum-known-item-10 : read-item-lts.Need-enum-known-item-10 (read-item-callees t) (read-item-at t) read-item.Post
+  read-item-enum-known-item-10 c = search needs
+
+  read-item-enum-known-item-11 : read-item-lts.Need-enum-known-item-11 (read-item-callees t) (read-item-at t) read-item.Post
+  read-item-enum-known-item-11 c = search needs
 
   read-item-returns : read-item-lts.Need-returns (read-item-callees t) (read-item-at t) read-item.Post
   read-item-returns c = item-fault (c .before .before .before .before .pre .1) (c .before .item .given .1)
@@ -166,6 +174,12 @@ module _ (t : ℕ) where
 
   read-item-returns-10 : read-item-lts.Need-returns-10 (read-item-callees t) (read-item-at t) read-item.Post
   read-item-returns-10 c = item-home (c .before .before .before .before .pre .1) (c .before .item9 .given .1)
+
+  read-item-returns-11 : read-item-lts.Need-returns-11 (read-item-callees t) (read-item-at t) read-item.Post
+  read-item-returns-11 c = item-total (c .before .before .before .before .pre .1) (c .before .item10 .given .1)
+
+  read-item-returns-12 : read-item-lts.Need-returns-12 (read-item-callees t) (read-item-at t) read-item.Post
+  read-item-returns-12 c = item-spread (c .before .before .before .before .pre .1) (c .before .item11 .given .1)
 
 abbrev read-text-callees : ℕ → read-text-lts.Claims
 read-text-callees t = (
@@ -251,19 +265,21 @@ pub +read-item+read-text-spec : {M : Type 1} → statement M
     (read-item-enum-known-item-2 t)
     (read-item-enum-known-item-3 t)
     (read-item-enum-told t)
-    (read-item-add-t17 t)
+    (read-item-add-t19 t)
     (read-item-enum-known-item-4 t)
     (read-item-enum-known-item-5 t)
     (read-item-enum-known-item-6 t)
-    (read-item-add-t18 t)
+    (read-item-add-t20 t)
     (read-item-read-text-requires t)
     (read-item-enum-known-item-7 t)
-    (read-item-sub-t20 t)
+    (read-item-sub-t22 t)
     (read-item-read-text-requires-2 t)
     (read-item-enum-known-item-8 t)
-    (read-item-sub-t23 t)
+    (read-item-sub-t25 t)
     (read-item-read-text-requires-3 t)
     (read-item-enum-known-item-9 t)
+    (read-item-enum-known-item-10 t)
+    (read-item-enum-known-item-11 t)
     (read-item-returns t)
     (read-item-returns-2 t)
     (read-item-returns-3 t)
@@ -273,7 +289,9 @@ pub +read-item+read-text-spec : {M : Type 1} → statement M
     (read-item-returns-7 t)
     (read-item-returns-8 t)
     (read-item-returns-9 t)
-    (read-item-returns-10 t))
+    (read-item-returns-10 t)
+    (read-item-returns-11 t)
+    (read-item-returns-12 t))
     λ t. read-text-lts.spec (read-text-callees t) (read-text-at t)
     read-text.Post
     Inv-loop

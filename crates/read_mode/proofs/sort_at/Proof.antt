@@ -21,20 +21,20 @@ enum-told c = search needs
 sort-single-requires : tie.Need-sort-single-requires
 sort-single-requires c κs = search needs
 
-enum-told-2 : tie.Need-enum-told-2
-enum-told-2 c = search needs
+enum-known-mode-3 : tie.Need-enum-known-mode-3
+enum-known-mode-3 c = search needs
 
 sort-double-requires : tie.Need-sort-double-requires
 sort-double-requires c κs = search needs
 
-enum-told-3 : tie.Need-enum-told-3
-enum-told-3 c = search needs
+enum-known-mode-4 : tie.Need-enum-known-mode-4
+enum-known-mode-4 c = search needs
 
 sort-operand-requires : tie.Need-sort-operand-requires
 sort-operand-requires c κs = search needs
 
-enum-known-mode-3 : tie.Need-enum-known-mode-3
-enum-known-mode-3 c = search needs
+enum-known-mode-5 : tie.Need-enum-known-mode-5
+enum-known-mode-5 c = search needs
 
 sort-arith-requires : tie.Need-sort-arith-requires
 sort-arith-requires c κs = search needs
@@ -49,13 +49,13 @@ returns-3 : tie.Need-returns-3
 returns-3 c = rw (c .before .enum-told .given .1) (c .sort-single .ensures)
 
 returns-4 : tie.Need-returns-4
-returns-4 c = rw (c .before .enum-told2 .given .1) (c .sort-double .ensures)
+returns-4 c = rw (c .before .before .mode3 .given .1) (c .sort-double .ensures)
 
 returns-5 : tie.Need-returns-5
-returns-5 c = rw (c .before .enum-told3 .given .1) (c .sort-operand .ensures)
+returns-5 c = rw (c .before .before .mode4 .given .1) (c .sort-operand .ensures)
 
 returns-6 : tie.Need-returns-6
-returns-6 c = rw (c .before .before .mode3 .given .1) (c .sort-arith .ensures)
+returns-6 c = rw (c .before .before .mode5 .given .1) (c .sort-arith .ensures)
 
 pub sort-at-spec : {M : Type 1} → statement M
 sort-at-spec =
@@ -67,11 +67,11 @@ sort-at-spec =
     sort-bare-requires
     enum-told
     sort-single-requires
-    enum-told-2
-    sort-double-requires
-    enum-told-3
-    sort-operand-requires
     enum-known-mode-3
+    sort-double-requires
+    enum-known-mode-4
+    sort-operand-requires
+    enum-known-mode-5
     sort-arith-requires
     returns
     returns-2

@@ -2,7 +2,7 @@
 use mathlib.Core.Path.{refl, sym, _∙_}
 use borrow.Author.Tests.{eq-eqb, ne-eqb}
 use Rattle.stages.specs.Syntax.{bare}
-use Rattle.text.specs.Cases.{startOf}
+use Rattle.text.specs.Cases.{startOf, listsOf}
 use Rattle.stages.specs.Items.{sort, closerLength}
 use Rattle.read_mode.specs.Modes.{quotesSort, plainSort}
 use borrow.Author.Needs.{needs}
@@ -39,7 +39,7 @@ returns-4 c =
     record {
       is = rw (sym (e .before .before .begins-tilde .ensures) ∙ e .before .if1 .left, ne-eqb _ _ (e .if2 .left), ne-eqb _ _ (c .before .if3 .left))
           (c .sort-quotes .ensures .is);
-      carries = c .sort-quotes .ensures .carries (bare (startOf (e .before .before .before .args .fresh)));
+      carries = c .sort-quotes .ensures .carries (let a = e .before .before .before .args in bare (startOf (a .fresh)) (listsOf (a .lists)));
     }
 
 pub sort-bare-spec : {M : Type 1} → statement M

@@ -2,6 +2,7 @@
 use mathlib.Core.Path.{refl}
 use borrow.Author.Tests.{eq-eqb, ne-eqb}
 use Rattle.stages.specs.Syntax.{double}
+use Rattle.text.specs.Cases.{listsOf}
 use Rattle.stages.specs.Items.{sort, closerLength}
 use Rattle.read_mode.specs.Modes.{plainSort}
 use borrow.Author.Needs.{needs}
@@ -26,7 +27,7 @@ returns-3 c =
     record {
       is = rw (ne-eqb _ _ (c .before .before .if1 .left), ne-eqb _ _ (c .before .if2 .left)) (c .sort-plain .ensures .is);
       carries =
-          c .sort-plain .ensures .carries double;
+          c .sort-plain .ensures .carries (double (listsOf (c .before .before .before .args .lists)));
     }
 
 pub sort-double-spec : {M : Type 1} → statement M

@@ -2,6 +2,7 @@
 use mathlib.Core.Path.{refl}
 use borrow.Author.Tests.{eq-eqb, ne-eqb}
 use Rattle.stages.specs.Syntax.{quotedOperand}
+use Rattle.text.specs.Cases.{listsOf}
 use Rattle.stages.specs.Items.{sort, closerLength}
 use Rattle.read_mode.specs.Modes.{plainSort}
 use borrow.Author.Needs.{needs}
@@ -31,7 +32,7 @@ returns-4 c =
     record {
       is = rw (ne-eqb _ _ (c .before .before .before .if1 .left), ne-eqb _ _ (c .before .before .if2 .left), ne-eqb _ _ (c .before .if3 .left))
           (c .sort-plain .ensures .is);
-      carries = c .sort-plain .ensures .carries quotedOperand;
+      carries = c .sort-plain .ensures .carries (quotedOperand (listsOf (c .before .before .before .before .args .lists)));
     }
 
 pub sort-operand-spec : {M : Type 1} → statement M
