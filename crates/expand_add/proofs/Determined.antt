@@ -3,6 +3,7 @@
 use Prim.Native.Nat.{ℕ, _*_}
 use native.Mathlib.Omega.{arith}
 use mathlib.Core.Path.{_≡_, sym, ap, _∙_}
+use mathlib.Core.Bool.{Bool}
 use lib.ListN.{length, take, length-drop}
 use lib.Seq.{length-take-le}
 use Rattle.stages.specs.Bytes.{Text}
@@ -27,10 +28,10 @@ use Rattle.expand_add.specs.Added.{Adds, Fitting, measured}
 
 -- A row that is added.
 
-measured-fits : (units : ℕ) (on : Onward) (o : Outcome Row) (area : Text) (count next varsUsed : ℕ) → Fitting units on o area count next varsUsed
-    → {e : ℕ} → measured units o ≡ refused e → ⊥
+measured-fits : (units : ℕ) (on : Onward) (o : Outcome Row) (area : Text) (count next varsUsed : ℕ) (g : Bool)
+    → Fitting units on o area count next varsUsed g → {e : ℕ} → measured units o ≡ refused e → ⊥
 unfolding measured
-measured-fits units on o area count next varsUsed f {e} h =
+measured-fits units on o area count next varsUsed ofNone f {e} h =
     let c = f .counts in
     let l = f .fits in
     let g : measured units o ≡ done (f .row) = rw (f .is, fit-ok units (length (f .row)) (omega arith)) in
@@ -38,21 +39,22 @@ measured-fits units on o area count next varsUsed f {e} h =
     omega arith
 
 module _ (units : ℕ) (on : Onward) (o : Outcome Row) (area area′ : Text) where
-  one-row : {n next u n′ next′ u′ : ℕ} (f : Fitting units on o area n next u) (f′ : Fitting units on o area′ n′ next′ u′)
+  one-row : {n next u n′ next′ u′ : ℕ} {g g′ : Bool} (f : Fitting units on o area n next u g) (f′ : Fitting units on o area′ n′ next′ u′ g′)
       → f .row ≡ f′ .row
   one-row f f′ = let a = f .is in let b = f′ .is in cc
 
   pub adds-determined : (r r′ : Expanded) → Adds units on o area r → Adds units on o area′ r′ → r ≡ r′
-  adds-determined (answer.Row n next u) (answer.Row n′ next′ u′) f f′ =
+  adds-determined (answer.Row n next u g) (answer.Row n′ next′ u′ g′) f f′ =
       let a : n ≡ n′ = sym (f .counts) ∙ ap length (one-row f f′) ∙ f′ .counts in
       let b : next ≡ next′ = one-answer (f .onward) (f′ .onward) in
       let c : u ≡ u′ = one-answer (f .keeps) (f′ .keeps) in
+      let d : g ≡ g′ = one-answer (f .tells) (f′ .tells) in
       cc
-  adds-determined (answer.Row n next u) (answer.Refused e′) f h′ = absurd (measured-fits units on o area n next u f h′)
-  adds-determined (answer.Refused e) (answer.Row n′ next′ u′) h f′ = absurd (measured-fits units on o area′ n′ next′ u′ f′ h)
+  adds-determined (answer.Row n next u g) (answer.Refused e′) f h′ = absurd (measured-fits units on o area n next u g f h′)
+  adds-determined (answer.Refused e) (answer.Row n′ next′ u′ g′) h f′ = absurd (measured-fits units on o area′ n′ next′ u′ g′ f′ h)
   adds-determined (answer.Refused e) (answer.Refused e′) h h′ = let q : e ≡ e′ = cc in ap answer.Refused q
 
-  pub adds-determined-row : {n next u n′ next′ u′ : ℕ} → Fitting units on o area n next u → Fitting units on o area′ n′ next′ u′
+  pub adds-determined-row : {n next u n′ next′ u′ : ℕ} {g g′ : Bool} → Fitting units on o area n next u g → Fitting units on o area′ n′ next′ u′ g′
       → take (2 * n) area ≡ take (2 * n′) area′
   adds-determined-row {n} {next} {u} {n′} f f′ =
       front (f .row) area n (f .stands) (f .counts) ∙ ap rowBytes (one-row f f′) ∙ sym (front (f′ .row) area′ n′ (f′ .stands) (f′ .counts))
@@ -65,22 +67,25 @@ vars-used-is varsRoom vars varsUsed w =
     sym (length-take-le varsUsed vars (w .inside)) ∙ table-length isName (take varsUsed vars) (vars-held varsRoom vars varsUsed w)
 
 module _ (varsRoom units : ℕ) (made : Made) (area vars area′ vars′ : Text) where
-  clash : {e : ℕ} {p : Row × Pairs} → made ≡ refused e → made ≡ done p → ⊥
+  clash : {e : ℕ} {p : Row × Pairs × Bool} → made ≡ refused e → made ≡ done p → ⊥
   clash a b = let z : _≡_ {A = ℕ} 0 1 = cc in omega arith
 
   one-number : {e e′ : ℕ} → made ≡ refused e → made ≡ refused e′ → e ≡ e′
   one-number h h′ = cc
 
-  module _ {n varsUsed n′ varsUsed′ : ℕ} (i : IsRow varsRoom units made area vars n varsUsed)
-      (i′ : IsRow varsRoom units made area′ vars′ n′ varsUsed′) where
-    both : _≡_ {A = Row × Pairs} (i .row, held (take varsUsed vars)) (i′ .row, held (take varsUsed′ vars′))
+  module _ {n varsUsed n′ varsUsed′ : ℕ} {g g′ : Bool} (i : IsRow varsRoom units made area vars n varsUsed g)
+      (i′ : IsRow varsRoom units made area′ vars′ n′ varsUsed′ g′) where
+    both : _≡_ {A = Row × Pairs × Bool} (i .row, held (take varsUsed vars), g) (i′ .row, held (take varsUsed′ vars′), g′)
     both = let a = i .is in let b = i′ .is in cc
 
     same-row : i .row ≡ i′ .row
-    same-row = ap (λ (p : Row × Pairs). p .0) both
+    same-row = ap (λ (p : Row × Pairs × Bool). p .0) both
 
     same-held : held (take varsUsed vars) ≡ held (take varsUsed′ vars′)
-    same-held = ap (λ (p : Row × Pairs). p .1) both
+    same-held = ap (λ (p : Row × Pairs × Bool). p .1) both
+
+    same-tells : g ≡ g′
+    same-tells = ap (λ (p : Row × Pairs × Bool). p .2) both
 
     same-units : n ≡ n′
     same-units = sym (i .counts) ∙ ap length same-row ∙ i′ .counts
@@ -102,12 +107,13 @@ module _ (varsRoom units : ℕ) (made : Made) (area vars area′ vars′ : Text)
   pub finishes-determined : (next : ℕ) (r r′ : Expanded) → Finishes varsRoom units made next area vars r → Finishes varsRoom units made next area′
       vars′ r′ → r ≡ r′
   finishes-determined next (answer.Refused e) (answer.Refused e′) h h′ = ap answer.Refused (one-number h h′)
-  finishes-determined next (answer.Refused e) (answer.Row n′ next′ varsUsed′) h h′ = absurd (clash h (h′ .1 .is))
-  finishes-determined next (answer.Row n after varsUsed) (answer.Refused e′) h h′ = absurd (clash h′ (h .1 .is))
-  finishes-determined next (answer.Row n after varsUsed) (answer.Row n′ after′ varsUsed′) h h′ =
+  finishes-determined next (answer.Refused e) (answer.Row n′ next′ varsUsed′ g′) h h′ = absurd (clash h (h′ .1 .is))
+  finishes-determined next (answer.Row n after varsUsed g) (answer.Refused e′) h h′ = absurd (clash h′ (h .1 .is))
+  finishes-determined next (answer.Row n after varsUsed g) (answer.Row n′ after′ varsUsed′ g′) h h′ =
       let a = same-units (h .1) (h′ .1) in
       let b : after ≡ after′ = one-answer (h .0) (h′ .0) in
       let c = same-vars-used (h .1) (h′ .1) in
+      let d = same-tells (h .1) (h′ .1) in
       cc
 
   module _ (text : Text) (at : ℕ) (rest : Text) where
@@ -118,12 +124,13 @@ module _ (varsRoom units : ℕ) (made : Made) (area vars area′ vars′ : Text)
     answers-same : (r r′ : Expanded) → Answers varsRoom text at units made rest area vars r → Answers varsRoom text at units made rest area′ vars′
         r′ → r ≡ r′
     answers-same (answer.Refused e) (answer.Refused e′) h h′ = ap answer.Refused (one-number h h′)
-    answers-same (answer.Refused e) (answer.Row n′ next′ varsUsed′) h h′ = absurd (clash h (h′ .0 .is))
-    answers-same (answer.Row n next varsUsed) (answer.Refused e′) h h′ = absurd (clash h′ (h .0 .is))
-    answers-same (answer.Row n next varsUsed) (answer.Row n′ next′ varsUsed′) h h′ =
+    answers-same (answer.Refused e) (answer.Row n′ next′ varsUsed′ g′) h h′ = absurd (clash h (h′ .0 .is))
+    answers-same (answer.Row n next varsUsed g) (answer.Refused e′) h h′ = absurd (clash h′ (h .0 .is))
+    answers-same (answer.Row n next varsUsed g) (answer.Row n′ next′ varsUsed′ g′) h h′ =
         let a = same-units (h .0) (h′ .0) in
         let b = same-next (h .1) (h′ .1) in
         let c = same-vars-used (h .0) (h′ .0) in
+        let d = same-tells (h .0) (h′ .0) in
         cc
 
 -- every function that answers for a text
@@ -135,7 +142,7 @@ module _ (varsRoom : ℕ) (text : Text) (at units : ℕ) (own : Parts → Made) 
       answers-same varsRoom units (own (p .0)) area vars area′ vars′ text at (p .1) r r′
       (says-known varsRoom text at units own area vars r s e) (says-known varsRoom text at units own area′ vars′ r′ s′ e)
 
-  pub determined-row : {n next varsUsed n′ next′ varsUsed′ : ℕ} → r ≡ answer.Row n next varsUsed → r′ ≡ answer.Row n′ next′ varsUsed′
+  pub determined-row : {n next varsUsed n′ next′ varsUsed′ : ℕ} {g g′ : Bool} → r ≡ answer.Row n next varsUsed g → r′ ≡ answer.Row n′ next′ varsUsed′ g′
       → take (2 * n) area ≡ take (2 * n′) area′
   determined-row q q′ =
       let h = answers-known varsRoom text at units (own (p .0)) (p .1) area vars (says-known varsRoom text at units own area vars r s e) q in
@@ -143,7 +150,7 @@ module _ (varsRoom : ℕ) (text : Text) (at units : ℕ) (own : Parts → Made) 
       (says-known varsRoom text at units own area′ vars′ r′ s′ e) q′ in
       row-same varsRoom units (own (p .0)) area vars area′ vars′ (h .0) (h′ .0)
 
-  pub determined-image : {n next varsUsed n′ next′ varsUsed′ : ℕ} → r ≡ answer.Row n next varsUsed → r′ ≡ answer.Row n′ next′ varsUsed′
+  pub determined-image : {n next varsUsed n′ next′ varsUsed′ : ℕ} {g g′ : Bool} → r ≡ answer.Row n next varsUsed g → r′ ≡ answer.Row n′ next′ varsUsed′ g′
       → Bytes (take varsUsed vars) → Bytes (take varsUsed′ vars′)
       → take varsUsed vars ≡ take varsUsed′ vars′
   determined-image q q′ b b′ =

@@ -36,7 +36,7 @@ pub admitted-full : (units : ℕ) (on : Onward) (count : ℕ) → rowLimit < uni
 admitted-full units on count h = rw (lt-leb (units + count) rowLimit h)
 
 pub admitted-ok : (units : ℕ) (on : Onward) (count : ℕ) → units + count ≤ rowLimit
-    → answer.Row count (on .next) (on .«vars_used») ≡ admitted units on count
+    → answer.Row count (on .next) (on .«vars_used») (on .«of_none») ≡ admitted units on count
 admitted-ok units on count h = rw (le-leb (units + count) rowLimit h)
 
 pub marked-count : (m : Mark) (t : Text) → length (marked m t) ≡ length t
@@ -46,7 +46,7 @@ marked-count m (b ∷ t) = ap suc (marked-count m t)
 
 -- a row that was put at the front fits where it was measured to
 pub fronted-fits : (units : ℕ) (on : Onward) (count : ℕ) (row : Row) (area left : Text) → length row ≡ count → units + count ≤ rowLimit
-    → left ≡ fronted (rowBytes row) area → Fitting units on (done row) left count (on .next) (on .«vars_used»)
+    → left ≡ fronted (rowBytes row) area → Fitting units on (done row) left count (on .next) (on .«vars_used») (on .«of_none»)
 fronted-fits units on count row area left c f e =
     record {
       row = row;
@@ -56,6 +56,7 @@ fronted-fits units on count row area left c f e =
       fits = f;
       onward = refl;
       keeps = refl;
+      tells = refl;
     }
 
 -- an outcome that is the same

@@ -38,16 +38,17 @@ answers-known varsRoom text at units made rest area vars h e = subst (λ (x : Ex
 -- a row that was added where nothing is stored
 pub adds-finishes : (varsRoom units : ℕ) (on : Onward) (o : Outcome Row) (area vars : Text) (r : Expanded) → Adds units on o area r
     → Holds varsRoom vars (on .«vars_used»)
-    → Finishes varsRoom units (placed units (beside (held (take (on .«vars_used») vars)) o)) (on .next) area vars r
-adds-finishes varsRoom units on o area vars (answer.Refused e) h w = beside-refused units (held (take (on .«vars_used») vars)) o e h
-adds-finishes varsRoom units on o area vars (answer.Row count next varsUsed) f w =
+    → Finishes varsRoom units (placed units (beside (held (take (on .«vars_used») vars)) (on .«of_none») o)) (on .next) area vars r
+adds-finishes varsRoom units on o area vars (answer.Refused e) h w = beside-refused units (held (take (on .«vars_used») vars)) (on .«of_none») o e h
+adds-finishes varsRoom units on o area vars (answer.Row count next varsUsed ofNone) f w =
     let c = f .counts in
     let l = f .fits in
-    let v = held (take (on .«vars_used») vars) in (
+    let v = held (take (on .«vars_used») vars) in
+    let g = on .«of_none» in (
       f .onward,
-      rw (f .keeps) (record {
+      rw (f .keeps, f .tells) (record {
         row = f .row;
-        is = placed-fits units (beside v o) (f .row) v (beside-done v o (f .row) (f .is)) (omega arith);
+        is = placed-fits units (beside v g o) (f .row) v g (beside-done v g o (f .row) (f .is)) (omega arith);
         counts = c;
         stands = f .stands;
         fits = l;
@@ -64,4 +65,4 @@ finishes-same varsRoom units next area vars r e h = subst (λ (m : Made). Finish
 pub finishes-answers : (varsRoom : ℕ) (text : Text) (at units : ℕ) (made : Made) (next : ℕ) (rest area vars : Text) (r : Expanded)
     → Finishes varsRoom units made next area vars r → Ends text at next rest → Answers varsRoom text at units made rest area vars r
 finishes-answers varsRoom text at units made next rest area vars (answer.Refused e) h k = h
-finishes-answers varsRoom text at units made next rest area vars (answer.Row count after varsUsed) h k = (h .1, rw (h .0) k)
+finishes-answers varsRoom text at units made next rest area vars (answer.Row count after varsUsed ofNone) h k = (h .1, rw (h .0) k)

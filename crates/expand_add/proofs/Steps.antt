@@ -2,90 +2,103 @@
 use Prim.Native.Nat.{ℕ, suc, _+_, _≤_}
 use native.Mathlib.Omega.{arith}
 use mathlib.Core.Path.{_≡_, refl, sym, ap, _∙_}
+use mathlib.Core.Bool.{Bool, true, false, _||_}
 use mathlib.Core.List.{[], _∷_, _++_, append-assoc}
 use lib.ListN.{length}
 use Rattle.stages.specs.Bytes.{Text}
 use Rattle.stages.specs.Outcome.{Outcome, refused, done, _>>=_}
 use Rattle.stages.specs.Images.{Pairs}
-use Rattle.stages.specs.Syntax.{Escape, Form, Parts, lit, quo, par, len, ari, til}
-use Rattle.stages.specs.Units.{Mark, Q, cell, N, Row, marked, bytes, expandedMark, litMark, decimal}
+use Rattle.stages.specs.Syntax.{Escape, Form, Param, Counted, Spread, Parts, lit, quo, par, len, lst, ari, til}
+use Rattle.stages.specs.Units.{Mark, Q, cell, Row, marked, bytes, expandedMark, litMark, decimal}
 use Rattle.stages.specs.Arith.{arithmeticOf}
-use Rattle.stages.specs.Expand.{Made, Lent, value, parameter, directory, tildeRow, onto, adding, expand}
+use Rattle.stages.specs.Params.{Lent}
+use Rattle.stages.specs.Expand.{Made, parameter, amount, listRow, ofNone, inQuotes, directory, tildeRow, onto, adding, expand}
 use Rattle.expand_add.specs.Steps.{beside, placed, quoted, summed, followed}
 use Rattle.expand_add.specs.Added.{measured}
 use Rattle.expand_add.proofs.Fitting.{by-fit}
 use Rattle.stages.specs.Numbers.{rowLimit}
 use Rattle.stages.proofs.Rooms.{fit-ok}
 
-pub onto-none : (o : Made) → o ≡ onto [] o
+pub onto-none : (o : Made) → o ≡ onto [] false o
 onto-none (refused e) = refl
 onto-none (done r) = refl
 
-pub onto-onto : (r s : Row) (o : Made) → onto r (onto s o) ≡ onto (r ++ s) o
-onto-onto r s (refused e) = refl
-onto-onto r s (done p) = ap (λ (t : Row). done (t, p .1)) (sym (append-assoc r s (p .0)))
+or-or : (g h k : Bool) → (g || (h || k)) ≡ (g || h || k)
+or-or true h k = refl
+or-or false h k = refl
+
+pub onto-onto : (r s : Row) (g h : Bool) (o : Made) → onto r g (onto s h o) ≡ onto (r ++ s) (g || h) o
+onto-onto r s g h (refused e) = refl
+onto-onto r s g h (done p) =
+    ap (λ (t : Row). done (t, p .1, g || (h || p .2))) (sym (append-assoc r s (p .0)))
+    ∙ ap (λ (k : Bool). done ((r ++ s) ++ p .0, p .1, k)) (or-or g h (p .2))
 
 module _ (a : Lent) (p : Parts) (m : Mark) (n : ℕ) where
-  placed-followed : (made : Made) → (made >>= λ r. adding n (r .0) λ i. expand a p m i (r .1)) ≡ followed a p m n (placed n made)
+  placed-followed : (made : Made) → (made >>= λ r. adding n (r .0) (r .2) λ i. expand a p m i (r .1)) ≡ followed a p m n (placed n made)
   unfolding followed placed
   placed-followed (refused e) = refl
   placed-followed (done r) =
       by-fit
-      (λ (o : Outcome ℕ). (o >>= λ i. onto (r .0) (expand a p m i (r .1))) ≡
-      ((o >>= λ i. done r) >>= λ s. onto (s .0) (expand a p m (n + length (s .0)) (s .1))))
+      (λ (o : Outcome ℕ). (o >>= λ i. onto (r .0) (r .2) (expand a p m i (r .1))) ≡
+      ((o >>= λ i. done r) >>= λ s. onto (s .0) (s .2) (expand a p m (n + length (s .0)) (s .1))))
       n (length (r .0)) refl refl
 
   pub expand-lit : (q : Escape) (b : ℕ) (v : Pairs)
-      → expand a (lit q b p) m n v ≡ followed a p m n (placed n (done (cell (litMark q m) b ∷ [], v)))
+      → expand a (lit q b p) m n v ≡ followed a p m n (placed n (done (cell (litMark q m) b ∷ [], v, false)))
   unfolding expand
-  expand-lit q b v = placed-followed (done (cell (litMark q m) b ∷ [], v))
+  expand-lit q b v = placed-followed (done (cell (litMark q m) b ∷ [], v, false))
 
-  pub expand-par : (x : Text) (f : Form) (q : Parts) (v : Pairs)
-      → expand a (par x f q p) m n v ≡ followed a p m n (placed n (parameter (a .room) (λ k w. expand a q k 0 w) x f m v))
+  pub expand-par : (x : Param) (f : Form) (q : Parts) (v : Pairs)
+      → expand a (par x f q p) m n v ≡ followed a p m n (placed n (parameter a (λ k w. expand a q k 0 w) x f m v))
   unfolding expand
-  expand-par x f q v = placed-followed (parameter (a .room) (λ k w. expand a q k 0 w) x f m v)
+  expand-par x f q v = placed-followed (parameter a (λ k w. expand a q k 0 w) x f m v)
 
-  pub expand-len : (x : Text) (v : Pairs) → expand a (len x p) m n v ≡ followed a p m n
-      (placed n (done (marked (expandedMark m) (decimal (length (value v x))), v)))
+  pub expand-len : (x : Counted) (v : Pairs) → expand a (len x p) m n v ≡ followed a p m n
+      (placed n (done (marked (expandedMark m) (decimal (amount a x v)), v, false)))
   unfolding expand
-  expand-len x v = placed-followed (done (marked (expandedMark m) (decimal (length (value v x))), v))
+  expand-len x v = placed-followed (done (marked (expandedMark m) (decimal (amount a x v)), v, false))
+
+  pub expand-lst : (s : Spread) (v : Pairs) → expand a (lst s p) m n v ≡ followed a p m n
+      (placed n (done (listRow s m (a .params) v, v, ofNone s (a .params))))
+  unfolding expand
+  expand-lst s v = placed-followed (done (listRow s m (a .params) v, v, ofNone s (a .params)))
 
   pub expand-til : (x : Text) (v : Pairs) → expand a (til x p) m n v ≡ followed a p m n
-      (placed n (done (tildeRow x m (directory v (a .homes) x), v)))
+      (placed n (done (tildeRow x m (directory v (a .homes) x), v, false)))
   unfolding expand
-  expand-til x v = placed-followed (done (tildeRow x m (directory v (a .homes) x), v))
+  expand-til x v = placed-followed (done (tildeRow x m (directory v (a .homes) x), v, false))
 
-  quote-inside : (o : Made)
-      → onto (N ∷ []) (o >>= λ r. onto (r .0) (expand a p m (n + 1 + length (r .0)) (r .1)))
-      ≡ (onto (N ∷ []) o >>= λ r. onto (r .0) (expand a p m (n + length (r .0)) (r .1)))
-  quote-inside (refused e) = refl
-  quote-inside (done r) =
-      let e : n + 1 + length (r .0) ≡ n + suc (length (r .0)) = omega arith in
-      onto-onto (N ∷ []) (r .0) (expand a p m (n + 1 + length (r .0)) (r .1)) ∙ ap (λ (k : ℕ). onto (N ∷ r .0) (expand a p m k (r .1))) e
+  quote-bind : (o : Made)
+      → (o >>= λ r. onto (inQuotes (r .2) (r .0)) false (expand a p m (n + length (inQuotes (r .2) (r .0))) (r .1)))
+      ≡ (_>>=_ {B = Row × Pairs × Bool} o (λ r. done (inQuotes (r .2) (r .0), r .1, false))
+      >>= λ r. onto (r .0) (r .2) (expand a p m (n + length (r .0)) (r .1)))
+  quote-bind (refused e) = refl
+  quote-bind (done r) = refl
 
   pub expand-quo : (q : Parts) (v : Pairs) → expand a (quo q p) m n v ≡ followed a p m n (quoted a q n v)
   unfolding expand followed quoted
   expand-quo q v =
       by-fit
       (λ (o : Outcome ℕ).
-      (o >>= λ i. onto (N ∷ []) (expand a q Q i v >>= λ r. onto (r .0) (expand a p m (i + length (r .0)) (r .1))))
-      ≡ ((o >>= λ i. onto (N ∷ []) (expand a q Q i v)) >>= λ r. onto (r .0) (expand a p m (n + length (r .0)) (r .1))))
-      n 1 (quote-inside (expand a q Q (n + 1) v)) refl
+      (o >>= λ i. expand a q Q i v >>= λ r. onto (inQuotes (r .2) (r .0)) false (expand a p m (n + length (inQuotes (r .2) (r .0))) (r .1)))
+      ≡ ((o >>= λ i. _>>=_ {B = Row × Pairs × Bool} (expand a q Q i v) (λ r. done (inQuotes (r .2) (r .0), r .1, false)))
+      >>= λ r. onto (r .0) (r .2) (expand a p m (n + length (r .0)) (r .1))))
+      n 1 (quote-bind (expand a q Q (n + 1) v)) refl
 
-  abbrev numbered : Text × Pairs → Row × Pairs
+  abbrev numbered : Text × Pairs → Row × Pairs × Bool
   unfolding marked
-  numbered s = (marked (expandedMark m) (s .0), s .1)
+  numbered s = (marked (expandedMark m) (s .0), s .1, false)
 
   number-bind : (o : Outcome (Text × Pairs))
-      → (o >>= λ s. adding n (marked (expandedMark m) (s .0)) λ i. expand a p m i (s .1))
-      ≡ ((o >>= λ s. done (numbered s)) >>= λ r. adding n (r .0) λ i. expand a p m i (r .1))
+      → (o >>= λ s. adding n (marked (expandedMark m) (s .0)) false λ i. expand a p m i (s .1))
+      ≡ ((o >>= λ s. done (numbered s)) >>= λ r. adding n (r .0) (r .2) λ i. expand a p m i (r .1))
   unfolding marked
   number-bind (refused e) = refl
   number-bind (done s) = refl
 
   sum-bind : (o : Made)
-      → (o >>= λ r. arithmeticOf (r .1) (bytes (r .0)) >>= λ s. adding n (marked (expandedMark m) (s .0)) λ i. expand a p m i (s .1))
-      ≡ ((o >>= λ r. summed m r) >>= λ r. adding n (r .0) λ i. expand a p m i (r .1))
+      → (o >>= λ r. arithmeticOf (r .1) (bytes (r .0)) >>= λ s. adding n (marked (expandedMark m) (s .0)) false λ i. expand a p m i (s .1))
+      ≡ ((o >>= λ r. summed m r) >>= λ r. adding n (r .0) (r .2) λ i. expand a p m i (r .1))
   unfolding summed marked
   sum-bind (refused e) = refl
   sum-bind (done r) = number-bind (arithmeticOf (r .1) (bytes (r .0)))
@@ -98,10 +111,10 @@ module _ (a : Lent) (p : Parts) (m : Mark) (n : ℕ) where
   unfolding followed
   followed-refused own e h = rw h
 
-  pub followed-row : (own : Made) (row : Row) (v : Pairs) (count : ℕ) → own ≡ done (row, v) → length row ≡ count → followed a p m n own
-      ≡ onto row (expand a p m (n + count) v)
+  pub followed-row : (own : Made) (row : Row) (v : Pairs) (g : Bool) (count : ℕ) → own ≡ done (row, v, g) → length row ≡ count → followed a p m n own
+      ≡ onto row g (expand a p m (n + count) v)
   unfolding followed
-  followed-row own row v count h c = rw (h, c)
+  followed-row own row v g count h c = rw (h, c)
 
 -- A row that is worked out and then placed.
 
@@ -109,18 +122,20 @@ pub placed-refused : (n : ℕ) (made : Made) (e : ℕ) → made ≡ refused e �
 unfolding placed
 placed-refused n made e h = rw h
 
-pub placed-fits : (n : ℕ) (made : Made) (row : Row) (v : Pairs) → made ≡ done (row, v) → n + length row ≤ rowLimit → placed n made ≡ done (row, v)
+pub placed-fits : (n : ℕ) (made : Made) (row : Row) (v : Pairs) (g : Bool) → made ≡ done (row, v, g) → n + length row ≤ rowLimit
+    → placed n made ≡ done (row, v, g)
 unfolding placed
-placed-fits n made row v h l = rw (h, fit-ok n (length row) l)
+placed-fits n made row v g h l = rw (h, fit-ok n (length row) l)
 
-beside-placed : (n : ℕ) (v : Pairs) (o : Outcome Row) → placed n (beside v o) ≡ beside v (measured n o)
+beside-placed : (n : ℕ) (v : Pairs) (g : Bool) (o : Outcome Row) → placed n (beside v g o) ≡ beside v g (measured n o)
 unfolding placed measured
-beside-placed n v (refused e) = refl
-beside-placed n v (done r) =
-    by-fit (λ (o : Outcome ℕ). _≡_ {A = Made} (_>>=_ {B = Row × Pairs} o (λ i. done (r, v))) (beside v (o >>= λ i. done r))) n (length r) refl refl
+beside-placed n v g (refused e) = refl
+beside-placed n v g (done r) =
+    by-fit (λ (o : Outcome ℕ). _≡_ {A = Made} (_>>=_ {B = Row × Pairs × Bool} o (λ i. done (r, v, g))) (beside v g (o >>= λ i. done r))) n (length r)
+    refl refl
 
-pub beside-refused : (n : ℕ) (v : Pairs) (o : Outcome Row) (e : ℕ) → measured n o ≡ refused e → placed n (beside v o) ≡ refused e
-beside-refused n v o e h = beside-placed n v o ∙ ap (beside v) h
+pub beside-refused : (n : ℕ) (v : Pairs) (g : Bool) (o : Outcome Row) (e : ℕ) → measured n o ≡ refused e → placed n (beside v g o) ≡ refused e
+beside-refused n v g o e h = beside-placed n v g o ∙ ap (beside v g) h
 
-pub beside-done : (v : Pairs) (o : Outcome Row) (row : Row) → o ≡ done row → beside v o ≡ done (row, v)
-beside-done v o row h = rw h
+pub beside-done : (v : Pairs) (g : Bool) (o : Outcome Row) (row : Row) → o ≡ done row → beside v g o ≡ done (row, v, g)
+beside-done v g o row h = rw h

@@ -1,6 +1,7 @@
 -- A row that is to be added to the units before it: it stands at the front of the area, or it is refused.
 use Prim.Native.Nat.{ℕ, _+_, _≤_}
 use mathlib.Core.Path.{_≡_}
+use mathlib.Core.Bool.{Bool}
 use lib.Dec.{leb}
 use lib.ListN.{length}
 use Rattle.stages.specs.Numbers.{rowLimit, tooManyUnits}
@@ -20,7 +21,7 @@ pub record EndsExpanded (row r : RowEnd) : Type 0 where
   pub units : r .units ≡ row .units
 
 -- the row that was worked out has so many units, stands at the front and fits after the units before it; the text goes on as it was to
-pub record Fitting (units : ℕ) (on : Onward) (o : Outcome Row) (area : Text) (count next varsUsed : ℕ) : Type 0 where
+pub record Fitting (units : ℕ) (on : Onward) (o : Outcome Row) (area : Text) (count next varsUsed : ℕ) (ofNone : Bool) : Type 0 where
   pub row : Row
   pub is : o ≡ done row
   pub counts : length row ≡ count
@@ -28,6 +29,7 @@ pub record Fitting (units : ℕ) (on : Onward) (o : Outcome Row) (area : Text) (
   pub fits : units + count ≤ rowLimit
   pub onward : next ≡ on .next
   pub keeps : varsUsed ≡ on .«vars_used»
+  pub tells : ofNone ≡ on .«of_none»
 
 -- "each byte, mark or whole expansion is worked out before it is added, and what would pass the limit is 14"
 unfoldable pub measured : ℕ → Outcome Row → Outcome Row
@@ -35,9 +37,10 @@ unfolding fit
 measured units o = o >>= λ r. fit units (length r) >>= λ i. done r
 
 abbrev pub Adds : ℕ → Onward → Outcome Row → Text → Expanded → Type 0
-Adds units on o area (expanded.Row count next varsUsed) = Fitting units on o area count next varsUsed
+Adds units on o area (expanded.Row count next varsUsed ofNone) = Fitting units on o area count next varsUsed ofNone
 Adds units on o area (expanded.Refused e) = measured units o ≡ refused e
 
 -- so many units after those before them
 abbrev pub admitted : ℕ → Onward → ℕ → Expanded
-admitted units on count = pick (leb (units + count) rowLimit) (expanded.Row count (on .next) (on .«vars_used»)) (expanded.Refused tooManyUnits)
+admitted units on count =
+    pick (leb (units + count) rowLimit) (expanded.Row count (on .next) (on .«vars_used») (on .«of_none»)) (expanded.Refused tooManyUnits)

@@ -1,7 +1,7 @@
 -- What the answers of the expander say: by cases on the code's answer, an equation with the stage, and what stands in the lent bytes.
 use Prim.Native.Nat.{ℕ, _+_, _*_, _≤_}
 use mathlib.Core.Path.{_≡_}
-use mathlib.Core.Bool.{true}
+use mathlib.Core.Bool.{Bool, true}
 use lib.ListN.{length, take, drop}
 use Rattle.stages.specs.Numbers.{rowLimit, imageLimit}
 use Rattle.stages.specs.Bytes.{Text, all, notZero}
@@ -35,10 +35,11 @@ pub record Ready (text : Text) (at : ℕ) (mode : Mode) (depth units size : ℕ)
   pub rest : Text
   pub is : parts (modeOf mode) depth (drop at text) ≡ done (tree, rest)
 
--- the row is made and fits after the units before it; it stands in the area, and the variables in their bytes
-pub record IsRow (varsRoom units : ℕ) (made : Made) (area vars : Text) (count varsUsed : ℕ) : Type 0 where
+-- the row is made and fits after the units before it, and whether `$@` of no parameters came in it is said; it stands in the area, and the variables in
+-- their bytes
+pub record IsRow (varsRoom units : ℕ) (made : Made) (area vars : Text) (count varsUsed : ℕ) (ofNone : Bool) : Type 0 where
   pub row : Row
-  pub is : made ≡ done (row, held (take varsUsed vars))
+  pub is : made ≡ done (row, held (take varsUsed vars), ofNone)
   pub counts : length row ≡ count
   pub stands : Stands row area
   pub fits : units + count ≤ rowLimit
@@ -52,8 +53,8 @@ pub record Ends (text : Text) (at next : ℕ) (rest : Text) : Type 0 where
 
 abbrev pub Answers : ℕ → Text → ℕ → ℕ → Made → Text → Text → Text → Expanded → Type 0
 Answers varsRoom text at units made rest area vars (expanded.Refused e) = made ≡ refused e
-Answers varsRoom text at units made rest area vars (expanded.Row count next varsUsed) =
-    IsRow varsRoom units made area vars count varsUsed × Ends text at next rest
+Answers varsRoom text at units made rest area vars (expanded.Row count next varsUsed ofNone) =
+    IsRow varsRoom units made area vars count varsUsed ofNone × Ends text at next rest
 
 -- the answer of a text that is read as `o`, of whose parts `own` is made
 abbrev pub Says : ℕ → Text → ℕ → ℕ → (Parts → Made) → Taken → Text → Text → Expanded → Type 0
@@ -63,4 +64,5 @@ Says varsRoom text at units own (done p) area vars r = Answers varsRoom text at 
 -- the same where a leaf hands the place on
 abbrev pub Finishes : ℕ → ℕ → Made → ℕ → Text → Text → Expanded → Type 0
 Finishes varsRoom units made next area vars (expanded.Refused e) = made ≡ refused e
-Finishes varsRoom units made next area vars (expanded.Row count after varsUsed) = (after ≡ next) × IsRow varsRoom units made area vars count varsUsed
+Finishes varsRoom units made next area vars (expanded.Row count after varsUsed ofNone) =
+    (after ≡ next) × IsRow varsRoom units made area vars count varsUsed ofNone

@@ -6,19 +6,21 @@ pub struct Extent {
     pub vars_room: usize,
 }
 
-// How a text goes on after what was added: at `next`, with so many bytes of the variables' image.
+// How a text goes on after what was added: at `next`, with so many bytes of the variables' image, and whether `$@` of no parameters came in it.
 pub struct Onward {
     pub next: usize,
     pub vars_used: usize,
+    pub of_none: bool,
 }
 
-// What expanding answers: a row of so many units stands at the front of the area, the text goes on at `next`, and the variables' image has `vars_used`
-// bytes; or the number that refuses it.
+// What expanding answers: a row of so many units stands at the front of the area, the text goes on at `next`, the variables' image has `vars_used` bytes,
+// and `of_none` says whether `$@` of no parameters came in it; or the number that refuses it.
 pub enum Expanded {
     Row {
         units: usize,
         next: usize,
         vars_used: usize,
+        of_none: bool,
     },
     Refused(u8),
 }

@@ -3,13 +3,10 @@ ghost use Prim.Native.Nat.{_+_, _*_, _≤_};
 ghost use lib.ListN.{length};
 ghost use Rattle.stages.specs.Numbers.{rowLimit};
 ghost use Rattle.stages.specs.Outcome.{done};
-ghost use Rattle.stages.specs.Images.{held};
-ghost use Rattle.stages.specs.Expand.{value};
 ghost use Rattle.stages.specs.Units.{marked, expandedMark};
 ghost use Rattle.stages.specs.Constants.{signed};
 ghost use Rattle.arith_decimal.specs.Digits.{mostDigits};
 ghost use Rattle.row.specs.Marks.{markOf};
-ghost use Rattle.table.specs.Places.{Table};
 ghost use Rattle.expand_add.specs.Added.{Adds, EndsExpanded};
 use answers::Expanded;
 use answers::Onward;
@@ -44,16 +41,15 @@ pub fn give_text(text: &[u8], row: RowEnd, on: Onward, area: &mut [u8]) -> Expan
         units: text.len(),
         next: on.next,
         vars_used: on.vars_used,
+        of_none: on.of_none,
     }
 }
 
-// Adds the value of a name in the image, as what is expanded where literal bytes have the row's mark.
-pub fn give_value(name: &[u8], row: RowEnd, on: Onward, vars: &[u8], area: &mut [u8]) -> Expanded
-    requires { ⌜ Table (now vars) × (row .units ≤ rowLimit) × (2 * rowLimit ≤ length (now area) + 2 * row .units) ⌝ }
-    ensures { λ r. ⌜ Adds (row .units) on (done (marked (expandedMark (markOf (row .mark))) (value (held (now (vars .entry))) (now (name .entry)))))
-        (now (area .exit)) r ⌝ }
+// Adds a value, as what is expanded where literal bytes have the row's mark.
+pub fn give_expanded(value: &[u8], row: RowEnd, on: Onward, area: &mut [u8]) -> Expanded
+    requires { ⌜ (row .units ≤ rowLimit) × (2 * rowLimit ≤ length (now area) + 2 * row .units) ⌝ }
+    ensures { λ r. ⌜ Adds (row .units) on (done (marked (expandedMark (markOf (row .mark))) (now (value .entry)))) (now (area .exit)) r ⌝ }
 {
-    let value = table_find::value_of(vars, name);
     give_text(value, expanded_end(row), on, area)
 }
 
@@ -63,7 +59,7 @@ fn give_signed(z: i64, row: RowEnd, on: Onward, digits: &mut [u8], area: &mut [u
     ensures { λ r. ⌜ Adds (row .units) on (done (marked (expandedMark (markOf (row .mark))) (signed z))) (now (area .exit)) r ⌝ }
 {
     let n = arith_decimal::put_signed(digits, z);
-    give_text(&digits[..n], expanded_end(row), on, area)
+    give_expanded(&digits[..n], row, on, area)
 }
 
 // Adds the decimal text of a number.

@@ -6,7 +6,8 @@ use Rattle.row.specs.Marks.{markOf}
 use Rattle.row.specs.declared.Mark.{Mark}
 use Rattle.row.proofs.Determined.{literal-mark-determined}
 use Rattle.table.specs.declared.Found.{Found}
-use Rattle.expand_form.specs.Plans.{planOf, missingIn, operandMark}
+use Rattle.expand_param.specs.Holding.{missingIn}
+use Rattle.expand_form.specs.Plans.{planOf, operandMark}
 use Rattle.expand_form.specs.declared.Plan.{Plan}
 use Rattle.expand_form.specs.declared.Used.{Used}
 

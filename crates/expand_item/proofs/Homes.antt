@@ -32,7 +32,7 @@ module _ (units : ℕ) (on : Onward) (c : Cell) (m : Mark) (t : Text) where
 
   pub headed-fits : units + length t < rowLimit → (area first z ys rest : Text) → first ≡ fronted (rowBytes (c ∷ [])) area
       → ys ≡ fronted (rowBytes (marked m t)) z
-      → Fitting units on (done (c ∷ marked m t)) (take 2 first ++ (ys ++ rest)) (length t + 1) (on .next) (on .«vars_used»)
+      → Fitting units on (done (c ∷ marked m t)) (take 2 first ++ (ys ++ rest)) (length t + 1) (on .next) (on .«vars_used») (on .«of_none»)
   headed-fits l area first z ys rest e f =
       record {
         row = c ∷ marked m t;
@@ -47,6 +47,7 @@ module _ (units : ℕ) (on : Onward) (c : Cell) (m : Mark) (t : Text) where
         fits = omega arith;
         onward = refl;
         keeps = refl;
+        tells = refl;
       }
 
 -- What a look-up found lies inside the image, and is the key's value.

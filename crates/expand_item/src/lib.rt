@@ -1,21 +1,23 @@
-// What is added at once beside texts and values: a unit, the length of a value, a tilde's directory.
+// What an item without a text of its own gives: a unit, a value, a length, how many parameters there are, a tilde's directory.
 ghost use mathlib.Core.Option.{none};
 ghost use mathlib.Core.List.{_∷_, []};
 ghost use Prim.Native.Nat.{_+_, _*_, _≤_};
 ghost use lib.ListN.{length};
 ghost use Rattle.stages.specs.Numbers.{rowLimit};
 ghost use Rattle.stages.specs.Outcome.{done};
-ghost use Rattle.stages.specs.Images.{held};
-ghost use Rattle.stages.specs.Expand.{value, directory, tildeRow};
+ghost use Rattle.stages.specs.Images.{held, heldTexts, orEmpty};
+ghost use Rattle.stages.specs.Expand.{directory, tildeRow};
 ghost use Rattle.stages.specs.Units.{Q, cell, N, marked, expandedMark, decimal};
 ghost use Rattle.arith_decimal.specs.Digits.{mostDigits};
 ghost use Rattle.row.specs.Marks.{markOf};
-ghost use Rattle.table.specs.Places.{Table};
+ghost use Rattle.table.specs.Places.{Listed, Table};
+ghost use Rattle.read_brace.specs.Shows.{Name, paramOf};
+ghost use Rattle.expand_param.specs.Holding.{holdingIn};
 ghost use Rattle.expand_add.specs.Added.{Adds};
 ghost use Rattle.expand_item.specs.Homes.{Inside, textAt};
 use expand_add::answers::Expanded;
 use expand_add::answers::Onward;
-use expand_add::expanded_end;
+use read_brace::Param;
 use row::Mark;
 use row::RowEnd;
 use table::Found;
@@ -35,6 +37,7 @@ pub fn give_unit(b: u8, row: RowEnd, on: Onward, area: &mut [u8]) -> Expanded
         units: 1,
         next: on.next,
         vars_used: on.vars_used,
+        of_none: on.of_none,
     }
 }
 
@@ -44,19 +47,61 @@ fn give_count(n: u64, row: RowEnd, on: Onward, digits: &mut [u8], area: &mut [u8
     ensures { λ r. ⌜ Adds (row .units) on (done (marked (expandedMark (markOf (row .mark))) (decimal n))) (now (area .exit)) r ⌝ }
 {
     let n = arith_decimal::put_decimal(digits, n);
-    expand_add::give_text(&digits[..n], expanded_end(row), on, area)
+    expand_add::give_expanded(&digits[..n], row, on, area)
 }
 
-// Adds the length in bytes of a name's value in the image, 0 if it is unset.
-pub fn give_length(name: &[u8], row: RowEnd, on: Onward, vars: &[u8], area: &mut [u8]) -> Expanded
-    requires { ⌜ Table (now vars) × (row .units ≤ rowLimit) × (2 * rowLimit ≤ length (now area) + 2 * row .units) ⌝ }
+// Adds the value of a parameter, nothing if it is unset.
+pub fn give_value<'a>(
+    text: &[u8],
+    param: Param,
+    row: RowEnd,
+    on: Onward,
+    vars: &'a [u8],
+    params: &'a [u8],
+    area: &mut [u8],
+) -> Expanded
+    requires { ⌜ Name (now text) (param .from) (param .to) × Table (now vars) × Listed (now params) × (row .units ≤ rowLimit) ×
+        (2 * rowLimit ≤ length (now area) + 2 * row .units) ⌝ }
     ensures { λ r. ⌜ Adds (row .units) on
-        (done (marked (expandedMark (markOf (row .mark))) (decimal (length (value (held (now (vars .entry))) (now (name .entry)))))))
+        (done (marked (expandedMark (markOf (row .mark)))
+        (orEmpty (holdingIn (heldTexts (now (params .entry))) (held (now (vars .entry))) (paramOf (now (text .entry)) param)))))
         (now (area .exit)) r ⌝ }
 {
-    let value = table_find::value_of(vars, name);
+    let value = expand_param::value_of(text, param, vars, params);
+    expand_add::give_expanded(value, row, on, area)
+}
+
+// Adds the length in bytes of a parameter's value, 0 if it is unset.
+pub fn give_length<'a>(
+    text: &[u8],
+    param: Param,
+    row: RowEnd,
+    on: Onward,
+    vars: &'a [u8],
+    params: &'a [u8],
+    area: &mut [u8],
+) -> Expanded
+    requires { ⌜ Name (now text) (param .from) (param .to) × Table (now vars) × Listed (now params) × (row .units ≤ rowLimit) ×
+        (2 * rowLimit ≤ length (now area) + 2 * row .units) ⌝ }
+    ensures { λ r. ⌜ Adds (row .units) on
+        (done (marked (expandedMark (markOf (row .mark)))
+        (decimal (length (orEmpty (holdingIn (heldTexts (now (params .entry))) (held (now (vars .entry))) (paramOf (now (text .entry)) param)))))))
+        (now (area .exit)) r ⌝ }
+{
+    let value = expand_param::value_of(text, param, vars, params);
     let mut digits = [0u8; numbers::MOST_DIGITS];
     give_count(value.len() as u64, row, on, &mut digits, area)
+}
+
+// Adds how many positional parameters there are.
+pub fn give_total(row: RowEnd, on: Onward, params: &[u8], area: &mut [u8]) -> Expanded
+    requires { ⌜ Listed (now params) × (row .units ≤ rowLimit) × (2 * rowLimit ≤ length (now area) + 2 * row .units) ⌝ }
+    ensures { λ r. ⌜ Adds (row .units) on (done (marked (expandedMark (markOf (row .mark))) (decimal (length (heldTexts (now (params .entry)))))))
+        (now (area .exit)) r ⌝ }
+{
+    let total = table_find::count_texts(params);
+    let mut digits = [0u8; numbers::MOST_DIGITS];
+    give_count(total as u64, row, on, &mut digits, area)
 }
 
 // Adds a directory: an N, then its bytes as Q.
@@ -74,6 +119,7 @@ fn give_directory(directory: &[u8], row: RowEnd, on: Onward, area: &mut [u8]) ->
         units: directory.len() + 1,
         next: on.next,
         vars_used: on.vars_used,
+        of_none: on.of_none,
     }
 }
 
@@ -93,6 +139,7 @@ fn give_literal(login: &[u8], row: RowEnd, on: Onward, area: &mut [u8]) -> Expan
         units: login.len() + 1,
         next: on.next,
         vars_used: on.vars_used,
+        of_none: on.of_none,
     }
 }
 

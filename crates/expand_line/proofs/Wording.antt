@@ -2,6 +2,7 @@
 use Prim.Native.Nat.{ℕ, _+_, _*_, _≤_, _<_}
 use native.Mathlib.Omega.{arith}
 use mathlib.Core.Path.{_≡_, sym, ap, _∙_, subst}
+use mathlib.Core.Bool.{Bool}
 use lib.ListN.{length, take, drop, length-append}
 use lib.Seq.{take-at}
 use borrow.Author.Tests.{le-leb, lt-leb}
@@ -62,7 +63,8 @@ module _ {o : Outcome Fields} {used : ℕ} {old left : Text} where
 
 -- the row that was made, where it stands
 
-module _ {room used : ℕ} {made : Made} {area vars : Text} {count varsUsed : ℕ} (q : IsRow room used made area vars count varsUsed) where
+module _ {room used : ℕ} {made : Made} {area vars : Text} {count varsUsed : ℕ} {came : Bool}
+    (q : IsRow room used made area vars count varsUsed came) where
   row-long : length (rowBytes (q .row)) ≡ 2 * count
   row-long = length-rowBytes (q .row) ∙ ap (λ (n : ℕ). 2 * n) (q .counts)
 
@@ -80,7 +82,7 @@ module _ (a : Around) (tree : Parts) (n : ℕ) (v : Pairs) where
   unfolding wordOutcome wordFields
   outcome-refused h = rw h
 
-  module _ {row : Row} {u : Pairs} (h : expand (a .lent) tree L 0 v ≡ done (row, u)) where
+  module _ {row : Row} {u : Pairs} {came : Bool} (h : expand (a .lent) tree L 0 v ≡ done (row, u, came)) where
     outcome-class : {e : ℕ} → textsOfFields (a .paths) (fieldsOfRow u row) ≡ refused e → wordOutcome a tree n v ≡ refused e
     unfolding wordOutcome wordFields
     outcome-class k = rw (h, k)
@@ -96,10 +98,10 @@ module _ (a : Around) (tree : Parts) (n : ℕ) (v : Pairs) where
 
 -- the word by the answers of the two that were called
 
-module _ {line : Text} {at : ℕ} {vars : Text} {varsUsed room : ℕ} {houses paths work old : Text} {used : ℕ}
-    (w : WordReady line at vars varsUsed room houses paths work old used) where
+module _ {line : Text} {at : ℕ} {vars : Text} {varsUsed room : ℕ} {houses params paths work old : Text} {used : ℕ}
+    (w : WordReady line at vars varsUsed room houses params paths work old used) where
   abbrev a : Around
-  a = among room houses paths (length old)
+  a = among room houses params paths (length old)
 
   abbrev v : Pairs
   v = held (take varsUsed vars)
@@ -121,18 +123,18 @@ module _ {line : Text} {at : ℕ} {vars : Text} {varsUsed room : ℕ} {houses pa
       }
 
   module _ (area vars' : Text) (got : Expanded)
-      (h : Expands room line at 0 (λ t. expand (lentOf room houses) t L 0 v) (parts (words fresh) depthLimit (drop at line)) area vars' got) where
-    pub row-of : {s : Expanded} → got ≡ s → RowOf room line at 0 (expand (lentOf room houses) tree L 0 v) rest area vars' s
+      (h : Expands room line at 0 (λ t. expand (lentOf room houses params) t L 0 v) (parts (words fresh) depthLimit (drop at line)) area vars' got) where
+    pub row-of : {s : Expanded} → got ≡ s → RowOf room line at 0 (expand (lentOf room houses params) tree L 0 v) rest area vars' s
     row-of e =
-        subst (λ (x : Expanded). RowOf room line at 0 (expand (lentOf room houses) tree L 0 v) rest area vars' x) e
-        (subst (λ (o : Taken). Expands room line at 0 (λ t. expand (lentOf room houses) t L 0 v) o area vars' got) (w .ready .is) h)
+        subst (λ (x : Expanded). RowOf room line at 0 (expand (lentOf room houses params) tree L 0 v) rest area vars' x) e
+        (subst (λ (o : Taken). Expands room line at 0 (λ t. expand (lentOf room houses params) t L 0 v) o area vars' got) (w .ready .is) h)
 
     pub word-refused : {e : ℕ} {out : Text} → got ≡ expanded.Refused e → WordSays a (parts (words fresh) depthLimit (drop at line)) line at used v
         vars' old out (word.Refused e)
     word-refused {e = e} {out = out} g = said vars' out (word.Refused e) (outcome-refused a tree used v (row-of g))
 
-    module _ {units next left : ℕ} (g : got ≡ expanded.Row units next left) where
-      pub there : IsRow room 0 (expand (lentOf room houses) tree L 0 v) area vars' units left
+    module _ {units next left : ℕ} {came : Bool} (g : got ≡ expanded.Row units next left came) where
+      pub there : IsRow room 0 (expand (lentOf room houses params) tree L 0 v) area vars' units left came
       there = row-of g .0
 
       module _ {out : Text} {r : Written}

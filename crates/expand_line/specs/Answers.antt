@@ -7,7 +7,7 @@ use lib.ListN.{length, take}
 use Rattle.stages.specs.Numbers.{depthLimit, workLeast, imageLimit, outputRoom}
 use Rattle.stages.specs.Bytes.{Text, all, notZero}
 use Rattle.stages.specs.Outcome.{Outcome, refused, done, _>>=_, Placed, refusedAt, doneAt, _then_, pick}
-use Rattle.stages.specs.Images.{Pairs, held, isSome, homesOf, pathsOf, written, image, recordBytes}
+use Rattle.stages.specs.Images.{Pairs, held, isSome, homesOf, pathsOf, fieldsOf, written, image, recordBytes}
 use Rattle.stages.specs.Syntax.{Parts, Word}
 use Rattle.stages.specs.Read.{Taken, readLine}
 use Rattle.stages.specs.Line.{Around, Fields, wordFields, outFits, expandWords}
@@ -29,10 +29,11 @@ abbrev pub lineOutcome : Around → Text → Pairs → Placed (Fields × Pairs)
 lineOutcome a t v = readLine t then λ ws. expandWords a ws 1 v
 
 -- the word at a place is read, and there is room for its row; the tables are well formed, and `used` bytes of the output are
-pub record WordReady (text : Text) (at : ℕ) (vars : Text) (varsUsed room : ℕ) (houses paths work out : Text) (used : ℕ) : Type 0 where
+pub record WordReady (text : Text) (at : ℕ) (vars : Text) (varsUsed room : ℕ) (houses params paths work out : Text) (used : ℕ) : Type 0 where
   pub ready : Ready text at (mode.Word true) depthLimit 0 (length work)
   pub holds : Holds room vars varsUsed
   pub housed : isSome (homesOf houses) ≡ true
+  pub handed : isSome (fieldsOf params) ≡ true
   pub listed : isSome (pathsOf paths) ≡ true
   pub low : used ≤ length out
   pub few : length out ≤ imageLimit
@@ -57,12 +58,13 @@ pub record WordSays (a : Around) (o : Taken) (text : Text) (at used : ℕ) (v : 
   pub says : (p : Parts × Text) → o ≡ done p → WordOf a (wordOutcome a (p .0) used v) (p .1) text at used vars old out r
 
 -- the line is read and no byte of it is zero; the tables are well formed; the empty fields image has room
-pub record LineReady (text vars : Text) (varsUsed room : ℕ) (houses paths work out : Text) : Type 0 where
+pub record LineReady (text vars : Text) (varsUsed room : ℕ) (houses params paths work out : Text) : Type 0 where
   pub words : List Word
   pub read : readLine text ≡ doneAt words
   pub clean : all notZero text ≡ true
   pub holds : Holds room vars varsUsed
   pub housed : isSome (homesOf houses) ≡ true
+  pub handed : isSome (fieldsOf params) ≡ true
   pub listed : isSome (pathsOf paths) ≡ true
   pub area : workLeast ≤ length work
   pub byte : 1 ≤ length out

@@ -48,13 +48,14 @@ fn put_word(
     vars: &mut [u8],
     extent: Extent,
     homes: &[u8],
+    params: &[u8],
     paths: &[u8],
     work: &mut [u8],
     out: &mut [u8],
 ) -> WordExpanded
-    requires { ⌜ WordReady (now line) (from .at) (now vars) (extent .«vars_used») (extent .«vars_room») (now homes) (now paths) (now work) (now out)
-        (from .used) ⌝ }
-    ensures { λ r. ⌜ WordSays (among (extent .«vars_room») (now (homes .entry)) (now (paths .entry)) (length (now (out .entry))))
+    requires { ⌜ WordReady (now line) (from .at) (now vars) (extent .«vars_used») (extent .«vars_room») (now homes) (now params) (now paths) (now work)
+        (now out) (from .used) ⌝ }
+    ensures { λ r. ⌜ WordSays (among (extent .«vars_room») (now (homes .entry)) (now (params .entry)) (now (paths .entry)) (length (now (out .entry))))
         (parts (word fresh) depthLimit (drop (from .at) (now (line .entry)))) (now (line .entry)) (from .at) (from .used)
         (held (take (extent .«vars_used») (now (vars .entry)))) (now (vars .exit)) (now (out .entry)) (now (out .exit)) r ⌝ }
 {
@@ -67,13 +68,14 @@ fn put_word(
         mark: Mark::L,
         units: 0,
     };
-    let got = expand_text::expand_text(line, word, start, vars, extent, homes, work);
+    let got = expand_text::expand_text(line, word, start, vars, extent, homes, params, work);
     match got {
         Expanded::Refused(e) => WordExpanded::Refused(e),
         Expanded::Row {
             units,
             next,
             vars_used,
+            of_none: _,
         } => {
             let end = 2 * units;
             let put = split_row::put_word_fields(
@@ -104,14 +106,15 @@ pub fn expand_line(
     vars: &mut [u8],
     extent: Extent,
     homes: &[u8],
+    params: &[u8],
     paths: &[u8],
     work: &mut [u8],
     out: &mut [u8],
 ) -> LineExpanded
-    requires { ⌜ LineReady (now line) (now vars) (extent .«vars_used») (extent .«vars_room») (now homes) (now paths) (now work) (now out) ⌝ }
+    requires { ⌜ LineReady (now line) (now vars) (extent .«vars_used») (extent .«vars_room») (now homes) (now params) (now paths) (now work) (now out) ⌝ }
     ensures { λ r. ⌜ LineSays (extent .«vars_room»)
-        (lineOutcome (among (extent .«vars_room») (now (homes .entry)) (now (paths .entry)) (length (now (out .entry)))) (now (line .entry))
-        (held (take (extent .«vars_used») (now (vars .entry))))) (now (vars .exit)) (now (out .entry)) (now (out .exit)) r ⌝ }
+        (lineOutcome (among (extent .«vars_room») (now (homes .entry)) (now (params .entry)) (now (paths .entry)) (length (now (out .entry))))
+        (now (line .entry)) (held (take (extent .«vars_used») (now (vars .entry))))) (now (vars .exit)) (now (out .entry)) (now (out .exit)) r ⌝ }
 {
     out[0] = numbers::VERSION;
     let mut at: usize = 0;
@@ -135,7 +138,7 @@ pub fn expand_line(
                     vars_used: vars_used,
                     vars_room: extent.vars_room,
                 };
-                let got = put_word(line, from, vars, reached, homes, paths, work, out);
+                let got = put_word(line, from, vars, reached, homes, params, paths, work, out);
                 match got {
                     WordExpanded::Refused(e) => {
                         return LineExpanded::Refused {

@@ -2,9 +2,13 @@
 -- equal. Open is what crates/expand_add/proofs/Determined.antt names.
 use Prim.Native.Nat.{ℕ}
 use mathlib.Core.Path.{_≡_}
+use mathlib.Core.Bool.{Bool}
+use mathlib.Core.List.{[]}
 use Rattle.stages.specs.Bytes.{Text}
 use Rattle.stages.specs.Images.{Pairs}
+use Rattle.stages.specs.Syntax.{Param}
 use Rattle.stages.specs.Units.{Mark, Row}
+use Rattle.table.specs.Around.{lentOf}
 use Rattle.expand_add.specs.Added.{Adds}
 use Rattle.expand_add.specs.Steps.{placed}
 use Rattle.expand_add.specs.Answers.{Finishes}
@@ -17,16 +21,18 @@ use Rattle.expand_form.specs.declared.Used.{Used}
 use Rattle.expand_operand.specs.Operands.{sumOf}
 
 module _ (units : ℕ) (on : Onward) (area area′ : Text) (r s : Expanded) where
-  pub settle-determined : (u : Unused) (x : Text) (m : Mark) (v : Pairs) → Adds units on (settled u x m v) area r
-      → Adds units on (settled u x m v) area′ s → r ≡ s
-  settle-determined u x m v = adds-determined units on (settled u x m v) area area′ r s
+  -- what is promised for every room and all homes is promised for none
+  pub settle-determined : (u : Unused) (params : Text) (x : Param) (m : Mark) (v : Pairs)
+      → ((room : ℕ) (homes : Text) → Adds units on (settled u (lentOf room homes params) x m v) area r)
+      → ((room : ℕ) (homes : Text) → Adds units on (settled u (lentOf room homes params) x m v) area′ s) → r ≡ s
+  settle-determined u params x m v h k = adds-determined units on (settled u (lentOf 0 [] params) x m v) area area′ r s (h 0 []) (k 0 [])
 
   pub sum-up-determined : (m : Mark) (row : Row) (v : Pairs) → Adds units on (sumOf m row v) area r → Adds units on (sumOf m row v) area′ s → r ≡ s
   sum-up-determined m row v = adds-determined units on (sumOf m row v) area area′ r s
 
-pub finish-determined : (u : Used) (varsRoom units : ℕ) (x : Text) (m : Mark) (given : Row × Pairs) (next : ℕ) (area vars area′ vars′ : Text)
-    (r s : Expanded)
-    → Finishes varsRoom units (placed units (finished u varsRoom x m given)) next area vars r
-    → Finishes varsRoom units (placed units (finished u varsRoom x m given)) next area′ vars′ s → r ≡ s
-finish-determined u varsRoom units x m given next area vars area′ vars′ r s =
-    finishes-determined varsRoom units (placed units (finished u varsRoom x m given)) area vars area′ vars′ next r s
+pub finish-determined : (u : Used) (varsRoom units : ℕ) (params : Text) (x : Param) (m : Mark) (given : Row × Pairs × Bool) (next : ℕ)
+    (area vars area′ vars′ : Text) (r s : Expanded)
+    → ((homes : Text) → Finishes varsRoom units (placed units (finished u (lentOf varsRoom homes params) x m given)) next area vars r)
+    → ((homes : Text) → Finishes varsRoom units (placed units (finished u (lentOf varsRoom homes params) x m given)) next area′ vars′ s) → r ≡ s
+finish-determined u varsRoom units params x m given next area vars area′ vars′ r s h k =
+    finishes-determined varsRoom units (placed units (finished u (lentOf varsRoom [] params) x m given)) area vars area′ vars′ next r s (h []) (k [])

@@ -1,16 +1,17 @@
 -- A removal: the operand's row without its N is the pattern, and what it leaves of the value is given.
 use mathlib.Core.Path.{_≡_, refl, sym, ap, _∙_}
-use mathlib.Core.Bool.{true, false}
+use mathlib.Core.Bool.{Bool, true, false}
 use mathlib.Core.List.{List}
 use Rattle.stages.specs.Numbers.{bracketClass}
 use Rattle.stages.specs.Bytes.{Text}
 use Rattle.stages.specs.Outcome.{Outcome, refused, done, _>>=_}
-use Rattle.stages.specs.Images.{Pairs}
-use Rattle.stages.specs.Syntax.{Side, Reach}
+use Rattle.stages.specs.Images.{Pairs, held, heldTexts, orEmpty}
+use Rattle.stages.specs.Syntax.{Side, Reach, Param}
 use Rattle.stages.specs.Units.{Mark, Row, marked, expandedMark}
 use Rattle.stages.specs.Pattern.{Element, hasClass, elements, forRemoval, pattern}
 use Rattle.stages.specs.Removal.{removed}
-use Rattle.stages.specs.Expand.{Made, value, cutBy}
+use Rattle.stages.specs.Params.{Lent, value}
+use Rattle.stages.specs.Expand.{Made, cutBy}
 use Rattle.text.specs.Rows.{rowOf, signsOf}
 use Rattle.row.specs.Marks.{markOf}
 use Rattle.row.specs.declared.RowEnd.{RowEnd}
@@ -21,7 +22,8 @@ use Rattle.expand_add.specs.Steps.{beside}
 use Rattle.expand_add.specs.declared.answers.Onward.{Onward}
 use Rattle.expand_add.specs.declared.answers.Expanded.{Expanded}
 use Rattle.expand_add.proofs.Fitting.{adds-same, adds-expanded}
-use Rattle.expand_operand.specs.Operands.{cutOf, leftBy}
+use Rattle.expand_param.specs.Holding.{holdingIn}
+use Rattle.expand_operand.specs.Operands.{cutOf}
 
 -- the units of a pattern without N, by what settling them answers
 module _ (side : Side) (reach : Reach) (own : Text) (end : RowEnd) (on : Onward) {units : Text} (f : NoEmpty units) where
@@ -41,20 +43,21 @@ module _ (side : Side) (reach : Reach) (own : Text) (end : RowEnd) (on : Onward)
       → Adds (end .units) on (cutOf side reach own (markOf (end .mark)) (rowOf units)) area r
   cut-given area r n g ends h = adds-same (end .units) on area r (sym (cut-done n)) (adds-expanded end on area r ends g h)
 
--- N is no part of a pattern, and the name's value is what is cut
-pub cut-left : (side : Side) (reach : Reach) (x : Text) (m : Mark) (row : Text) (v : Pairs) {units own : Text} → units ≡ kept row → own ≡ value v x
-    → cutOf side reach own m (rowOf units) ≡ leftBy side reach x m (rowOf row) v
-unfolding cutOf leftBy
-cut-left side reach x m row v e f = rw (e, f, kept-pattern forRemoval row)
+-- N is no part of a pattern, and what the parameter holds is what is cut
+pub cut-left : (side : Side) (reach : Reach) (m : Mark) (row vars params : Text) (x : Param) {units own : Text} → units ≡ kept row
+    → own ≡ orEmpty (holdingIn (heldTexts params) (held vars) x) → cutOf side reach own m (rowOf units)
+    ≡ cutOf side reach (orEmpty (holdingIn (heldTexts params) (held vars) x)) m (rowOf row)
+unfolding cutOf
+cut-left side reach m row vars params x e f = rw (e, f, kept-pattern forRemoval row)
 
--- nothing is stored besides
-pub cut-beside : (side : Side) (reach : Reach) (x : Text) (m : Mark) (row : Row) (v : Pairs)
-    → beside v (leftBy side reach x m row v) ≡ cutBy side reach x m (row, v)
-unfolding cutBy leftBy cutOf
-cut-beside side reach x m row v = go (pattern forRemoval row)
+-- nothing is stored besides, and no `$@` of no parameters comes of it
+pub cut-beside : (a : Lent) (side : Side) (reach : Reach) (x : Param) (m : Mark) (row : Row) (v : Pairs) (g : Bool) {own : Text} → own ≡ value a v x
+    → beside v false (cutOf side reach own m row) ≡ cutBy a side reach x m (row, v, g)
+unfolding cutBy cutOf
+cut-beside a side reach x m row v g e = rw e (go (pattern forRemoval row))
   where
     go : (o : Outcome (List Element))
-        → _≡_ {A = Made} (beside v (o >>= λ es. done (marked (expandedMark m) (removed side reach es (value v x)))))
-        (_>>=_ {B = Row × Pairs} o (λ es. done (marked (expandedMark m) (removed side reach es (value v x)), v)))
+        → _≡_ {A = Made} (beside v false (o >>= λ es. done (marked (expandedMark m) (removed side reach es (value a v x)))))
+        (_>>=_ {B = Row × Pairs × Bool} o (λ es. done (marked (expandedMark m) (removed side reach es (value a v x)), v, false)))
     go (refused e) = refl
     go (done es) = refl

@@ -2,19 +2,23 @@
 use Prim.Native.Nat.{ℕ, _≤_, _<_}
 use native.Mathlib.Omega.{arith}
 use mathlib.Core.Path.{_≡_, refl, sym, ap, _∙_, subst}
-use mathlib.Core.Bool.{Bool, true, _&&_}
+use mathlib.Core.Bool.{Bool, true, false, _&&_}
 use borrow.Author.Tests.{leb-true, leb-false, le-leb, lt-leb}
 use lib.Dec.{leb}
 use lib.ListN.{length, take}
 use lib.Seq.{length-take-le}
-use Rattle.stages.specs.Numbers.{imageLimit, variableRoom}
+use Rattle.stages.specs.Numbers.{imageLimit, variableRoom, unserved}
 use Rattle.stages.specs.Bytes.{Text, all, notZero}
 use Rattle.stages.specs.Outcome.{refused, done}
-use Rattle.stages.specs.Images.{Pairs, isName, held, stored, flat, imageLength}
+use Rattle.stages.specs.Images.{Pairs, isName, lookup, held, orEmpty, stored, flat, imageLength}
+use Rattle.stages.specs.Syntax.{Param, var, nth}
 use Rattle.stages.specs.Units.{Mark, Row, marked, bytes, expandedMark}
-use Rattle.stages.specs.Expand.{value, store, assigned}
+use Rattle.stages.specs.Params.{Lent, value, holding, store, storeIn}
+use Rattle.stages.specs.Expand.{assigned}
 use Rattle.stages.proofs.Bools.{either, same-tests, and-left, and-right, and-both}
+use Rattle.stages.proofs.Items.{IsParam}
 use Rattle.stages.proofs.Tables.{variables-are, is-some}
+use Rattle.read_brace.specs.Shows.{called}
 use Rattle.table_store.specs.Answers.{imageIn, storedOutcome, Writes}
 use Rattle.table_store.specs.declared.Stored.{Stored}
 use Rattle.table_store.specs.declared.Stored.the-variants as stored
@@ -30,7 +34,7 @@ use Rattle.expand_add.proofs.Steps.{placed-refused}
 use Rattle.expand_add.proofs.Holding.{vars-held, adds-finishes, finishes-same}
 use Rattle.expand_form.specs.Plans.{finished}
 use Rattle.expand_form.specs.declared.Used.the-variants as used
-use Rattle.expand_operand.specs.Operands.{Operand, rowAt, limitOf, StoresIn}
+use Rattle.expand_operand.specs.Operands.{IsNamed, Storable, rowAt, storing, limitOf, StoresIn}
 
 -- the lesser of the room and 8,192
 
@@ -111,7 +115,7 @@ module _ (varsRoom varsUsed : ℕ) (x t : Text) (vars left : Text) (w : Holds va
           )
 
 -- the operand's bytes as the code has them, and its limit
-pub stored-operand : (varsRoom varsUsed : ℕ) (x area : Text) (units : ℕ) (vars left : Text) → Holds varsRoom vars varsUsed → Operand x area units →
+pub stored-operand : (varsRoom varsUsed : ℕ) (x area : Text) (units : ℕ) (vars left : Text) → Holds varsRoom vars varsUsed → Storable (var x) area units →
     {limit : ℕ} → limit ≡ limitOf varsRoom
     → {t : Text} → t ≡ bytes (rowAt area units) → (r : Stored) → Writes (imageIn limit x t (held (take varsUsed vars))) vars left (storedOutcome r)
     → length left ≡ length vars → StoresIn varsRoom x (bytes (rowAt area units)) (held (take varsUsed vars)) left r
@@ -128,17 +132,38 @@ stored-known varsRoom x t v vars h e = subst (λ (k : Stored). StoresIn varsRoom
 -- the value after the store
 module _ (varsRoom units : ℕ) (x : Text) (m : Mark) (row : Row) (v : Pairs) where
   pub assign-full : (next : ℕ) (area vars : Text) → store varsRoom x (bytes row) v ≡ refused variableRoom
-      → Finishes varsRoom units (placed units (finished used.Stored varsRoom x m (row, v))) next area vars (answer.Refused variableRoom)
-  unfolding finished assigned
+      → Finishes varsRoom units (placed units (storing varsRoom x m row v)) next area vars (answer.Refused variableRoom)
+  unfolding storing
   assign-full next area vars h = placed-refused units _ variableRoom (rw h)
 
-  pub assign-given : (on : Onward) (area vars : Text) (r : Expanded) → StoresIn varsRoom x (bytes row) v vars (stored.Used (on .«vars_used»))
-      → Adds units on (done (marked (expandedMark m) (value (held (take (on .«vars_used») vars)) x))) area r
-      → Finishes varsRoom units (placed units (finished used.Stored varsRoom x m (row, v))) (on .next) area vars r
-  unfolding finished assigned
-  assign-given on area vars r h g =
+  pub assign-given : (on : Onward) → on .«of_none» ≡ false → (area vars : Text) (r : Expanded)
+      → StoresIn varsRoom x (bytes row) v vars (stored.Used (on .«vars_used»))
+      → {t : Text} → t ≡ orEmpty (lookup x (held (take (on .«vars_used») vars))) → Adds units on (done (marked (expandedMark m) t)) area r
+      → Finishes varsRoom units (placed units (storing varsRoom x m row v)) (on .next) area vars r
+  unfolding storing
+  assign-given on f area vars r h {t} e g =
       finishes-same varsRoom units (on .next) area vars r (ap (placed units) (sym made)) (adds-finishes varsRoom units on _ area vars r g (h .1))
     where
-      made : finished used.Stored varsRoom x m (row, v)
-          ≡ done (marked (expandedMark m) (value (held (take (on .«vars_used») vars)) x), held (take (on .«vars_used») vars))
-      made = rw (h .0)
+      made : storing varsRoom x m row v ≡ done (marked (expandedMark m) t, held (take (on .«vars_used») vars), on .«of_none»)
+      made = rw (h .0, e, f)
+
+-- a parameter that is read has a name that is one
+pub param-named : (x : Param) → IsParam x → IsNamed x
+param-named (var x) h = h
+param-named (nth k) h = tt
+
+pub storable-name : {numbered : Bool} {x area : Text} {units : ℕ} → numbered ≡ false → Storable (called numbered x) area units
+    → Storable (var x) area units
+storable-name {numbered} {x} {area} {units} e h = subst (λ (b : Bool). Storable (called b x) area units) e h
+
+-- a name is stored as its form asks, whatever came in the operand; a number is not
+module _ (a : Lent) (units : ℕ) (x : Text) (m : Mark) (row : Row) (v : Pairs) (g : Bool) {numbered : Bool} where
+  pub finish-stored : numbered ≡ false → (next : ℕ) (area vars : Text) (r : Expanded)
+      → Finishes (a .room) units (placed units (storing (a .room) x m row v)) next area vars r
+      → Finishes (a .room) units (placed units (finished used.Stored a (called numbered x) m (row, v, g))) next area vars r
+  unfolding storing finished assigned storeIn value holding
+  finish-stored e next area vars r h = rw e h
+
+  pub finish-number : numbered ≡ true → placed units (finished used.Stored a (called numbered x) m (row, v, g)) ≡ refused unserved
+  unfolding finished assigned storeIn
+  finish-number e = rw e (placed-refused units _ unserved refl)

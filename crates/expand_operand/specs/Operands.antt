@@ -1,17 +1,18 @@
 -- An operand's row where it stands, for what is done with it.
 use Prim.Native.Nat.{ℕ, _*_, _≤_, _<_}
 use mathlib.Core.Path.{_≡_}
-use mathlib.Core.Bool.{true}
+use mathlib.Core.Bool.{true, false}
 use lib.ListN.{length, take}
 use Rattle.stages.specs.Bytes.{Text, all, notZero}
 use Rattle.stages.specs.Outcome.{Outcome, done, _>>=_, refused, pick}
-use Rattle.stages.specs.Images.{Pairs, isName, held}
-use Rattle.stages.specs.Syntax.{Side, Reach}
+use Rattle.stages.specs.Images.{Pairs, isName, lookup, held, orEmpty}
+use Rattle.stages.specs.Syntax.{Side, Reach, Param, var, nth}
 use Rattle.stages.specs.Units.{Mark, Row, marked, bytes, expandedMark}
 use Rattle.stages.specs.Pattern.{forRemoval, pattern}
 use Rattle.stages.specs.Removal.{removed}
 use Rattle.stages.specs.Arith.{arithmeticOf}
-use Rattle.stages.specs.Expand.{value, store}
+use Rattle.stages.specs.Params.{store}
+use Rattle.stages.specs.Expand.{Made}
 use Rattle.stages.specs.Numbers.{rowLimit, imageLimit, variableRoom}
 use Rattle.table_store.specs.declared.Stored.{Stored}
 use Rattle.table_store.specs.declared.Stored.the-variants.{Used, Full}
@@ -28,13 +29,18 @@ use Rattle.expand_operand.specs.declared.Tried.the-variants.{Done, TooMa
 abbrev pub rowAt : Text → ℕ → Row
 rowAt area units = rowOf (take (2 * units) area)
 
--- such a row stands there, none of its bytes is zero, and the name is one: it may be stored
-pub record Operand (name area : Text) (units : ℕ) : Type 0 where
+-- a name is one; of a number nothing is asked, since it is never stored
+abbrev pub IsNamed : Param → Type 0
+IsNamed (var x) = isName x ≡ true
+IsNamed (nth k) = Unit {0}
+
+-- such a row stands there, none of its bytes is zero, and the parameter's name is one: it may be stored
+pub record Storable (x : Param) (area : Text) (units : ℕ) : Type 0 where
   pub few : units ≤ rowLimit
   pub inside : 2 * units ≤ length area
   pub is : rowBytes (rowAt area units) ≡ take (2 * units) area
   pub clean : all notZero (bytes (rowAt area units)) ≡ true
-  pub named : isName name ≡ true
+  pub named : IsNamed x
 
 -- the first bytes of the area are the units of a pattern, without N
 pub record Pattern (area : Text) (end : ℕ) : Type 0 where
@@ -42,14 +48,15 @@ pub record Pattern (area : Text) (end : ℕ) : Type 0 where
   pub few : end ≤ 2 * rowLimit
   pub full : NoEmpty (take end area)
 
--- what a removal leaves of a text, as units; and of a name's value
+-- "the operand's bytes without marks are stored; then the value is given": under a name
+unfoldable pub storing : ℕ → Text → Mark → Row → Pairs → Made
+unfolding store lookup bytes marked
+storing varsRoom x m row v = store varsRoom x (bytes row) v >>= λ w. done (marked (expandedMark m) (orEmpty (lookup x w)), w, false)
+
+-- what a removal leaves of a text, as units
 unfoldable pub cutOf : Side → Reach → Text → Mark → Row → Outcome Row
 unfolding pattern removed marked
 cutOf side reach own m row = pattern forRemoval row >>= λ es. done (marked (expandedMark m) (removed side reach es own))
-
-unfoldable pub leftBy : Side → Reach → Text → Mark → Row → Pairs → Outcome Row
-unfolding cutOf value
-leftBy side reach x m row v = cutOf side reach (value v x) m row
 
 -- what comes of a removal whose pattern of so many bytes is settled in a table of so many words: the row is added, or they are too many, and all is as
 -- it was

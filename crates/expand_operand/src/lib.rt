@@ -1,19 +1,24 @@
 // What is done with an operand's row, which stands at the front of the area: it is stored, it is the pattern of a removal, it is an arithmetic text, or
 // it is the expansion itself.
 ghost use mathlib.Core.Path.{_≡_};
-ghost use Prim.Native.Nat.{_*_, _≤_};
+ghost use Prim.Native.Nat.{ℕ, _*_, _≤_};
 ghost use lib.ListN.{length, take};
 ghost use Rattle.stages.specs.Numbers.{rowLimit};
-ghost use Rattle.stages.specs.Images.{held};
+ghost use Rattle.stages.specs.Bytes.{Text};
+ghost use Rattle.stages.specs.Images.{held, heldTexts, orEmpty};
+ghost use Rattle.stages.specs.Syntax.{var};
 ghost use Rattle.stages.specs.Units.{bytes};
 ghost use Rattle.text.specs.Cases.{sideOf, reachOf};
 ghost use Rattle.text.specs.Rows.{rowOf};
 ghost use Rattle.row.specs.Marks.{markOf};
-ghost use Rattle.table.specs.Places.{Table};
+ghost use Rattle.table.specs.Around.{lentOf};
+ghost use Rattle.table.specs.Places.{Listed, Table};
+ghost use Rattle.read_brace.specs.Shows.{Name, paramOf};
+ghost use Rattle.expand_param.specs.Holding.{holdingIn};
 ghost use Rattle.expand_add.specs.Added.{Adds, admitted};
 ghost use Rattle.expand_form.specs.Plans.{settled, finished};
 ghost use Rattle.expand_add.specs.Steps.{placed};
-ghost use Rattle.expand_operand.specs.Operands.{Operand, rowAt, cutOf, leftBy, sumOf, limitOf, StoresIn, Pattern, TriedSays};
+ghost use Rattle.expand_operand.specs.Operands.{Storable, rowAt, storing, cutOf, sumOf, limitOf, StoresIn, Pattern, TriedSays};
 ghost use Rattle.expand_add.specs.Answers.{Holds, Finishes};
 use arith_int::Number;
 use expand_add::answers::Expanded;
@@ -23,11 +28,19 @@ use expand_form::Unused;
 use expand_form::Used;
 use pattern_settle::Settled;
 use pattern_unit::Width;
+use read_brace::Param;
 use row::RowEnd;
 use table_store::Stored;
 use text::numbers;
 
-// A removal: of a suffix or a prefix, the longest or the shortest, whose pattern is the units of the area's first `end` bytes, none of them N.
+// An operand that was expanded: its row has so many units, the text goes on at `next`, and `of_none` says whether `$@` of no parameters came in it.
+pub struct Operand {
+    pub units: usize,
+    pub next: usize,
+    pub of_none: bool,
+}
+
+// A removal: of a suffix or a prefix, the longest or the shortest, whose pattern is the units of the area's first `end` bytes.
 struct Removal {
     suffix: bool,
     long: bool,
@@ -53,6 +66,7 @@ fn admit(units: usize, row: RowEnd, on: Onward) -> Expanded
         units: units,
         next: on.next,
         vars_used: on.vars_used,
+        of_none: on.of_none,
     }
 }
 
@@ -74,7 +88,7 @@ fn store_operand(
     extent: Extent,
     work: &mut [u8],
 ) -> Stored
-    requires { ⌜ Operand (now name) (now work) units × Holds (extent .«vars_room») (now vars) (extent .«vars_used») ⌝ }
+    requires { ⌜ Storable (var (now name)) (now work) units × Holds (extent .«vars_room») (now vars) (extent .«vars_used») ⌝ }
     ensures { λ r. ⌜ StoresIn (extent .«vars_room») (now (name .entry)) (bytes (rowAt (now (work .entry)) units))
         (held (take (extent .«vars_used») (now (vars .entry)))) (now (vars .exit)) r ⌝ }
 {
@@ -89,35 +103,37 @@ fn store_operand(
     )
 }
 
-// "if missing, the operand's bytes without marks are stored; then the value is given, whatever quotes the operand had"
+// "if missing, the operand's bytes without marks are stored; then the value is given, whatever quotes the operand had": no `$@` of no parameters comes of it.
 fn assign(
     name: &[u8],
-    units: usize,
-    next: usize,
+    operand: Operand,
     row: RowEnd,
     vars: &mut [u8],
     extent: Extent,
     work: &mut [u8],
 ) -> Expanded
-    requires { ⌜ Operand (now name) (now work) units × Holds (extent .«vars_room») (now vars) (extent .«vars_used») × (row .units ≤ rowLimit) ×
-        (2 * rowLimit ≤ length (now work)) ⌝ }
+    requires { ⌜ Storable (var (now name)) (now work) (operand .units) × Holds (extent .«vars_room») (now vars) (extent .«vars_used») ×
+        (row .units ≤ rowLimit) × (2 * rowLimit ≤ length (now work)) ⌝ }
     ensures { λ r. ⌜ Finishes (extent .«vars_room») (row .units)
-        (placed (row .units) (finished Used.Stored (extent .«vars_room») (now (name .entry)) (markOf (row .mark))
-        (rowAt (now (work .entry)) units, held (take (extent .«vars_used») (now (vars .entry)))))) next (now (work .exit)) (now (vars .exit)) r ⌝ }
+        (placed (row .units) (storing (extent .«vars_room») (now (name .entry)) (markOf (row .mark)) (rowAt (now (work .entry)) (operand .units))
+        (held (take (extent .«vars_used») (now (vars .entry)))))) (operand .next) (now (work .exit)) (now (vars .exit)) r ⌝ }
 {
-    let stored = store_operand(name, units, vars, extent, work);
-    match stored {
+    let kept = store_operand(name, operand.units, vars, extent, work);
+    match kept {
         Stored::Full => Expanded::Refused(numbers::REFUSED_STORE),
-        Stored::Used(vars_used) => expand_add::give_value(
-            name,
-            row,
-            Onward {
-                next: next,
-                vars_used: vars_used,
-            },
-            &vars[..vars_used],
-            work,
-        ),
+        Stored::Used(vars_used) => {
+            let value = table_find::value_of(&vars[..vars_used], name);
+            expand_add::give_expanded(
+                value,
+                row,
+                Onward {
+                    next: operand.next,
+                    vars_used: vars_used,
+                    of_none: false,
+                },
+                work,
+            )
+        }
     }
 }
 
@@ -196,30 +212,34 @@ fn cut_value(value: &[u8], removal: Removal, row: RowEnd, on: Onward, work: &mut
     }
 }
 
-// What is left of the name's value by a removal whose pattern the operand is. The value is read after the operand's own stores.
-fn cut(
-    name: &[u8],
-    suffix: bool,
-    long: bool,
-    units: usize,
+// What is left of a parameter's value by a removal whose pattern the operand's row is. The value is read after the operand's own stores.
+fn cut<'a>(
+    text: &[u8],
+    param: Param,
+    removal: Removal,
     row: RowEnd,
     on: Onward,
-    vars: &[u8],
+    vars: &'a [u8],
+    params: &'a [u8],
     work: &mut [u8],
 ) -> Expanded
-    requires { ⌜ Table (now vars) × (units ≤ rowLimit) × (row .units ≤ rowLimit) × (2 * rowLimit ≤ length (now work)) ⌝ }
+    requires { ⌜ Name (now text) (param .from) (param .to) × Table (now vars) × Listed (now params) × (removal .end ≤ 2 * rowLimit) ×
+        (row .units ≤ rowLimit) × (2 * rowLimit ≤ length (now work)) ⌝ }
     ensures { λ r. ⌜ Adds (row .units) on
-        (leftBy (sideOf suffix) (reachOf long) (now (name .entry)) (markOf (row .mark)) (rowAt (now (work .entry)) units) (held (now (vars .entry))))
+        (cutOf (sideOf (removal .suffix)) (reachOf (removal .long))
+        (orEmpty (holdingIn (heldTexts (now (params .entry))) (held (now (vars .entry))) (paramOf (now (text .entry)) param)))
+        (markOf (row .mark)) (rowOf (take (removal .end) (now (work .entry)))))
         (now (work .exit)) r ⌝ }
 {
-    let end = 2 * units;
+    let end = removal.end;
     let n = pattern_row::drop_empty(&mut work[..end]);
-    let removal = Removal {
-        suffix: suffix,
-        long: long,
+    let full = Removal {
+        suffix: removal.suffix,
+        long: removal.long,
         end: n,
     };
-    cut_value(table_find::value_of(vars, name), removal, row, on, work)
+    let value = expand_param::value_of(text, param, vars, params);
+    cut_value(value, full, row, on, work)
 }
 
 // The number of the arithmetic text that the row is.
@@ -238,62 +258,92 @@ pub fn sum_up(units: usize, row: RowEnd, on: Onward, vars: &[u8], work: &mut [u8
 }
 
 // What is given where the operand is not used.
-pub fn settle(
+pub fn settle<'a>(
     unused: Unused,
-    name: &[u8],
+    text: &[u8],
+    param: Param,
     row: RowEnd,
     on: Onward,
-    vars: &[u8],
+    vars: &'a [u8],
+    params: &'a [u8],
     work: &mut [u8],
 ) -> Expanded
-    requires { ⌜ Table (now vars) × (row .units ≤ rowLimit) × (2 * rowLimit ≤ length (now work)) ⌝ }
-    ensures { λ r. ⌜ Adds (row .units) on (settled unused (now (name .entry)) (markOf (row .mark)) (held (now (vars .entry)))) (now (work .exit)) r ⌝ }
+    requires { ⌜ Name (now text) (param .from) (param .to) × Table (now vars) × Listed (now params) × (row .units ≤ rowLimit) ×
+        (2 * rowLimit ≤ length (now work)) ⌝ }
+    ensures { λ r. ⌜ ((room : ℕ) (homes : Text) → Adds (row .units) on
+        (settled unused (lentOf room homes (now (params .entry))) (paramOf (now (text .entry)) param) (markOf (row .mark)) (held (now (vars .entry))))
+        (now (work .exit)) r) ⌝ }
 {
     match unused {
-        Unused::Value => expand_add::give_value(name, row, on, vars, work),
+        Unused::Value => expand_item::give_value(text, param, row, on, vars, params, work),
         Unused::Nothing => Expanded::Row {
             units: 0,
             next: on.next,
             vars_used: on.vars_used,
+            of_none: on.of_none,
         },
         Unused::Demand => Expanded::Refused(numbers::REFUSED_DEMAND),
     }
 }
 
-// What is given where the operand is used, whose row has so many units.
+// What is given where the operand is used. A number is never stored: reading refuses that.
 pub fn finish(
     used: Used,
-    name: &[u8],
-    units: usize,
-    next: usize,
+    text: &[u8],
+    param: Param,
+    operand: Operand,
     row: RowEnd,
     vars: &mut [u8],
     extent: Extent,
+    params: &[u8],
     work: &mut [u8],
 ) -> Expanded
-    requires { ⌜ Operand (now name) (now work) units × Holds (extent .«vars_room») (now vars) (extent .«vars_used») × (row .units ≤ rowLimit) ×
-        (2 * rowLimit ≤ length (now work)) ⌝ }
-    ensures { λ r. ⌜ Finishes (extent .«vars_room») (row .units)
-        (placed (row .units) (finished used (extent .«vars_room») (now (name .entry)) (markOf (row .mark))
-        (rowAt (now (work .entry)) units, held (take (extent .«vars_used») (now (vars .entry)))))) next (now (work .exit)) (now (vars .exit)) r ⌝ }
+    requires { ⌜ Name (now text) (param .from) (param .to) × Listed (now params) × Storable (paramOf (now text) param) (now work) (operand .units) ×
+        Holds (extent .«vars_room») (now vars) (extent .«vars_used») × (row .units ≤ rowLimit) × (2 * rowLimit ≤ length (now work)) ⌝ }
+    ensures { λ r. ⌜ ((homes : Text) → Finishes (extent .«vars_room») (row .units)
+        (placed (row .units) (finished used (lentOf (extent .«vars_room») homes (now (params .entry))) (paramOf (now (text .entry)) param) (markOf (row .mark))
+        (rowAt (now (work .entry)) (operand .units), held (take (extent .«vars_used») (now (vars .entry))), operand .«of_none»)))
+        (operand .next) (now (work .exit)) (now (vars .exit)) r) ⌝ }
 {
     let vars_used = extent.vars_used;
-    let on = Onward {
-        next: next,
-        vars_used: vars_used,
-    };
     match used {
-        Used::Given => admit(units, row, on),
-        Used::Stored => assign(name, units, next, row, vars, extent, work),
-        Used::Removed { suffix, long } => cut(
-            name,
-            suffix,
-            long,
-            units,
-            row,
-            on,
-            &vars[..vars_used],
-            work,
-        ),
+        Used::Given => {
+            let on = Onward {
+                next: operand.next,
+                vars_used: vars_used,
+                of_none: operand.of_none,
+            };
+            admit(operand.units, row, on)
+        }
+        Used::Stored => {
+            if param.numbered {
+                return Expanded::Refused(numbers::REFUSED_UNSERVED);
+            }
+            let from = param.from;
+            let to = param.to;
+            assign(&text[from..to], operand, row, vars, extent, work)
+        }
+        Used::Removed { suffix, long } => {
+            let removal = Removal {
+                suffix: suffix,
+                long: long,
+                end: 2 * operand.units,
+            };
+            let on = Onward {
+                next: operand.next,
+                vars_used: vars_used,
+                of_none: false,
+            };
+            cut(
+                text,
+                param,
+                removal,
+                row,
+                on,
+                &vars[..vars_used],
+                params,
+                work,
+            )
+        }
     }
 }

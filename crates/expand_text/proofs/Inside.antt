@@ -1,27 +1,31 @@
 -- The ways of what holds a text: a quote, an operand that is units or not, an arithmetic text.
-use Prim.Native.Nat.{ℕ, _+_, _*_, _≤_, _<_}
+use Prim.Native.Nat.{ℕ, suc, _+_, _*_, _≤_, _<_}
 use native.Mathlib.Omega.{arith}
+use native.Mathlib.Numerals.{add-one}
 use mathlib.Core.Path.{_≡_, refl, sym, ap, _∙_, subst}
-use mathlib.Core.Bool.{true}
+use mathlib.Core.Bool.{Bool, true, false, _&&_}
 use mathlib.Core.List.{[], _∷_, _++_, append-assoc}
+use borrow.Author.Tests.{ne-eqb}
+use lib.Dec.{eqb}
 use lib.ListN.{length, take, drop}
 use lib.Seq.{length-take-le}
 use Rattle.stages.specs.Numbers.{rowLimit, tooManyUnits}
 use Rattle.stages.specs.Bytes.{Text, all, notZero}
-use Rattle.stages.specs.Outcome.{Outcome, refused, done, _>>=_}
-use Rattle.stages.specs.Images.{Pairs, texts, isName, flat, held}
-use Rattle.stages.specs.Syntax.{Form, Parts, arith as sums}
+use Rattle.stages.specs.Outcome.{Outcome, refused, done, _>>=_, pick}
+use Rattle.stages.specs.Images.{Pairs, texts, isName, flat, held, heldTexts}
+use Rattle.stages.specs.Syntax.{Param, Form, Parts, arith as sums}
 use Rattle.stages.specs.Read.{Taken, parts}
 use Rattle.stages.specs.Units.{Mark, Q, N, Row, marked, bytes, expandedMark}
 use Rattle.stages.specs.Arith.{arithmeticOf}
-use Rattle.stages.specs.Expand.{Made, Lent, parameter, expand, onto}
+use Rattle.stages.specs.Params.{Lent}
+use Rattle.stages.specs.Expand.{Made, parameter, inQuotes, expand}
 use Rattle.stages.proofs.Texts.{all-drop}
-use Rattle.stages.proofs.Images.{Fine, image-fine, pairsOf-some}
+use Rattle.stages.proofs.Images.{image-fine, pairsOf-some}
 use Rattle.stages.proofs.Tables.{table-fine, table-length}
 use Rattle.stages.proofs.Outcomes.{Safe, gives, safe-done}
 use Rattle.stages.proofs.SafeSums.{arithmetic-safe}
 use Rattle.stages.proofs.Safe.{NoZero, SafeParts, parts-safe}
-use Rattle.stages.proofs.SafeRows.{Kept, bytes-safe, expand-safe}
+use Rattle.stages.proofs.SafeRows.{Kept, SafeLent, bytes-safe, expand-safe}
 use Rattle.stages.proofs.Rooms.{fit-ok, fit-full}
 use Rattle.text.specs.Rows.{rowBytes, rowOf}
 use Rattle.text.proofs.Rows.{rowOf-rowBytes}
@@ -35,9 +39,11 @@ use Rattle.table.specs.Places as places
 use Rattle.table.specs.Around.{lentOf}
 use Rattle.table.specs.declared.Found.{Found}
 use Rattle.expand_add.specs.Added.{Adds}
-use Rattle.expand_form.specs.Plans.{planOf, missingIn, operandMark, settled, finished}
+use Rattle.expand_param.specs.Holding.{Shown, missingIn}
+use Rattle.expand_form.specs.Plans.{planOf, operandMark, settled, finished}
 use Rattle.expand_add.specs.Steps.{beside, placed, quoted, summed, summing}
-use Rattle.expand_operand.specs.Operands.{Operand, sumOf}
+use Rattle.expand_operand.specs.Operands.{IsNamed, Storable, sumOf}
+use Rattle.expand_text.specs.Items.{unitsInQuotes}
 use Rattle.expand_add.specs.Answers.{Holds, Ready, IsRow, Ends, Answers, Says, Finishes}
 use Rattle.expand_add.specs.declared.answers.Expanded.{Expanded}
 use Rattle.expand_add.specs.declared.answers.Expanded.the-variants as answer
@@ -60,14 +66,21 @@ kept-held varsRoom vars varsUsed w =
     let s = t .small in
     record { fine = table-fine isName (take varsUsed vars) t; passes = t .passes; rises = t .rises; fits = omega arith; small = omega arith }
 
--- what is lent to a text: its variables stand in their bytes, and no directory holds a zero byte
+-- what is lent to a text: its variables stand in their bytes, and no directory or positional parameter holds a zero byte
 pub record Lends (lent : Lent) (vars : Text) (varsUsed : ℕ) : Type 0 where
   pub holds : Holds (lent .room) vars varsUsed
-  pub houses : Fine (flat (lent .homes))
+  pub safe : SafeLent lent
 
-pub lending : {varsRoom : ℕ} {vars : Text} {varsUsed : ℕ} {homes : Text} → Holds varsRoom vars varsUsed → places.Table homes
-    → Lends (lentOf varsRoom homes) vars varsUsed
-lending {homes = homes} w h = record { holds = w; houses = image-fine homes (flat (held homes)) (pairsOf-some (texts homes) (held homes) (h .pairs)) }
+pub lending : {varsRoom : ℕ} {vars : Text} {varsUsed : ℕ} {homes : Text} (params : Text) → Holds varsRoom vars varsUsed → places.Table homes
+    → places.Listed params → Lends (lentOf varsRoom homes params) vars varsUsed
+lending {homes = homes} params w h l =
+    record {
+      holds = w;
+      safe = record {
+        homes = image-fine homes (flat (held homes)) (pairsOf-some (texts homes) (held homes) (h .pairs));
+        params = image-fine params (heldTexts params) l;
+      };
+    }
 
 -- An operand's row: the bytes at the front, none of them zero.
 module _ {lent : Lent} {text : Text} {at : ℕ} {mode : Mode} {d units size : ℕ} {vars₀ : Text} {varsUsed : ℕ} (y : Ready text at mode d units size)
@@ -75,9 +88,10 @@ module _ {lent : Lent} {text : Text} {at : ℕ} {mode : Mode} {d units size : �
   tree-safe : SafeParts (y .tree)
   tree-safe = safe-done (parts-safe (modeOf mode) d (drop at text) (all-drop notZero at text (y .clean))) (y .is) .clean
 
-  row-clean : (k : Mark) (row : Row) (u : Pairs) → expand lent (y .tree) k 0 (held (take varsUsed vars₀)) ≡ done (row, u) → NoZero (bytes row)
-  row-clean k row u e =
-      bytes-safe row (safe-done (expand-safe lent (w .houses) (y .tree) tree-safe k 0 (held (take varsUsed vars₀))
+  row-clean : (k : Mark) (row : Row) (u : Pairs) (came : Bool) → expand lent (y .tree) k 0 (held (take varsUsed vars₀)) ≡ done (row, u, came)
+      → NoZero (bytes row)
+  row-clean k row u came e =
+      bytes-safe row (safe-done (expand-safe lent (w .safe) (y .tree) tree-safe k 0 (held (take varsUsed vars₀))
       (kept-held (lent .room) vars₀ varsUsed (w .holds))) e .0)
 
 pub row-at : (row : Row) (area : Text) (n : ℕ) → Stands row area → length row ≡ n → rowOf (take (2 * n) area) ≡ row
@@ -88,6 +102,40 @@ pub reading-known : (text : Text) (at : ℕ) (o : Taken) {r k : Reading} → Rea
 reading-known text at o h e = subst (λ (k : Reading). ReadSays text at o k) e h
 
 -- A quote.
+
+pub taken-back : (came : Bool) (count : ℕ) → came ≡ true → eqb count 0 ≡ true → 0 ≡ unitsInQuotes came count
+taken-back came count e f = rw (e, f)
+
+pub kept-first : (came : Bool) (count : ℕ) → came ≡ false → count + 1 ≡ unitsInQuotes came count
+kept-first came count e = rw e (add-one count)
+
+pub kept-second : (came : Bool) (count : ℕ) → eqb count 0 ≡ false → count + 1 ≡ unitsInQuotes came count
+kept-second true count e = rw e (add-one count)
+kept-second false count e = add-one count
+
+quotes-length : (came : Bool) (row : Row) → length (inQuotes came row) ≡ unitsInQuotes came (length row)
+unfolding inQuotes
+quotes-length false row = refl
+quotes-length true [] = refl
+quotes-length true (c ∷ row) = rw (ne-eqb (suc (length row)) 0 (λ h. absurd (omega arith)))
+
+quotes-short : (came : Bool) (count : ℕ) → unitsInQuotes came count ≤ suc count
+quotes-short came count = go (came && eqb count 0)
+  where
+    go : (x : Bool) → pick x 0 (suc count) ≤ suc count
+    go true = omega arith
+    go false = omega arith
+
+-- the row after an N, and behind it what it is not
+after-mark : (row : Row) (ys z : Text) → Stands row ys → Stands (N ∷ row) (0 ∷ 0 ∷ (ys ++ z))
+unfolding rowBytes
+after-mark row ys z s = record { rest = s .rest ++ z; is = ap (λ (p : Text). 0 ∷ 0 ∷ (p ++ z)) (s .is) ∙ simp append-assoc }
+
+quotes-stand : (came : Bool) (row : Row) (ys z : Text) → Stands row ys → Stands (inQuotes came row) (0 ∷ 0 ∷ (ys ++ z))
+unfolding inQuotes rowBytes
+quotes-stand false row ys z s = after-mark row ys z s
+quotes-stand true [] ys z s = record { rest = 0 ∷ 0 ∷ (ys ++ z); is = refl }
+quotes-stand true (c ∷ row) ys z s = after-mark (c ∷ row) ys z s
 
 module _ {lent : Lent} {text : Text} {at : ℕ} {mode : Mode} {d units size : ℕ} {vars₀ : Text} {varsUsed : ℕ} (y : Ready text at mode d units size)
     (w : Lends lent vars₀ varsUsed) where
@@ -122,7 +170,7 @@ module _ {lent : Lent} {text : Text} {at : ℕ} {mode : Mode} {d units size : �
   inside = says-known (lent .room) text at (units + 1) (λ t. expand lent t Q (units + 1) (held (take varsUsed vars₀))) ys us g (x .says) (x .ready .is)
 
   quote-made : (o : Made) → expand lent (x .ready .tree) Q (units + 1) (held (take varsUsed vars₀)) ≡ o → quoted lent (x .ready .tree) units
-      (held (take varsUsed vars₀)) ≡ onto (N ∷ []) o
+      (held (take varsUsed vars₀)) ≡ _>>=_ {B = Row × Pairs × Bool} o (λ r. done (inQuotes (r .2) (r .0), r .1, false))
   unfolding quoted
   quote-made o e = let l = x .room in rw (fit-ok units 1 (omega arith), e)
 
@@ -132,29 +180,26 @@ module _ {lent : Lent} {text : Text} {at : ℕ} {mode : Mode} {d units size : �
       answers-known (lent .room) text at (units + 1) _ (x .ready .rest) ys us inside q in
       rw (x .ready .is) (quote-made (refused e) b)
 
-  module _ {count next left : ℕ} (q : g ≡ answer.Row count next left) where
-    row-inside : IsRow (lent .room) (units + 1) (expand lent (x .ready .tree) Q (units + 1) (held (take varsUsed vars₀))) ys us count left
+  module _ {count next left : ℕ} {came : Bool} (q : g ≡ answer.Row count next left came) where
+    row-inside : IsRow (lent .room) (units + 1) (expand lent (x .ready .tree) Q (units + 1) (held (take varsUsed vars₀))) ys us count left came
         × Ends text at next (x .ready .rest)
     row-inside = answers-known (lent .room) text at (units + 1) _ (x .ready .rest) ys us inside q
 
     pub quote-fits : units + 1 + count ≤ rowLimit
     quote-fits = row-inside .0 .fits
 
-    pub quote-row : (a b z : Text) → a ≡ 0 ∷ 0 ∷ b → QuotedIn (take 2 a ++ (ys ++ z)) us (answer.Row (count + 1) next left)
-    unfolding rowBytes
-    quote-row a b z e =
+    pub quote-row : {k : ℕ} → k ≡ unitsInQuotes came count → (a b z : Text) → a ≡ 0 ∷ 0 ∷ b
+        → QuotedIn (take 2 a ++ (ys ++ z)) us (answer.Row k next left false)
+    quote-row {k} o a b z e =
         let i = row-inside .0 in
         let f = i .fits in
-        let c = i .counts in
+        let l = quotes-short came count in
         rw (x .ready .is) (
           record {
-            row = N ∷ i .row;
-            is = quote-made (done (i .row, held (take left us))) (i .is);
-            counts = omega arith;
-            stands = record {
-              rest = i .stands .rest ++ z;
-              is = ap (λ (p : Text). take 2 p ++ (ys ++ z)) e ∙ ap (λ (p : Text). 0 ∷ 0 ∷ (p ++ z)) (i .stands .is) ∙ simp append-assoc;
-            };
+            row = inQuotes came (i .row);
+            is = quote-made (done (i .row, held (take left us), came)) (i .is);
+            counts = quotes-length came (i .row) ∙ ap (unitsInQuotes came) (i .counts) ∙ sym o;
+            stands = subst (λ (p : Text). Stands (inQuotes came (i .row)) (take 2 p ++ (ys ++ z))) (sym e) (quotes-stand came (i .row) ys z (i .stands));
             fits = omega arith;
             holds = i .holds;
           },
@@ -163,18 +208,18 @@ module _ {lent : Lent} {text : Text} {at : ℕ} {mode : Mode} {d units size : �
 
 -- An operand.
 
-module _ {lent : Lent} {text : Text} {at : ℕ} {mode : Mode} {d size : ℕ} {vars₀ : Text} {varsUsed : ℕ} {name : Text} {found : Found}
-    (units : ℕ) (form : Form) (m : Mark) (y : Ready text at mode d 0 size) (w : Lends lent vars₀ varsUsed)
-    (s : places.Shown (take varsUsed vars₀) name found) {own : Plan} (e : own ≡ planOf form (missingIn found)) where
+module _ {lent : Lent} {text : Text} {at : ℕ} {mode : Mode} {d size : ℕ} {vars₀ : Text} {varsUsed : ℕ} {params : Text} {x : Param} {found : Found}
+    (units : ℕ) (form : Form) (m : Mark) (y : Ready text at mode d 0 size) (w : Lends lent vars₀ varsUsed) (l : lent .params ≡ heldTexts params)
+    (s : Shown (take varsUsed vars₀) params x found) {own : Plan} (e : own ≡ planOf form (missingIn found)) where
   abbrev v : Pairs
   v = held (take varsUsed vars₀)
 
   abbrev given : Made
-  given = placed units (parameter (lent .room) (λ k u. expand lent (y .tree) k 0 u) name form m v)
+  given = placed units (parameter lent (λ k u. expand lent (y .tree) k 0 u) x form m v)
 
   abbrev Given : Text → Text → Expanded → Type 0
   Given area vars g =
-      Says (lent .room) text at units (λ q. placed units (parameter (lent .room) (λ k u. expand lent q k 0 u) name form m v))
+      Says (lent .room) text at units (λ q. placed units (parameter lent (λ k u. expand lent q k 0 u) x form m v))
       (parts (modeOf mode) d (drop at text)) area vars g
 
   -- what the leaf finishes, where the operand ends at `next`
@@ -190,46 +235,50 @@ module _ {lent : Lent} {text : Text} {at : ℕ} {mode : Mode} {d size : ℕ} {va
       absurd (omega arith)
 
   pub unused-given : {what : Unused} → own ≡ plan.Unused what → {next : ℕ} → ReadTo text at (parts (modeOf mode) d (drop at text)) next
-      → (area : Text) (g : Expanded) → Adds units (record { next = next; «vars_used» = varsUsed }) (settled what name m v) area g → Given area vars₀ g
+      → (area : Text) (g : Expanded) → Adds units (record { next = next; «vars_used» = varsUsed; «of_none» = false }) (settled what lent x m v) area g
+      → Given area vars₀ g
   unused-given {what} n {next} r area g h =
       let u : _≡_ {A = Taken} (done (r .tree, drop next text)) (done (y .tree, y .rest)) = sym (r .is) ∙ y .is in
-      let x : _≡_ {A = Parts × Text} (r .tree, drop next text) (y .tree, y .rest) = cc in
-      finished-given next (record { ends = ap (λ (p : Parts × Text). p .1) x; onward = r .onward; within = r .within })
-      (ap (placed units) (unused-operand (lent .room) (λ k u. expand lent (y .tree) k 0 u) name m (take varsUsed vars₀) form found s e n))
+      let z : _≡_ {A = Parts × Text} (r .tree, drop next text) (y .tree, y .rest) = cc in
+      finished-given next (record { ends = ap (λ (p : Parts × Text). p .1) z; onward = r .onward; within = r .within })
+      (ap (placed units) (unused-operand lent (λ k u. expand lent (y .tree) k 0 u) x m (take varsUsed vars₀) params l form found s e n))
       area vars₀ g
-      (adds-finishes (lent .room) units (record { next = next; «vars_used» = varsUsed }) (settled what name m v) area vars₀ g h (w .holds))
+      (adds-finishes (lent .room) units (record { next = next; «vars_used» = varsUsed; «of_none» = false }) (settled what lent x m v) area vars₀ g h
+      (w .holds))
 
 -- an operand that was expanded for a plan that uses it
-pub record OperandExpanded (lent : Lent) (text : Text) (at : ℕ) (mode : Mode) (d size : ℕ) (vars₀ : Text) (varsUsed : ℕ) (name : Text) (units : ℕ)
-    (form : Form) (m : Mark) (what : Used) (ys us : Text) (g : Expanded) : Type 0 where
+pub record OperandExpanded (lent : Lent) (text : Text) (at : ℕ) (mode : Mode) (d size : ℕ) (vars₀ : Text) (varsUsed : ℕ) (params : Text)
+    (x : Param) (units : ℕ) (form : Form) (m : Mark) (what : Used) (ys us : Text) (g : Expanded) : Type 0 where
   pub ready : Ready text at mode d 0 size
   pub lends : Lends lent vars₀ varsUsed
   pub found : Found
-  pub shows : places.Shown (take varsUsed vars₀) name found
+  pub listed : lent .params ≡ heldTexts params
+  pub shows : Shown (take varsUsed vars₀) params x found
   pub planned : plan.Used what ≡ planOf form (missingIn found)
   pub mark : Mark
   pub is : mark ≡ operandMark what m
   pub says : Says (lent .room) text at 0 (λ p. expand lent p mark 0 (held (take varsUsed vars₀))) (parts (modeOf mode) d (drop at text)) ys us g
 
-module _ {lent : Lent} {text : Text} {at : ℕ} {mode : Mode} {d size : ℕ} {vars₀ : Text} {varsUsed : ℕ} {name : Text}
-    {units : ℕ} {form : Form} {m : Mark} {what : Used} {ys us : Text} {g : Expanded}
-    (x : OperandExpanded lent text at mode d size vars₀ varsUsed name units form m what ys us g) where
+module _ {lent : Lent} {text : Text} {at : ℕ} {mode : Mode} {d size : ℕ} {vars₀ : Text} {varsUsed : ℕ} {params : Text}
+    {p : Param} {units : ℕ} {form : Form} {m : Mark} {what : Used} {ys us : Text} {g : Expanded}
+    (x : OperandExpanded lent text at mode d size vars₀ varsUsed params p units form m what ys us g) where
   abbrev GivenIn : Text → Text → Expanded → Type 0
-  GivenIn area vars r = Given units form m (x .ready) (x .lends) (x .shows) (x .planned) area vars r
+  GivenIn area vars r = Given units form m (x .ready) (x .lends) (x .listed) (x .shows) (x .planned) area vars r
 
   abbrev givenIn : Made
-  givenIn = given units form m (x .ready) (x .lends) (x .shows) (x .planned)
+  givenIn = given units form m (x .ready) (x .lends) (x .listed) (x .shows) (x .planned)
 
   operand-answer : Answers (lent .room) text at 0 (expand lent (x .ready .tree) (x .mark) 0 (held (take varsUsed vars₀))) (x .ready .rest) ys us g
   operand-answer = says-known (lent .room) text at 0 (λ p. expand lent p (x .mark) 0 (held (take varsUsed vars₀))) ys us g (x .says) (x .ready .is)
 
   withal : (o : Made) → expand lent (x .ready .tree) (x .mark) 0 (held (take varsUsed vars₀)) ≡ o
-      → givenIn ≡ placed units (o >>= λ r. finished what (lent .room) name m r)
+      → givenIn ≡ placed units (o >>= λ r. finished what lent p m r)
   withal o h =
       ap (placed units)
-      (used-operand (lent .room) (λ k u. expand lent (x .ready .tree) k 0 u) name m (take varsUsed vars₀) form (x .found) (x .shows) (x .planned) refl
-      ∙ ap (λ (j : Mark). expand lent (x .ready .tree) j 0 (held (take varsUsed vars₀)) >>= λ r. finished what (lent .room) name m r) (sym (x .is))
-      ∙ ap (λ (x : Made). x >>= λ r. finished what (lent .room) name m r) h)
+      (used-operand lent (λ k u. expand lent (x .ready .tree) k 0 u) p m (take varsUsed vars₀) params (x .listed) form (x .found) (x .shows) (x .planned)
+      refl
+      ∙ ap (λ (j : Mark). expand lent (x .ready .tree) j 0 (held (take varsUsed vars₀)) >>= λ r. finished what lent p m r) (sym (x .is))
+      ∙ ap (λ (o : Made). o >>= λ r. finished what lent p m r) h)
 
   pub used-refused : (area : Text) {b : ℕ} → g ≡ answer.Refused b → GivenIn area us (answer.Refused b)
   used-refused area {b} q =
@@ -237,8 +286,8 @@ module _ {lent : Lent} {text : Text} {at : ℕ} {mode : Mode} {d size : ℕ} {va
       answers-known (lent .room) text at 0 _ (x .ready .rest) ys us operand-answer q in
       rw (x .ready .is) (withal (refused b) h ∙ placed-refused units (refused b) b refl)
 
-  module _ {count next left : ℕ} (q : g ≡ answer.Row count next left) where
-    operand-row : IsRow (lent .room) 0 (expand lent (x .ready .tree) (x .mark) 0 (held (take varsUsed vars₀))) ys us count left
+  module _ {count next left : ℕ} {came : Bool} (q : g ≡ answer.Row count next left came) where
+    operand-row : IsRow (lent .room) 0 (expand lent (x .ready .tree) (x .mark) 0 (held (take varsUsed vars₀))) ys us count left came
         × Ends text at next (x .ready .rest)
     operand-row = answers-known (lent .room) text at 0 _ (x .ready .rest) ys us operand-answer q
 
@@ -248,7 +297,7 @@ module _ {lent : Lent} {text : Text} {at : ℕ} {mode : Mode} {d size : ℕ} {va
     at-front : rowOf (take (2 * count) ys) ≡ operand-row .0 .row
     at-front = row-at (operand-row .0 .row) ys count (operand-row .0 .stands) (operand-row .0 .counts)
 
-    pub used-ready : isName name ≡ true → Operand name ys count
+    pub used-ready : IsNamed p → Storable p ys count
     used-ready i =
         let o = operand-row .0 in
         record {
@@ -256,30 +305,30 @@ module _ {lent : Lent} {text : Text} {at : ℕ} {mode : Mode} {d size : ℕ} {va
           inside = stands-inside (o .row) ys count (o .stands) (o .counts);
           is = ap rowBytes at-front ∙ sym (front (o .row) ys count (o .stands) (o .counts));
           clean = ap (λ (r : Row). all notZero (bytes r)) at-front ∙ row-clean (x .ready) (x .lends) (x .mark) (o .row)
-              (held (take left us)) (o .is);
+              (held (take left us)) came (o .is);
           named = i;
         }
 
     pub used-given : (area vars : Text) (f : Expanded) → Finishes (lent .room) units
-        (placed units (finished what (lent .room) name m (rowOf (take (2 * count) ys), held (take left us)))) next area vars f
+        (placed units (finished what lent p m (rowOf (take (2 * count) ys), held (take left us), came))) next area vars f
         → GivenIn area vars f
     used-given area vars f h =
-        finished-given units form m (x .ready) (x .lends) (x .shows) (x .planned) next (operand-row .1)
-        (withal (done (operand-row .0 .row, held (take left us))) (operand-row .0 .is)
-        ∙ ap (λ (r : Row). placed units (finished what (lent .room) name m (r, held (take left us)))) (sym at-front))
+        finished-given units form m (x .ready) (x .lends) (x .listed) (x .shows) (x .planned) next (operand-row .1)
+        (withal (done (operand-row .0 .row, held (take left us), came)) (operand-row .0 .is)
+        ∙ ap (λ (r : Row). placed units (finished what lent p m (r, held (take left us), came))) (sym at-front))
         area vars f h
 
 -- An arithmetic text.
 
-summed-beside : (m : Mark) (row : Row) (v : Pairs) → summed m (row, v) ≡ beside v (sumOf m row v)
+summed-beside : (m : Mark) (row : Row) (v : Pairs) (came : Bool) → summed m (row, v, came) ≡ beside v false (sumOf m row v)
 unfolding summed sumOf
-summed-beside m row v = go (arithmeticOf v (bytes row)) (arithmetic-safe (λ (u : Pairs). u ≡ v) v (bytes row) refl)
+summed-beside m row v came = go (arithmeticOf v (bytes row)) (arithmetic-safe (λ (u : Pairs). u ≡ v) v (bytes row) refl)
   where
     go : (o : Outcome (Text × Pairs)) → Safe (λ s. (all notZero (s .0) ≡ true) × (s .1 ≡ v)) o
-        → _≡_ {A = Made} (_>>=_ {B = Row × Pairs} o (λ s. done (marked (expandedMark m) (s .0), s .1)))
-        (beside v (o >>= λ s. done (marked (expandedMark m) (s .0))))
+        → _≡_ {A = Made} (_>>=_ {B = Row × Pairs × Bool} o (λ s. done (marked (expandedMark m) (s .0), s .1, false)))
+        (beside v false (o >>= λ s. done (marked (expandedMark m) (s .0))))
     go (refused e) s = refl
-    go (done p) (gives s) = ap (λ (u : Pairs). _>>=_ {A = Row × Pairs} {B = Row × Pairs} (done (marked (expandedMark m) (p .0), u)) (λ r. done r)) (s .1)
+    go (done p) (gives s) = ap (λ (u : Pairs). done (marked (expandedMark m) (p .0), u, false)) (s .1)
 
 -- its text, expanded
 pub record SumExpanded (lent : Lent) (text : Text) (at d size : ℕ) (vars₀ : Text) (varsUsed units : ℕ) (m : Mark) (ys us : Text) (g : Expanded)
@@ -303,8 +352,9 @@ module _ {lent : Lent} {text : Text} {at d size : ℕ} {vars₀ : Text} {varsUse
       answers-known (lent .room) text at 0 _ (x .ready .rest) ys us sum-answer q in
       rw (x .ready .is) (placed-refused units _ b (ap (λ (o : Made). o >>= λ u. summed m u) h))
 
-  module _ {count next left : ℕ} (q : g ≡ answer.Row count next left) where
-    sum-row : IsRow (lent .room) 0 (expand lent (x .ready .tree) Q 0 (held (take varsUsed vars₀))) ys us count left × Ends text at next (x .ready .rest)
+  module _ {count next left : ℕ} {came : Bool} (q : g ≡ answer.Row count next left came) where
+    sum-row : IsRow (lent .room) 0 (expand lent (x .ready .tree) Q 0 (held (take varsUsed vars₀))) ys us count left came
+        × Ends text at next (x .ready .rest)
     sum-row = answers-known (lent .room) text at 0 _ (x .ready .rest) ys us sum-answer q
 
     pub sum-holds : Holds (lent .room) us left
@@ -314,7 +364,7 @@ module _ {lent : Lent} {text : Text} {at d size : ℕ} {vars₀ : Text} {varsUse
     sum-inside = stands-inside (sum-row .0 .row) ys count (sum-row .0 .stands) (sum-row .0 .counts)
 
     pub sum-given : (area : Text) (f : Expanded)
-        → Adds units (record { next = next; «vars_used» = left }) (sumOf m (rowOf (take (2 * count) ys)) (held (take left us))) area f
+        → Adds units (record { next = next; «vars_used» = left; «of_none» = false }) (sumOf m (rowOf (take (2 * count) ys)) (held (take left us))) area f
         → Summed area us f
     unfolding summing
     sum-given area f h =
@@ -322,14 +372,16 @@ module _ {lent : Lent} {text : Text} {at d size : ℕ} {vars₀ : Text} {varsUse
         (finishes-answers (lent .room) text at units (placed units (summing lent (x .ready .tree) m (held (take varsUsed vars₀)))) next
         (x .ready .rest) area us f
         (finishes-same (lent .room) units next area us f (sym (ap (placed units) same))
-        (adds-finishes (lent .room) units (record { next = next; «vars_used» = left }) (sumOf m row (held (take left us))) area us f h (sum-row .0 .holds)))
+        (adds-finishes (lent .room) units (record { next = next; «vars_used» = left; «of_none» = false }) (sumOf m row (held (take left us))) area us f h
+        (sum-row .0 .holds)))
         (sum-row .1))
       where
         row : Row
         row = rowOf (take (2 * count) ys)
 
-        same : (summing lent (x .ready .tree) m (held (take varsUsed vars₀))) ≡ beside (held (take left us)) (sumOf m row (held (take left us)))
+        same : (summing lent (x .ready .tree) m (held (take varsUsed vars₀))) ≡ beside (held (take left us)) false
+            (sumOf m row (held (take left us)))
         same =
             ap (λ (o : Made). o >>= λ u. summed m u) (sum-row .0 .is)
-            ∙ ap (λ (r : Row). summed m (r, held (take left us))) (sym (row-at (sum-row .0 .row) ys count (sum-row .0 .stands) (sum-row .0 .counts)))
-            ∙ summed-beside m row (held (take left us))
+            ∙ ap (λ (r : Row). summed m (r, held (take left us), came)) (sym (row-at (sum-row .0 .row) ys count (sum-row .0 .stands) (sum-row .0 .counts)))
+            ∙ summed-beside m row (held (take left us)) came

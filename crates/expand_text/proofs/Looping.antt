@@ -3,7 +3,7 @@ use Prim.Native.Nat.{ℕ, _+_, _-_, _*_, _≤_}
 use native.Mathlib.Omega.{arith}
 use native.Mathlib.Nat.{add-zero}
 use mathlib.Core.Path.{_≡_, refl, sym, ap, _∙_, subst}
-use mathlib.Core.Bool.{Bool, true, false}
+use mathlib.Core.Bool.{Bool, true, false, _||_}
 use mathlib.Core.List.{[], _++_, append-nil}
 use lib.ListN.{length, take, drop, length-append}
 use Rattle.stages.specs.Numbers.{rowLimit}
@@ -13,7 +13,8 @@ use Rattle.stages.specs.Images.{Pairs, held}
 use Rattle.stages.specs.Syntax.{Parts}
 use Rattle.stages.specs.Read.{Taken, parts}
 use Rattle.stages.specs.Units.{Mark, Row}
-use Rattle.stages.specs.Expand.{Made, Lent, expand, onto}
+use Rattle.stages.specs.Params.{Lent}
+use Rattle.stages.specs.Expand.{Made, expand, onto}
 use Rattle.text.specs.Rows.{rowBytes}
 use Rattle.row.specs.Stands.{Stands}
 use Rattle.read_mode.specs.Modes.{modeOf, openIn}
@@ -25,6 +26,14 @@ use Rattle.expand_add.specs.declared.answers.Expanded.the-variants as answer
 use Rattle.expand_add.proofs.Steps.{onto-none, onto-onto}
 use Rattle.expand_add.proofs.Standing.{stands-inside, stands-nest, stands-kept}
 
+-- a flag that was set before, or is set now
+
+pub came-before : (g h : Bool) {f : Bool} → (g ≡ true) × (f ≡ g) → f ≡ (g || h)
+came-before g h w = w .1 ∙ rw (w .0)
+
+pub came-now : (g h : Bool) {f : Bool} → (g ≡ false) × (f ≡ h) → f ≡ (g || h)
+came-now g h w = w .1 ∙ rw (w .0)
+
 pub read-known : (stops : Bool) (after : Mode) (lent : Lent) (text : Text) (at depth : ℕ) (m : Mark) (units : ℕ) (own : Parts → Made)
     {o : Taken} {p : Parts × Text} (area vars : Text) {r s : Expanded}
     → ItemRead stops after lent text at depth m units own o area vars r → o ≡ done p → r ≡ s
@@ -35,15 +44,15 @@ read-known stops after lent text at depth m units own {o} {p} area vars {r} {s} 
 
 -- a row that was passed fits, whether the text stops there or not
 passed-fits : (stops : Bool) (after : Mode) (lent : Lent) (text : Text) (at depth : ℕ) (m : Mark) (units : ℕ) (made : Made)
-    (rest area vars : Text) (count next left : ℕ) → units ≤ rowLimit
-    → Passes stops after lent text at depth m units made rest area vars count next left → units + count ≤ rowLimit
-passed-fits true after lent text at depth m units made rest area vars count next left l h = let n = h .none in omega arith
-passed-fits false after lent text at depth m units made rest area vars count next left l h = h .fits
+    (rest area vars : Text) (count next left : ℕ) (ofNone : Bool) → units ≤ rowLimit
+    → Passes stops after lent text at depth m units made rest area vars count next left ofNone → units + count ≤ rowLimit
+passed-fits true after lent text at depth m units made rest area vars count next left ofNone l h = let n = h .none in omega arith
+passed-fits false after lent text at depth m units made rest area vars count next left ofNone l h = h .fits
 
 -- The loop.
 
 pub record Going (lent : Lent) (text : Text) (at : ℕ) (mode₀ : Mode) (depth : ℕ) (k : Mark) (units : ℕ) (v : Pairs)
-    (area₀ vars₀ area vars : Text) (n i : ℕ) (mode : Mode) (varsUsed : ℕ) : Type 0 where
+    (area₀ vars₀ area vars : Text) (n i : ℕ) (mode : Mode) (varsUsed : ℕ) (ofNone : Bool) : Type 0 where
   pub tree : Parts
   pub rest : Text
   pub whole : parts (modeOf mode₀) depth (drop at text) ≡ done (tree, rest)
@@ -59,11 +68,11 @@ pub record Going (lent : Lent) (text : Text) (at : ℕ) (mode₀ : Mode) (depth 
   pub counts : length row ≡ n
   pub stands : Stands row area
   pub holds : Holds (lent .room) vars varsUsed
-  pub is : expand lent tree k units v ≡ onto row (expand lent left k (units + n) (held (take varsUsed vars)))
+  pub is : expand lent tree k units v ≡ onto row ofNone (expand lent left k (units + n) (held (take varsUsed vars)))
 
 module _ {lent : Lent} {text : Text} {at : ℕ} {mode₀ : Mode} {d : ℕ} (k : Mark) {units : ℕ} (area : Text) {vars : Text} {varsUsed : ℕ} where
   pub going-start : Ready text at mode₀ d units (length area) → Holds (lent .room) vars varsUsed
-      → Going lent text at mode₀ d k units (held (take varsUsed vars)) area vars area vars 0 at mode₀ varsUsed
+      → Going lent text at mode₀ d k units (held (take varsUsed vars)) area vars area vars 0 at mode₀ varsUsed false
   unfolding rowBytes
   going-start y w =
       let f = y .few in
@@ -83,19 +92,19 @@ module _ {lent : Lent} {text : Text} {at : ℕ} {mode₀ : Mode} {d : ℕ} (k : 
         counts = refl;
         stands = record { rest = area; is = refl };
         holds = w;
-        is = onto-none _ ∙ ap (λ (j : ℕ). onto [] (expand lent (y .tree) k j (held (take varsUsed vars)))) (sym (add-zero units));
+        is = onto-none _ ∙ ap (λ (j : ℕ). onto [] false (expand lent (y .tree) k j (held (take varsUsed vars)))) (sym (add-zero units));
       }
 
 -- What stands so far, and an item that was expanded in what is lent after the row.
 pub record Expanding (lent : Lent) (text : Text) (at : ℕ) (mode₀ : Mode) (depth : ℕ) (k : Mark) (units : ℕ) (v : Pairs)
-    (area₀ vars₀ area vars : Text) (n i : ℕ) (mode : Mode) (varsUsed : ℕ) (stops : Bool) (after : Mode) (ys us : Text) (r : Expanded) : Type 0 where
-  pub going : Going lent text at mode₀ depth k units v area₀ vars₀ area vars n i mode varsUsed
+    (area₀ vars₀ area vars : Text) (n i : ℕ) (mode : Mode) (varsUsed : ℕ) (ofNone stops : Bool) (after : Mode) (ys us : Text) (r : Expanded) : Type 0 where
+  pub going : Going lent text at mode₀ depth k units v area₀ vars₀ area vars n i mode varsUsed ofNone
   pub says : ItemRead stops after lent text i depth k (units + n) (λ p. expand lent p k (units + n) (held (take varsUsed vars)))
       (parts (modeOf mode) depth (drop i text)) ys us r
 
 module _ {lent : Lent} {text : Text} {at : ℕ} {mode₀ : Mode} {d : ℕ} {k : Mark} {units : ℕ} {v : Pairs}
-    {area₀ vars₀ area vars : Text} {n i : ℕ} {mode : Mode} {varsUsed : ℕ} where
-  module _ (g : Going lent text at mode₀ d k units v area₀ vars₀ area vars n i mode varsUsed) where
+    {area₀ vars₀ area vars : Text} {n i : ℕ} {mode : Mode} {varsUsed : ℕ} {ofNone : Bool} where
+  module _ (g : Going lent text at mode₀ d k units v area₀ vars₀ area vars n i mode varsUsed ofNone) where
     pub going-room : 2 * n ≤ length area
     going-room = stands-inside (g .row) area n (g .stands) (g .counts)
 
@@ -106,8 +115,8 @@ module _ {lent : Lent} {text : Text} {at : ℕ} {mode₀ : Mode} {d : ℕ} {k : 
         record { start = g .within; opens = g .opens; few = g .fits; area = omega arith; clean = c; tree = g .left; rest = g .rest; is = g .read }
 
   module _ {stops : Bool} {after : Mode} {ys us : Text} {r : Expanded}
-      (x : Expanding lent text at mode₀ d k units v area₀ vars₀ area vars n i mode varsUsed stops after ys us r) where
-    abbrev g : Going lent text at mode₀ d k units v area₀ vars₀ area vars n i mode varsUsed
+      (x : Expanding lent text at mode₀ d k units v area₀ vars₀ area vars n i mode varsUsed ofNone stops after ys us r) where
+    abbrev g : Going lent text at mode₀ d k units v area₀ vars₀ area vars n i mode varsUsed ofNone
     g = x .going
 
     pub going-refused : (z : Text) {e : ℕ} → r ≡ answer.Refused e
@@ -115,32 +124,35 @@ module _ {lent : Lent} {text : Text} {at : ℕ} {mode₀ : Mode} {d : ℕ} {k : 
     going-refused z {e} q =
         let h : expand lent (g .left) k (units + n) (held (take varsUsed vars)) ≡ refused e =
         read-known stops after lent text i d k (units + n) _ ys us (x .says) (g .read) q in
-        rw (g .whole) (g .is ∙ ap (onto (g .row)) h)
+        rw (g .whole) (g .is ∙ ap (onto (g .row) ofNone) h)
 
-    module _ {count next left : ℕ} (q : r ≡ answer.Row count next left) where
+    module _ {count next left : ℕ} {came : Bool} (q : r ≡ answer.Row count next left came) where
       passed : Passes stops after lent text i d k (units + n) (expand lent (g .left) k (units + n) (held (take varsUsed vars))) (g .rest) ys us
-          count next left
+          count next left came
       passed = read-known stops after lent text i d k (units + n) _ ys us (x .says) (g .read) q
 
       pub going-fits : units + n + count ≤ rowLimit
-      going-fits = passed-fits stops after lent text i d k (units + n) _ (g .rest) ys us count next left (g .fits) passed
+      going-fits = passed-fits stops after lent text i d k (units + n) _ (g .rest) ys us count next left came (g .fits) passed
 
-      pub going-end : stops ≡ true → (z : Text)
+      pub going-end : {flag : Bool} → flag ≡ (ofNone || came) → stops ≡ true → (z : Text)
           → Says (lent .room) text at units (λ p. expand lent p k units v) (parts (modeOf mode₀) d (drop at text)) (take (2 * n) area ++ z) us
-          (answer.Row (n + count) next left)
-      going-end e z =
-          let h : Closes lent text i (expand lent (g .left) k (units + n) (held (take varsUsed vars))) (g .rest) us count next left =
+          (answer.Row (n + count) next left flag)
+      going-end o e z =
+          let h : Closes lent text i (expand lent (g .left) k (units + n) (held (take varsUsed vars))) (g .rest) us count next left came =
           subst (λ (b : Bool). Passes b after lent text i d k (units + n) (expand lent (g .left) k (units + n) (held (take varsUsed vars)))
-          (g .rest) ys us count next left) e passed in
+          (g .rest) ys us count next left came) e passed in
           let a = g .onward in
           let b = h .ends .onward in
           let f = g .fits in
           let c = g .counts in
-          let o = h .none in
+          let j = h .none in
           rw (g .whole) (
             record {
               row = g .row;
-              is = g .is ∙ ap (onto (g .row)) (h .is) ∙ ap (λ (p : Row). done (p, held (take left us))) (append-nil (g .row));
+              is =
+                  g .is ∙ ap (onto (g .row) ofNone) (h .is)
+                  ∙ ap (λ (p : Row). done (p, held (take left us), ofNone || came)) (append-nil (g .row))
+                  ∙ ap (λ (b : Bool). done (g .row, held (take left us), b)) (sym o);
               counts = omega arith;
               stands = stands-kept (g .row) area z n (g .stands) (g .counts);
               fits = omega arith;
@@ -151,20 +163,20 @@ module _ {lent : Lent} {text : Text} {at : ℕ} {mode₀ : Mode} {d : ℕ} {k : 
 
       module _ (e : stops ≡ false) where
         pub moved : Moves lent text i d after k (units + n) (expand lent (g .left) k (units + n) (held (take varsUsed vars))) (g .rest) ys us
-            count next left
+            count next left came
         moved = subst (λ (b : Bool). Passes b after lent text i d k (units + n)
-            (expand lent (g .left) k (units + n) (held (take varsUsed vars))) (g .rest) ys us count next left) e passed
+            (expand lent (g .left) k (units + n) (held (take varsUsed vars))) (g .rest) ys us count next left came) e passed
 
-        pub going-row : {next-mode : Mode} → next-mode ≡ after → (z : Text) → length (take (2 * n) area ++ (ys ++ z)) ≡ length area
-            → length us ≡ length vars
-            → Going lent text at mode₀ d k units v area₀ vars₀ (take (2 * n) area ++ (ys ++ z)) us (n + count) next next-mode left
-        going-row o z len wide =
+        pub going-row : {flag : Bool} → flag ≡ (ofNone || came) → {next-mode : Mode} → next-mode ≡ after → (z : Text)
+            → length (take (2 * n) area ++ (ys ++ z)) ≡ length area → length us ≡ length vars
+            → Going lent text at mode₀ d k units v area₀ vars₀ (take (2 * n) area ++ (ys ++ z)) us (n + count) next next-mode left flag
+        going-row f o z len wide =
             let h = moved in
             let a = g .onward in
             let b = h .onward in
-            let f = h .fits in
+            let few = h .fits in
             let s : units + n + count ≡ units + (n + count) = omega arith in
-            rw o (record {
+            rw (o, f) (record {
               tree = g .tree;
               rest = g .rest;
               whole = g .whole;
@@ -181,7 +193,7 @@ module _ {lent : Lent} {text : Text} {at : ℕ} {mode₀ : Mode} {d : ℕ} {k : 
               stands = stands-nest (g .row) (h .row) area ys z n (g .stands) (g .counts) (h .stands);
               holds = h .holds;
               is =
-                  g .is ∙ ap (onto (g .row)) (h .is)
-                  ∙ onto-onto (g .row) (h .row) (expand lent (h .more) k (units + n + count) (held (take left us)))
-                  ∙ ap (λ (j : ℕ). onto (g .row ++ h .row) (expand lent (h .more) k j (held (take left us)))) s;
+                  g .is ∙ ap (onto (g .row) ofNone) (h .is)
+                  ∙ onto-onto (g .row) (h .row) ofNone came (expand lent (h .more) k (units + n + count) (held (take left us)))
+                  ∙ ap (λ (j : ℕ). onto (g .row ++ h .row) (ofNone || came) (expand lent (h .more) k j (held (take left us)))) s;
             })

@@ -1,17 +1,19 @@
 -- What the answer of one item says: its own row, and after it what is still to be expanded.
-use Prim.Native.Nat.{ℕ, _+_, _≤_, _<_}
+use Prim.Native.Nat.{ℕ, suc, _+_, _≤_, _<_}
 use mathlib.Core.Path.{_≡_}
-use mathlib.Core.Bool.{Bool, true, false}
+use mathlib.Core.Bool.{Bool, true, false, _&&_}
 use mathlib.Core.List.{[]}
+use lib.Dec.{eqb}
 use lib.ListN.{length, take, drop}
 use Rattle.stages.specs.Numbers.{rowLimit}
 use Rattle.stages.specs.Bytes.{Text}
-use Rattle.stages.specs.Outcome.{refused, done}
+use Rattle.stages.specs.Outcome.{refused, done, pick}
 use Rattle.stages.specs.Images.{Pairs, held}
 use Rattle.stages.specs.Syntax.{Parts}
 use Rattle.stages.specs.Read.{Taken, parts}
 use Rattle.stages.specs.Units.{Mark, Row}
-use Rattle.stages.specs.Expand.{Made, Lent, expand, onto}
+use Rattle.stages.specs.Params.{Lent}
+use Rattle.stages.specs.Expand.{Made, expand, onto}
 use Rattle.row.specs.Marks.{markOf}
 use Rattle.row.specs.Stands.{Stands}
 use Rattle.row.specs.declared.RowEnd.{RowEnd}
@@ -24,14 +26,18 @@ use Rattle.expand_add.specs.Answers.{Holds, Ends}
 use Rattle.expand_add.specs.declared.answers.Expanded.{Expanded}
 use Rattle.expand_add.specs.declared.answers.Expanded.the-variants as expanded
 
+-- how many units quotes give whose text gave so many, by whether `$@` of no parameters came in them
+abbrev pub unitsInQuotes : Bool → ℕ → ℕ
+unitsInQuotes ofNone count = pick (ofNone && eqb count 0) 0 (suc count)
+
 -- one item is expanded: its units stand in the area, and what is after it is to be expanded after them
 pub record Moves (lent : Lent) (text : Text) (at depth : ℕ) (mode : Mode) (m : Mark) (units : ℕ) (made : Made) (rest area vars : Text)
-    (count next varsUsed : ℕ) : Type 0 where
+    (count next varsUsed : ℕ) (ofNone : Bool) : Type 0 where
   pub more : Parts
   pub read : parts (modeOf mode) depth (drop next text) ≡ done (more, rest)
   pub opens : openIn mode ≤ next
   pub row : Row
-  pub is : made ≡ onto row (expand lent more m (units + count) (held (take varsUsed vars)))
+  pub is : made ≡ onto row ofNone (expand lent more m (units + count) (held (take varsUsed vars)))
   pub counts : length row ≡ count
   pub stands : Stands row area
   pub fits : units + count ≤ rowLimit
@@ -40,22 +46,23 @@ pub record Moves (lent : Lent) (text : Text) (at depth : ℕ) (mode : Mode) (m :
   pub within : next ≤ length text
 
 -- the text ends: nothing was added, and nothing stored
-pub record Closes (lent : Lent) (text : Text) (at : ℕ) (made : Made) (rest vars : Text) (count next varsUsed : ℕ) : Type 0 where
-  pub is : made ≡ done ([], held (take varsUsed vars))
+pub record Closes (lent : Lent) (text : Text) (at : ℕ) (made : Made) (rest vars : Text) (count next varsUsed : ℕ) (ofNone : Bool) : Type 0 where
+  pub is : made ≡ done ([], held (take varsUsed vars), ofNone)
   pub none : count ≡ 0
   pub holds : Holds (lent .room) vars varsUsed
   pub ends : Ends text at next rest
 
 -- by whether the text stops, and the mode in which it goes on
-abbrev pub Passes : Bool → Mode → Lent → Text → ℕ → ℕ → Mark → ℕ → Made → Text → Text → Text → ℕ → ℕ → ℕ → Type 0
-Passes true mode lent text at depth m units made rest area vars count next varsUsed = Closes lent text at made rest vars count next varsUsed
-Passes false mode lent text at depth m units made rest area vars count next varsUsed =
-    Moves lent text at depth mode m units made rest area vars count next varsUsed
+abbrev pub Passes : Bool → Mode → Lent → Text → ℕ → ℕ → Mark → ℕ → Made → Text → Text → Text → ℕ → ℕ → ℕ → Bool → Type 0
+Passes true mode lent text at depth m units made rest area vars count next varsUsed ofNone =
+    Closes lent text at made rest vars count next varsUsed ofNone
+Passes false mode lent text at depth m units made rest area vars count next varsUsed ofNone =
+    Moves lent text at depth mode m units made rest area vars count next varsUsed ofNone
 
 abbrev pub ItemAnswers : Bool → Mode → Lent → Text → ℕ → ℕ → Mark → ℕ → Made → Text → Text → Text → Expanded → Type 0
 ItemAnswers stops mode lent text at depth m units made rest area vars (expanded.Refused e) = made ≡ refused e
-ItemAnswers stops mode lent text at depth m units made rest area vars (expanded.Row count next varsUsed) =
-    Passes stops mode lent text at depth m units made rest area vars count next varsUsed
+ItemAnswers stops mode lent text at depth m units made rest area vars (expanded.Row count next varsUsed ofNone) =
+    Passes stops mode lent text at depth m units made rest area vars count next varsUsed ofNone
 
 -- the same by what the text is read as
 abbrev pub ItemRead : Bool → Mode → Lent → Text → ℕ → ℕ → Mark → ℕ → (Parts → Made) → Taken → Text → Text → Expanded → Type 0

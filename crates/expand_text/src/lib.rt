@@ -1,38 +1,42 @@
 // The expander, which calls itself: a text is a row of items, and an item may hold a text. Every call is on a later place of the text; the depth falls at
 // each operand and arithmetic text, so that there is room for each open row.
 ghost use mathlib.Core.Path.{_≡_};
-ghost use mathlib.Core.Bool.{true};
 ghost use Prim.Native.Nat.{_≤_};
 ghost use lib.ListN.{length, take, drop};
 ghost use Rattle.stages.specs.Numbers.{rowLimit};
-ghost use Rattle.stages.specs.Bytes.{part};
-ghost use Rattle.stages.specs.Images.{held, isName};
+ghost use Rattle.stages.specs.Images.{held};
 ghost use Rattle.stages.specs.Syntax.{arith};
 ghost use Rattle.stages.specs.Read.{parts};
 ghost use Rattle.stages.specs.Expand.{expand, parameter};
 ghost use Rattle.row.specs.Marks.{markOf};
-ghost use Rattle.table.specs.Places.{Table};
+ghost use Rattle.table.specs.Places.{Table, Listed};
 ghost use Rattle.table.specs.Around.{lentOf};
 ghost use Rattle.read_mode.specs.Modes.{modeOf, formOf};
-ghost use Rattle.read_brace.specs.Shows.{Name};
+ghost use Rattle.read_brace.specs.Shows.{Name, paramOf};
 ghost use Rattle.read_item.specs.After.{ItemAt};
 ghost use Rattle.expand_add.specs.Steps.{placed, quoted, summing};
 ghost use Rattle.expand_add.specs.Answers.{Holds, Ready, Says};
-ghost use Rattle.expand_text.specs.Items.{ItemSays};
+ghost use Rattle.expand_operand.specs.Operands.{IsNamed};
+ghost use Rattle.expand_text.specs.Items.{ItemSays, unitsInQuotes};
 use expand_add::answers::Expanded;
 use expand_add::answers::Extent;
 use expand_add::answers::Onward;
-use expand_add::give_value;
 use expand_form::Plan;
 use expand_form::operand_mark;
 use expand_form::plan_of;
 use expand_item::give_home;
 use expand_item::give_length;
+use expand_item::give_total;
 use expand_item::give_unit;
+use expand_item::give_value;
+use expand_list::give_list;
+use expand_list::is_of_none;
+use expand_operand::Operand;
 use expand_operand::finish;
 use expand_operand::settle;
 use expand_operand::sum_up;
 use read_brace::Item;
+use read_brace::Param;
 use read_item::is_stop;
 use read_item::item_at;
 use read_item::mode_after;
@@ -44,7 +48,18 @@ use row::Mark;
 use row::RowEnd;
 use text::numbers;
 
-// The text of a quote that is open: an N, and after it its bytes as Q.
+// How many units quotes give whose text gave so many: an N before them, but nothing at all where `$@` of no parameters came and no unit.
+fn units_in_quotes(count: usize, of_none: bool) -> usize
+    requires { ⌜ count ≤ rowLimit ⌝ }
+    ensures { λ r. ⌜ r ≡ unitsInQuotes «of_none» count ⌝ }
+{
+    if of_none && count == 0 {
+        return 0;
+    }
+    count + 1
+}
+
+// The text of a quote that is open: an N, and after it its bytes as Q. An N that is taken back stands behind the row.
 fn expand_quote(
     text: &[u8],
     from: Cursor,
@@ -52,12 +67,13 @@ fn expand_quote(
     vars: &mut [u8],
     extent: Extent,
     homes: &[u8],
+    params: &[u8],
     work: &mut [u8],
 ) -> Expanded
     requires { ⌜ Ready (now text) (from .at) (from .mode) (from .depth) units (length (now work)) ×
-        Holds (extent .«vars_room») (now vars) (extent .«vars_used») × Table (now homes) ⌝ }
+        Holds (extent .«vars_room») (now vars) (extent .«vars_used») × Table (now homes) × Listed (now params) ⌝ }
     ensures { λ r. ⌜ Says (extent .«vars_room») (now (text .entry)) (from .at) units
-        (λ q. quoted (lentOf (extent .«vars_room») (now (homes .entry))) q units (held (take (extent .«vars_used») (now (vars .entry)))))
+        (λ q. quoted (lentOf (extent .«vars_room») (now (homes .entry)) (now (params .entry))) q units (held (take (extent .«vars_used») (now (vars .entry)))))
         (parts (modeOf (from .mode)) (from .depth) (drop (from .at) (now (text .entry)))) (now (work .exit)) (now (vars .exit)) r ⌝ }
 {
     if units >= numbers::ROW_LIMIT {
@@ -68,25 +84,39 @@ fn expand_quote(
         mark: Mark::Q,
         units: units + 1,
     };
-    let got = expand_text(text, from, inside, vars, extent, homes, &mut work[2..]);
+    let got = expand_text(
+        text,
+        from,
+        inside,
+        vars,
+        extent,
+        homes,
+        params,
+        &mut work[2..],
+    );
     match got {
         Expanded::Refused(e) => Expanded::Refused(e),
         Expanded::Row {
             units: count,
             next,
             vars_used,
-        } => Expanded::Row {
-            units: count + 1,
-            next: next,
-            vars_used: vars_used,
-        },
+            of_none: came,
+        } => {
+            // whether the N stays is settled, and quotes around these are not asked for it
+            let of_none = false;
+            Expanded::Row {
+                units: units_in_quotes(count, came),
+                next: next,
+                vars_used: vars_used,
+                of_none: of_none,
+            }
+        }
     }
 }
 
-// A parameter whose name stands from `from` to `to` of a text, and what stands behind the name.
+// A parameter, and what stands behind its name or its number.
 struct Named {
-    from: usize,
-    to: usize,
+    param: Param,
     form: Form,
 }
 
@@ -99,22 +129,22 @@ fn expand_inner(
     vars: &mut [u8],
     extent: Extent,
     homes: &[u8],
+    params: &[u8],
     work: &mut [u8],
 ) -> Expanded
     requires { ⌜ Ready (now text) (from .at) (from .mode) (from .depth) 0 (length (now work)) ×
-        Holds (extent .«vars_room») (now vars) (extent .«vars_used») × Table (now homes) × (row .units ≤ rowLimit) × Name (now text) (named .from) (named .to)
-        × (isName (part (now text) (named .from) (named .to)) ≡ true) ⌝ }
+        Holds (extent .«vars_room») (now vars) (extent .«vars_used») × Table (now homes) × Listed (now params) × (row .units ≤ rowLimit) ×
+        Name (now text) (named .param .from) (named .param .to) × IsNamed (paramOf (now text) (named .param)) ⌝ }
     ensures { λ r. ⌜ Says (extent .«vars_room») (now (text .entry)) (from .at) (row .units)
-        (λ q. placed (row .units) (parameter (extent .«vars_room») (λ k u. expand (lentOf (extent .«vars_room») (now (homes .entry))) q k 0 u)
-        (part (now (text .entry)) (named .from) (named .to)) (formOf (named .form))
-        (markOf (row .mark)) (held (take (extent .«vars_used») (now (vars .entry))))))
+        (λ q. placed (row .units) (parameter (lentOf (extent .«vars_room») (now (homes .entry)) (now (params .entry)))
+        (λ k u. expand (lentOf (extent .«vars_room») (now (homes .entry)) (now (params .entry))) q k 0 u)
+        (paramOf (now (text .entry)) (named .param)) (formOf (named .form)) (markOf (row .mark)) (held (take (extent .«vars_used») (now (vars .entry))))))
         (parts (modeOf (from .mode)) (from .depth) (drop (from .at) (now (text .entry)))) (now (work .exit)) (now (vars .exit)) r ⌝ }
 {
     let vars_used = extent.vars_used;
-    let start = named.from;
-    let to = named.to;
+    let param = named.param;
     let form = named.form;
-    let found = table_find::look_up(&vars[..vars_used], &text[start..to]);
+    let found = expand_param::look_up(text, param, &vars[..vars_used], params);
     let plan = plan_of(form, found);
     match plan {
         Plan::Unused(what) => {
@@ -125,8 +155,9 @@ fn expand_inner(
                     let on = Onward {
                         next: next,
                         vars_used: vars_used,
+                        of_none: false,
                     };
-                    settle(what, &text[start..to], row, on, &vars[..vars_used], work)
+                    settle(what, text, param, row, on, &vars[..vars_used], params, work)
                 }
             }
         }
@@ -136,19 +167,25 @@ fn expand_inner(
                 mark: operand_mark(what, mark),
                 units: 0,
             };
-            let got = expand_text(text, from, operand, vars, extent, homes, work);
+            let got = expand_text(text, from, operand, vars, extent, homes, params, work);
             match got {
                 Expanded::Refused(e) => Expanded::Refused(e),
                 Expanded::Row {
                     units,
                     next,
                     vars_used: left,
+                    of_none: came,
                 } => {
+                    let stands = Operand {
+                        units: units,
+                        next: next,
+                        of_none: came,
+                    };
                     let stored = Extent {
                         vars_used: left,
                         vars_room: extent.vars_room,
                     };
-                    finish(what, &text[start..to], units, next, row, vars, stored, work)
+                    finish(what, text, param, stands, row, vars, stored, params, work)
                 }
             }
         }
@@ -164,12 +201,13 @@ fn expand_sum(
     vars: &mut [u8],
     extent: Extent,
     homes: &[u8],
+    params: &[u8],
     work: &mut [u8],
 ) -> Expanded
     requires { ⌜ Ready (now text) at (Mode.Arith 0) depth 0 (length (now work)) ×
-        Holds (extent .«vars_room») (now vars) (extent .«vars_used») × Table (now homes) × (row .units ≤ rowLimit) ⌝ }
+        Holds (extent .«vars_room») (now vars) (extent .«vars_used») × Table (now homes) × Listed (now params) × (row .units ≤ rowLimit) ⌝ }
     ensures { λ r. ⌜ Says (extent .«vars_room») (now (text .entry)) at (row .units)
-        (λ q. placed (row .units) (summing (lentOf (extent .«vars_room») (now (homes .entry))) q (markOf (row .mark))
+        (λ q. placed (row .units) (summing (lentOf (extent .«vars_room») (now (homes .entry)) (now (params .entry))) q (markOf (row .mark))
         (held (take (extent .«vars_used») (now (vars .entry))))))
         (parts (arith 0) depth (drop at (now (text .entry)))) (now (work .exit)) (now (vars .exit)) r ⌝ }
 {
@@ -182,17 +220,19 @@ fn expand_sum(
         mark: Mark::Q,
         units: 0,
     };
-    let got = expand_text(text, from, inside, vars, extent, homes, work);
+    let got = expand_text(text, from, inside, vars, extent, homes, params, work);
     match got {
         Expanded::Refused(e) => Expanded::Refused(e),
         Expanded::Row {
             units,
             next,
             vars_used,
+            of_none: _,
         } => {
             let on = Onward {
                 next: next,
                 vars_used: vars_used,
+                of_none: false,
             };
             sum_up(units, row, on, &vars[..vars_used], work)
         }
@@ -208,11 +248,12 @@ fn expand_item(
     vars: &mut [u8],
     extent: Extent,
     homes: &[u8],
+    params: &[u8],
     work: &mut [u8],
 ) -> Expanded
     requires { ⌜ ItemAt (now text) from item × Ready (now text) (from .at) (from .mode) (from .depth) (row .units) (length (now work)) ×
-        Holds (extent .«vars_room») (now vars) (extent .«vars_used») × Table (now homes) ⌝ }
-    ensures { λ r. ⌜ ItemSays (lentOf (extent .«vars_room») (now (homes .entry))) (now (text .entry)) from row item
+        Holds (extent .«vars_room») (now vars) (extent .«vars_used») × Table (now homes) × Listed (now params) ⌝ }
+    ensures { λ r. ⌜ ItemSays (lentOf (extent .«vars_room») (now (homes .entry)) (now (params .entry))) (now (text .entry)) from row item
         (held (take (extent .«vars_used») (now (vars .entry))))
         (now (work .exit)) (now (vars .exit)) r ⌝ }
 {
@@ -223,6 +264,7 @@ fn expand_item(
             units: 0,
             next: next,
             vars_used: vars_used,
+            of_none: false,
         },
         Item::Byte { quoted, byte, next } => {
             let mark = row.mark;
@@ -233,6 +275,7 @@ fn expand_item(
             let on = Onward {
                 next: next,
                 vars_used: vars_used,
+                of_none: false,
             };
             give_unit(byte, literal, on, work)
         }
@@ -240,6 +283,7 @@ fn expand_item(
             let on = Onward {
                 next: from.at + 1,
                 vars_used: vars_used,
+                of_none: false,
             };
             give_unit(byte, row, on, work)
         }
@@ -249,33 +293,42 @@ fn expand_item(
                 mode: mode,
                 depth: from.depth,
             };
-            expand_quote(text, inside, row.units, vars, extent, homes, work)
+            expand_quote(text, inside, row.units, vars, extent, homes, params, work)
         }
-        Item::Value {
-            from: start,
-            to,
-            next,
-        } => {
+        Item::Value { param, next } => {
             let on = Onward {
                 next: next,
                 vars_used: vars_used,
+                of_none: false,
             };
-            give_value(&text[start..to], row, on, &vars[..vars_used], work)
+            give_value(text, param, row, on, &vars[..vars_used], params, work)
         }
-        Item::Count {
-            from: start,
-            to,
-            next,
-        } => {
+        Item::Count { param, next } => {
             let on = Onward {
                 next: next,
                 vars_used: vars_used,
+                of_none: false,
             };
-            give_length(&text[start..to], row, on, &vars[..vars_used], work)
+            give_length(text, param, row, on, &vars[..vars_used], params, work)
+        }
+        Item::Total { next } => {
+            let on = Onward {
+                next: next,
+                vars_used: vars_used,
+                of_none: false,
+            };
+            give_total(row, on, params, work)
+        }
+        Item::Spread { apart, next } => {
+            let on = Onward {
+                next: next,
+                vars_used: vars_used,
+                of_none: is_of_none(apart, params),
+            };
+            give_list(apart, row, on, &vars[..vars_used], params, work)
         }
         Item::Inner {
-            from: start,
-            to,
+            param,
             form,
             mode,
             next,
@@ -286,20 +339,30 @@ fn expand_item(
                 depth: from.depth - 1,
             };
             let named = Named {
-                from: start,
-                to: to,
+                param: param,
                 form: form,
             };
-            expand_inner(text, named, operand, row, vars, extent, homes, work)
+            expand_inner(text, named, operand, row, vars, extent, homes, params, work)
         }
         Item::Sum { next } => {
-            expand_sum(text, next, from.depth - 1, row, vars, extent, homes, work)
+            expand_sum(
+                text,
+                next,
+                from.depth - 1,
+                row,
+                vars,
+                extent,
+                homes,
+                params,
+                work,
+            )
         }
         Item::Home(to) => {
             let start = from.at + 1;
             let on = Onward {
                 next: to,
                 vars_used: vars_used,
+                of_none: false,
             };
             give_home(&text[start..to], row, on, &vars[..vars_used], homes, work)
         }
@@ -314,12 +377,13 @@ pub fn expand_text(
     vars: &mut [u8],
     extent: Extent,
     homes: &[u8],
+    params: &[u8],
     work: &mut [u8],
 ) -> Expanded
     requires { ⌜ Ready (now text) (from .at) (from .mode) (from .depth) (row .units) (length (now work)) ×
-        Holds (extent .«vars_room») (now vars) (extent .«vars_used») × Table (now homes) ⌝ }
+        Holds (extent .«vars_room») (now vars) (extent .«vars_used») × Table (now homes) × Listed (now params) ⌝ }
     ensures { λ r. ⌜ Says (extent .«vars_room») (now (text .entry)) (from .at) (row .units)
-        (λ t. expand (lentOf (extent .«vars_room») (now (homes .entry))) t (markOf (row .mark)) (row .units)
+        (λ t. expand (lentOf (extent .«vars_room») (now (homes .entry)) (now (params .entry))) t (markOf (row .mark)) (row .units)
         (held (take (extent .«vars_used») (now (vars .entry)))))
         (parts (modeOf (from .mode)) (from .depth) (drop (from .at) (now (text .entry)))) (now (work .exit)) (now (vars .exit)) r ⌝ }
 {
@@ -328,6 +392,7 @@ pub fn expand_text(
     let mut i = from.at;
     let mut inside = from.mode;
     let mut left = extent.vars_used;
+    let mut of_none = false;
     loop {
         let here = Cursor {
             at: i,
@@ -344,7 +409,17 @@ pub fn expand_text(
             vars_room: extent.vars_room,
         };
         let start = 2 * n;
-        let got = expand_item(item, text, here, end, vars, held, homes, &mut work[start..]);
+        let got = expand_item(
+            item,
+            text,
+            here,
+            end,
+            vars,
+            held,
+            homes,
+            params,
+            &mut work[start..],
+        );
         match got {
             Expanded::Refused(e) => {
                 return Expanded::Refused(e);
@@ -353,15 +428,18 @@ pub fn expand_text(
                 units,
                 next,
                 vars_used,
+                of_none: came,
             } => {
                 n = n + units;
                 i = next;
                 left = vars_used;
+                of_none = of_none || came;
                 if is_stop(item) {
                     return Expanded::Row {
                         units: n,
                         next: i,
                         vars_used: left,
+                        of_none: of_none,
                     };
                 }
                 inside = mode_after(item, inside);

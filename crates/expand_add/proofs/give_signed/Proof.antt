@@ -1,7 +1,9 @@
 -- The decimal text of a number is what its writer leaves at the front.
-use Rattle.expand_add.proofs.Fitting.{adds-expanded, puts-inside}
+use Rattle.expand_add.proofs.Fitting.{adds-text, puts-inside}
 use Rattle.text.proofs.Filling.{puts-front}
 use Rattle.stages.specs.Constants.{signed}
+use Rattle.stages.specs.Units.{expandedMark}
+use Rattle.row.specs.Marks.{markOf}
 use borrow.Author.Needs.{needs}
 use lib.Seq.{length-take-le}
 use mathlib.Core.Path.{ap, _∙_, sym}
@@ -13,19 +15,16 @@ use Rattle.expand_add.proofs.give_signed.Tie as tie
 put-signed-requires : tie.Need-put-signed-requires
 put-signed-requires c κs = search needs
 
-slice-reshare-prefix-give-text : tie.Need-slice-reshare-prefix-give-text
-slice-reshare-prefix-give-text c = puts-inside (c .before .before .put-signed .ensures)
+slice-reshare-prefix-give-expanded : tie.Need-slice-reshare-prefix-give-expanded
+slice-reshare-prefix-give-expanded c = puts-inside (c .before .before .put-signed .ensures)
 
-slice-aggregate-give-text : tie.Need-slice-aggregate-give-text
-slice-aggregate-give-text c =
+slice-aggregate-give-expanded : tie.Need-slice-aggregate-give-expanded
+slice-aggregate-give-expanded c =
     let p = c .before .before .before .put-signed in
     sym (length-take-le (p .result) (p .last .0) (puts-inside (p .ensures)))
 
-expanded-end-requires : tie.Need-expanded-end-requires
-expanded-end-requires c κs = search needs
-
-give-text-requires : tie.Need-give-text-requires
-give-text-requires c κs = search needs
+give-expanded-requires : tie.Need-give-expanded-requires
+give-expanded-requires c κs = search needs
 
 same-length : tie.Need-same-length
 same-length c = search needs
@@ -35,15 +34,14 @@ same-length-2 c = search needs
 
 returns : tie.Need-returns
 returns c =
-    let g = c .before .before .give-text in
-    let end = c .before .before .before .before in
-    let put = end .before .before .before .before in
+    let g = c .before .before .give-expanded in
+    let put = c .before .before .before .before .before .before .before in
     let start = put .before .before .before .before in
     let a = start .args in
-    adds-expanded (a .row) (a .on) (g .last .1 .1 .1 .0) (g .result) (end .expanded-end .ensures)
+    adds-text (a .row .units) (a .on) (expandedMark (markOf (a .row .mark))) (g .last .1 .1 .1 .0) (g .result)
     (puts-front (put .put-signed .ensures) ∙ ap signed (toZ-ofZ w64 (a .z) (start .fits .z))) (g .ensures)
 
 pub give-signed-spec : {M : Type 1} → statement M
 give-signed-spec = tie.close
-    (tie.spec put-signed-requires slice-reshare-prefix-give-text slice-aggregate-give-text expanded-end-requires give-text-requires same-length
-    same-length-2 returns)
+    (tie.spec put-signed-requires slice-reshare-prefix-give-expanded slice-aggregate-give-expanded give-expanded-requires same-length same-length-2
+    returns)

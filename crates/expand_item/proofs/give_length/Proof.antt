@@ -25,7 +25,7 @@ returns : tie.Need-returns
 returns c =
     let g = c .before .before .before .give-count in
     let found = c .before .before .before .before .before .before in
-    let a = found .before .before .before .before .args in
+    let a = found .before .before .before .before .before .args in
     adds-text (a .row .units) (a .on) (expandedMark (markOf (a .row .mark))) (g .last .1 .1 .1 .1 .0) (g .result)
     (ap (λ (t : Text). decimal (length t)) (found .value-of .ensures)) (g .ensures)
 

@@ -14,18 +14,18 @@ use Rattle.expand_line.proofs.expand_line.Statement.{statement}
 use Rattle.expand_line.proofs.expand_line.Tie as tie
 
 abbrev Inv-loop : tie.InvT-loop
-Inv-loop line vars₀ extent homes paths work₀ out₀ at₀ used₀ vars-used₀ vars work out at used vars-used =
-    State line homes paths (extent .«vars_room»)
-    (lineOutcome (among (extent .«vars_room») homes paths (length out₀)) line (held (take (extent .«vars_used») vars₀))) out₀ at used vars-used
+Inv-loop line vars₀ extent homes params paths work₀ out₀ at₀ used₀ vars-used₀ vars work out at used vars-used =
+    State line homes params paths (extent .«vars_room»)
+    (lineOutcome (among (extent .«vars_room») homes params paths (length out₀)) line (held (take (extent .«vars_used») vars₀))) out₀ at used vars-used
     vars work out
     × (length vars ≡ length vars₀) × (length work ≡ length work₀)
 
 abbrev μ-loop : tie.MeasureT-loop
-μ-loop line vars₀ extent homes paths work₀ out₀ at₀ used₀ vars-used₀ vars work out at used vars-used = length line - at
+μ-loop line vars₀ extent homes params paths work₀ out₀ at₀ used₀ vars-used₀ vars work out at used vars-used = length line - at
 
 -- the call's entry, before the loop and in it
 abbrev begun : tie.After-slice-known3 Inv-loop μ-loop → tie.Start Inv-loop μ-loop
-begun c = c .before .before .before .before .before .before
+begun c = c .before .before .before .before .before .before .before
 
 abbrev entry : tie.At-loop Inv-loop μ-loop → tie.Start Inv-loop μ-loop
 entry c = begun (c .before)
@@ -46,8 +46,8 @@ module _ (c : tie.After-put-word Inv-loop μ-loop) where
   vars-same : length (c .put-word .last .1 .1 .0) ≡ length (entry (turn (found c)) .args .vars .now)
   vars-same = c .put-word .kept .1 .1 .0 ∙ turn (found c) .loop .inv .1
 
-  work-same : length (c .put-word .last .1 .1 .1 .1 .1 .1 .0) ≡ length (entry (turn (found c)) .args .work .now)
-  work-same = c .put-word .kept .1 .1 .1 .1 .1 .1 .0 ∙ turn (found c) .loop .inv .2
+  work-same : length (c .put-word .last .1 .1 .1 .1 .1 .1 .1 .0) ≡ length (entry (turn (found c)) .args .work .now)
+  work-same = c .put-word .kept .1 .1 .1 .1 .1 .1 .1 .0 ∙ turn (found c) .loop .inv .2
 
 slice-write-out : tie.Need-slice-write-out Inv-loop μ-loop
 slice-write-out c = begun c .pre .byte
@@ -96,7 +96,7 @@ same-length-6 : tie.Need-same-length-6 Inv-loop μ-loop
 same-length-6 c =
     let p = c .before .before .before .before .before .before .before .before .before in
     let t = turn (found p) in
-    p .put-word .kept .1 .1 .1 .1 .1 .1 .1 .0 ∙ state-same (entry t .pre) (t .loop .inv .0)
+    p .put-word .kept .1 .1 .1 .1 .1 .1 .1 .1 .0 ∙ state-same (entry t .pre) (t .loop .inv .0)
 
 returns-2 : tie.Need-returns-2 Inv-loop μ-loop
 returns-2 c =
@@ -118,7 +118,7 @@ loop-again c =
     let p = c .before .before .before .before .before .before .before .before .before in
     let t = turn (found p) in (
       state-next (entry t .pre) (t .loop .inv .0) (word (found p)) (p .put-word .ensures) (c .before .got2 .given .1)
-          (p .put-word .kept .1 .1 .1 .1 .1 .1 .0) (p .put-word .kept .1 .1 .1 .1 .1 .1 .1 .0),
+          (p .put-word .kept .1 .1 .1 .1 .1 .1 .1 .0) (p .put-word .kept .1 .1 .1 .1 .1 .1 .1 .1 .0),
       vars-same p,
       work-same p,
     )

@@ -9,7 +9,7 @@ use Rattle.stages.specs.Images.{held}
 use Rattle.stages.specs.Units.{L}
 use Rattle.stages.specs.Expand.{expand}
 use Rattle.table.specs.Around.{lentOf}
-use Rattle.stages.proofs.Tables.{paths-of}
+use Rattle.stages.proofs.Tables.{paths-of, fields-of}
 use Rattle.table.proofs.Tables.{variables-table, homes-table}
 use Rattle.expand_add.specs.Answers.{IsRow}
 use Rattle.expand_line.proofs.Wording.{row-within, there, word-refused, word-class, word-full, word-written}
@@ -20,10 +20,10 @@ use Rattle.expand_line.proofs.put_word.Tie as tie
 -- the call's entry, where the word has been expanded; the work area and the variables then
 module _ (c : tie.After-expand-text) where
   abbrev entry : tie.Start
-  entry = c .before .before .before .before .before .before .before .before .before
+  entry = c .before .before .before .before .before .before .before .before .before .before
 
   abbrev area : Text
-  area = c .expand-text .last .1 .1 .1 .1 .1 .1 .0
+  area = c .expand-text .last .1 .1 .1 .1 .1 .1 .1 .0
 
   abbrev vars : Text
   vars = c .expand-text .last .1 .1 .1 .0
@@ -40,8 +40,9 @@ row : (c : tie.After-got2) →
     let s = entry (giving c) in
     let x = s .args .extent in
     IsRow (x .«vars_room») 0
-    (expand (lentOf (x .«vars_room») (s .args .homes .now)) (s .pre .ready .tree) L 0 (held (take (x .«vars_used») (s .args .vars .now))))
-    (area (giving c)) (vars (giving c)) (c .got2 .given .0 .0) (c .got2 .given .0 .1 .1 .0)
+    (expand (lentOf (x .«vars_room») (s .args .homes .now) (s .args .params .now)) (s .pre .ready .tree) L 0
+    (held (take (x .«vars_used») (s .args .vars .now))))
+    (area (giving c)) (vars (giving c)) (c .got2 .given .0 .0) (c .got2 .given .0 .1 .1 .0) (c .got2 .given .0 .1 .1 .1 .0)
 row c =
     let e = giving c in
     there (entry e .pre) (area e) (vars e) (e .expand-text .result) (e .expand-text .ensures) (c .got2 .given .1)
@@ -51,7 +52,9 @@ abbrev split : tie.After-put-word-fields → tie.After-got2
 split c = c .before .before .before .before .before
 
 expand-text-requires : tie.Need-expand-text-requires
-expand-text-requires c κs = let p = c .before .before .before .before .before .before .before .before .pre in (p .ready, p .holds, homes-table _ (p .housed))
+expand-text-requires c κs =
+    let p = c .before .before .before .before .before .before .before .before .before .pre in
+    (p .ready, p .holds, homes-table _ (p .housed), fields-of _ (p .handed) .table)
 
 enum-known-got : tie.Need-enum-known-got
 enum-known-got c = search needs

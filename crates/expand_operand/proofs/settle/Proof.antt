@@ -1,16 +1,19 @@
 -- By what is given.
+use Prim.Native.Nat.{ℕ}
 use mathlib.Core.Path.{_≡_, refl, sym, subst}
 use borrow.Author.Needs.{needs}
 use Rattle.stages.specs.Numbers.{demanded}
 use Rattle.stages.specs.Bytes.{Text}
 use Rattle.stages.specs.Images.{held}
+use Rattle.table.specs.Around.{lentOf}
+use Rattle.read_brace.specs.Shows.{paramOf}
 use Rattle.row.specs.Marks.{markOf}
 use Rattle.expand_add.specs.Added.{Adds, measured}
 use Rattle.expand_add.specs.declared.answers.Expanded.{Expanded}
 use Rattle.expand_add.specs.declared.answers.Expanded.the-variants as answer
 use Rattle.expand_form.specs.Plans.{settled}
 use Rattle.expand_form.specs.declared.Unused.{Unused}
-use Rattle.expand_operand.proofs.Finishing.{adds-none}
+use Rattle.expand_operand.proofs.Finishing.{settle-value, adds-none}
 use Rattle.expand_operand.proofs.settle.Statement.{statement}
 use Rattle.expand_operand.proofs.settle.Tie as tie
 
@@ -18,7 +21,8 @@ use Rattle.expand_operand.proofs.settle.Tie as tie
 abbrev Gives : tie.Start → Unused → Text → Expanded → Type 0
 Gives s unused area r =
     let a = s .args in
-    Adds (a .row .units) (a .on) (settled unused (a .name .now) (markOf (a .row .mark)) (held (a .vars .now))) area r
+    (room : ℕ) (homes : Text) → Adds (a .row .units) (a .on)
+    (settled unused (lentOf room homes (a .params .now)) (paramOf (a .text .now) (a .param)) (markOf (a .row .mark)) (held (a .vars .now))) area r
 
 known : (s : tie.Start) {unused : Unused} → s .args .unused ≡ unused → (area : Text) (r : Expanded) → Gives s unused area r
     → Gives s (s .args .unused) area r
@@ -40,23 +44,28 @@ same-length : tie.Need-same-length
 same-length c = search needs
 
 returns : tie.Need-returns
-unfolding settled
 returns c =
     let g = c .before .before .give-value in
     let told = c .before .before .before .before in
-    known (told .before .before .before .before .before) (told .enum-told .given .1) (g .last .1 .1 .1 .1 .0) (g .result) (g .ensures)
+    let s = told .before .before .before .before .before .before in
+    let a = s .args in
+    known s (told .enum-told .given .1) (g .last .1 .1 .1 .1 .1 .1 .0) (g .result)
+    (λ room homes. settle-value (lentOf room homes (a .params .now)) (a .vars .now) (a .params .now) refl (a .row .units) (a .on)
+    (paramOf (a .text .now) (a .param)) (markOf (a .row .mark)) (g .last .1 .1 .1 .1 .1 .1 .0) (g .result) (g .ensures))
 
 returns-2 : tie.Need-returns-2
 unfolding settled
 returns-2 c =
-    let s = c .before .before .before .before .before in
+    let s = c .before .before .before .before .before .before in
     let a = s .args in
-    known s (c .enum-told2 .given .1) (a .work .now) (answer.Row 0 (a .on .next) (a .on .«vars_used»))
-    (adds-none (a .row .units) (a .on) (a .work .now) (s .pre .1))
+    known s (c .enum-told2 .given .1) (a .work .now) (answer.Row 0 (a .on .next) (a .on .«vars_used») (a .on .«of_none»))
+    (λ room homes. adds-none (a .row .units) (a .on) (a .work .now) (s .pre .3))
 
 returns-3 : tie.Need-returns-3
 unfolding settled measured
-returns-3 c = let s = c .before .before .before .before .before in known s (c .enum-told3 .given .1) (s .args .work .now) (answer.Refused demanded) refl
+returns-3 c =
+    let s = c .before .before .before .before .before .before in
+    known s (c .enum-told3 .given .1) (s .args .work .now) (answer.Refused demanded) (λ room homes. refl)
 
 pub settle-spec : {M : Type 1} → statement M
 settle-spec =

@@ -1,11 +1,10 @@
 -- A parameter with an operand: the operand is expanded or only read, and its plan does the rest.
 use Prim.Native.Nat.{ℕ}
-use mathlib.Core.Path.{sym, _∙_}
+use mathlib.Core.Path.{refl, sym, _∙_}
 use lib.ListN.{length}
 use lib.Seq.{length-take-le}
-use Rattle.stages.specs.Bytes.{part}
 use Rattle.read_mode.specs.Modes.{formOf}
-use Rattle.read_brace.specs.Shows.{Name}
+use Rattle.read_brace.specs.Shows.{paramOf}
 use Rattle.table.specs.Around.{lentOf}
 use Rattle.row.specs.Marks.{markOf}
 use Rattle.expand_add.proofs.Holding.{table-held}
@@ -25,7 +24,7 @@ use native.Mathlib.Omega.{arith}
 use Rattle.expand_text.proofs.+expand_inner+expand_item+expand_quote+expand_sum+expand_text.Lts-expand_inner as lts
 use Rattle.expand_text.proofs.expand_inner.Reads as expand-inner
 use Rattle.expand_text.proofs.expand_text.Reads as expand-text
-use Rattle.table_find.proofs.look_up.Reads as look-up
+use Rattle.expand_param.proofs.look_up.Reads as look-up
 use Rattle.expand_form.proofs.plan_of.Reads as plan-of
 use Rattle.read_line.proofs.read_text.Reads as read-text
 use Rattle.expand_operand.proofs.settle.Reads as settle
@@ -57,7 +56,7 @@ callees t = (
 module _ (t : ℕ) where
   abbrev began : lts.After-plan-of (callees t) (expand-inner-at t) expand-inner.Post
       → lts.Start (callees t) (expand-inner-at t) expand-inner.Post
-  began c = c .before .before .before .before .before .before .before .before
+  began c = c .before .before .before .before .before .before .before .before .before
 
   -- the plan of an operand that is not used, and that is only read
   abbrev unused : lts.After-read-text (callees t) (expand-inner-at t) expand-inner.Post
@@ -81,21 +80,22 @@ module _ (t : ℕ) where
   -- the row that is finished
   abbrev finished : lts.After-finish (callees t) (expand-inner-at t) expand-inner.Post
       → lts.After-known-told6 (callees t) (expand-inner-at t) expand-inner.Post
-  finished c = c .before .before .before .before
+  finished c = c .before .before .before
 
   inside : (c : lts.After-expand-text (callees t) (expand-inner-at t) expand-inner.Post) →
       let a = began (used c) .args in
-      OperandExpanded (lentOf (a .extent .«vars_room») (a .homes .now)) (a .text .now) (a .from .at) (a .from .mode) (a .from .depth)
+      OperandExpanded (lentOf (a .extent .«vars_room») (a .homes .now) (a .params .now)) (a .text .now) (a .from .at) (a .from .mode) (a .from .depth)
       (length (a .work .now)) (a .vars .now)
-      (a .extent .«vars_used») (part (a .text .now) (a .named .from) (a .named .to)) (a .row .units) (formOf (a .named .form)) (markOf (a .row .mark))
+      (a .extent .«vars_used») (a .params .now) (paramOf (a .text .now) (a .named .param)) (a .row .units) (formOf (a .named .form)) (markOf (a .row .mark))
       (c .before .before .before .before .before .plan2 .given .0 .0)
-      (c .expand-text .last .1 .1 .1 .1 .1 .1 .0) (c .expand-text .last .1 .1 .1 .0) (c .expand-text .result)
+      (c .expand-text .last .1 .1 .1 .1 .1 .1 .1 .0) (c .expand-text .last .1 .1 .1 .0) (c .expand-text .result)
   inside c =
       let p = used c in
       let s = began p in
       record {
         ready = s .pre .1 .0;
-        lends = lending (s .pre .1 .1) (s .pre .1 .2);
+        lends = lending (s .args .params .now) (s .pre .1 .1) (s .pre .1 .2) (s .pre .1 .3);
+        listed = refl;
         found = p .before .look-up .result;
         shows = p .before .look-up .ensures .shows;
         planned = sym (c .before .before .before .before .before .plan2 .given .1) ∙ p .plan-of .ensures;
@@ -105,29 +105,15 @@ module _ (t : ℕ) where
       }
 
   pub slice-reshare-prefix-look-up : lts.Need-slice-reshare-prefix-look-up (callees t) (expand-inner-at t) expand-inner.Post
-  slice-reshare-prefix-look-up c = c .before .before .before .before .pre .1 .1 .inside
+  slice-reshare-prefix-look-up c = c .before .before .before .before .before .before .pre .1 .1 .inside
 
   pub slice-aggregate-look-up : lts.Need-slice-aggregate-look-up (callees t) (expand-inner-at t) expand-inner.Post
   slice-aggregate-look-up c =
-      let s = c .before .before .before .before .before in
+      let s = c .before .before .before .before .before .before .before in
       sym (length-take-le (s .args .extent .«vars_used») (s .args .vars .now) (s .pre .1 .1 .inside))
 
-  -- the parameter's name stands in the text
-  name-inside : (s : lts.Start (callees t) (expand-inner-at t) expand-inner.Post) →
-      Name (s .args .text .now) (s .args .named .from) (s .args .named .to)
-  name-inside s = s .pre .1 .4
-
-  pub sub-look-up : lts.Need-sub-look-up (callees t) (expand-inner-at t) expand-inner.Post
-  sub-look-up c = let n = name-inside (c .before .before .before .before .before) in omega (arith, n .onward, n .within)
-
-  pub part-look-up-start : lts.Need-part-look-up-start (callees t) (expand-inner-at t) expand-inner.Post
-  part-look-up-start c = let n = name-inside (c .before .before .before .before .before) in omega (arith, n .onward, n .within)
-
-  pub part-look-up-end : lts.Need-part-look-up-end (callees t) (expand-inner-at t) expand-inner.Post
-  part-look-up-end c = let n = name-inside (c .before .before .before .before .before) in omega (arith, n .onward, n .within)
-
   pub look-up-requires : lts.Need-look-up-requires (callees t) (expand-inner-at t) expand-inner.Post
-  look-up-requires c κs = table-held _ _ _ (c .before .before .before .before .before .before .pre .1 .1)
+  look-up-requires c κs = let s = c .before .before .before .before .before .before .before in (s .pre .1 .5, table-held _ _ _ (s .pre .1 .1), s .pre .1 .3)
 
   pub plan-of-requires : lts.Need-plan-of-requires (callees t) (expand-inner-at t) expand-inner.Post
   plan-of-requires c κs = search needs
@@ -137,7 +123,7 @@ module _ (t : ℕ) where
 
   pub read-text-requires : lts.Need-read-text-requires (callees t) (expand-inner-at t) expand-inner.Post
   read-text-requires c κs =
-      let y = c .before .before .before .before .before .before .before .before .before .before .before .pre .1 .0 in (y .start, y .opens)
+      let y = c .before .before .before .before .before .before .before .before .before .before .before .before .pre .1 .0 in (y .start, y .opens)
 
   pub enum-known-got : lts.Need-enum-known-got (callees t) (expand-inner-at t) expand-inner.Post
   enum-known-got c = search needs
@@ -145,27 +131,18 @@ module _ (t : ℕ) where
   pub enum-known-got-2 : lts.Need-enum-known-got-2 (callees t) (expand-inner-at t) expand-inner.Post
   enum-known-got-2 c = search needs
 
-  pub sub-settle : lts.Need-sub-settle (callees t) (expand-inner-at t) expand-inner.Post
-  sub-settle c = let n = name-inside (began (unused (c .before .before .before))) in omega (arith, n .onward, n .within)
-
-  pub part-settle-start : lts.Need-part-settle-start (callees t) (expand-inner-at t) expand-inner.Post
-  part-settle-start c = let n = name-inside (began (unused (c .before .before .before))) in omega (arith, n .onward, n .within)
-
-  pub part-settle-end : lts.Need-part-settle-end (callees t) (expand-inner-at t) expand-inner.Post
-  part-settle-end c = let n = name-inside (began (unused (c .before .before .before))) in omega (arith, n .onward, n .within)
-
   pub slice-reshare-prefix-settle : lts.Need-slice-reshare-prefix-settle (callees t) (expand-inner-at t) expand-inner.Post
-  slice-reshare-prefix-settle c = began (unused (c .before .before .before .before)) .pre .1 .1 .inside
+  slice-reshare-prefix-settle c = began (unused (c .before .before .before)) .pre .1 .1 .inside
 
   pub slice-aggregate-settle : lts.Need-slice-aggregate-settle (callees t) (expand-inner-at t) expand-inner.Post
   slice-aggregate-settle c =
-      let s = began (unused (c .before .before .before .before .before)) in
+      let s = began (unused (c .before .before .before .before)) in
       sym (length-take-le (s .args .extent .«vars_used») (s .args .vars .now) (s .pre .1 .1 .inside))
 
   pub settle-requires : lts.Need-settle-requires (callees t) (expand-inner-at t) expand-inner.Post
   settle-requires c κs =
-      let s = began (unused (c .before .before .before .before .before .before)) in
-      (table-held _ _ _ (s .pre .1 .1), s .pre .1 .3, omega (arith, s .pre .1 .0 .area))
+      let s = began (unused (c .before .before .before .before .before)) in
+      (s .pre .1 .5, table-held _ _ _ (s .pre .1 .1), s .pre .1 .3, s .pre .1 .4, omega (arith, s .pre .1 .0 .area))
 
   pub enum-known-plan-2 : lts.Need-enum-known-plan-2 (callees t) (expand-inner-at t) expand-inner.Post
   enum-known-plan-2 c = search needs
@@ -175,8 +152,8 @@ module _ (t : ℕ) where
 
   pub expand-text-requires : lts.Need-expand-text-requires (callees t) (expand-inner-at t) expand-inner.Post
   expand-text-requires c κs =
-      let s = c .before .before .before .before .before .before .before .before .before .before .before .before .before .before in
-      (omega (arith, s .pre .0), (s .pre .1 .0, s .pre .1 .1, s .pre .1 .2))
+      let s = c .before .before .before .before .before .before .before .before .before .before .before .before .before .before .before in
+      (omega (arith, s .pre .0), (s .pre .1 .0, s .pre .1 .1, s .pre .1 .2, s .pre .1 .3))
 
   pub enum-known-got-3 : lts.Need-enum-known-got-3 (callees t) (expand-inner-at t) expand-inner.Post
   enum-known-got-3 c = search needs
@@ -184,25 +161,18 @@ module _ (t : ℕ) where
   pub enum-known-got-4 : lts.Need-enum-known-got-4 (callees t) (expand-inner-at t) expand-inner.Post
   enum-known-got-4 c = search needs
 
-  pub sub-finish : lts.Need-sub-finish (callees t) (expand-inner-at t) expand-inner.Post
-  sub-finish c = let n = name-inside (began (used (given c))) in omega (arith, n .onward, n .within)
-
-  pub part-finish-start : lts.Need-part-finish-start (callees t) (expand-inner-at t) expand-inner.Post
-  part-finish-start c = let n = name-inside (began (used (given c))) in omega (arith, n .onward, n .within)
-
-  pub part-finish-end : lts.Need-part-finish-end (callees t) (expand-inner-at t) expand-inner.Post
-  part-finish-end c = let n = name-inside (began (used (given c))) in omega (arith, n .onward, n .within)
-
   pub finish-requires : lts.Need-finish-requires (callees t) (expand-inner-at t) expand-inner.Post
   finish-requires c κs =
-      let g = c .before .before .before in
+      let g = c .before .before in
       let e = given g in
       let s = began (used e) in
       let q = g .before .got4 .given .1 in (
-        used-ready (inside e) q (s .pre .1 .5),
-        used-holds (inside e) q,
+        s .pre .1 .5,
         s .pre .1 .3,
-        omega (arith, s .pre .1 .0 .area, e .expand-text .kept .1 .1 .1 .1 .1 .1 .0),
+        used-ready (inside e) q (s .pre .1 .6),
+        used-holds (inside e) q,
+        s .pre .1 .4,
+        omega (arith, s .pre .1 .0 .area, e .expand-text .kept .1 .1 .1 .1 .1 .1 .1 .0),
       )
 
   pub same-length : lts.Need-same-length (callees t) (expand-inner-at t) expand-inner.Post
@@ -214,34 +184,35 @@ module _ (t : ℕ) where
       let p = unused r in
       let s = began p in
       let a = s .args in
-      unused-fault (a .row .units) (formOf (a .named .form)) (markOf (a .row .mark)) (s .pre .1 .0) (lending (s .pre .1 .1) (s .pre .1 .2))
-      (p .before .look-up .ensures .shows)
+      unused-fault (a .row .units) (formOf (a .named .form)) (markOf (a .row .mark)) (s .pre .1 .0)
+      (lending (a .params .now) (s .pre .1 .1) (s .pre .1 .2) (s .pre .1 .3)) refl (p .before .look-up .ensures .shows)
       (p .plan-of .ensures) _ _ (reading-known (a .text .now) (a .from .at) _ (r .read-text .ensures) (c .before .got .given .1)) _
 
   pub same-length-2 : lts.Need-same-length-2 (callees t) (expand-inner-at t) expand-inner.Post
   same-length-2 c = search needs
 
   pub same-length-3 : lts.Need-same-length-3 (callees t) (expand-inner-at t) expand-inner.Post
-  same-length-3 c = omega (arith, c .before .before .settle .kept .1 .1 .1 .1 .1 .0)
+  same-length-3 c = omega (arith, c .before .before .settle .kept .1 .1 .1 .1 .1 .1 .1 .0)
 
   pub returns-2 : lts.Need-returns-2 (callees t) (expand-inner-at t) expand-inner.Post
   returns-2 c =
       let g = c .before .before .settle in
-      let q = c .before .before .before .before .before .before .before in
+      let q = c .before .before .before .before .before .before in
       let r = q .before .before in
       let p = unused r in
       let s = began p in
       let a = s .args in
-      unused-given (a .row .units) (formOf (a .named .form)) (markOf (a .row .mark)) (s .pre .1 .0) (lending (s .pre .1 .1) (s .pre .1 .2))
-      (p .before .look-up .ensures .shows)
+      unused-given (a .row .units) (formOf (a .named .form)) (markOf (a .row .mark)) (s .pre .1 .0)
+      (lending (a .params .now) (s .pre .1 .1) (s .pre .1 .2) (s .pre .1 .3)) refl (p .before .look-up .ensures .shows)
       (p .plan-of .ensures) (r .before .before .plan .given .1)
-      (reading-known (a .text .now) (a .from .at) _ (r .read-text .ensures) (q .got2 .given .1)) _ (g .result) (g .ensures)
+      (reading-known (a .text .now) (a .from .at) _ (r .read-text .ensures) (q .got2 .given .1)) _ (g .result)
+      (g .ensures (a .extent .«vars_room») (a .homes .now))
 
   pub same-length-4 : lts.Need-same-length-4 (callees t) (expand-inner-at t) expand-inner.Post
   same-length-4 c = omega (arith, refused c .expand-text .kept .1 .1 .1 .0)
 
   pub same-length-5 : lts.Need-same-length-5 (callees t) (expand-inner-at t) expand-inner.Post
-  same-length-5 c = omega (arith, refused c .expand-text .kept .1 .1 .1 .1 .1 .1 .0)
+  same-length-5 c = omega (arith, refused c .expand-text .kept .1 .1 .1 .1 .1 .1 .1 .0)
 
   pub returns-3 : lts.Need-returns-3 (callees t) (expand-inner-at t) expand-inner.Post
   returns-3 c = used-refused (inside (refused c)) _ (c .before .got3 .given .1)
@@ -254,9 +225,10 @@ module _ (t : ℕ) where
   pub same-length-7 : lts.Need-same-length-7 (callees t) (expand-inner-at t) expand-inner.Post
   same-length-7 c =
       let f = c .before .before .before .before in
-      omega (arith, given (finished f) .expand-text .kept .1 .1 .1 .1 .1 .1 .0, f .finish .kept .1 .1 .1 .1 .1 .1 .1 .0)
+      omega (arith, given (finished f) .expand-text .kept .1 .1 .1 .1 .1 .1 .1 .0, f .finish .kept .1 .1 .1 .1 .1 .1 .1 .1 .0)
 
   pub returns-4 : lts.Need-returns-4 (callees t) (expand-inner-at t) expand-inner.Post
   returns-4 c =
       let f = c .before .before .before .before in
-      used-given (inside (given (finished f))) (finished f .before .got4 .given .1) _ _ (f .finish .result) (f .finish .ensures)
+      let e = given (finished f) in
+      used-given (inside e) (finished f .before .got4 .given .1) _ _ (f .finish .result) (f .finish .ensures (began (used e) .args .homes .now))

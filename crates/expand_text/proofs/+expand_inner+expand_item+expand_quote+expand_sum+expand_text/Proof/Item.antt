@@ -18,6 +18,8 @@ use Rattle.expand_text.proofs.Items.{
   item-value,
   count-name,
   item-count,
+  item-total,
+  item-spread,
   quote-place,
   quote-ready,
   item-quote,
@@ -43,8 +45,11 @@ use Rattle.expand_text.proofs.expand_quote.Reads as expand-quote
 use Rattle.expand_text.proofs.expand_sum.Reads as expand-sum
 use Rattle.row.proofs.literal_mark.Reads as literal-mark
 use Rattle.expand_item.proofs.give_unit.Reads as give-unit
-use Rattle.expand_add.proofs.give_value.Reads as give-value
+use Rattle.expand_item.proofs.give_value.Reads as give-value
 use Rattle.expand_item.proofs.give_length.Reads as give-length
+use Rattle.expand_item.proofs.give_total.Reads as give-total
+use Rattle.expand_list.proofs.is_of_none.Reads as is-of-none
+use Rattle.expand_list.proofs.give_list.Reads as give-list
 use Rattle.expand_item.proofs.give_home.Reads as give-home
 use Rattle.expand_text.proofs.+expand_inner+expand_item+expand_quote+expand_sum+expand_text.Proof.Measures.{
   expand-inner-below,
@@ -65,6 +70,12 @@ callees t = (
   give-value.Learnt,
   give-length.Asked,
   give-length.Learnt,
+  give-total.Asked,
+  give-total.Learnt,
+  is-of-none.Asked,
+  is-of-none.Learnt,
+  give-list.Asked,
+  give-list.Learnt,
   expand-inner-below t,
   expand-inner.Post,
   expand-sum-below t,
@@ -77,43 +88,51 @@ module _ (t : ℕ) where
   -- the item stands where the text is read
   here : (s : lts.Start (callees t) (expand-item-at t) expand-item.Post) →
       let a = s .args in
-      Here (lentOf (a .extent .«vars_room») (a .homes .now)) (a .text .now) (a .from .at) (a .from .mode) (a .from .depth) (markOf (a .row .mark))
-      (a .row .units)
+      Here (lentOf (a .extent .«vars_room») (a .homes .now) (a .params .now)) (a .text .now) (a .from .at) (a .from .mode) (a .from .depth)
+      (markOf (a .row .mark)) (a .row .units)
       (length (a .work .now)) (a .vars .now) (a .extent .«vars_used») (a .item)
-  here s = record { ready = s .pre .1 .1; lends = lending (s .pre .1 .2) (s .pre .1 .3); shows = s .pre .1 .0 }
+  here s = record { ready = s .pre .1 .1; lends = lending (s .args .params .now) (s .pre .1 .2) (s .pre .1 .3) (s .pre .1 .4); shows = s .pre .1 .0 }
 
   -- where it was matched, from each arm that looks back
   abbrev byte : lts.After-item3 (callees t) (expand-item-at t) expand-item.Post
       → lts.Start (callees t) (expand-item-at t) expand-item.Post
-  byte c = c .before .before .before .before .before .before
+  byte c = c .before .before .before .before .before .before .before
 
   abbrev paren : lts.After-item4 (callees t) (expand-item-at t) expand-item.Post
       → lts.Start (callees t) (expand-item-at t) expand-item.Post
-  paren c = c .before .before .before .before .before .before
+  paren c = c .before .before .before .before .before .before .before
 
   abbrev quote : lts.After-item5 (callees t) (expand-item-at t) expand-item.Post
       → lts.Start (callees t) (expand-item-at t) expand-item.Post
-  quote c = c .before .before .before .before .before .before
+  quote c = c .before .before .before .before .before .before .before
 
   abbrev value : lts.After-item6 (callees t) (expand-item-at t) expand-item.Post
       → lts.Start (callees t) (expand-item-at t) expand-item.Post
-  value c = c .before .before .before .before .before .before
+  value c = c .before .before .before .before .before .before .before
 
   abbrev count : lts.After-item7 (callees t) (expand-item-at t) expand-item.Post
       → lts.Start (callees t) (expand-item-at t) expand-item.Post
-  count c = c .before .before .before .before .before .before
+  count c = c .before .before .before .before .before .before .before
 
-  abbrev inner : lts.After-item8 (callees t) (expand-item-at t) expand-item.Post
+  abbrev total : lts.After-item8 (callees t) (expand-item-at t) expand-item.Post
       → lts.Start (callees t) (expand-item-at t) expand-item.Post
-  inner c = c .before .before .before .before .before .before
+  total c = c .before .before .before .before .before .before .before
 
-  abbrev sum : lts.After-item9 (callees t) (expand-item-at t) expand-item.Post
+  abbrev spread : lts.After-item9 (callees t) (expand-item-at t) expand-item.Post
       → lts.Start (callees t) (expand-item-at t) expand-item.Post
-  sum c = c .before .before .before .before .before .before
+  spread c = c .before .before .before .before .before .before .before
 
-  abbrev home : lts.After-item10 (callees t) (expand-item-at t) expand-item.Post
+  abbrev inner : lts.After-item10 (callees t) (expand-item-at t) expand-item.Post
       → lts.Start (callees t) (expand-item-at t) expand-item.Post
-  home c = c .before .before .before .before .before .before
+  inner c = c .before .before .before .before .before .before .before
+
+  abbrev sum : lts.After-item11 (callees t) (expand-item-at t) expand-item.Post
+      → lts.Start (callees t) (expand-item-at t) expand-item.Post
+  sum c = c .before .before .before .before .before .before .before
+
+  abbrev home : lts.After-item12 (callees t) (expand-item-at t) expand-item.Post
+      → lts.Start (callees t) (expand-item-at t) expand-item.Post
+  home c = c .before .before .before .before .before .before .before
 
   pub enum-known-item : lts.Need-enum-known-item (callees t) (expand-item-at t) expand-item.Post
   enum-known-item c = search needs
@@ -136,8 +155,8 @@ module _ (t : ℕ) where
   pub enum-known-item-4 : lts.Need-enum-known-item-4 (callees t) (expand-item-at t) expand-item.Post
   enum-known-item-4 c = search needs
 
-  pub add-t45 : lts.Need-add-t45 (callees t) (expand-item-at t) expand-item.Post
-  add-t45 c =
+  pub add-t48 : lts.Need-add-t48 (callees t) (expand-item-at t) expand-item.Post
+  add-t48 c =
       let i = c .before .before in
       omega (arith, paren-place (here (paren i)) (i .item4 .given .1))
 
@@ -150,8 +169,8 @@ module _ (t : ℕ) where
   pub enum-known-item-5 : lts.Need-enum-known-item-5 (callees t) (expand-item-at t) expand-item.Post
   enum-known-item-5 c = search needs
 
-  pub add-t48 : lts.Need-add-t48 (callees t) (expand-item-at t) expand-item.Post
-  add-t48 c =
+  pub add-t51 : lts.Need-add-t51 (callees t) (expand-item-at t) expand-item.Post
+  add-t51 c =
       let i = c .before .before in
       omega (arith, quote-place (here (quote i)) (i .item5 .given .1))
 
@@ -159,133 +178,123 @@ module _ (t : ℕ) where
   expand-quote-requires c κs =
       let i = c .before .before .before .before in
       let p = quote i .pre in
-      (omega (arith, p .0, quote-place (here (quote i)) (i .item5 .given .1)), (quote-ready (here (quote i)) (i .item5 .given .1), p .1 .2, p .1 .3))
+      (omega (arith, p .0, quote-place (here (quote i)) (i .item5 .given .1)), (quote-ready (here (quote i)) (i .item5 .given .1), p .1 .2, p .1 .3, p .1 .4))
 
   pub enum-known-item-6 : lts.Need-enum-known-item-6 (callees t) (expand-item-at t) expand-item.Post
   enum-known-item-6 c = search needs
 
-  pub sub-give-value : lts.Need-sub-give-value (callees t) (expand-item-at t) expand-item.Post
-  sub-give-value c =
-      let i = c .before in
-      let n = value-name (here (value i)) (i .item6 .given .1) in
-      omega (arith, n .onward, n .within)
-
-  pub part-give-value-start : lts.Need-part-give-value-start (callees t) (expand-item-at t) expand-item.Post
-  part-give-value-start c =
-      let i = c .before in
-      let n = value-name (here (value i)) (i .item6 .given .1) in
-      omega (arith, n .onward, n .within)
-
-  pub part-give-value-end : lts.Need-part-give-value-end (callees t) (expand-item-at t) expand-item.Post
-  part-give-value-end c =
-      let i = c .before in
-      let n = value-name (here (value i)) (i .item6 .given .1) in
-      omega (arith, n .onward, n .within)
-
   pub slice-reshare-prefix-give-value : lts.Need-slice-reshare-prefix-give-value (callees t) (expand-item-at t) expand-item.Post
-  slice-reshare-prefix-give-value c = value (c .before .before) .pre .1 .2 .inside
+  slice-reshare-prefix-give-value c = value (c .before) .pre .1 .2 .inside
 
   pub slice-aggregate-give-value : lts.Need-slice-aggregate-give-value (callees t) (expand-item-at t) expand-item.Post
   slice-aggregate-give-value c =
-      let i = c .before .before .before in
-      let s = value i in
+      let s = value (c .before .before) in
       sym (length-take-le (s .args .extent .«vars_used») (s .args .vars .now) (s .pre .1 .2 .inside))
 
   pub give-value-requires : lts.Need-give-value-requires (callees t) (expand-item-at t) expand-item.Post
   give-value-requires c κs =
-      let i = c .before .before .before .before in
+      let i = c .before .before .before in
       let p = value i .pre .1 in
-      (table-held _ _ _ (p .2), p .1 .few, omega (arith, p .1 .area))
+      (value-name (here (value i)) (i .item6 .given .1), table-held _ _ _ (p .2), p .4, p .1 .few, omega (arith, p .1 .area))
 
   pub enum-known-item-7 : lts.Need-enum-known-item-7 (callees t) (expand-item-at t) expand-item.Post
   enum-known-item-7 c = search needs
 
-  pub sub-give-length : lts.Need-sub-give-length (callees t) (expand-item-at t) expand-item.Post
-  sub-give-length c =
-      let i = c .before in
-      let n = count-name (here (count i)) (i .item7 .given .1) in
-      omega (arith, n .onward, n .within)
-
-  pub part-give-length-start : lts.Need-part-give-length-start (callees t) (expand-item-at t) expand-item.Post
-  part-give-length-start c =
-      let i = c .before in
-      let n = count-name (here (count i)) (i .item7 .given .1) in
-      omega (arith, n .onward, n .within)
-
-  pub part-give-length-end : lts.Need-part-give-length-end (callees t) (expand-item-at t) expand-item.Post
-  part-give-length-end c =
-      let i = c .before in
-      let n = count-name (here (count i)) (i .item7 .given .1) in
-      omega (arith, n .onward, n .within)
-
   pub slice-reshare-prefix-give-length : lts.Need-slice-reshare-prefix-give-length (callees t) (expand-item-at t) expand-item.Post
-  slice-reshare-prefix-give-length c = count (c .before .before) .pre .1 .2 .inside
+  slice-reshare-prefix-give-length c = count (c .before) .pre .1 .2 .inside
 
   pub slice-aggregate-give-length : lts.Need-slice-aggregate-give-length (callees t) (expand-item-at t) expand-item.Post
   slice-aggregate-give-length c =
-      let i = c .before .before .before in
-      let s = count i in
+      let s = count (c .before .before) in
       sym (length-take-le (s .args .extent .«vars_used») (s .args .vars .now) (s .pre .1 .2 .inside))
 
   pub give-length-requires : lts.Need-give-length-requires (callees t) (expand-item-at t) expand-item.Post
   give-length-requires c κs =
-      let i = c .before .before .before .before in
+      let i = c .before .before .before in
       let p = count i .pre .1 in
-      (table-held _ _ _ (p .2), p .1 .few, omega (arith, p .1 .area))
+      (count-name (here (count i)) (i .item7 .given .1), table-held _ _ _ (p .2), p .4, p .1 .few, omega (arith, p .1 .area))
 
   pub enum-known-item-8 : lts.Need-enum-known-item-8 (callees t) (expand-item-at t) expand-item.Post
   enum-known-item-8 c = search needs
 
-  pub sub-t69 : lts.Need-sub-t69 (callees t) (expand-item-at t) expand-item.Post
-  sub-t69 c =
+  pub give-total-requires : lts.Need-give-total-requires (callees t) (expand-item-at t) expand-item.Post
+  give-total-requires c κs =
+      let p = total (c .before .before) .pre .1 in
+      (p .4, p .1 .few, omega (arith, p .1 .area))
+
+  pub enum-known-item-9 : lts.Need-enum-known-item-9 (callees t) (expand-item-at t) expand-item.Post
+  enum-known-item-9 c = search needs
+
+  pub is-of-none-requires : lts.Need-is-of-none-requires (callees t) (expand-item-at t) expand-item.Post
+  is-of-none-requires c κs = spread (c .before) .pre .1 .4
+
+  pub slice-reshare-prefix-give-list : lts.Need-slice-reshare-prefix-give-list (callees t) (expand-item-at t) expand-item.Post
+  slice-reshare-prefix-give-list c = spread (c .before .before) .pre .1 .2 .inside
+
+  pub slice-aggregate-give-list : lts.Need-slice-aggregate-give-list (callees t) (expand-item-at t) expand-item.Post
+  slice-aggregate-give-list c =
+      let s = spread (c .before .before .before) in
+      sym (length-take-le (s .args .extent .«vars_used») (s .args .vars .now) (s .pre .1 .2 .inside))
+
+  pub give-list-requires : lts.Need-give-list-requires (callees t) (expand-item-at t) expand-item.Post
+  give-list-requires c κs =
+      let p = spread (c .before .before .before .before) .pre .1 in
+      ((table-held _ _ _ (p .2), p .4), (p .1 .few, omega (arith, p .1 .area)))
+
+  pub enum-known-item-10 : lts.Need-enum-known-item-10 (callees t) (expand-item-at t) expand-item.Post
+  enum-known-item-10 c = search needs
+
+  pub sub-t71 : lts.Need-sub-t71 (callees t) (expand-item-at t) expand-item.Post
+  sub-t71 c =
       let i = c .before .before in
-      omega (arith, inner-depth (here (inner i)) (i .item8 .given .1))
+      omega (arith, inner-depth (here (inner i)) (i .item10 .given .1))
 
   pub expand-inner-requires : lts.Need-expand-inner-requires (callees t) (expand-item-at t) expand-item.Post
   expand-inner-requires c κs =
       let i = c .before .before .before .before in
       let p = inner i .pre in
-      let n = inner-place (here (inner i)) (i .item8 .given .1) in (
+      let n = inner-place (here (inner i)) (i .item10 .given .1) in (
         omega (arith, p .0, n .onward, n .within),
         (
-          inner-ready (here (inner i)) (i .item8 .given .1),
+          inner-ready (here (inner i)) (i .item10 .given .1),
           p .1 .2,
           p .1 .3,
+          p .1 .4,
           p .1 .1 .few,
-          inner-places (here (inner i)) (i .item8 .given .1),
-          inner-name (here (inner i)) (i .item8 .given .1),
+          inner-places (here (inner i)) (i .item10 .given .1),
+          inner-name (here (inner i)) (i .item10 .given .1),
         ),
       )
 
-  pub enum-known-item-9 : lts.Need-enum-known-item-9 (callees t) (expand-item-at t) expand-item.Post
-  enum-known-item-9 c = search needs
+  pub enum-known-item-11 : lts.Need-enum-known-item-11 (callees t) (expand-item-at t) expand-item.Post
+  enum-known-item-11 c = search needs
 
   pub sub-expand-sum : lts.Need-sub-expand-sum (callees t) (expand-item-at t) expand-item.Post
   sub-expand-sum c =
       let i = c .before .before in
-      omega (arith, sum-depth (here (sum i)) (i .item9 .given .1))
+      omega (arith, sum-depth (here (sum i)) (i .item11 .given .1))
 
   pub expand-sum-requires : lts.Need-expand-sum-requires (callees t) (expand-item-at t) expand-item.Post
   expand-sum-requires c κs =
       let i = c .before .before .before .before in
       let p = sum i .pre in
-      let y = sum-ready (here (sum i)) (i .item9 .given .1) in
-      (omega (arith, p .0, sum-place (here (sum i)) (i .item9 .given .1), y .start), (y, p .1 .2, p .1 .3, p .1 .1 .few))
+      let y = sum-ready (here (sum i)) (i .item11 .given .1) in
+      (omega (arith, p .0, sum-place (here (sum i)) (i .item11 .given .1), y .start), (y, p .1 .2, p .1 .3, p .1 .4, p .1 .1 .few))
 
-  pub enum-known-item-10 : lts.Need-enum-known-item-10 (callees t) (expand-item-at t) expand-item.Post
-  enum-known-item-10 c = search needs
+  pub enum-known-item-12 : lts.Need-enum-known-item-12 (callees t) (expand-item-at t) expand-item.Post
+  enum-known-item-12 c = search needs
 
   pub add-start : lts.Need-add-start (callees t) (expand-item-at t) expand-item.Post
-  add-start c = let i = c .before .before in let n = home-place (here (home i)) (i .item10 .given .1) in omega (arith, n .onward, n .within)
+  add-start c = let i = c .before .before in let n = home-place (here (home i)) (i .item12 .given .1) in omega (arith, n .onward, n .within)
 
   pub sub-give-home : lts.Need-sub-give-home (callees t) (expand-item-at t) expand-item.Post
-  sub-give-home c = let i = c .before .before in let n = home-place (here (home i)) (i .item10 .given .1) in omega (arith, n .onward, n .within)
+  sub-give-home c = let i = c .before .before in let n = home-place (here (home i)) (i .item12 .given .1) in omega (arith, n .onward, n .within)
 
   pub part-give-home-start : lts.Need-part-give-home-start (callees t) (expand-item-at t) expand-item.Post
-  part-give-home-start c = let i = c .before .before in let n = home-place (here (home i)) (i .item10 .given .1) in omega (arith, n .onward, n .within)
+  part-give-home-start c = let i = c .before .before in let n = home-place (here (home i)) (i .item12 .given .1) in omega (arith, n .onward, n .within)
 
   pub part-give-home-end : lts.Need-part-give-home-end (callees t) (expand-item-at t) expand-item.Post
-  part-give-home-end c = let i = c .before .before in let n = home-place (here (home i)) (i .item10 .given .1) in omega (arith, n .onward, n .within)
+  part-give-home-end c = let i = c .before .before in let n = home-place (here (home i)) (i .item12 .given .1) in omega (arith, n .onward, n .within)
 
   pub slice-reshare-prefix-give-home : lts.Need-slice-reshare-prefix-give-home (callees t) (expand-item-at t) expand-item.Post
   slice-reshare-prefix-give-home c = home (c .before .before .before) .pre .1 .2 .inside
@@ -302,10 +311,10 @@ module _ (t : ℕ) where
 
   pub returns : lts.Need-returns (callees t) (expand-item-at t) expand-item.Post
   returns c =
-      item-fault (here (c .before .before .before .before .before .before .before)) _ _ (c .before .item .given .1)
+      item-fault (here (c .before .before .before .before .before .before .before .before)) _ _ (c .before .item .given .1)
 
   pub returns-2 : lts.Need-returns-2 (callees t) (expand-item-at t) expand-item.Post
-  returns-2 c = item-stop (here (c .before .before .before .before .before .before .before)) _ (c .before .item2 .given .1)
+  returns-2 c = item-stop (here (c .before .before .before .before .before .before .before .before)) _ (c .before .item2 .given .1)
 
   pub same-length : lts.Need-same-length (callees t) (expand-item-at t) expand-item.Post
   same-length c = search needs
@@ -330,7 +339,7 @@ module _ (t : ℕ) where
   same-length-3 c = omega (arith, c .before .before .before .before .expand-quote .kept .1 .1 .1 .0)
 
   pub same-length-4 : lts.Need-same-length-4 (callees t) (expand-item-at t) expand-item.Post
-  same-length-4 c = omega (arith, c .before .before .before .before .expand-quote .kept .1 .1 .1 .1 .1 .1 .0)
+  same-length-4 c = omega (arith, c .before .before .before .before .expand-quote .kept .1 .1 .1 .1 .1 .1 .1 .0)
 
   pub returns-5 : lts.Need-returns-5 (callees t) (expand-item-at t) expand-item.Post
   returns-5 c =
@@ -342,58 +351,80 @@ module _ (t : ℕ) where
   same-length-5 c = search needs
 
   pub same-length-6 : lts.Need-same-length-6 (callees t) (expand-item-at t) expand-item.Post
-  same-length-6 c = omega (arith, c .before .before .give-value .kept .1 .1 .1 .1 .0)
+  same-length-6 c = omega (arith, c .before .before .give-value .kept .1 .1 .1 .1 .1 .1 .0)
 
   pub returns-6 : lts.Need-returns-6 (callees t) (expand-item-at t) expand-item.Post
   returns-6 c =
       let g = c .before .before in
-      let i = g .before .before .before .before .before in
+      let i = g .before .before .before .before in
       item-value (here (value i)) (i .item6 .given .1) _ (g .give-value .result) (g .give-value .ensures)
 
   pub same-length-7 : lts.Need-same-length-7 (callees t) (expand-item-at t) expand-item.Post
   same-length-7 c = search needs
 
   pub same-length-8 : lts.Need-same-length-8 (callees t) (expand-item-at t) expand-item.Post
-  same-length-8 c = omega (arith, c .before .before .give-length .kept .1 .1 .1 .1 .0)
+  same-length-8 c = omega (arith, c .before .before .give-length .kept .1 .1 .1 .1 .1 .1 .0)
 
   pub returns-7 : lts.Need-returns-7 (callees t) (expand-item-at t) expand-item.Post
   returns-7 c =
       let g = c .before .before in
-      let i = g .before .before .before .before .before in
+      let i = g .before .before .before .before in
       item-count (here (count i)) (i .item7 .given .1) _ (g .give-length .result) (g .give-length .ensures)
 
   pub same-length-9 : lts.Need-same-length-9 (callees t) (expand-item-at t) expand-item.Post
-  same-length-9 c = omega (arith, c .before .before .before .before .expand-inner .kept .1 .1 .1 .1 .0)
-
-  pub same-length-10 : lts.Need-same-length-10 (callees t) (expand-item-at t) expand-item.Post
-  same-length-10 c = omega (arith, c .before .before .before .before .expand-inner .kept .1 .1 .1 .1 .1 .1 .1 .0)
+  same-length-9 c = search needs
 
   pub returns-8 : lts.Need-returns-8 (callees t) (expand-item-at t) expand-item.Post
   returns-8 c =
-      let g = c .before .before .before .before in
-      let i = g .before .before .before .before .before in
-      item-inner (here (inner i)) (i .item8 .given .1) _ _ (g .expand-inner .result) (g .expand-inner .ensures)
+      let g = c .before .before in
+      let i = g .before .before .before in
+      item-total (here (total i)) (i .item8 .given .1) _ (g .give-total .result) (g .give-total .ensures)
+
+  pub same-length-10 : lts.Need-same-length-10 (callees t) (expand-item-at t) expand-item.Post
+  same-length-10 c = search needs
 
   pub same-length-11 : lts.Need-same-length-11 (callees t) (expand-item-at t) expand-item.Post
-  same-length-11 c = omega (arith, c .before .before .before .before .expand-sum .kept .1 .1 .1 .1 .0)
-
-  pub same-length-12 : lts.Need-same-length-12 (callees t) (expand-item-at t) expand-item.Post
-  same-length-12 c = omega (arith, c .before .before .before .before .expand-sum .kept .1 .1 .1 .1 .1 .1 .1 .0)
+  same-length-11 c = omega (arith, c .before .before .give-list .kept .1 .1 .1 .1 .1 .0)
 
   pub returns-9 : lts.Need-returns-9 (callees t) (expand-item-at t) expand-item.Post
   returns-9 c =
-      let g = c .before .before .before .before in
-      let i = g .before .before .before .before .before in
-      item-sum (here (sum i)) (i .item9 .given .1) _ _ (g .expand-sum .result) (g .expand-sum .ensures)
+      let g = c .before .before in
+      let o = g .before .before .before in
+      let i = o .before .before in
+      item-spread (here (spread i)) (i .item9 .given .1) (o .is-of-none .ensures) _ (g .give-list .result) (g .give-list .ensures)
+
+  pub same-length-12 : lts.Need-same-length-12 (callees t) (expand-item-at t) expand-item.Post
+  same-length-12 c = omega (arith, c .before .before .before .before .expand-inner .kept .1 .1 .1 .1 .0)
 
   pub same-length-13 : lts.Need-same-length-13 (callees t) (expand-item-at t) expand-item.Post
-  same-length-13 c = search needs
-
-  pub same-length-14 : lts.Need-same-length-14 (callees t) (expand-item-at t) expand-item.Post
-  same-length-14 c = omega (arith, c .before .before .give-home .kept .1 .1 .1 .1 .1 .0)
+  same-length-13 c = omega (arith, c .before .before .before .before .expand-inner .kept .1 .1 .1 .1 .1 .1 .1 .1 .0)
 
   pub returns-10 : lts.Need-returns-10 (callees t) (expand-item-at t) expand-item.Post
   returns-10 c =
+      let g = c .before .before .before .before in
+      let i = g .before .before .before .before .before in
+      item-inner (here (inner i)) (i .item10 .given .1) _ _ (g .expand-inner .result) (g .expand-inner .ensures)
+
+  pub same-length-14 : lts.Need-same-length-14 (callees t) (expand-item-at t) expand-item.Post
+  same-length-14 c = omega (arith, c .before .before .before .before .expand-sum .kept .1 .1 .1 .1 .0)
+
+  pub same-length-15 : lts.Need-same-length-15 (callees t) (expand-item-at t) expand-item.Post
+  same-length-15 c = omega (arith, c .before .before .before .before .expand-sum .kept .1 .1 .1 .1 .1 .1 .1 .1 .0)
+
+  pub returns-11 : lts.Need-returns-11 (callees t) (expand-item-at t) expand-item.Post
+  returns-11 c =
+      let g = c .before .before .before .before in
+      let i = g .before .before .before .before .before in
+      item-sum (here (sum i)) (i .item11 .given .1) _ _ (g .expand-sum .result) (g .expand-sum .ensures)
+
+  pub same-length-16 : lts.Need-same-length-16 (callees t) (expand-item-at t) expand-item.Post
+  same-length-16 c = search needs
+
+  pub same-length-17 : lts.Need-same-length-17 (callees t) (expand-item-at t) expand-item.Post
+  same-length-17 c = omega (arith, c .before .before .give-home .kept .1 .1 .1 .1 .1 .0)
+
+  pub returns-12 : lts.Need-returns-12 (callees t) (expand-item-at t) expand-item.Post
+  returns-12 c =
       let g = c .before .before in
       let i = g .before .before .before .before .before .before in
-      item-home (here (home i)) (i .item10 .given .1) _ (g .give-home .result) (g .give-home .ensures)
+      item-home (here (home i)) (i .item12 .given .1) _ (g .give-home .result) (g .give-home .ensures)

@@ -12,6 +12,7 @@ use native.Mathlib.Omega.{arith}
 use Rattle.expand_text.proofs.+expand_inner+expand_item+expand_quote+expand_sum+expand_text.Lts-expand_quote as lts
 use Rattle.expand_text.proofs.expand_quote.Reads as expand-quote
 use Rattle.expand_text.proofs.expand_text.Reads as expand-text
+use Rattle.expand_text.proofs.units_in_quotes.Reads as units-in-quotes
 use Rattle.row.proofs.put_empty.Reads as put-empty
 use Rattle.expand_text.proofs.+expand_inner+expand_item+expand_quote+expand_sum+expand_text.Proof.Measures.{
   expand-quote-at,
@@ -24,12 +25,14 @@ callees t = (
   put-empty.Learnt,
   expand-text-below t,
   expand-text.Post,
+  units-in-quotes.Asked,
+  units-in-quotes.Learnt,
 )
 
 module _ (t : ℕ) where
   abbrev began : lts.After-put-empty (callees t) (expand-quote-at t) expand-quote.Post
       → lts.Start (callees t) (expand-quote-at t) expand-quote.Post
-  began c = c .before .before .before .before .before .before .before
+  began c = c .before .before .before .before .before .before .before .before
 
   -- where the N was put
   abbrev emptied : lts.After-expand-text (callees t) (expand-quote-at t) expand-quote.Post
@@ -53,31 +56,36 @@ module _ (t : ℕ) where
 
   inside : (c : lts.After-expand-text (callees t) (expand-quote-at t) expand-quote.Post) →
       let a = began (emptied c) .args in
-      QuoteExpanded (lentOf (a .extent .«vars_room») (a .homes .now)) (a .text .now) (a .from .at) (a .from .mode) (a .from .depth) (a .units)
+      QuoteExpanded (lentOf (a .extent .«vars_room») (a .homes .now) (a .params .now)) (a .text .now) (a .from .at) (a .from .mode) (a .from .depth) (a .units)
       (length (a .work .now)) (a .vars .now)
-      (a .extent .«vars_used») (c .expand-text .last .1 .1 .1 .1 .1 .1 .0) (c .expand-text .last .1 .1 .1 .0) (c .expand-text .result)
+      (a .extent .«vars_used») (c .expand-text .last .1 .1 .1 .1 .1 .1 .1 .0) (c .expand-text .last .1 .1 .1 .0) (c .expand-text .result)
   inside c =
       let s = began (emptied c) in
-      record { ready = s .pre .1 .0; lends = lending (s .pre .1 .1) (s .pre .1 .2); room = room-left (emptied c); says = c .expand-text .ensures }
+      record {
+        ready = s .pre .1 .0;
+        lends = lending (s .args .params .now) (s .pre .1 .1) (s .pre .1 .2) (s .pre .1 .3);
+        room = room-left (emptied c);
+        says = c .expand-text .ensures;
+      }
 
   -- what was lent came back as long as it was
   same-work : (c : lts.After-expand-text (callees t) (expand-quote-at t) expand-quote.Post) →
       let p = emptied c in
       let w = p .put-empty .last .0 in
-      length (putMid 2 (length w - 2) w (c .expand-text .last .1 .1 .1 .1 .1 .1 .0)) ≡ length (began p .args .work .now)
+      length (putMid 2 (length w - 2) w (c .expand-text .last .1 .1 .1 .1 .1 .1 .1 .0)) ≡ length (began p .args .work .now)
   same-work c =
       let p = emptied c in
       let w = p .put-empty .last .0 in
-      same-len-mid 2 (length w - 2) w (c .expand-text .last .1 .1 .1 .1 .1 .1 .0) (c .expand-text .kept .1 .1 .1 .1 .1 .1 .0) ∙ p .put-empty .kept .0
+      same-len-mid 2 (length w - 2) w (c .expand-text .last .1 .1 .1 .1 .1 .1 .1 .0) (c .expand-text .kept .1 .1 .1 .1 .1 .1 .1 .0) ∙ p .put-empty .kept .0
 
   pub returns : lts.Need-returns (callees t) (expand-quote-at t) expand-quote.Post
   returns c =
-      let s = c .before .before .before .before .before in
-      quote-full (s .pre .1 .0) (lending (s .pre .1 .1) (s .pre .1 .2)) _ _ (c .if1 .taken)
+      let s = c .before .before .before .before .before .before in
+      quote-full (s .pre .1 .0) (lending (s .args .params .now) (s .pre .1 .1) (s .pre .1 .2) (s .pre .1 .3)) _ _ (c .if1 .taken)
 
   pub put-empty-requires : lts.Need-put-empty-requires (callees t) (expand-quote-at t) expand-quote.Post
   put-empty-requires c κs =
-      let y = c .before .before .before .before .before .before .pre .1 .0 in omega (arith, y .area, y .few, c .before .if1 .left)
+      let y = c .before .before .before .before .before .before .before .pre .1 .0 in omega (arith, y .area, y .few, c .before .if1 .left)
 
   pub add-expand-text : lts.Need-add-expand-text (callees t) (expand-quote-at t) expand-quote.Post
   add-expand-text c = search needs
@@ -99,10 +107,11 @@ module _ (t : ℕ) where
       let l = long p in (
         omega (arith, s .pre .0),
         (
-          quote-inner (s .pre .1 .0) (lending (s .pre .1 .1) (s .pre .1 .2)) (room-left p) _
+          quote-inner (s .pre .1 .0) (lending (s .args .params .now) (s .pre .1 .1) (s .pre .1 .2) (s .pre .1 .3)) (room-left p) _
               (omega (arith, mid-len 2 (length w) w (omega arith), l, p .put-empty .kept .0)),
           s .pre .1 .1,
           s .pre .1 .2,
+          s .pre .1 .3,
         ),
       )
 
@@ -112,8 +121,8 @@ module _ (t : ℕ) where
   pub enum-known-got-2 : lts.Need-enum-known-got-2 (callees t) (expand-quote-at t) expand-quote.Post
   enum-known-got-2 c = search needs
 
-  pub add-t26 : lts.Need-add-t26 (callees t) (expand-quote-at t) expand-quote.Post
-  add-t26 c = omega (arith, quote-fits (inside (given c)) (c .before .got2 .given .1))
+  pub units-in-quotes-requires : lts.Need-units-in-quotes-requires (callees t) (expand-quote-at t) expand-quote.Post
+  units-in-quotes-requires c κs = omega (arith, quote-fits (inside (given c)) (c .before .got2 .given .1))
 
   pub same-length : lts.Need-same-length (callees t) (expand-quote-at t) expand-quote.Post
   same-length c = omega (arith, refused c .expand-text .kept .1 .1 .1 .0)
@@ -125,12 +134,14 @@ module _ (t : ℕ) where
   returns-2 c = quote-refused (inside (refused c)) _ (c .before .got .given .1)
 
   pub same-length-3 : lts.Need-same-length-3 (callees t) (expand-quote-at t) expand-quote.Post
-  same-length-3 c = omega (arith, given c .expand-text .kept .1 .1 .1 .0)
+  same-length-3 c = omega (arith, given (c .before) .expand-text .kept .1 .1 .1 .0)
 
   pub same-length-4 : lts.Need-same-length-4 (callees t) (expand-quote-at t) expand-quote.Post
-  same-length-4 c = same-work (given c)
+  same-length-4 c = same-work (given (c .before))
 
   pub returns-3 : lts.Need-returns-3 (callees t) (expand-quote-at t) expand-quote.Post
   returns-3 c =
-      let p = emptied (given c) in
-      quote-row (inside (given c)) (c .before .got2 .given .1) _ _ _ (empty-front (began p .args .work .now) (p .put-empty .last .0) (p .put-empty .ensures))
+      let g = c .before in
+      let p = emptied (given g) in
+      quote-row (inside (given g)) (g .before .got2 .given .1) (c .units-in-quotes .ensures) _ _ _
+      (empty-front (began p .args .work .now) (p .put-empty .last .0) (p .put-empty .ensures))

@@ -29,7 +29,7 @@ callees t = (
 module _ (t : ℕ) where
   abbrev began : lts.After-expand-text (callees t) (expand-sum-at t) expand-sum.Post
       → lts.Start (callees t) (expand-sum-at t) expand-sum.Post
-  began c = c .before .before .before .before .before .before .before
+  began c = c .before .before .before .before .before .before .before .before
 
   -- the text was expanded, where it is refused and where it has a row
   abbrev refused : lts.After-known-told (callees t) (expand-sum-at t) expand-sum.Post
@@ -47,14 +47,14 @@ module _ (t : ℕ) where
 
   inside : (c : lts.After-expand-text (callees t) (expand-sum-at t) expand-sum.Post) →
       let a = began c .args in
-      SumExpanded (lentOf (a .extent .«vars_room») (a .homes .now)) (a .text .now) (a .at) (a .depth) (length (a .work .now)) (a .vars .now)
+      SumExpanded (lentOf (a .extent .«vars_room») (a .homes .now) (a .params .now)) (a .text .now) (a .at) (a .depth) (length (a .work .now)) (a .vars .now)
       (a .extent .«vars_used»)
-      (a .row .units) (markOf (a .row .mark)) (c .expand-text .last .1 .1 .1 .1 .1 .1 .0) (c .expand-text .last .1 .1 .1 .0) (c .expand-text .result)
+      (a .row .units) (markOf (a .row .mark)) (c .expand-text .last .1 .1 .1 .1 .1 .1 .1 .0) (c .expand-text .last .1 .1 .1 .0) (c .expand-text .result)
   inside c = record { ready = began c .pre .1 .0; says = c .expand-text .ensures }
 
   pub expand-text-requires : lts.Need-expand-text-requires (callees t) (expand-sum-at t) expand-sum.Post
   expand-text-requires c κs =
-      let s = c .before .before .before .before .before .before in (omega (arith, s .pre .0), (s .pre .1 .0, s .pre .1 .1, s .pre .1 .2))
+      let s = c .before .before .before .before .before .before .before in (omega (arith, s .pre .0), (s .pre .1 .0, s .pre .1 .1, s .pre .1 .2, s .pre .1 .3))
 
   pub enum-known-got : lts.Need-enum-known-got (callees t) (expand-sum-at t) expand-sum.Post
   enum-known-got c = search needs
@@ -77,15 +77,15 @@ module _ (t : ℕ) where
       let q = g .before .got2 .given .1 in (
         table-held _ _ _ (sum-holds (inside e) q),
         sum-inside (inside e) q,
-        began e .pre .1 .3,
-        omega (arith, began e .pre .1 .0 .area, e .expand-text .kept .1 .1 .1 .1 .1 .1 .0),
+        began e .pre .1 .4,
+        omega (arith, began e .pre .1 .0 .area, e .expand-text .kept .1 .1 .1 .1 .1 .1 .1 .0),
       )
 
   pub same-length : lts.Need-same-length (callees t) (expand-sum-at t) expand-sum.Post
   same-length c = omega (arith, refused c .expand-text .kept .1 .1 .1 .0)
 
   pub same-length-2 : lts.Need-same-length-2 (callees t) (expand-sum-at t) expand-sum.Post
-  same-length-2 c = omega (arith, refused c .expand-text .kept .1 .1 .1 .1 .1 .1 .0)
+  same-length-2 c = omega (arith, refused c .expand-text .kept .1 .1 .1 .1 .1 .1 .1 .0)
 
   pub returns : lts.Need-returns (callees t) (expand-sum-at t) expand-sum.Post
   returns c = sum-refused (inside (refused c)) _ (c .before .got .given .1)
@@ -96,7 +96,7 @@ module _ (t : ℕ) where
   pub same-length-4 : lts.Need-same-length-4 (callees t) (expand-sum-at t) expand-sum.Post
   same-length-4 c =
       let u = c .before .before in
-      omega (arith, given (summed u) .expand-text .kept .1 .1 .1 .1 .1 .1 .0, u .sum-up .kept .1 .1 .1 .1 .0)
+      omega (arith, given (summed u) .expand-text .kept .1 .1 .1 .1 .1 .1 .1 .0, u .sum-up .kept .1 .1 .1 .1 .0)
 
   pub returns-2 : lts.Need-returns-2 (callees t) (expand-sum-at t) expand-sum.Post
   returns-2 c =

@@ -1,6 +1,8 @@
 -- A text item by item: the rows of the items that were passed stand at the front of the area, one after the other.
 use Prim.Native.Nat.{ℕ, _*_, _-_}
 use mathlib.Core.Path.{_≡_, sym, _∙_}
+use mathlib.Core.Bool.{_||_}
+use mathlib.Core.Logic.{⊎-elim}
 use lib.ListN.{length, take}
 use borrow.Rule.Slice.PartMut.{putMid, same-len-mid, mid-len}
 use Rattle.stages.specs.Images.{held}
@@ -18,6 +20,8 @@ use Rattle.expand_text.proofs.Looping.{
   going-end,
   moved,
   going-row,
+  came-before,
+  came-now,
 }
 use borrow.Author.Needs.{needs}
 use native.Mathlib.Omega.{arith}
@@ -45,12 +49,12 @@ callees t = (
 )
 
 abbrev pub Inv-loop : lts.InvT-loop
-Inv-loop text from row vars₀ extent homes work₀ mark n₀ i₀ inside₀ left₀ vars work n i inside left =
-    Going (lentOf (extent .«vars_room») homes) text (from .at) (from .mode) (from .depth) (markOf (row .mark)) (row .units)
-    (held (take (extent .«vars_used») vars₀)) work₀ vars₀ work vars n i inside left
+Inv-loop text from row vars₀ extent homes params work₀ mark n₀ i₀ inside₀ left₀ of-none₀ vars work n i inside left of-none =
+    Going (lentOf (extent .«vars_room») homes params) text (from .at) (from .mode) (from .depth) (markOf (row .mark)) (row .units)
+    (held (take (extent .«vars_used») vars₀)) work₀ vars₀ work vars n i inside left of-none
 
 abbrev pub μ-loop : lts.MeasureT-loop
-μ-loop text from row vars₀ extent homes work₀ mark n₀ i₀ inside₀ left₀ vars work n i inside left = length text - i
+μ-loop text from row vars₀ extent homes params work₀ mark n₀ i₀ inside₀ left₀ of-none₀ vars work n i inside left of-none = length text - i
 
 module _ (t : ℕ) where
   -- where the loop stood when the item was expanded, and where the text began
@@ -60,7 +64,7 @@ module _ (t : ℕ) where
 
   abbrev began : lts.After-expand-item (callees t) (expand-text-at t) expand-text.Post Inv-loop μ-loop
       → lts.Start (callees t) (expand-text-at t) expand-text.Post Inv-loop μ-loop
-  began c = looped c .before .before .before .before .before
+  began c = looped c .before .before .before .before .before .before
 
   -- an item that was expanded, where it refuses the text and where it has a row
   abbrev refused : lts.After-known-told (callees t) (expand-text-at t) expand-text.Post Inv-loop μ-loop
@@ -75,10 +79,11 @@ module _ (t : ℕ) where
       let l = looped c .loop in
       let a = began c .args in
       let item = c .before .before .before .before .item-at .result in
-      Expanding (lentOf (a .extent .«vars_room») (a .homes .now)) (a .text .now) (a .from .at) (a .from .mode) (a .from .depth)
+      Expanding (lentOf (a .extent .«vars_room») (a .homes .now) (a .params .now)) (a .text .now) (a .from .at) (a .from .mode) (a .from .depth)
       (markOf (a .row .mark)) (a .row .units)
       (held (take (a .extent .«vars_used») (a .vars .now))) (a .work .now) (a .vars .now) (l .work) (l .vars) (l .n) (l .i) (l .inside) (l .left)
-      (isStop item) (modeAfter item (l .inside)) (c .expand-item .last .1 .1 .1 .1 .1 .1 .1 .0) (c .expand-item .last .1 .1 .1 .1 .0) (c .expand-item .result)
+      (l .of-none) (isStop item) (modeAfter item (l .inside)) (c .expand-item .last .1 .1 .1 .1 .1 .1 .1 .1 .0)
+      (c .expand-item .last .1 .1 .1 .1 .0) (c .expand-item .result)
   expanding c = record { going = looped c .loop .inv; says = c .expand-item .ensures }
 
   -- what was lent came back as long as it was
@@ -88,15 +93,24 @@ module _ (t : ℕ) where
 
   same-work : (c : lts.After-expand-item (callees t) (expand-text-at t) expand-text.Post Inv-loop μ-loop) →
       let l = looped c .loop in
-      length (putMid (2 * l .n) (length (l .work) - 2 * l .n) (l .work) (c .expand-item .last .1 .1 .1 .1 .1 .1 .1 .0)) ≡ length (l .work)
+      length (putMid (2 * l .n) (length (l .work) - 2 * l .n) (l .work) (c .expand-item .last .1 .1 .1 .1 .1 .1 .1 .1 .0)) ≡ length (l .work)
   same-work c =
       let l = looped c .loop in
-      same-len-mid (2 * l .n) (length (l .work) - 2 * l .n) (l .work) (c .expand-item .last .1 .1 .1 .1 .1 .1 .1 .0)
-      (c .expand-item .kept .1 .1 .1 .1 .1 .1 .1 .0)
+      same-len-mid (2 * l .n) (length (l .work) - 2 * l .n) (l .work) (c .expand-item .last .1 .1 .1 .1 .1 .1 .1 .1 .0)
+      (c .expand-item .kept .1 .1 .1 .1 .1 .1 .1 .1 .0)
+
+  -- `$@` of no parameters came before the item or in it
+  flagged : (c : lts.Joined1 (callees t) (expand-text-at t) expand-text.Post Inv-loop μ-loop) →
+      let g = c .before in
+      c .if1 .of-none ≡ (looped (given g) .loop .of-none || g .before .got2 .given .0 .1 .1 .1 .0)
+  flagged c =
+      let g = c .before in
+      let before = looped (given g) .loop .of-none in
+      ⊎-elim (λ w. came-before before _ (w .0 .taken, w .1)) (λ w. came-now before _ (w .0 .left, w .1)) (c .if1 .came)
 
   pub loop-holds : lts.Need-loop-holds (callees t) (expand-text-at t) expand-text.Post Inv-loop μ-loop
   loop-holds c =
-      let s = c .before .before .before .before in
+      let s = c .before .before .before .before .before in
       going-start (markOf (s .args .row .mark)) (s .args .work .now) (s .pre .1 .0) (s .pre .1 .1)
 
   pub item-at-requires : lts.Need-item-at-requires (callees t) (expand-text-at t) expand-text.Post Inv-loop μ-loop
@@ -120,7 +134,7 @@ module _ (t : ℕ) where
   pub expand-item-requires : lts.Need-expand-item-requires (callees t) (expand-text-at t) expand-text.Post Inv-loop μ-loop
   expand-item-requires c κs =
       let l = c .before .before .before .before .loop in
-      let s = c .before .before .before .before .before .before .before .before .before in
+      let s = c .before .before .before .before .before .before .before .before .before .before in
       let y = s .pre .1 .0 in
       let g = going-room (l .inv) in (
         omega (arith, s .pre .0, l .inv .onward, l .inv .within),
@@ -129,6 +143,7 @@ module _ (t : ℕ) where
           going-ready (l .inv) (y .clean) _ (y .area) (omega (arith, mid-len (2 * l .n) (length (l .work)) (l .work) (omega arith), g)),
           l .inv .holds,
           s .pre .1 .2,
+          s .pre .1 .3,
         ),
       )
 
@@ -154,27 +169,27 @@ module _ (t : ℕ) where
   is-stop-requires c κs = search needs
 
   pub same-length-3 : lts.Need-same-length-3 (callees t) (expand-text-at t) expand-text.Post Inv-loop μ-loop
-  same-length-3 c = let e = given (c .before .before) in same-vars e ∙ looped e .loop .inv .same
+  same-length-3 c = let e = given (c .before .before .before) in same-vars e ∙ looped e .loop .inv .same
 
   pub same-length-4 : lts.Need-same-length-4 (callees t) (expand-text-at t) expand-text.Post Inv-loop μ-loop
-  same-length-4 c = let e = given (c .before .before) in same-work e ∙ looped e .loop .inv .long
+  same-length-4 c = let e = given (c .before .before .before) in same-work e ∙ looped e .loop .inv .long
 
   pub returns-2 : lts.Need-returns-2 (callees t) (expand-text-at t) expand-text.Post Inv-loop μ-loop
   returns-2 c =
-      let g = c .before .before in
-      going-end (expanding (given g)) (g .before .got2 .given .1) (sym (c .before .is-stop .ensures) ∙ c .if1 .taken) _
+      let g = c .before .before .before in
+      going-end (expanding (given g)) (g .before .got2 .given .1) (flagged (c .before .before)) (sym (c .before .is-stop .ensures) ∙ c .if2 .taken) _
 
   pub mode-after-requires : lts.Need-mode-after-requires (callees t) (expand-text-at t) expand-text.Post Inv-loop μ-loop
   mode-after-requires c κs = search needs
 
   pub loop-less : lts.Need-loop-less (callees t) (expand-text-at t) expand-text.Post Inv-loop μ-loop
   loop-less c =
-      let g = c .before .before .before in
-      let m = moved (expanding (given g)) (g .before .got2 .given .1) (sym (c .before .before .is-stop .ensures) ∙ c .before .if1 .left) in
+      let g = c .before .before .before .before in
+      let m = moved (expanding (given g)) (g .before .got2 .given .1) (sym (c .before .before .is-stop .ensures) ∙ c .before .if2 .left) in
       omega (arith, m .onward, m .within)
 
   pub loop-again : lts.Need-loop-again (callees t) (expand-text-at t) expand-text.Post Inv-loop μ-loop
   loop-again c =
-      let g = c .before .before .before in
-      going-row (expanding (given g)) (g .before .got2 .given .1) (sym (c .before .before .is-stop .ensures) ∙ c .before .if1 .left)
-      (c .mode-after .ensures) _ (same-work (given g)) (same-vars (given g))
+      let g = c .before .before .before .before in
+      going-row (expanding (given g)) (g .before .got2 .given .1) (sym (c .before .before .is-stop .ensures) ∙ c .before .if2 .left)
+      (flagged (c .before .before .before)) (c .mode-after .ensures) _ (same-work (given g)) (same-vars (given g))
