@@ -5,11 +5,12 @@ use native.Mathlib.Omega.{arith}
 use mathlib.Core.Path.{_≡_, sym, ap, _∙_}
 use mathlib.Core.List.{[], _∷_}
 use lib.ListN.{length, drop, length-drop}
-use Rattle.stages.specs.Bytes.{Text}
+use Rattle.stages.specs.Bytes.{Text, part}
 use Rattle.stages.specs.Units.{Row}
 use Rattle.stages.specs.Split.{dropWhite, dropHard}
 use Rattle.text.specs.Rows.{rowOf}
 use Rattle.split_delimiter.specs.Places.{ahead, Reaches}
+use Rattle.split_delimiter.specs.Parts.{behindBreak, PartEnds}
 
 -- two bytes for each unit, and perhaps an odd last one
 row-length : (t : Text) → (2 * length (rowOf t) ≤ length t) × (length t ≤ 2 * length (rowOf t) + 1)
@@ -46,3 +47,9 @@ module _ {row : Text} {at : ℕ} where
   pub behind-field-determined : (ifs : Text) {to to′ : ℕ} → Reaches row at to (dropHard ifs (dropWhite ifs (ahead row at))) → Reaches row at
       to′ (dropHard ifs (dropWhite ifs (ahead row at))) → to ≡ to′
   behind-field-determined ifs p q = one-place p q
+
+  pub part-end-determined : {r s : ℕ} → PartEnds row at r → PartEnds row at s → r ≡ s
+  part-end-determined {r} {s} p q =
+      let e : rowOf (part row at r) ∷ behindBreak (ahead row r) ≡ rowOf (part row at s) ∷ behindBreak (ahead row s) = sym (p .is) ∙ q .is in
+      let f : rowOf (part row at r) ≡ rowOf (part row at s) = cc in
+      p .far ∙ ap (λ (x : Row). at + 2 * length x) f ∙ sym (q .far)

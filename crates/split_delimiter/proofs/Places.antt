@@ -10,7 +10,7 @@ use lib.Seq.{drop-cons}
 use borrow.Author.Tests.{ltb-true, ltb-false, ne-eqb}
 use Rattle.stages.specs.Bytes.{Text, isIn, isBlank}
 use Rattle.stages.specs.Outcome.{pick}
-use Rattle.stages.specs.Units.{L, E, Q, Cell, cell, N, Row}
+use Rattle.stages.specs.Units.{L, E, Q, Cell, cell, N, B, Row}
 use Rattle.stages.specs.Split.{Delimiter, white, hard, other, delimiter, dropWhite, dropHard}
 use Rattle.text.specs.Rows.{unitOf, rowOf}
 use Rattle.split_delimiter.specs.Places.{ahead, first, isOther, goesOn, Reaches}
@@ -45,11 +45,12 @@ module _ (row : Text) (at : ℕ) where
 
 -- `delimiter_at`
 
-marked-other : (ifs : Text) (b : ℕ) (x z : Bool) → other ≡ delimiter ifs (pick x (cell L b) (pick false (cell E b) (pick z (cell Q b) N)))
+marked-other : (ifs : Text) (b : ℕ) (x z w : Bool) → other ≡ delimiter ifs (pick x (cell L b) (pick false (cell E b) (pick z (cell Q b) (pick w B N))))
 unfolding delimiter
-marked-other ifs b true z = refl
-marked-other ifs b false true = refl
-marked-other ifs b false false = refl
+marked-other ifs b true z w = refl
+marked-other ifs b false true w = refl
+marked-other ifs b false false true = refl
+marked-other ifs b false false false = refl
 
 module _ (ifs row : Text) (at : ℕ) where
   pub place-none : length row - at ≤ 1 → other ≡ first ifs (ahead row at)
@@ -60,7 +61,7 @@ module _ (ifs row : Text) (at : ℕ) where
     pub place-other : (getD row (at + 1) 0 ≡ 2 → ⊥) → other ≡ first ifs (ahead row at)
     unfolding first unitOf
     place-other n = rw (unit-ahead row at l, ne-eqb (getD row (at + 1) 0) 2 n)
-        (marked-other ifs (getD row at 0) (eqb (getD row (at + 1) 0) 1) (eqb (getD row (at + 1) 0) 3))
+        (marked-other ifs (getD row at 0) (eqb (getD row (at + 1) 0) 1) (eqb (getD row (at + 1) 0) 3) (eqb (getD row (at + 1) 0) 4))
 
     module _ (m : getD row (at + 1) 0 ≡ 2) where
       first-is : first ifs (ahead row at) ≡ delimiter ifs (cell E (getD row at 0))

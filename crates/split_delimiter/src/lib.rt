@@ -1,8 +1,9 @@
-// The delimiters of a row: what a unit is by IFS, whether a field goes on with it, and the place behind the delimiters at a place.
+// What divides a row: its break marks; what a unit is by IFS, whether a field goes on with it, and the place behind the delimiters at a place.
 ghost use mathlib.Core.Path.{_≡_};
 ghost use Prim.Native.Nat.{_≤_};
 ghost use lib.ListN.{length};
 ghost use Rattle.stages.specs.Split.{dropWhite, dropHard};
+ghost use Rattle.split_delimiter.specs.Parts.{PartEnds};
 ghost use Rattle.split_delimiter.specs.Places.{delimiterOf, ahead, first, goesOn, Reaches};
 use text::Class;
 use text::marks;
@@ -76,4 +77,19 @@ pub fn behind_field(row: &[u8], at: usize, ifs: &[u8]) -> usize
         Delimiter::Hard => skip_white(row, hard + 2, ifs),
         Delimiter::Other => hard,
     }
+}
+
+// The end of the part at a place: the next break mark, or where no whole unit is left.
+pub fn part_end(row: &[u8], at: usize) -> usize
+    requires { ⌜ at ≤ length (now row) ⌝ }
+    ensures { λ r. ⌜ PartEnds (now (row .entry)) at r ⌝ }
+{
+    let mut end = at;
+    while row.len() - end > 1 {
+        if row[end + 1] == marks::BREAK {
+            return end;
+        }
+        end += 2;
+    }
+    end
 }

@@ -26,7 +26,8 @@ use Rattle.pattern_paths.specs.declared.Next.the-variants.{Path, Nothing}
 use Rattle.pattern_paths.proofs.Walking.{walks-first}
 use Rattle.table_store.specs.Splice.{placed}
 use Rattle.split_field.specs.Answers.{Says, class, noRoom}
-use Rattle.split_field.specs.Fields.{fieldTexts, Listed}
+use Rattle.table.specs.Places.{Listed}
+use Rattle.split_field.specs.Fields.{fieldTexts}
 use Rattle.split_field.specs.declared.Written.{Written}
 use Rattle.split_field.specs.declared.Written.the-variants.{Len, Class, NoRoom}
 use Rattle.split_field.proofs.Placing.{placed-none}

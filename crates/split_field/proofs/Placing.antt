@@ -13,7 +13,7 @@ use borrow.Author.Tests.{le-leb, lt-leb, leb-true, leb-false}
 use Rattle.stages.specs.Numbers.{imageLimit}
 use Rattle.stages.specs.Bytes.{Text}
 use Rattle.stages.specs.Outcome.{Outcome, done, pick}
-use Rattle.stages.specs.Units.{L, E, Q, cell, N, Row, bytes}
+use Rattle.stages.specs.Units.{L, E, Q, cell, N, B, Row, bytes}
 use Rattle.stages.specs.Images.{framed, written, recordBytes}
 use Rattle.stages.specs.Call.{over}
 use Rattle.text.specs.Rows.{unitOf, rowOf}
@@ -119,13 +119,14 @@ says-answers {o} {used} {old} (noRoom l e h) = sym (rw (e, lt-leb (used + record
 
 bytes-fit : (b m : ℕ) (r : Row) → length (bytes (unitOf b m ∷ r)) ≤ suc (length (bytes r))
 unfolding bytes unitOf
-bytes-fit b m r = go (eqb m 1) (eqb m 2) (eqb m 3)
+bytes-fit b m r = go (eqb m 1) (eqb m 2) (eqb m 3) (eqb m 4)
   where
-    go : (x y z : Bool) → length (bytes (pick x (cell L b) (pick y (cell E b) (pick z (cell Q b) N)) ∷ r)) ≤ suc (length (bytes r))
-    go true y z = omega arith
-    go false true z = omega arith
-    go false false true = omega arith
-    go false false false = omega arith
+    go : (x y z w : Bool) → length (bytes (pick x (cell L b) (pick y (cell E b) (pick z (cell Q b) (pick w B N))) ∷ r)) ≤ suc (length (bytes r))
+    go true y z w = omega arith
+    go false true z w = omega arith
+    go false false true w = omega arith
+    go false false false true = omega arith
+    go false false false false = omega arith
 
 own-fits : (t : Text) → length (bytes (rowOf t)) ≤ length t
 unfolding bytes rowOf

@@ -1,10 +1,7 @@
--- What one field becomes, by the stages; and an image of paths as the writers ask for it.
-use mathlib.Core.Path.{_≡_}
+-- What one field becomes, by the stages.
 use mathlib.Core.List.{List}
-use mathlib.Core.Option.{some}
 use Rattle.stages.specs.Bytes.{Text}
 use Rattle.stages.specs.Outcome.{Outcome, done, _>>=_}
-use Rattle.stages.specs.Images.{texts, heldTexts}
 use Rattle.stages.specs.Units.{Row}
 use Rattle.stages.specs.Pattern.{forPaths, pattern}
 use Rattle.stages.specs.Paths.{pathsFor}
@@ -13,7 +10,3 @@ use Rattle.stages.specs.Paths.{pathsFor}
 unfoldable pub fieldTexts : List Text → Row → Outcome (List Text)
 unfolding pattern pathsFor
 fieldTexts paths r = pattern forPaths r >>= λ p. done (pathsFor paths r p)
-
--- the bytes are an image of texts: those that it holds
-abbrev pub Listed : Text → Type 0
-Listed t = texts t ≡ some (heldTexts t)

@@ -1,4 +1,6 @@
 pub mod Runs
+pub mod Taking
 pub mod Walking
+pub mod Parts
 pub mod Words
 pub mod Determined

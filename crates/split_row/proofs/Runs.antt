@@ -13,17 +13,7 @@ use Rattle.stages.proofs.Split.{behindField, run-append, behind-length, fields-
 use Rattle.text.specs.Rows.{unitOf, rowOf}
 use Rattle.split_delimiter.specs.Places.{ahead, isOther, goesOn, Reaches}
 use Rattle.split_delimiter.proofs.Places.{none-ahead, unit-ahead, by-place}
-
-row-front : (p q : Row) (t : Text) → rowOf t ≡ p ++ q → rowOf (take (2 * length p) t) ≡ p
-unfolding rowOf
-row-front [] q t e = refl
-row-front (c ∷ p) q [] e = absurd (let z : _≡_ {A = ℕ} 0 1 = cc in omega arith)
-row-front (c ∷ p) q (a ∷ []) e = absurd (let z : _≡_ {A = ℕ} 0 1 = cc in omega arith)
-row-front (c ∷ p) q (a ∷ b ∷ t) e =
-    let k : 2 * suc (length p) ≡ suc (suc (2 * length p)) = omega arith in
-    let f : rowOf t ≡ p ++ q = cc in
-    let g : unitOf a b ≡ c = cc in
-    rw (k, row-front p q t f, g)
+use Rattle.split_delimiter.proofs.Parts.{row-front}
 
 module _ (ifs : Text) where
   run-stop : (r : Row) → goesOn ifs r ≡ false → otherRun ifs r ≡ ([], r)

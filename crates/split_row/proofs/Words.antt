@@ -5,7 +5,7 @@ use mathlib.Core.List.{List}
 use Rattle.stages.specs.Bytes.{Text, text, part, blanks}
 use Rattle.stages.specs.Images.{Pairs, lookup, held}
 use Rattle.stages.specs.Units.{Row}
-use Rattle.stages.specs.Split.{split, ifsOr, fieldsOfRow}
+use Rattle.stages.specs.Split.{ifsOr, ifsNow, broken, splitParts, fieldsOfRow}
 use Rattle.stages.specs.Paths.{textsOfFields}
 use Rattle.table.specs.Places.{Looked}
 use Rattle.table.specs.declared.Found.{Found}
@@ -24,12 +24,12 @@ module _ {vars : Text} {r : Found} (s : Looked vars (text "IFS") r) where
   unfolding ifsOr
   ifs-unset e = sym (ap ifsOr (is-absent s e))
 
-fields-are : (v : Pairs) (row : Row) → fieldsOfRow v row ≡ split (ifsOr (lookup (text "IFS") v)) row
-unfolding fieldsOfRow
+fields-are : (v : Pairs) (row : Row) → fieldsOfRow v row ≡ splitParts (ifsOr (lookup (text "IFS") v)) (broken row)
+unfolding fieldsOfRow ifsNow
 fields-are v row = refl
 
 pub word-puts : (v : Pairs) (paths : List Text) (row : Row) {ifs : Text} {used : ℕ} {old left : Text} {w : Written} → ifs ≡ ifsOr (lookup (text "IFS") v)
-    → Says (textsOfFields paths (split ifs row)) used old left w → Puts (textsOfFields paths (fieldsOfRow v row)) used old left w
+    → Says (textsOfFields paths (splitParts ifs (broken row))) used old left w → Puts (textsOfFields paths (fieldsOfRow v row)) used old left w
 word-puts v paths row {ifs} {used} {old} {left} {w} e s =
     let t : Says (textsOfFields paths (fieldsOfRow v row)) used old left w = rw (fields-are v row, ← e) s in
     record { answers = says-answers t; says = t }

@@ -1,22 +1,21 @@
-// A row of units to fields, and what those become behind the output's used part. The walk over the row is one pass of two nested loops: the outer
-// one takes field by field, the inner one finds a field's end.
+// A row of units to fields, and what those become behind the output's used part. The row is cut at its break marks. The walk over a part is one pass of
+// two nested loops: the outer one takes field by field, the inner one finds a field's end.
 ghost use mathlib.Core.Path.{_≡_};
 ghost use Prim.Native.Nat.{_≤_, _*_};
 ghost use lib.ListN.{length, take};
 ghost use Rattle.stages.specs.Numbers.{imageLimit, rowLimit};
 ghost use Rattle.stages.specs.Bytes.{text, blanks};
 ghost use Rattle.stages.specs.Images.{lookup, held, heldTexts};
-ghost use Rattle.stages.specs.Split.{split, ifsOr, fieldsOfRow};
+ghost use Rattle.stages.specs.Split.{split, ifsOr, broken, splitParts, fieldsOfRow};
 ghost use Rattle.stages.specs.Paths.{textsOfFields};
 ghost use Rattle.text.specs.Rows.{rowOf};
-ghost use Rattle.table.specs.Places.{Table};
+ghost use Rattle.table.specs.Places.{Listed, Table};
 ghost use Rattle.split_field.specs.Answers.{Says, Puts};
-ghost use Rattle.split_field.specs.Fields.{Listed};
 use split_field::Written;
 use table::Found;
 
-// Splits a row into its fields and writes what they become. Each field is taken where it stands, since the walk never comes back to it. All fields
-// are checked for a class before one that does not fit refuses the row, so the walk goes on behind it.
+// Splits a part of a row into its fields and writes what they become. Each field is taken where it stands, since the walk never comes back to it. All fields
+// are checked for a class before one that does not fit refuses the part, so the walk goes on behind it.
 fn put_fields(row: &mut [u8], ifs: &[u8], paths: &[u8], out: &mut [u8], used: usize) -> Written
     requires { ⌜ (used ≤ length (now out)) × (length (now out) ≤ imageLimit) ⌝ }
     requires { ⌜ Listed (now paths) × (length (now row) ≤ 2 * rowLimit) ⌝ }
@@ -45,6 +44,34 @@ fn put_fields(row: &mut [u8], ifs: &[u8], paths: &[u8], out: &mut [u8], used: us
         return Written::NoRoom;
     }
     Written::Len(len)
+}
+
+// Writes the fields of a row: "each part is split by itself". As with fields, a part that does not fit refuses the row only when the later ones have
+// been checked for a class.
+fn put_parts(row: &mut [u8], ifs: &[u8], paths: &[u8], out: &mut [u8], used: usize) -> Written
+    requires { ⌜ (used ≤ length (now out)) × (length (now out) ≤ imageLimit) ⌝ }
+    requires { ⌜ Listed (now paths) × (length (now row) ≤ 2 * rowLimit) ⌝ }
+    ensures { λ r. ⌜ Says (textsOfFields (heldTexts (now (paths .entry))) (splitParts (now (ifs .entry)) (broken (rowOf (now (row .entry)))))) used
+        (now (out .entry)) (now (out .exit)) r ⌝ }
+{
+    let mut at: usize = 0;
+    let mut to = used;
+    let mut short = false;
+    while at + 1 < row.len() {
+        let end = split_delimiter::part_end(row, at);
+        let next = end + 2;
+        let written = put_fields(&mut row[at..end], ifs, paths, out, to);
+        match written {
+            Written::Len(n) => to = n,
+            Written::Class => return written,
+            Written::NoRoom => short = true,
+        }
+        at = next;
+    }
+    if short {
+        return Written::NoRoom;
+    }
+    Written::Len(to)
 }
 
 // IFS as it stands in the variables, or what it means where it is unset.
@@ -77,5 +104,5 @@ pub fn put_word_fields(
         (fieldsOfRow (held (take «vars_used» (now (vars .entry)))) (rowOf (now (row .entry))))) used (now (out .entry)) (now (out .exit)) r ⌝ }
 {
     let ifs = ifs_of(&vars[..vars_used], b" \t\n");
-    put_fields(row, ifs, paths, out, used)
+    put_parts(row, ifs, paths, out, used)
 }

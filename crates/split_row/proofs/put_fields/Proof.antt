@@ -116,11 +116,11 @@ put-field-requires : tie.Need-put-field-requires Inv-loop2 μ-loop2 Inv-loop μ-
 put-field-requires c κs =
     let e = ended (c .before .before) in
     let l = outer e in
-    let w = l .loop .inv in
+    let w = l .loop .inv .taking in
     let p = start l .pre in
     let r = e .loop2 .inv in (
       (omega (arith, w .room, w .same), omega (arith, p .0 .1, w .same)),
-      (p .1 .0, omega (arith, part-length (l .loop .row) (l .loop .at) (e .loop2 .end) (run-further _ r) (r .within), r .within, w .sized, p .1 .1)),
+      (p .1 .0, omega (arith, part-length (l .loop .row) (l .loop .at) (e .loop2 .end) (run-further _ r) (r .within), r .within, l .loop .inv .sized, p .1 .1)),
     )
 
 enum-known-n : tie.Need-enum-known-n Inv-loop2 μ-loop2 Inv-loop μ-loop
@@ -135,7 +135,7 @@ same-length c = left-sized (turn (settled (c .before .before)))
 same-length-2 : tie.Need-same-length-2 Inv-loop2 μ-loop2 Inv-loop μ-loop
 same-length-2 c =
     let p = settled (c .before .before) in
-    p .put-field .kept .1 .1 .0 ∙ outer (ended (passed p)) .loop .inv .same
+    p .put-field .kept .1 .1 .0 ∙ outer (ended (passed p)) .loop .inv .taking .same
 
 returns : tie.Need-returns Inv-loop2 μ-loop2 Inv-loop μ-loop
 returns c = walk-class (turn (settled (c .before .before))) (c .enum-told .given .1)
@@ -159,7 +159,7 @@ same-length-3 : tie.Need-same-length-3 Inv-loop2 μ-loop2 Inv-loop μ-loop
 same-length-3 c = c .before .before .loop .inv .sized
 
 same-length-4 : tie.Need-same-length-4 Inv-loop2 μ-loop2 Inv-loop μ-loop
-same-length-4 c = c .before .before .loop .inv .same
+same-length-4 c = c .before .before .loop .inv .taking .same
 
 returns-2 : tie.Need-returns-2 Inv-loop2 μ-loop2 Inv-loop μ-loop
 returns-2 c = walk-full (c .before .before .loop .inv) (c .before .loop-test .left) (c .if2 .taken)
@@ -168,7 +168,7 @@ same-length-5 : tie.Need-same-length-5 Inv-loop2 μ-loop2 Inv-loop μ-loop
 same-length-5 c = c .before .before .loop .inv .sized
 
 same-length-6 : tie.Need-same-length-6 Inv-loop2 μ-loop2 Inv-loop μ-loop
-same-length-6 c = c .before .before .loop .inv .same
+same-length-6 c = c .before .before .loop .inv .taking .same
 
 returns-3 : tie.Need-returns-3 Inv-loop2 μ-loop2 Inv-loop μ-loop
 returns-3 c = walk-fits (c .before .before .loop .inv) (c .before .loop-test .left) (c .if2 .left)

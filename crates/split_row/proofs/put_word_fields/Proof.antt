@@ -18,8 +18,8 @@ slice-aggregate-ifs-of-2 c = search needs
 ifs-of-requires : tie.Need-ifs-of-requires
 ifs-of-requires c κs = (c .before .before .before .before .before .before .pre .0 .1, refl)
 
-put-fields-requires : tie.Need-put-fields-requires
-put-fields-requires c κs = search needs
+put-parts-requires : tie.Need-put-parts-requires
+put-parts-requires c κs = search needs
 
 same-length : tie.Need-same-length
 same-length c = search needs
@@ -32,7 +32,7 @@ returns c =
     let p = c .before .before .before .before in
     let i = p .before .before .before in
     let a = i .before .before .before .before .before .before .before .args in
-    word-puts (held (take (a .vars-used) (a .vars .now))) (heldTexts (a .paths .now)) (rowOf (a .row .now)) (i .ifs-of .ensures) (p .put-fields .ensures)
+    word-puts (held (take (a .vars-used) (a .vars .now))) (heldTexts (a .paths .now)) (rowOf (a .row .now)) (i .ifs-of .ensures) (p .put-parts .ensures)
 
 pub put-word-fields-spec : {M : Type 1} → statement M
 put-word-fields-spec =
@@ -41,7 +41,7 @@ put-word-fields-spec =
     slice-aggregate-ifs-of
     slice-aggregate-ifs-of-2
     ifs-of-requires
-    put-fields-requires
+    put-parts-requires
     same-length
     same-length-2
     returns)
