@@ -1,14 +1,15 @@
 /* Drunquill: POSIX words expanded, fields quoted. Three functions over buffers that the caller lends.
  *
- * The functions are proved to answer as docs/01-scope.md says, for any bytes in any buffers: they call nothing but memcpy and memset, keep nothing
- * between calls, use no heap, always return, and may run in several threads at once on buffers of their own. How soon they return is measured and not
- * proved: a removal costs at most its pattern times its value, a field its pattern times the paths, and all else is in proportion to the line
- * (docs/TRUST.md has the dearest lines known and what they take).
+ * The functions are proved to answer as docs/01-scope.md says, with the requests of docs/02-change-requests.md that have landed, for any bytes in any
+ * buffers: they call nothing but memcpy and memset, keep nothing between calls, use no heap, always return, and may run in several threads at once on
+ * buffers of their own. How soon they return is measured and not proved: a removal costs at most its pattern times its value, a field its pattern
+ * times the paths, and all else is in proportion to the line (docs/TRUST.md has the dearest lines known and what they take).
  * Link target/staticlib/libdrunquill_c.a, which `rt staticlib drunquill_c` builds (x86-64 Linux).
  *
  * BUFFERS. Each is a pointer and a length in bytes.
  *  - No pointer may be NULL, also where the length is 0. Each must have that many bytes, readable; `vars`, `work` and `out` writable too.
- *  - `vars`, `work` and `out` may overlap neither each other nor any other buffer of the call. `line`, `homes` and `paths` are only read.
+ *  - `vars`, `work` and `out` may overlap neither each other nor any other buffer of the call. `line`, `homes`, `params` and `paths` are only
+ *    read.
  *  - Nothing else may read or write the buffers during the call.
  * The functions reach no byte outside the buffers and the stack. Bytes of a text are never changed by a locale: letters and digits are the ASCII ones.
  *
@@ -17,7 +18,7 @@
  *  - variables  a name (a letter or '_', then letters, digits, '_') and a value; at most DRUNQUILL_IMAGE_MAX bytes
  *  - homes      a login (letters, digits, '.', '_', '-', at least one) and a directory; at most DRUNQUILL_IMAGE_MAX bytes
  *  - paths      one text, not empty; at most DRUNQUILL_PATHS_MAX bytes
- *  - fields     one text, which may be empty; at most DRUNQUILL_IMAGE_MAX bytes
+ *  - fields     one text, which may be empty; at most DRUNQUILL_IMAGE_MAX bytes. Positional parameters are such an image too.
  * Variables, homes and paths stand in strictly rising order of name, login or path, as memcmp orders them, a prefix first. A table without records is
  * the one byte 1, and not an empty buffer.
  */
@@ -34,9 +35,10 @@ extern "C" {
 /* Limits, in bytes where nothing else is said. */
 #define DRUNQUILL_WORK_LEAST 65536 /* the least length of the work area */
 #define DRUNQUILL_LINE_MAX 2048    /* the longest line, and the longest quoted line */
-#define DRUNQUILL_IMAGE_MAX 8192   /* the longest image of variables, homes or fields */
+#define DRUNQUILL_IMAGE_MAX 8192   /* the longest image of variables, homes, parameters or fields */
 #define DRUNQUILL_PATHS_MAX 32768  /* the longest image of paths */
-#define DRUNQUILL_UNITS_MAX 2048   /* units of a word, an operand or an arithmetic text: its bytes, and a mark for each opening quote */
+#define DRUNQUILL_UNITS_MAX 2048   /* units of a word, an operand or an arithmetic text: its bytes, a mark for each opening quote, and between two
+                                      parameters of $@ or $* a mark, in quotes $@ has two */
 #define DRUNQUILL_DEPTH_MAX 8      /* expansions open at once, "${" and "$((" together */
 #define DRUNQUILL_OPEN_MAX 32      /* parentheses and unary signs open at once in arithmetic, together */
 
@@ -56,7 +58,8 @@ enum {
     DRUNQUILL_UNENDED = 7,            /* the line ends inside a quote, a brace or arithmetic, or after a backslash */
     DRUNQUILL_BARE_OPERATOR = 8,      /* one of |&;<>() not quoted, or a # that begins a word */
     DRUNQUILL_SUBSTITUTION = 9,       /* a command substitution: $( or a backquote */
-    DRUNQUILL_UNSERVED = 10,          /* a parameter that is not served: $1, $@, $?, ${1}, $'..' */
+    DRUNQUILL_UNSERVED = 10,          /* a parameter that is not served: $?, $0, ${01}, ${1=x}, $'..'; $@ or $* in an operand of = or ?, of a removal, in
+                                         arithmetic, or with an operator */
     DRUNQUILL_BAD_SYNTAX = 11,        /* other bad syntax */
     DRUNQUILL_TOO_DEEP = 12,          /* more than DRUNQUILL_DEPTH_MAX expansions, or DRUNQUILL_OPEN_MAX parentheses and signs */
     DRUNQUILL_DEMANDED = 13,          /* ${name?} or ${name:?} on a missing value */
@@ -68,14 +71,15 @@ enum {
     DRUNQUILL_BRACKET_CLASS = 19,     /* in a bracket of a pattern: [: without one of the twelve names of POSIX, [. or [=, or a class in a range */
     DRUNQUILL_VARIABLE_ROOM = 20,     /* a store makes the variables longer than their buffer or DRUNQUILL_IMAGE_MAX */
     DRUNQUILL_OUTPUT_ROOM = 21,       /* the output is longer than its buffer or its limit */
-    DRUNQUILL_BAD_FIELDS = 22         /* the quoter's fields malformed or above their limit */
+    DRUNQUILL_BAD_FIELDS = 22,        /* the quoter's fields malformed or above their limit */
+    DRUNQUILL_BAD_PARAMETERS = 23     /* positional parameters malformed or above their limit */
 };
 
 /* What the expander and the normaliser answer. */
 struct drunquill_answer {
     uint8_t number;   /* one of the numbers above */
     size_t place;     /* where in the line: the offset of the first byte of the word at fault, or of the operator itself if no word is open.
-                         0 on acceptance, for numbers 1 to 6, and for 21 from the normaliser's quoting */
+                         0 on acceptance, for numbers 1 to 6 and 23, and for 21 from the normaliser's quoting */
     size_t out_len;   /* bytes written to the front of `out`; 0 on a refusal */
     size_t vars_used; /* the variables' used length now: that of the new image, or on a refusal `vars_used` as it was given */
 };
@@ -93,23 +97,24 @@ struct drunquill_quote_answer {
  *               DRUNQUILL_IMAGE_MAX, the image may not.
  *  homes        whose directory ~login gives, at the start of a word or of a bare
  *               operand; ~ alone gives the variable HOME
+ *  params       the positional parameters: an image of fields, the first of them $1. One without parameters is the byte 1.
  *  paths        what patterns are matched against: the function looks at no file
  *  work         at least DRUNQUILL_WORK_LEAST bytes, whatever they hold. After every call, whatever the number, all `work_len` bytes are zero.
  *  out          the fields' image. One of DRUNQUILL_IMAGE_MAX bytes is always long enough for what can be accepted. One byte is needed for no fields.
  *
  * On acceptance the bytes of `vars` and `out` after the new images are unchanged. On a refusal every byte of both is. Faults are met in this order:
- * numbers 1 to 6 as they are numbered; then the whole line is read; then its words are expanded from left to right; the first fault is answered.
+ * numbers 1 to 4, 23, 5 and 6; then the whole line is read; then its words are expanded from left to right; the first fault is answered.
  */
 struct drunquill_answer drunquill_expand(const uint8_t *line, size_t line_len, uint8_t *vars, size_t vars_len, size_t vars_used, const uint8_t *homes,
-                                         size_t homes_len, const uint8_t *paths, size_t paths_len, uint8_t *work, size_t work_len, uint8_t *out,
-                                         size_t out_len);
+                                         size_t homes_len, const uint8_t *params, size_t params_len, const uint8_t *paths, size_t paths_len, uint8_t *work,
+                                         size_t work_len, uint8_t *out, size_t out_len);
 
 /* The normaliser: as the expander, but the fields go to `out` as a quoted line (see the quoter), of at most DRUNQUILL_LINE_MAX bytes. If the quoted line
  * has no room the number is 21 at place 0 and the variables are as before, too. A line without fields needs no byte of `out`.
  */
 struct drunquill_answer drunquill_normalise(const uint8_t *line, size_t line_len, uint8_t *vars, size_t vars_len, size_t vars_used, const uint8_t *homes,
-                                            size_t homes_len, const uint8_t *paths, size_t paths_len, uint8_t *work, size_t work_len, uint8_t *out,
-                                            size_t out_len);
+                                            size_t homes_len, const uint8_t *params, size_t params_len, const uint8_t *paths, size_t paths_len,
+                                            uint8_t *work, size_t work_len, uint8_t *out, size_t out_len);
 
 /* The quoter: an image of fields as a line to `out`. A field that is not empty and holds only letters, digits, `.`, `_`, `-` and `/` stands there bare; any
  * other in single quotes, each ' in it written '\''. One blank between fields; no fields, no bytes. No zero byte is put after the line. Above

@@ -2,25 +2,26 @@
  * What is expected is written out here from docs/01-scope.md and docs/02-change-requests.md. */
 #include "buffers.h"
 
-static struct bytes line, vars_image, homes_image, paths_image, want_out, want_vars, fields;
+static struct bytes line, vars_image, homes_image, params_image, paths_image, want_out, want_vars, fields;
 static struct buffer vars, work, out, vars_before, work_before, out_before;
 static int count;
 
 /* the sizes of the next call's buffers, and the used length; reset by `set` */
 static size_t vars_len, used, work_len, out_len;
 
-typedef struct drunquill_answer job(const uint8_t *, size_t, uint8_t *, size_t, size_t, const uint8_t *, size_t, const uint8_t *, size_t, uint8_t *, size_t,
-                                    uint8_t *, size_t);
+typedef struct drunquill_answer job(const uint8_t *, size_t, uint8_t *, size_t, size_t, const uint8_t *, size_t, const uint8_t *, size_t, const uint8_t *,
+                                    size_t, uint8_t *, size_t, uint8_t *, size_t);
 
 static void fail(const char *name, const char *what) {
     printf("tests/built/c: %s: %s\n", name, what);
     exit(1);
 }
 
-/* The variables and paths of the spoiled recipes, and a line. */
+/* The variables and paths of the spoiled recipes, no parameters, and a line. */
 static void set(const char *text) {
     image(&vars_image, (const char *const[]){"HOME", "/home/crew", "job", "north field", "note", "", NULL});
     image(&homes_image, (const char *const[]){NULL});
+    image(&params_image, (const char *const[]){NULL});
     image(&paths_image, (const char *const[]){".hid.raw", "a b.raw", "n/p1.raw", "p1.raw", "p2.raw", NULL});
     line.len = 0;
     add_string(&line, text);
@@ -49,8 +50,8 @@ static void call(const char *name, job *f, unsigned number, size_t place) {
     vars_before = vars;
     work_before = work;
     out_before = out;
-    struct drunquill_answer a = f(line.at, line.len, lent(&vars), vars_len, used, homes_image.at, homes_image.len, paths_image.at, paths_image.len, lent(&work),
-                                  work_len, lent(&out), out_len);
+    struct drunquill_answer a = f(line.at, line.len, lent(&vars), vars_len, used, homes_image.at, homes_image.len, params_image.at, params_image.len,
+                                  paths_image.at, paths_image.len, lent(&work), work_len, lent(&out), out_len);
     if (a.number != number) {
         printf("tests/built/c: %s: number %u, not %u\n", name, a.number, number);
         exit(1);
@@ -118,6 +119,39 @@ static void accepted_lines(void) {
     call("a home", drunquill_expand, 0, 0);
 }
 
+static void parameters(void) {
+    static const char *const three[] = {"a b", "", "c", NULL};
+    set("\"x$@y\" $#");
+    image(&params_image, three);
+    image(&want_out, (const char *const[]){"xa b", "", "cy", "3", NULL});
+    call("each parameter a field", drunquill_expand, 0, 0);
+    want_out.len = 0;
+    add_string(&want_out, "'xa b' '' cy 3");
+    call("each parameter a field, normalised", drunquill_normalise, 0, 0);
+
+    set("$1 \"$*\" ${2:-none} ${4-unset} ${#1}");
+    image(&params_image, three);
+    image(&want_out, (const char *const[]){"a", "b", "a b  c", "none", "unset", "3", NULL});
+    call("parameters by their numbers, and joined", drunquill_expand, 0, 0);
+
+    set("\"$@\" a");
+    image(&want_out, (const char *const[]){"a", NULL});
+    call("no parameters give no field", drunquill_expand, 0, 0);
+
+    refuses("a ${01}", DRUNQUILL_UNSERVED, 2);
+    refuses("a ${1=b}", DRUNQUILL_UNSERVED, 2);
+    refuses("a ${u=$@}", DRUNQUILL_UNSERVED, 2);
+    set("a");
+    params_image.len = 0;
+    refused("no parameters' image", DRUNQUILL_BAD_PARAMETERS, 0);
+    set("a\"");
+    image(&params_image, three);
+    params_image.len--;
+    refused("parameters cut short, before the line is read", DRUNQUILL_BAD_PARAMETERS, 0);
+    paths_image.len = 0;
+    refused("paths are looked at before parameters", DRUNQUILL_BAD_PATHS, 0);
+}
+
 static void empty_things(void) {
     set("");
     empty_image(&want_out);
@@ -172,7 +206,7 @@ static void refused_lines(void) {
     refuses("a \"b", DRUNQUILL_UNENDED, 2);
     refuses("a | b", DRUNQUILL_BARE_OPERATOR, 2);
     refuses("a `b`", DRUNQUILL_SUBSTITUTION, 2);
-    refuses("a b$1", DRUNQUILL_UNSERVED, 2);
+    refuses("a b$?", DRUNQUILL_UNSERVED, 2);
     refuses("a ${job!}", DRUNQUILL_BAD_SYNTAX, 2);
     refuses("a ${u-${u-${u-${u-${u-${u-${u-${u-${u-x}}}}}}}}}", DRUNQUILL_TOO_DEEP, 2);
     refuses("${note:?}", DRUNQUILL_DEMANDED, 0);
@@ -250,6 +284,7 @@ static void quoted_fields(void) {
 
 int main(void) {
     accepted_lines();
+    parameters();
     empty_things();
     refused_tables();
     refused_lines();

@@ -9,7 +9,7 @@
 
 enum { STACK = 1 << 23, PATTERN = 0xA7 };
 
-static struct bytes line, vars_image, homes_image, paths_image;
+static struct bytes line, vars_image, homes_image, params_image, paths_image;
 static struct buffer vars, work, out;
 static int normalising;
 static struct drunquill_answer answer;
@@ -18,7 +18,8 @@ static uint8_t *caller;
 static void *run(void *unused) {
     caller = __builtin_frame_address(0);
     answer = (normalising ? drunquill_normalise : drunquill_expand)(line.at, line.len, lent(&vars), vars.len, vars_image.len, homes_image.at, homes_image.len,
-                                                                   paths_image.at, paths_image.len, lent(&work), work.len, lent(&out), out.len);
+                                                                   params_image.at, params_image.len, paths_image.at, paths_image.len, lent(&work),
+                                                                   work.len, lent(&out), out.len);
     return unused;
 }
 
@@ -69,6 +70,8 @@ int main(void) {
     static struct bytes inside, value;
     setvbuf(stdout, NULL, _IOLBF, 0);
     image(&homes_image, (const char *const[]){NULL});
+    empty_image(&params_image);
+    for (int i = 0; i < 500; i++) add_text(&params_image, "ab");
     empty_image(&paths_image);
     for (int i = 0; i < 9; i++) {
         value.len = 0;
@@ -103,6 +106,8 @@ int main(void) {
     measure("eight nested ${v% with stars", 0);
     within(8, "$((", "1", "))");
     measure("eight nested $((", 0);
+    within(8, "${u-", "\"$@\"", "}");
+    measure("eight nested ${u- around 500 parameters", 0);
 
     inside.len = 0;
     add_string(&inside, "$((");

@@ -31,6 +31,8 @@ macro_rules! jobs {
                 vars_used: usize,
                 homes: *const u8,
                 homes_len: usize,
+                params: *const u8,
+                params_len: usize,
                 paths: *const u8,
                 paths_len: usize,
                 work: *mut u8,
@@ -40,7 +42,7 @@ macro_rules! jobs {
             ) -> Answer;)*
         }
         $(pub fn $name(line: &[u8], vars: &mut Variables, tables: Tables, work: &mut [u8], out: &mut [u8]) -> Answer {
-            let Tables { homes, paths } = tables;
+            let Tables { homes, params, paths } = tables;
             // SAFETY: a slice's pointer is never null and has as many bytes as its length; the three that are written are lent for this call alone, so
             // that they overlap nothing and nobody else looks at them. The function keeps no pointer, and is proved to reach nothing but these bytes and
             // the stack, whatever the bytes and lengths are.
@@ -53,6 +55,8 @@ macro_rules! jobs {
                     vars.used,
                     homes.as_ptr(),
                     homes.len(),
+                    params.as_ptr(),
+                    params.len(),
                     paths.as_ptr(),
                     paths.len(),
                     work.as_mut_ptr(),

@@ -21,6 +21,10 @@
 //!
 //! let refusal = normalise(b"cp 'a", &mut variables, Tables::NONE, &mut work, &mut out).unwrap_err();
 //! assert_eq!((refusal.number, refusal.place), (Number::Unended, 3));
+//!
+//! let tables = Tables { params: b"\x01\0\x03a b\0\0", ..Tables::NONE };
+//! let line = normalise(b"cp \"$@\"", &mut variables, tables, &mut work, &mut out);
+//! assert_eq!(line, Ok(b"cp 'a b' ''".as_slice()));
 //! ```
 
 mod archive;
@@ -32,11 +36,11 @@ pub use number::{Number, Refusal};
 pub const WORK_LEAST: usize = 65_536;
 /// The longest line, and the longest quoted line.
 pub const LINE_MAX: usize = 2_048;
-/// The longest image of variables, homes or fields.
+/// The longest image of variables, homes, positional parameters or fields.
 pub const IMAGE_MAX: usize = 8_192;
 /// The longest image of paths.
 pub const PATHS_MAX: usize = 32_768;
-/// Units of a word, an operand or an arithmetic text: its bytes, and a mark for each opening quote.
+/// Units of a word, an operand or an arithmetic text: its bytes, a mark for each opening quote, and one or two between parameters of `$@` or `$*`.
 pub const UNITS_MAX: usize = 2_048;
 /// Expansions open at once.
 pub const DEPTH_MAX: usize = 8;
@@ -53,16 +57,18 @@ pub struct Variables<'a> {
     pub used: usize,
 }
 
-/// The images of homes and of paths.
+/// The images of homes, of positional parameters and of paths.
 #[derive(Clone, Copy, Debug)]
 pub struct Tables<'a> {
     pub homes: &'a [u8],
+    /// An image of fields: the first of them is `$1`.
+    pub params: &'a [u8],
     pub paths: &'a [u8],
 }
 
 impl Tables<'static> {
-    /// No homes and no paths.
-    pub const NONE: Tables<'static> = Tables { homes: &[1], paths: &[1] };
+    /// No homes, no parameters and no paths.
+    pub const NONE: Tables<'static> = Tables { homes: &[1], params: &[1], paths: &[1] };
 }
 
 /// The expander: the fields of the line's words, as an image, to the front of `out`, which is given back. The work area has at least [`WORK_LEAST`] bytes,

@@ -3,7 +3,8 @@
 use std::error::Error;
 use std::fmt;
 
-/// Why a call was refused. The discriminant is the number of docs/01-scope.md, the name that of include/drunquill.h.
+/// Why a call was refused. The discriminant is the number of docs/01-scope.md or docs/02-change-requests.md, the name that of
+/// include/drunquill.h.
 #[derive(Clone, Copy, Debug, PartialEq, Eq, Hash, PartialOrd, Ord)]
 #[repr(u8)]
 pub enum Number {
@@ -29,11 +30,12 @@ pub enum Number {
     VariableRoom = 20,
     OutputRoom = 21,
     BadFields = 22,
+    BadParameters = 23,
 }
 
 impl Number {
     /// All of them, in order.
-    pub const ALL: [Number; 22] = [
+    pub const ALL: [Number; 23] = [
         Number::WorkTooSmall,
         Number::BadVariables,
         Number::BadHomes,
@@ -56,6 +58,7 @@ impl Number {
         Number::VariableRoom,
         Number::OutputRoom,
         Number::BadFields,
+        Number::BadParameters,
     ];
 
     /// The refusal of that number, if there is one: 0 is the acceptance.
@@ -63,7 +66,7 @@ impl Number {
         Number::ALL.into_iter().find(|known| *known as u8 == number)
     }
 
-    /// What docs/01-scope.md says of the number.
+    /// What docs/01-scope.md says of the number; of 23, what E5 of docs/02-change-requests.md adds.
     pub fn words(self) -> &'static str {
         match self {
             Number::WorkTooSmall => "work area below 65,536 bytes",
@@ -88,12 +91,13 @@ impl Number {
             Number::VariableRoom => "no room for a variable",
             Number::OutputRoom => "no room for output",
             Number::BadFields => "fields image malformed or too long",
+            Number::BadParameters => "parameters malformed or too long",
         }
     }
 }
 
-/// A number, and the place: the offset in the line of the first byte of the word at fault, or of the operator itself if no word is open; 0 for numbers 1 to 6
-/// and 22, and for 21 from quoting.
+/// A number, and the place: the offset in the line of the first byte of the word at fault, or of the operator itself if no word is open; 0 for numbers 1 to 6,
+/// 22 and 23, and for 21 from quoting.
 #[derive(Clone, Copy, Debug, PartialEq, Eq, Hash)]
 pub struct Refusal {
     pub number: Number,
@@ -104,7 +108,7 @@ impl Refusal {
     /// What a call's number and place say.
     ///
     /// # Panics
-    /// On a number above 22: the functions are proved to give none.
+    /// On a number above 23: the functions are proved to give none.
     pub(crate) fn unless_accepted(number: u8, place: usize) -> Result<(), Refusal> {
         match number {
             0 => Ok(()),

@@ -7,18 +7,20 @@ use mathlib.Core.List.{List, [], _∷_, _++_}
 use lib.Dec.{leb, eqb·zero-suc}
 use lib.ListN.{length, take}
 use borrow.Author.Tests.{le-leb, lt-leb, leb-true, leb-false}
-use Rattle.stages.specs.Numbers.{workTooSmall, badVariables, badHomes, badPaths, lineTooLong, zeroByte, outputRoom, workLeast, lineLimit, imageLimit}
+use Rattle.stages.specs.Numbers.{workTooSmall, badVariables, badHomes, badPaths, badParameters, lineTooLong, zeroByte, outputRoom}
+use Rattle.stages.specs.Numbers.{workLeast, lineLimit, imageLimit}
 use Rattle.stages.specs.Bytes.{Text, isIn, all, notZero}
 use Rattle.stages.specs.Outcome.{Outcome, refused, done, Placed, refusedAt, doneAt, placedAt, _then_, require, pick}
-use Rattle.stages.specs.Images.{Pairs, isSome, held, variablesOf, homesOf, pathsOf, recordBytes}
+use Rattle.stages.specs.Images.{Pairs, isSome, held, variablesOf, homesOf, pathsOf, fieldsOf, recordBytes}
 use Rattle.stages.specs.Syntax.{Word}
 use Rattle.stages.specs.Read.{readLine}
 use Rattle.stages.specs.Line.{Around, Fields, outFits, wordFields, expandWords, expandLine}
 use Rattle.stages.specs.Call.{Given, orRefused, expanded}
 use Rattle.stages.proofs.Bools.{no, apart, and-right}
-use Rattle.stages.proofs.Tables.{none-of, vars-of, variables-are, homes-of, homes-are, paths-of, paths-are}
+use Rattle.stages.proofs.Tables.{none-of, vars-of, variables-are, homes-of, homes-are, paths-of, paths-are, fields-of, fields-are}
 use Rattle.stages.proofs.Safe.{NoZero}
 use Rattle.stages.proofs.SafeLines.{no-zero}
+use Rattle.table.specs.Places.{Listed}
 use Rattle.read_line.specs.Says.{verdictOf}
 use Rattle.read_line.specs.declared.LineRead.{LineRead}
 use Rattle.read_line.proofs.Lines.{Accepted}
@@ -38,7 +40,7 @@ zero-in (suc b ∷ t) e z = zero-in t (rw (eqb·zero-suc b) at e) (and-right (no
 refused-read : {A : Type 0} {w : Placed A} {n place : ℕ} {a : A} → w ≡ refusedAt n place → w ≡ doneAt a → ⊥
 refused-read h e = let z : _≡_ {A = ℕ} 0 1 = cc in omega arith
 
--- 1 to 4
+-- 1 to 4 and 23
 
 module _ (job : Job) (g : Given) where
   pub work-small : length (g .work) < workLeast → Stopped job g workTooSmall 0
@@ -94,6 +96,29 @@ module _ (job : Job) (g : Given) where
                 early = λ p. apart h (p .tables .listed);
               }
 
+          pub parameters-bad : isSome (pathsOf (g .paths)) ≡ true → isSome (fieldsOf (g .params)) ≡ false → Stopped job g badParameters 0
+          unfolding expanded orRefused
+          parameters-bad p h =
+              record {
+                is = rw (
+                  le-leb workLeast (length (g .work)) a,
+                  le-leb (g .varsUsed) (length (g .vars)) i,
+                  variables-are _ (vars-of _ v),
+                  homes-are _ (homes-of _ w),
+                  paths-are _ (paths-of _ p),
+                  none-of (fieldsOf (g .params)) h,
+                );
+                early = λ q. apart h (q .tables .numbered);
+              }
+
+-- a list that 23 lets pass
+module _ {g : Given} (t : Tabled g) where
+  pub params-listed : Listed (g .params)
+  params-listed = fields-of _ (t .numbered) .table
+
+  pub params-small : length (g .params) ≤ imageLimit
+  params-small = fields-of _ (t .numbered) .small
+
 -- 5 and 6, reading, the empty image
 
 module _ (job : Job) (g : Given) (t : Tabled g) where
@@ -112,6 +137,7 @@ module _ (job : Job) (g : Given) (t : Tabled g) where
         variables-are _ (vars-of _ (t .formed)),
         homes-are _ (homes-of _ (t .housed)),
         paths-are _ (paths-of _ (t .listed)),
+        fields-are _ (fields-of _ (t .numbered)),
       )
 
   pub line-long : lineLimit < length (g .line) → Stopped job g lineTooLong 0

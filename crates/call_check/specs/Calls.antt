@@ -10,8 +10,17 @@ use Rattle.stages.specs.Call as stage
 use Rattle.call_check.specs.declared.Job.{Job}
 use Rattle.call_check.specs.declared.Job.the-variants.{Expander, Normaliser}
 
-abbrev pub given : Text → Text → ℕ → Text → Text → Text → Text → stage.Given
-given line vars used homes paths work out = record { work = work; vars = vars; varsUsed = used; homes = homes; paths = paths; line = line; out = out }
+abbrev pub given : Text → Text → ℕ → Text → Text → Text → Text → Text → stage.Given
+given line vars used homes params paths work out = record {
+  work = work;
+  vars = vars;
+  varsUsed = used;
+  homes = homes;
+  paths = paths;
+  params = params;
+  line = line;
+  out = out;
+}
 
 -- the stage of each job
 abbrev pub answerOf : Job → stage.Given → stage.Answer

@@ -8,7 +8,7 @@ use lib.ListN.{length, take}
 use Rattle.stages.specs.Numbers.{workLeast, lineLimit, imageLimit}
 use Rattle.stages.specs.Bytes.{all, notZero}
 use Rattle.stages.specs.Outcome.{refusedAt, doneAt, pick}
-use Rattle.stages.specs.Images.{isSome, held, variablesOf, homesOf, pathsOf}
+use Rattle.stages.specs.Images.{isSome, held, variablesOf, homesOf, pathsOf, fieldsOf}
 use Rattle.stages.specs.Syntax.{Word}
 use Rattle.stages.specs.Read.{readLine}
 use Rattle.stages.specs.Line.{Around, expandWords}
@@ -25,15 +25,16 @@ roomIn job out = pick (leb (roomOf job out) imageLimit) (roomOf job out) imageLi
 
 -- what the call's line is expanded among
 abbrev pub around : Given → ℕ → Around
-around g out = among (length (g .vars)) (g .homes) (g .paths) out
+around g out = among (length (g .vars)) (g .homes) (g .params) (g .paths) out
 
--- 1 to 4 are passed
+-- 1 to 4 and 23 are passed
 pub record Tabled (g : Given) : Type 0 where
   pub area : workLeast ≤ length (g .work)
   pub inside : g .varsUsed ≤ length (g .vars)
   pub formed : isSome (variablesOf (take (g .varsUsed) (g .vars))) ≡ true
   pub housed : isSome (homesOf (g .homes)) ≡ true
   pub listed : isSome (pathsOf (g .paths)) ≡ true
+  pub numbered : isSome (fieldsOf (g .params)) ≡ true
 
 -- 5, 6, the reading and the empty image's 21 are passed too: the words are all that is left
 pub record Passed (job : Job) (g : Given) : Type 0 where

@@ -1,4 +1,5 @@
-// What is looked at before the first word is expanded: "Order: 1 to 6 as numbered; then the whole line is read", then room for the empty fields image.
+// What is looked at before the first word is expanded: document 01's "Order: 1 to 6 as numbered; then the whole line is read", where document 02's 23 is
+// "checked after 4"; then room for the empty fields image.
 use read_line::LineRead;
 use table::Kind;
 use text::numbers;
@@ -52,13 +53,15 @@ fn check_line(
     vars: &[u8],
     vars_used: usize,
     homes: &[u8],
+    params: &[u8],
     paths: &[u8],
     work: &[u8],
     out: &[u8],
 ) -> Checked
-    requires { ⌜ Tabled (given (now line) (now vars) «vars_used» (now homes) (now paths) (now work) (now out)) ⌝ }
+    requires { ⌜ Tabled (given (now line) (now vars) «vars_used» (now homes) (now params) (now paths) (now work) (now out)) ⌝ }
     ensures { λ r. ⌜ Checks job
-        (given (now (line .entry)) (now (vars .entry)) «vars_used» (now (homes .entry)) (now (paths .entry)) (now (work .entry)) (now (out .entry))) r ⌝ }
+        (given (now (line .entry)) (now (vars .entry)) «vars_used» (now (homes .entry)) (now (params .entry)) (now (paths .entry)) (now (work .entry))
+        (now (out .entry))) r ⌝ }
 {
     if numbers::LINE_LIMIT < line.len() {
         return refuse(numbers::REFUSED_LENGTH);
@@ -81,19 +84,21 @@ fn check_line(
     }
 }
 
-// All that is checked before the first word, in document 01's order.
+// All that is checked before the first word, in the documents' order.
 pub fn check(
     job: Job,
     line: &[u8],
     vars: &[u8],
     vars_used: usize,
     homes: &[u8],
+    params: &[u8],
     paths: &[u8],
     work: &[u8],
     out: &[u8],
 ) -> Checked
     ensures { λ r. ⌜ Checks job
-        (given (now (line .entry)) (now (vars .entry)) «vars_used» (now (homes .entry)) (now (paths .entry)) (now (work .entry)) (now (out .entry))) r ⌝ }
+        (given (now (line .entry)) (now (vars .entry)) «vars_used» (now (homes .entry)) (now (params .entry)) (now (paths .entry)) (now (work .entry))
+        (now (out .entry))) r ⌝ }
 {
     if work.len() < numbers::WORK_LEAST {
         return refuse(numbers::REFUSED_WORK);
@@ -110,5 +115,8 @@ pub fn check(
     if !table::well_formed(Kind::Paths, paths) {
         return refuse(numbers::REFUSED_PATHS);
     }
-    check_line(job, line, vars, vars_used, homes, paths, work, out)
+    if !table::well_formed(Kind::Fields, params) {
+        return refuse(numbers::REFUSED_PARAMETERS);
+    }
+    check_line(job, line, vars, vars_used, homes, params, paths, work, out)
 }

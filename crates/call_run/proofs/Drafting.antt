@@ -80,8 +80,8 @@ module _ {room left : ℕ} {copy : Text} (w : Holds room copy left) (old out : T
   by-written (doneAt t) fine NoRoom e = absurd (omega (arith, ap (λ (x : Quoting). x .number) e))
   by-written (doneAt t) fine Malformed e = absurd (omega (arith, ap (λ (x : Quoting). x .number) e))
 
-module _ {job : Job} {room used : ℕ} {text copy houses paths work : Text} (out : Text)
-    (p : Drafting job room used text copy houses paths work (length out)) (images : Text) (li : length images ≡ imageLimit) (size : ℕ)
+module _ {job : Job} {room used : ℕ} {text copy houses params paths work : Text} (out : Text)
+    (p : Drafting job room used text copy houses params paths work (length out)) (images : Text) (li : length images ≡ imageLimit) (size : ℕ)
     (e : size ≡ roomIn job (length out)) where
   abbrev lent : Text
   lent = take size images
@@ -97,7 +97,7 @@ module _ {job : Job} {room used : ℕ} {text copy houses paths work : Text} (out
   lent-long : length lent ≡ size
   lent-long = length-take-le size images size-within
 
-  pub line-ready : LineReady text copy used room houses paths work lent
+  pub line-ready : LineReady text copy used room houses params paths work lent
   line-ready =
       record {
         words = p .words;
@@ -105,6 +105,7 @@ module _ {job : Job} {room used : ℕ} {text copy houses paths work : Text} (out
         clean = p .clean;
         holds = p .holds;
         housed = p .housed;
+        handed = p .numbered;
         listed = p .listed;
         area = p .area;
         byte = omega (arith, lent-long, e, p .byte);
@@ -113,13 +114,13 @@ module _ {job : Job} {room used : ℕ} {text copy houses paths work : Text} (out
 
   -- what the line gives, as the contract has it and as the loop over words has it
   abbrev outside : Placed (Fields × Pairs)
-  outside = worded job room used text copy houses paths (length out)
+  outside = worded job room used text copy houses params paths (length out)
 
   abbrev inside : Placed (Fields × Pairs)
-  inside = lineOutcome (among room houses paths (length lent)) text (held (take used copy))
+  inside = lineOutcome (among room houses params paths (length lent)) text (held (take used copy))
 
   both : outside ≡ inside
-  both = ap (λ (n : ℕ). lineOutcome (among room houses paths n) text (held (take used copy))) (sym (lent-long ∙ e))
+  both = ap (λ (n : ℕ). lineOutcome (among room houses params paths n) text (held (take used copy))) (sym (lent-long ∙ e))
 
   module _ (copy₂ image₁ : Text) (got : LineExpanded) (same : length image₁ ≡ length lent) (h : LineSays room inside copy₂ lent image₁ got) where
     line-of : {x : LineExpanded} → got ≡ x → LineSays room inside copy₂ lent image₁ x

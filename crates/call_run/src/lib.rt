@@ -34,23 +34,33 @@ fn on_image(
     line: &[u8],
     copy: &mut [u8],
     homes: &[u8],
+    params: &[u8],
     paths: &[u8],
     work: &mut [u8],
     out: &mut [u8],
     image: &mut [u8],
 ) -> Delivered
-    requires { ⌜ Drafting (call .job) (call .extent .«vars_room») (call .extent .«vars_used») (now line) (now copy) (now homes) (now paths) (now work)
-        (length (now out)) ⌝ }
+    requires { ⌜ Drafting (call .job) (call .extent .«vars_room») (call .extent .«vars_used») (now line) (now copy) (now homes) (now params) (now paths)
+        (now work) (length (now out)) ⌝ }
     requires { ⌜ length (now image) ≡ imageLimit ⌝ }
     ensures { λ r. ⌜ DraftOf (call .extent .«vars_room»)
         (draft (call .job) (length (now (out .entry)))
         (worded (call .job) (call .extent .«vars_room») (call .extent .«vars_used») (now (line .entry)) (now (copy .entry)) (now (homes .entry))
-        (now (paths .entry)) (length (now (out .entry))))) (now (copy .exit)) (now (out .entry)) (now (out .exit)) r ⌝ }
+        (now (params .entry)) (now (paths .entry)) (length (now (out .entry))))) (now (copy .exit)) (now (out .entry)) (now (out .exit)) r ⌝ }
 {
     let job = call.job;
     let extent = call.extent;
     let size = call_check::room(job, out.len());
-    let got = expand_line::expand_line(line, copy, extent, homes, paths, work, &mut image[..size]);
+    let got = expand_line::expand_line(
+        line,
+        copy,
+        extent,
+        homes,
+        params,
+        paths,
+        work,
+        &mut image[..size],
+    );
     match got {
         LineExpanded::Refused { number, place } => Delivered::Refused {
             number: number,
@@ -82,19 +92,30 @@ fn with_image(
     line: &[u8],
     copy: &mut [u8],
     homes: &[u8],
+    params: &[u8],
     paths: &[u8],
     work: &mut [u8],
     out: &mut [u8],
 ) -> Delivered
-    requires { ⌜ Drafting (call .job) (call .extent .«vars_room») (call .extent .«vars_used») (now line) (now copy) (now homes) (now paths) (now work)
-        (length (now out)) ⌝ }
+    requires { ⌜ Drafting (call .job) (call .extent .«vars_room») (call .extent .«vars_used») (now line) (now copy) (now homes) (now params) (now paths)
+        (now work) (length (now out)) ⌝ }
     ensures { λ r. ⌜ DraftOf (call .extent .«vars_room»)
         (draft (call .job) (length (now (out .entry)))
         (worded (call .job) (call .extent .«vars_room») (call .extent .«vars_used») (now (line .entry)) (now (copy .entry)) (now (homes .entry))
-        (now (paths .entry)) (length (now (out .entry))))) (now (copy .exit)) (now (out .entry)) (now (out .exit)) r ⌝ }
+        (now (params .entry)) (now (paths .entry)) (length (now (out .entry))))) (now (copy .exit)) (now (out .entry)) (now (out .exit)) r ⌝ }
 {
     let mut image = [0u8; numbers::IMAGE_LIMIT];
-    on_image(call, line, copy, homes, paths, work, out, &mut image)
+    on_image(
+        call,
+        line,
+        copy,
+        homes,
+        params,
+        paths,
+        work,
+        out,
+        &mut image,
+    )
 }
 
 // The call once it has passed the checks: the variables are copied, and their new image comes back if the output is written.
@@ -103,21 +124,23 @@ fn on_copy(
     line: &[u8],
     vars: &mut [u8],
     homes: &[u8],
+    params: &[u8],
     paths: &[u8],
     work: &mut [u8],
     out: &mut [u8],
     copy: &mut [u8],
 ) -> Answer
-    requires { ⌜ Passed (call .job) (given (now line) (now vars) (call .extent .«vars_used») (now homes) (now paths) (now work) (now out)) ⌝ }
+    requires { ⌜ Passed (call .job) (given (now line) (now vars) (call .extent .«vars_used») (now homes) (now params) (now paths) (now work)
+        (now out)) ⌝ }
     requires { ⌜ (call .extent .«vars_room» ≡ length (now vars)) × (length (now copy) ≡ imageLimit) ⌝ }
     ensures { λ r. ⌜ Hands
-        (answerOf (call .job) (given (now (line .entry)) (now (vars .entry)) (call .extent .«vars_used») (now (homes .entry)) (now (paths .entry))
-        (now (work .entry)) (now (out .entry)))) r (now (vars .exit)) (now (out .exit)) ⌝ }
+        (answerOf (call .job) (given (now (line .entry)) (now (vars .entry)) (call .extent .«vars_used») (now (homes .entry)) (now (params .entry))
+        (now (paths .entry)) (now (work .entry)) (now (out .entry)))) r (now (vars .exit)) (now (out .exit)) ⌝ }
 {
     let extent = call.extent;
     let vars_used = extent.vars_used;
     text_copy::copy_in(&vars[..vars_used], copy);
-    let got = with_image(call, line, copy, homes, paths, work, out);
+    let got = with_image(call, line, copy, homes, params, paths, work, out);
     match got {
         Delivered::Refused { number, place } => call_deliver::refuse(number, place, vars_used),
         Delivered::Done {
@@ -133,18 +156,20 @@ fn with_copy(
     line: &[u8],
     vars: &mut [u8],
     homes: &[u8],
+    params: &[u8],
     paths: &[u8],
     work: &mut [u8],
     out: &mut [u8],
 ) -> Answer
-    requires { ⌜ Passed (call .job) (given (now line) (now vars) (call .extent .«vars_used») (now homes) (now paths) (now work) (now out)) ⌝ }
+    requires { ⌜ Passed (call .job) (given (now line) (now vars) (call .extent .«vars_used») (now homes) (now params) (now paths) (now work)
+        (now out)) ⌝ }
     requires { ⌜ call .extent .«vars_room» ≡ length (now vars) ⌝ }
     ensures { λ r. ⌜ Hands
-        (answerOf (call .job) (given (now (line .entry)) (now (vars .entry)) (call .extent .«vars_used») (now (homes .entry)) (now (paths .entry))
-        (now (work .entry)) (now (out .entry)))) r (now (vars .exit)) (now (out .exit)) ⌝ }
+        (answerOf (call .job) (given (now (line .entry)) (now (vars .entry)) (call .extent .«vars_used») (now (homes .entry)) (now (params .entry))
+        (now (paths .entry)) (now (work .entry)) (now (out .entry)))) r (now (vars .exit)) (now (out .exit)) ⌝ }
 {
     let mut copy = [0u8; numbers::IMAGE_LIMIT];
-    on_copy(call, line, vars, homes, paths, work, out, &mut copy)
+    on_copy(call, line, vars, homes, params, paths, work, out, &mut copy)
 }
 
 // The job from its checks on; the work area is left to be cleared.
@@ -154,15 +179,16 @@ fn from_checks(
     vars: &mut [u8],
     vars_used: usize,
     homes: &[u8],
+    params: &[u8],
     paths: &[u8],
     work: &mut [u8],
     out: &mut [u8],
 ) -> Answer
     ensures { λ r. ⌜ Hands
-        (answerOf job (given (now (line .entry)) (now (vars .entry)) «vars_used» (now (homes .entry)) (now (paths .entry)) (now (work .entry))
-        (now (out .entry)))) r (now (vars .exit)) (now (out .exit)) ⌝ }
+        (answerOf job (given (now (line .entry)) (now (vars .entry)) «vars_used» (now (homes .entry)) (now (params .entry)) (now (paths .entry))
+        (now (work .entry)) (now (out .entry)))) r (now (vars .exit)) (now (out .exit)) ⌝ }
 {
-    let checked = call_check::check(job, line, vars, vars_used, homes, paths, work, out);
+    let checked = call_check::check(job, line, vars, vars_used, homes, params, paths, work, out);
     match checked {
         Checked::Refused { number, place } => call_deliver::refuse(number, place, vars_used),
         Checked::Fine => {
@@ -174,7 +200,7 @@ fn from_checks(
                 job: job,
                 extent: extent,
             };
-            with_copy(call, line, vars, homes, paths, work, out)
+            with_copy(call, line, vars, homes, params, paths, work, out)
         }
     }
 }
@@ -186,15 +212,16 @@ pub fn answer_call(
     vars: &mut [u8],
     vars_used: usize,
     homes: &[u8],
+    params: &[u8],
     paths: &[u8],
     work: &mut [u8],
     out: &mut [u8],
 ) -> Answer
     ensures { λ r. ⌜ Gives
-        (answerOf job (given (now (line .entry)) (now (vars .entry)) «vars_used» (now (homes .entry)) (now (paths .entry)) (now (work .entry))
-        (now (out .entry)))) r (now (vars .exit)) (now (work .exit)) (now (out .exit)) ⌝ }
+        (answerOf job (given (now (line .entry)) (now (vars .entry)) «vars_used» (now (homes .entry)) (now (params .entry)) (now (paths .entry))
+        (now (work .entry)) (now (out .entry)))) r (now (vars .exit)) (now (work .exit)) (now (out .exit)) ⌝ }
 {
-    let answer = from_checks(job, line, vars, vars_used, homes, paths, work, out);
+    let answer = from_checks(job, line, vars, vars_used, homes, params, paths, work, out);
     text_copy::fill_zero(work);
     answer
 }

@@ -43,6 +43,7 @@ pub struct Given {
     pub vars_len: usize,
     pub used: usize,
     pub homes: Vec<u8>,
+    pub params: Vec<u8>,
     pub paths: Vec<u8>,
     pub work_len: usize,
     pub out_len: usize,
@@ -60,7 +61,7 @@ pub fn differs(job: Job, given: &Given, wanted: &Wanted) -> Option<String> {
     let mut work = Buffer::new(&[], given.work_len, |at| (at % 251 + 3) as u8);
     let (vars_before, out_before) = (Buffer(vars.0.clone()), Buffer(out.0.clone()));
     let mut variables = Variables { buffer: vars.lent(), used: given.used };
-    let tables = Tables { homes: &given.homes, paths: &given.paths };
+    let tables = Tables { homes: &given.homes, params: &given.params, paths: &given.paths };
     let job = match job {
         Job::Expand => expand,
         Job::Normalise => normalise,

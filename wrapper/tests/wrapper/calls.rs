@@ -9,7 +9,7 @@ use crate::buffers::{differs, image, quote_differs, Given, Job};
 
 const VARIABLES: [&[u8]; 6] = [b"HOME", b"/home/crew", b"job", b"north field", b"note", b""];
 
-/// The variables and paths of the spoiled recipes, and a line.
+/// The variables and paths of the spoiled recipes, no parameters, and a line.
 fn given(line: &[u8]) -> Given {
     let vars = image(&VARIABLES);
     Given {
@@ -18,6 +18,7 @@ fn given(line: &[u8]) -> Given {
         vars,
         vars_len: 300,
         homes: image(&[]),
+        params: image(&[]),
         paths: image(&[b".hid.raw", b"a b.raw", b"n/p1.raw", b"p1.raw", b"p2.raw"]),
         work_len: WORK_LEAST,
         out_len: 200,
@@ -74,6 +75,19 @@ fn a_store_is_kept() {
 }
 
 #[test]
+fn parameters_are_taken() {
+    let (params, vars) = (image(&[b"a b", b"", b"c"]), image(&VARIABLES));
+    let apart = Given { params: params.clone(), ..given(b"\"x$@y\" $#") };
+    accepted(Job::Expand, &apart, &image(&[b"xa b", b"", b"cy", b"3"]), &vars);
+    accepted(Job::Normalise, &apart, b"'xa b' '' cy 3", &vars);
+    let numbered = Given { params: params.clone(), ..given(b"$1 \"$*\" ${2:-none} ${4-unset} ${#1}") };
+    accepted(Job::Expand, &numbered, &image(&[b"a", b"b", b"a b  c", b"none", b"unset", b"3"]), &vars);
+    accepted(Job::Expand, &given(b"\"$@\" a"), &image(&[b"a"]), &vars);
+    refused(&Given { params: params[..params.len() - 1].to_vec(), ..given(b"a\"") }, Number::BadParameters, 0);
+    refused(&given(b"a ${u=$@}"), Number::Unserved, 2);
+}
+
+#[test]
 fn empty_slices_are_taken() {
     let (none, vars) = (given(b""), image(&VARIABLES));
     accepted(Job::Expand, &none, &image(&[]), &vars);
@@ -86,6 +100,7 @@ fn empty_slices_are_taken() {
     refused(&Given { used: 0, vars_len: 0, ..given(b"a") }, Number::BadVariables, 0);
     refused(&Given { homes: Vec::new(), ..given(b"a") }, Number::BadHomes, 0);
     refused(&Given { paths: Vec::new(), ..given(b"a") }, Number::BadPaths, 0);
+    refused(&Given { params: Vec::new(), ..given(b"a") }, Number::BadParameters, 0);
 }
 
 #[test]
@@ -106,7 +121,7 @@ fn lines_are_refused() {
         (b"a \"b", Number::Unended, 2),
         (b"a | b", Number::BareOperator, 2),
         (b"a `b`", Number::Substitution, 2),
-        (b"a b$1", Number::Unserved, 2),
+        (b"a b$?", Number::Unserved, 2),
         (b"a ${job!}", Number::BadSyntax, 2),
         (b"a ${u-${u-${u-${u-${u-${u-${u-${u-${u-x}}}}}}}}}", Number::TooDeep, 2),
         (b"${note:?}", Number::Demanded, 0),
@@ -180,5 +195,5 @@ fn a_refusal_says_itself() {
     let refusal = quote(&[], &mut []).unwrap_err();
     assert_eq!(refusal.to_string(), "refused with 22 at byte 0: fields image malformed or too long");
     assert_eq!(Number::of(0), None);
-    assert_eq!(Number::of(23), None);
+    assert_eq!(Number::of(24), None);
 }

@@ -48,6 +48,7 @@ fn case(line: &str) -> Option<String> {
         paths: bytes(call[6]),
         work_len: count(call[7]),
         out_len: count(call[8]),
+        params: bytes(call[9]),
         fill: [|_| 0x5a, |_| 0xa5],
     };
     let wanted: Wanted = outcome(&answer).map(|out| (out, bytes(answer[5])));
@@ -63,5 +64,5 @@ fn vectors_hold() {
         assert_eq!(case(line), None, "line {number}");
         cases += 1;
     }
-    assert!(cases > 900);
+    assert!(cases > 1_700);
 }

@@ -2,7 +2,7 @@
 use mathlib.Core.Path.{sym, _∙_}
 use lib.Seq.{length-take-le}
 use borrow.Author.Tests.{not-true, not-false}
-use Rattle.call_check.proofs.Checking.{work-small, used-beyond, variables-bad, homes-bad, paths-bad, refuses}
+use Rattle.call_check.proofs.Checking.{work-small, used-beyond, variables-bad, homes-bad, paths-bad, parameters-bad, refuses}
 use borrow.Author.Needs.{needs}
 use Rattle.call_check.proofs.check.Statement.{statement}
 use Rattle.call_check.proofs.check.Tie as tie
@@ -63,18 +63,37 @@ returns-5 c =
     (sym (c .before .before .before .before .well-formed2 .ensures) ∙ not-false _ (c .before .before .before .if4 .left))
     (sym (c .before .before .well-formed3 .ensures) ∙ not-true _ (c .before .if5 .taken)))
 
+well-formed-requires-4 : tie.Need-well-formed-requires-4
+well-formed-requires-4 c κs = search needs
+
+refuse-requires-6 : tie.Need-refuse-requires-6
+refuse-requires-6 c κs = search needs
+
+returns-6 : tie.Need-returns-6
+returns-6 c =
+    refuses _ _ (c .refuse6 .ensures)
+    (parameters-bad _ _ (c .before .before .before .before .before .before .before .before .before .before .before .if1 .left)
+    (c .before .before .before .before .before .before .before .before .before .before .if2 .left)
+    (sym (c .before .before .before .before .before .before .before .before .well-formed .ensures) ∙ not-false _
+    (c .before .before .before .before .before .before .before .if3 .left))
+    (sym (c .before .before .before .before .before .before .well-formed2 .ensures) ∙ not-false _ (c .before .before .before .before .before .if4 .left))
+    (sym (c .before .before .before .before .well-formed3 .ensures) ∙ not-false _ (c .before .before .before .if5 .left))
+    (sym (c .before .before .well-formed4 .ensures) ∙ not-true _ (c .before .if6 .taken)))
+
 check-line-requires : tie.Need-check-line-requires
 check-line-requires c κs =
     record {
-      area = c .before .before .before .before .before .before .before .before .if1 .left;
-      inside = c .before .before .before .before .before .before .before .if2 .left;
-      formed = sym (c .before .before .before .before .before .well-formed .ensures) ∙ not-false _ (c .before .before .before .before .if3 .left);
-      housed = sym (c .before .before .before .well-formed2 .ensures) ∙ not-false _ (c .before .before .if4 .left);
-      listed = sym (c .before .well-formed3 .ensures) ∙ not-false _ (c .if5 .left);
+      area = c .before .before .before .before .before .before .before .before .before .before .if1 .left;
+      inside = c .before .before .before .before .before .before .before .before .before .if2 .left;
+      formed = sym (c .before .before .before .before .before .before .before .well-formed .ensures) ∙ not-false _
+          (c .before .before .before .before .before .before .if3 .left);
+      housed = sym (c .before .before .before .before .before .well-formed2 .ensures) ∙ not-false _ (c .before .before .before .before .if4 .left);
+      listed = sym (c .before .before .before .well-formed3 .ensures) ∙ not-false _ (c .before .before .if5 .left);
+      numbered = sym (c .before .well-formed4 .ensures) ∙ not-false _ (c .if6 .left);
     }
 
-returns-6 : tie.Need-returns-6
-returns-6 c = search needs
+returns-7 : tie.Need-returns-7
+returns-7 c = search needs
 
 pub check-spec : {M : Type 1} → statement M
 check-spec =
@@ -94,5 +113,8 @@ check-spec =
     well-formed-requires-3
     refuse-requires-5
     returns-5
+    well-formed-requires-4
+    refuse-requires-6
+    returns-6
     check-line-requires
-    returns-6)
+    returns-7)

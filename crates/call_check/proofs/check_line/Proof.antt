@@ -8,13 +8,15 @@ use Rattle.call_check.proofs.check_line.Tie as tie
 
 -- the call's entry, where the line has been read
 abbrev entry : tie.After-read-line → tie.Start
-entry c = c .before .before .before .before .before .before .before .before .before .before
+entry c = c .before .before .before .before .before .before .before .before .before .before .before
 
 refuse-requires : tie.Need-refuse-requires
 refuse-requires c κs = search needs
 
 returns : tie.Need-returns
-returns c = refuses _ _ (c .refuse .ensures) (line-long _ _ (c .before .before .before .before .before .before .before .before .pre) (c .before .if1 .taken))
+returns c =
+    refuses _ _ (c .refuse .ensures)
+    (line-long _ _ (c .before .before .before .before .before .before .before .before .before .pre) (c .before .if1 .taken))
 
 is-in-requires : tie.Need-is-in-requires
 is-in-requires c κs = search needs
@@ -24,7 +26,7 @@ refuse-requires-2 c κs = search needs
 
 returns-2 : tie.Need-returns-2
 returns-2 c = refuses _ _ (c .refuse2 .ensures)
-    (line-zero _ _ (c .before .before .before .before .before .before .before .before .before .before .pre) (c .before .before .before .if1 .left)
+    (line-zero _ _ (c .before .before .before .before .before .before .before .before .before .before .before .pre) (c .before .before .before .if1 .left)
     (sym (c .before .before .is-in .ensures) ∙ c .before .if2 .taken))
 
 read-line-requires : tie.Need-read-line-requires

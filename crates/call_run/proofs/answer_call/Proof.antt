@@ -12,7 +12,7 @@ abbrev answered : tie.After-fill-zero → tie.After-from-checks
 answered c = c .before .before .before .before .before .before .before .before
 
 abbrev entry : tie.After-from-checks → tie.Start
-entry c = c .before .before .before .before .before .before .before .before .before .before
+entry c = c .before .before .before .before .before .before .before .before .before .before .before
 
 from-checks-requires : tie.Need-from-checks-requires
 from-checks-requires c κs = search needs
@@ -34,7 +34,7 @@ returns c =
     let z = c .before .before in
     let a = answered z in
     gives-cleared (entry a .args .job) _ (a .from-checks .ensures)
-    (z .fill-zero .ensures ∙ ap (λ (n : ℕ). replicate n 0) (a .from-checks .kept .1 .1 .1 .1 .1 .1 .0))
+    (z .fill-zero .ensures ∙ ap (λ (n : ℕ). replicate n 0) (a .from-checks .kept .1 .1 .1 .1 .1 .1 .1 .0))
 
 pub answer-call-spec : {M : Type 1} → statement M
 answer-call-spec = tie.close (tie.spec from-checks-requires fill-zero-requires same-length same-length-2 same-length-3 returns)

@@ -8,7 +8,7 @@ use Rattle.call_run.proofs.from_checks.Tie as tie
 
 -- the call's entry, where it has been checked
 abbrev entry : tie.After-check → tie.Start
-entry c = c .before .before .before .before .before .before .before .before .before .before
+entry c = c .before .before .before .before .before .before .before .before .before .before .before
 
 check-requires : tie.Need-check-requires
 check-requires c κs = search needs

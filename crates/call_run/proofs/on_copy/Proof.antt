@@ -11,7 +11,7 @@ use Rattle.call_run.proofs.on_copy.Tie as tie
 
 -- the call's entry, before the variables are copied and after
 abbrev begun : tie.After-extent → tie.Start
-begun c = c .before .before .before .before .before .before .before .before
+begun c = c .before .before .before .before .before .before .before .before .before
 
 module _ (c : tie.After-copy-in) where
   abbrev entry : tie.Start
@@ -29,7 +29,7 @@ module _ (c : tie.After-with-image) where
   drawn = c .with-image .last .1 .1 .0
 
   abbrev written : Text
-  written = c .with-image .last .1 .1 .1 .1 .1 .1 .0
+  written = c .with-image .last .1 .1 .1 .1 .1 .1 .1 .0
 
 -- that place, where the call is refused and where it is accepted
 abbrev refusing : tie.After-got → tie.After-with-image

@@ -14,7 +14,7 @@ use Rattle.call_run.proofs.on_image.Tie as tie
 
 -- the call's entry, where the output's room is known
 abbrev entry : tie.After-room → tie.Start
-entry c = c .before .before .before .before .before .before .before .before .before
+entry c = c .before .before .before .before .before .before .before .before .before .before
 
 sized : (c : tie.After-room) → c .room .result ≤ length (entry c .args .image .now)
 sized c = let s = entry c in size-within (s .args .out .now) (s .pre .0) (s .args .image .now) (s .pre .1) (c .room .result) (c .room .ensures)
@@ -28,10 +28,10 @@ module _ (c : tie.After-expand-line) where
   copied = c .expand-line .last .1 .0
 
   abbrev fields : Text
-  fields = c .expand-line .last .1 .1 .1 .1 .1 .1 .0
+  fields = c .expand-line .last .1 .1 .1 .1 .1 .1 .1 .0
 
   kept : length fields ≡ length (take (sizing .room .result) (entry sizing .args .image .now))
-  kept = c .expand-line .kept .1 .1 .1 .1 .1 .1 .0
+  kept = c .expand-line .kept .1 .1 .1 .1 .1 .1 .1 .0
 
 -- that place, where the line is refused and where it is accepted
 abbrev refusing : tie.After-got → tie.After-expand-line
@@ -61,8 +61,8 @@ module _ (c : tie.After-deliver) where
       let x = s .args .call .extent in
       DraftOf (x .«vars_room»)
       (draft job (length (s .args .out .now))
-      (worded job (x .«vars_room») (x .«vars_used») (s .args .line .now) (s .args .copy .now) (s .args .homes .now) (s .args .paths .now)
-      (length (s .args .out .now)))) (copied (accepting drawn)) (s .args .out .now) (c .deliver .last .1 .1 .0)
+      (worded job (x .«vars_room») (x .«vars_used») (s .args .line .now) (s .args .copy .now) (s .args .homes .now) (s .args .params .now)
+      (s .args .paths .now) (length (s .args .out .now)))) (copied (accepting drawn)) (s .args .out .now) (c .deliver .last .1 .1 .0)
       (deliveredAs q (drawn .got2 .given .0 .1 .0))
   drafted k =
       let e = accepting drawn in
