@@ -1,4 +1,4 @@
--- Tables as they were loaded: the part that is lent is the table, and the variables' buffer holds it as the stage's does.
+-- Tables as they were loaded: the part that is lent is the table, and the variables' buffer holds it as the stage's does. Arguments as they were packed.
 use Prim.Native.Nat.{ℕ, _+_, _-_}
 use native.Mathlib.Omega.{arith}
 use mathlib.Core.Path.{_≡_, sym, ap, _∙_}
@@ -8,11 +8,14 @@ use lib.ListN.{length, take, drop, replicate}
 use lib.Seq.{take-at}
 use Rattle.stages.specs.Numbers.{imageLimit}
 use Rattle.stages.specs.Bytes.{Text}
+use Rattle.stages.specs.Images.{fieldsOf, image}
 use Rattle.stages.specs.Call.{over}
 use Rattle.stages.specs.Program.{tableOr, buffered, Variables, saidOf, firstVariables, program}
 use Rattle.stages.proofs.Files.{buffered-over}
 use Rattle.stages.proofs.Rooms.{over-front}
 use Rattle.recipe_load.specs.Loads.{Held}
+use Rattle.recipe_arguments.specs.Packs.{Gathers}
+use Rattle.recipe_arguments.proofs.Lists.{packs-fields, said-params, after-lines-params}
 use Rattle.recipe_answer.specs.Says.{variables}
 use Rattle.recipe_answer.specs.Turns.{Ran}
 use Rattle.recipe.specs.Runs.{Answers, Runs}
@@ -30,31 +33,51 @@ held-variables {room} {n} {left} h e =
     ∙ buffered-over (tableOr (h .file)) (omega (arith, h .counts, h .within)))
     ∙ ap (λ (k : ℕ). variables (buffered (tableOr (h .file))) k) (h .counts)
 
--- where all lines are answered, what is said is what the stage's program writes
-ran-whole : (vars homes paths : Option Text) {input : Text} {now : Variables}
-    (r : Ran (tableOr homes) (tableOr paths) (firstVariables vars) input now) → r .others ≡ [] → r .told ≡ program vars homes paths input
-unfolding program
-ran-whole vars homes paths r e =
-    r .words
-    ∙ ap (saidOf (tableOr homes) (tableOr paths) (firstVariables vars)) (sym (r .all ∙ ap (λ (x : List Text). r .lines ++ x) e ∙ append-nil (r .lines)))
+-- what was packed of the arguments serves as their image
+ran-packed : {homes paths params params′ : Text} {first now : Variables} {input : Text} → fieldsOf params ≡ fieldsOf params′
+    → Ran homes paths params first input now → Ran homes paths params′ first input now
+ran-packed {homes} {paths} {params} {params′} {first} e r = record {
+  told = r .told;
+  lines = r .lines;
+  others = r .others;
+  all = r .all;
+  words = r .words ∙ said-params homes paths params params′ e first (r .lines);
+  after = r .after ∙ after-lines-params homes paths params params′ e first (r .lines);
+}
 
--- the three tables are loaded, and the lines answered among them
-module _ {vars homes paths vars′ : Text} {room roomHomes roomPaths n h p used : ℕ} (v : Held room n vars) (e : room ≡ imageLimit + 1)
-    (o : Held roomHomes h homes) (f : length homes ≡ roomHomes) (t : Held roomPaths p paths) (g : length paths ≡ roomPaths) where
-  pub answers-run : Answers (take h homes) (take p paths) (take imageLimit vars) n vars′ used → length vars′ ≡ imageLimit
-      → Runs (vars′ ++ drop imageLimit vars) homes paths
+-- where all lines are answered, what is said is what the stage's program writes
+ran-whole : (vars homes paths : Option Text) (arguments : List Text) {input : Text} {now : Variables}
+    (r : Ran (tableOr homes) (tableOr paths) (image arguments) (firstVariables vars) input now) → r .others ≡ []
+    → r .told ≡ program vars homes paths arguments input
+unfolding program
+ran-whole vars homes paths arguments r e =
+    r .words
+    ∙ ap (saidOf (tableOr homes) (tableOr paths) (image arguments) (firstVariables vars))
+    (sym (r .all ∙ ap (λ (x : List Text). r .lines ++ x) e ∙ append-nil (r .lines)))
+
+-- the three tables are loaded, the arguments are packed, and the lines answered among them
+module _ {vars homes paths params vars′ : Text} {room roomHomes roomPaths n h p packed used : ℕ} (v : Held room n vars) (e : room ≡ imageLimit + 1)
+    (o : Held roomHomes h homes) (f : length homes ≡ roomHomes) (t : Held roomPaths p paths) (g : length paths ≡ roomPaths)
+    (q : Gathers params packed) (i : imageLimit + 1 ≡ length params) where
+  pub answers-run : Answers (take h homes) (take p paths) (take packed params) (take imageLimit vars) n vars′ used → length vars′ ≡ imageLimit
+      → Runs (vars′ ++ drop imageLimit vars) homes paths params
   answers-run a l =
-      let r : Ran (tableOr (o .file)) (tableOr (t .file)) (firstVariables (v .file)) (a .read) (variables vars′ used) =
+      let b : Ran (tableOr (o .file)) (tableOr (t .file)) (take packed params) (firstVariables (v .file)) (a .read) (variables vars′ used) =
       rw (← held-table o, ← held-table t, ← held-variables v e) (a .ran) in
+      let r : Ran (tableOr (o .file)) (tableOr (t .file)) (image (q .arguments)) (firstVariables (v .file)) (a .read) (variables vars′ used) =
+      ran-packed (packs-fields (q .arguments) params packed i (q .packs)) b in
       record {
         varsFile = v .file;
         homesFile = o .file;
         pathsFile = t .file;
+        arguments = q .arguments;
         input = a .read;
         now = variables vars′ used;
         ran = r;
-        whole = ran-whole (v .file) (o .file) (t .file) r;
+        whole = ran-whole (v .file) (o .file) (t .file) (q .arguments) r;
         varsAre = take-at vars′ (drop imageLimit vars) imageLimit l;
         homesAre = o .leaves ∙ ap (λ (m : ℕ). over (tableOr (o .file)) (replicate m 0)) (sym f);
         pathsAre = t .leaves ∙ ap (λ (m : ℕ). over (tableOr (t .file)) (replicate m 0)) (sym g);
+        packed = packed;
+        paramsAre = q .packs;
       }

@@ -50,50 +50,50 @@ use Rattle.recipe.specs.declared.answering.Run.{Run}
 -- WORDS
 
 -- what is said of a line is an answer
-module _ {homes paths : Text} {v : Variables} {old left vars : Text} {r : Said} where
-  pub one-spoken : (l : Text) → Says homes paths v (l ∷ []) old left vars r → Spoken (take (r .len) left)
+module _ {homes paths params : Text} {v : Variables} {old left vars : Text} {r : Said} where
+  pub one-spoken : (l : Text) → Says homes paths params v (l ∷ []) old left vars r → Spoken (take (r .len) left)
   unfolding saidOf
   one-spoken l s = record {
-    answer = normaliser (givenLine homes paths l v);
-    is = puts-front (s .words) ∙ append-nil (said (normaliser (givenLine homes paths l v)));
+    answer = normaliser (givenLine homes paths params l v);
+    is = puts-front (s .words) ∙ append-nil (said (normaliser (givenLine homes paths params l v)));
   }
 
   -- where something is said, it is said of a line
-  pub last-spoken : (t : Text) → Says homes paths v (lastLine t) old left vars r → 0 < r .len → Spoken (take (r .len) left)
+  pub last-spoken : (t : Text) → Says homes paths params v (lastLine t) old left vars r → 0 < r .len → Spoken (take (r .len) left)
   unfolding lastLine saidOf
   last-spoken t s h =
       either (hasLine t) (λ e. one-spoken t (rw e at s)) (λ e. absurd (omega (arith, (rw e at s) .words .counts)))
 
 -- A TURN, by its answer
 
-module _ {homes paths block : Text} {k : Carried} {at : ℕ} {b c : Buffers} {r : Turn} (t : Turned homes paths k block at b c r) where
+module _ {homes paths params block : Text} {k : Carried} {at : ℕ} {b c : Buffers} {r : Turn} (t : Turned homes paths params k block at b c r) where
   pub turned-open : {n : ℕ} → r ≡ Open n → Stays (k .kept) block at b c n
-  turned-open {n} e = go (subst (Turned homes paths k block at b c) e t)
+  turned-open {n} e = go (subst (Turned homes paths params k block at b c) e t)
     where
-      go : Turned homes paths k block at b c (Open n) → Stays (k .kept) block at b c n
+      go : Turned homes paths params k block at b c (Open n) → Stays (k .kept) block at b c n
       go (stays s) = s
 
-  pub turned-told : {len used next : ℕ} → r ≡ Answered len used next → Tells homes paths k block at b c len used next
-  turned-told {len} {used} {next} e = go (subst (Turned homes paths k block at b c) e t)
+  pub turned-told : {len used next : ℕ} → r ≡ Answered len used next → Tells homes paths params k block at b c len used next
+  turned-told {len} {used} {next} e = go (subst (Turned homes paths params k block at b c) e t)
     where
-      go : Turned homes paths k block at b c (Answered len used next) → Tells homes paths k block at b c len used next
+      go : Turned homes paths params k block at b c (Answered len used next) → Tells homes paths params k block at b c len used next
       go (tells s) = s
 
 -- THE LINES OF A BLOCK
 
 -- on the way through a block, from the run k in its buffers: up to the place all is answered, whatever was read before
-pub record Goes (homes paths block line₀ vars₀ said₀ : Text) (k : Run) (line vars said : Text) (r : Run) (at : ℕ) : Type 0 where
+pub record Goes (homes paths params block line₀ vars₀ said₀ : Text) (k : Run) (line vars said : Text) (r : Run) (at : ℕ) : Type 0 where
   pub ready : Ready line said (r .kept)
   pub inside : at ≤ length block
   pub sameLine : length line ≡ length line₀
   pub sameVars : length vars ≡ length vars₀
   pub sameSaid : length said ≡ length said₀
-  pub reached : (first : Variables) (read told : Text) → Reaches homes paths first read told line₀ (k .kept) (variables vars₀ (k .«vars_used»))
-      → Reached homes paths first (read ++ take at block) line (r .kept) (variables vars (r .«vars_used»))
+  pub reached : (first : Variables) (read told : Text) → Reaches homes paths params first read told line₀ (k .kept) (variables vars₀ (k .«vars_used»))
+      → Reached homes paths params first (read ++ take at block) line (r .kept) (variables vars (r .«vars_used»))
 
-pub goes-starts : (homes paths block line vars said : Text) (k : Run) → Ready line said (k .kept)
-    → Goes homes paths block line vars said k line vars said k 0
-goes-starts homes paths block line vars said k h = record {
+pub goes-starts : (homes paths params block line vars said : Text) (k : Run) → Ready line said (k .kept)
+    → Goes homes paths params block line vars said k line vars said k 0
+goes-starts homes paths params block line vars said k h = record {
   ready = h;
   inside = omega arith;
   sameLine = refl;
@@ -101,20 +101,20 @@ goes-starts homes paths block line vars said k h = record {
   sameSaid = refl;
   reached = λ first read told r. record {
     told = told;
-    reaches = subst (λ (x : Text). Reaches homes paths first x told line (k .kept) (variables vars (k .«vars_used»))) (sym (append-nil read)) r;
+    reaches = subst (λ (x : Text). Reaches homes paths params first x told line (k .kept) (variables vars (k .«vars_used»))) (sym (append-nil read)) r;
   };
 }
 
-module _ {homes paths block line₀ vars₀ said₀ : Text} {k : Run} {line vars said : Text} {r : Run} {at : ℕ}
-    (g : Goes homes paths block line₀ vars₀ said₀ k line vars said r at) where
+module _ {homes paths params block line₀ vars₀ said₀ : Text} {k : Run} {line vars said : Text} {r : Run} {at : ℕ}
+    (g : Goes homes paths params block line₀ vars₀ said₀ k line vars said r at) where
   -- what is carried into a turn
   abbrev pub carried : Carried
   carried = record { kept = r .kept; «vars_used» = r .«vars_used» }
 
   -- a line ended, and was written or not
-  pub goes-line : {c : Buffers} {len used next : ℕ} (s : Bool) → Tells homes paths carried block at (buffers line vars said) c len used next
+  pub goes-line : {c : Buffers} {len used next : ℕ} (s : Bool) → Tells homes paths params carried block at (buffers line vars said) c len used next
       → length (c .line) ≡ length line → length (c .vars) ≡ length vars → length (c .said) ≡ length said
-      → Goes homes paths block line₀ vars₀ said₀ k (c .line) (c .vars) (c .said) (record { kept = 0; «vars_used» = used; «goes_on» = s }) next
+      → Goes homes paths params block line₀ vars₀ said₀ k (c .line) (c .vars) (c .said) (record { kept = 0; «vars_used» = used; «goes_on» = s }) next
   goes-line {c = c} {len = len} {next = next} s t l v w = record {
     ready = record { most = omega arith; room = omega (arith, g .ready .room); words = omega (arith, g .ready .words) };
     inside = next-turn block at next (t .ends) (g .inside) .1;
@@ -123,30 +123,30 @@ module _ {homes paths block line₀ vars₀ said₀ : Text} {k : Run} {line vars
     sameSaid = w ∙ g .sameSaid;
     reached = λ first read told h.
         let q = g .reached first read told h in
-        record { told = q .told ++ take len (c .said); reaches = reaches-line homes paths read block (q .told) at (q .reaches) t };
+        record { told = q .told ++ take len (c .said); reaches = reaches-line homes paths params read block (q .told) at (q .reaches) t };
   }
 
   -- the block ran out within a line
   pub passes-open : {c : Buffers} {n : ℕ} → Stays (r .kept) block at (buffers line vars said) c n
-      → Passes homes paths block line₀ vars₀ k (c .line) (c .vars) (record { kept = n; «vars_used» = r .«vars_used»; «goes_on» = true })
+      → Passes homes paths params block line₀ vars₀ k (c .line) (c .vars) (record { kept = n; «vars_used» = r .«vars_used»; «goes_on» = true })
   passes-open s = record {
     goes = λ e first read told h.
         let q = g .reached first read told h in
-        record { told = q .told; reaches = reaches-open homes paths read block (q .told) at {k = carried} (q .reaches) s };
+        record { told = q .told; reaches = reaches-open homes paths params read block (q .told) at {k = carried} (q .reaches) s };
     stops = λ e. absurd (no (sym e));
   }
 
   -- the block is passed, or the output failed
-  pub passes-left : (r .«goes_on» ≡ true → length block ≤ at) → Passes homes paths block line₀ vars₀ k line vars r
+  pub passes-left : (r .«goes_on» ≡ true → length block ≤ at) → Passes homes paths params block line₀ vars₀ k line vars r
   passes-left f = record {
     goes = λ e first read told h.
         let q = g .reached first read told h in
         record {
           told = q .told;
-          reaches = subst (λ (x : Text). Reaches homes paths first (read ++ x) (q .told) line (r .kept) (variables vars (r .«vars_used»)))
+          reaches = subst (λ (x : Text). Reaches homes paths params first (read ++ x) (q .told) line (r .kept) (variables vars (r .«vars_used»)))
               (take-all at block (f e)) (q .reaches);
         };
-    stops = λ e first read told h. reaches-stopped homes paths read block at (g .reached first read told h .reaches);
+    stops = λ e first read told h. reaches-stopped homes paths params read block at (g .reached first read told h .reaches);
   }
 
 -- WHAT A READ GAVE
@@ -182,49 +182,50 @@ input-comes block got i e = subst (Comes block) (sym e) (go got)
 pub comes-counts : (block : Text) {i : Input} {n : ℕ} → i ≡ Block n → Comes block i → Counts n block
 comes-counts block e h = subst (Comes block) e h .1
 
-module _ {homes paths block line vars said : Text} {k : Run} {line′ vars′ said′ : Text} {r : Run} {i : Input} where
-  pub follows-block : {n : ℕ} → i ≡ Block n → Passes homes paths (take n block) line vars k line′ vars′ r
-      → Follows homes paths block line vars said k line′ vars′ said′ r i
-  follows-block e p = subst (Follows homes paths block line vars said k line′ vars′ said′ r) (sym e) (passes p)
+module _ {homes paths params block line vars said : Text} {k : Run} {line′ vars′ said′ : Text} {r : Run} {i : Input} where
+  pub follows-block : {n : ℕ} → i ≡ Block n → Passes homes paths params (take n block) line vars k line′ vars′ r
+      → Follows homes paths params block line vars said k line′ vars′ said′ r i
+  follows-block e p = subst (Follows homes paths params block line vars said k line′ vars′ said′ r) (sym e) (passes p)
 
-  pub follows-end : i ≡ Ended → Finishes homes paths line vars said k vars′ said′ r → Follows homes paths block line vars said k line′ vars′ said′ r i
-  follows-end e f = subst (Follows homes paths block line vars said k line′ vars′ said′ r) (sym e) (finishes f)
+  pub follows-end : i ≡ Ended → Finishes homes paths params line vars said k vars′ said′ r
+      → Follows homes paths params block line vars said k line′ vars′ said′ r i
+  follows-end e f = subst (Follows homes paths params block line vars said k line′ vars′ said′ r) (sym e) (finishes f)
 
-  pub follows-failure : i ≡ Failed → Fails line vars said k line′ vars′ said′ r → Follows homes paths block line vars said k line′ vars′ said′ r i
-  follows-failure e f = subst (Follows homes paths block line vars said k line′ vars′ said′ r) (sym e) (fails f)
+  pub follows-failure : i ≡ Failed → Fails line vars said k line′ vars′ said′ r → Follows homes paths params block line vars said k line′ vars′ said′ r i
+  follows-failure e f = subst (Follows homes paths params block line vars said k line′ vars′ said′ r) (sym e) (fails f)
 
 -- ALL BLOCKS
 
 -- a run stands where all that was read is answered, or has stopped
-pub record Stands (homes paths vars₀ : Text) (used₀ : ℕ) (line vars said : Text) (k : Run) : Type 0 where
+pub record Stands (homes paths params vars₀ : Text) (used₀ : ℕ) (line vars said : Text) (k : Run) : Type 0 where
   pub room : lineKept ≤ length line
   pub words : imageLimit + answerRoom ≤ length said
-  pub goes : k .«goes_on» ≡ true → Going homes paths (variables vars₀ used₀) line (k .kept) (variables vars (k .«vars_used»))
-  pub stops : k .«goes_on» ≡ false → Answers homes paths vars₀ used₀ vars (k .«vars_used»)
+  pub goes : k .«goes_on» ≡ true → Going homes paths params (variables vars₀ used₀) line (k .kept) (variables vars (k .«vars_used»))
+  pub stops : k .«goes_on» ≡ false → Answers homes paths params vars₀ used₀ vars (k .«vars_used»)
 
-pub stands-starts : (homes paths vars : Text) (used : ℕ) (line said : Text) → Ready line said 0
-    → Stands homes paths vars used line vars said (record { kept = 0; «vars_used» = used; «goes_on» = true })
-stands-starts homes paths vars used line said h = record {
+pub stands-starts : (homes paths params vars : Text) (used : ℕ) (line said : Text) → Ready line said 0
+    → Stands homes paths params vars used line vars said (record { kept = 0; «vars_used» = used; «goes_on» = true })
+stands-starts homes paths params vars used line said h = record {
   room = h .room;
   words = h .words;
-  goes = λ e. record { read = []; reached = record { told = []; reaches = reaches-none homes paths (variables vars used) line } };
+  goes = λ e. record { read = []; reached = record { told = []; reaches = reaches-none homes paths params (variables vars used) line } };
   stops = λ e. absurd (no (sym e));
 }
 
-module _ {homes paths vars₀ : Text} {used₀ : ℕ} {line vars said : Text} {k : Run} (s : Stands homes paths vars₀ used₀ line vars said k) where
+module _ {homes paths params vars₀ : Text} {used₀ : ℕ} {line vars said : Text} {k : Run} (s : Stands homes paths params vars₀ used₀ line vars said k) where
   pub stands-ready : k .«goes_on» ≡ true → Ready line said (k .kept)
   stands-ready e = record { most = kept-most (s .goes e .reached .reaches .holds); room = s .room; words = s .words }
 
   -- by either way out
-  pub stands-answers : Answers homes paths vars₀ used₀ vars (k .«vars_used»)
+  pub stands-answers : Answers homes paths params vars₀ used₀ vars (k .«vars_used»)
   stands-answers =
       either (k .«goes_on»)
-      (λ e. let g = s .goes e in record { read = g .read; ran = reaches-ran homes paths (g .reached .reaches) })
+      (λ e. let g = s .goes e in record { read = g .read; ran = reaches-ran homes paths params (g .reached .reaches) })
       (λ e. s .stops e)
 
   pub stands-follows : {block line′ vars′ said′ : Text} {r : Run} {i : Input} → k .«goes_on» ≡ true
-      → Follows homes paths block line vars said k line′ vars′ said′ r i → length line′ ≡ length line → length said′ ≡ length said
-      → Stands homes paths vars₀ used₀ line′ vars′ said′ r
+      → Follows homes paths params block line vars said k line′ vars′ said′ r i → length line′ ≡ length line → length said′ ≡ length said
+      → Stands homes paths params vars₀ used₀ line′ vars′ said′ r
   stands-follows {line′ = line′} {vars′ = vars′} {said′ = said′} {r = r} q f l w = record {
     room = omega (arith, s .room);
     words = omega (arith, s .words);
@@ -232,21 +233,21 @@ module _ {homes paths vars₀ : Text} {used₀ : ℕ} {line vars said : Text} {k
     stops = stopped f;
   }
     where
-      g : Going homes paths (variables vars₀ used₀) line (k .kept) (variables vars (k .«vars_used»))
+      g : Going homes paths params (variables vars₀ used₀) line (k .kept) (variables vars (k .«vars_used»))
       g = s .goes q
 
-      goes-on : {block : Text} {i : Input} → Follows homes paths block line vars said k line′ vars′ said′ r i → r .«goes_on» ≡ true
-          → Going homes paths (variables vars₀ used₀) line′ (r .kept) (variables vars′ (r .«vars_used»))
+      goes-on : {block : Text} {i : Input} → Follows homes paths params block line vars said k line′ vars′ said′ r i → r .«goes_on» ≡ true
+          → Going homes paths params (variables vars₀ used₀) line′ (r .kept) (variables vars′ (r .«vars_used»))
       goes-on (passes p) e = record { read = _; reached = p .goes e (variables vars₀ used₀) (g .read) (g .reached .told) (g .reached .reaches) }
       goes-on (finishes p) e = absurd (apart (p .stops) e)
       goes-on (fails p) e = absurd (apart (p .stops) e)
 
-      stopped : {block : Text} {i : Input} → Follows homes paths block line vars said k line′ vars′ said′ r i → r .«goes_on» ≡ false
-          → Answers homes paths vars₀ used₀ vars′ (r .«vars_used»)
+      stopped : {block : Text} {i : Input} → Follows homes paths params block line vars said k line′ vars′ said′ r i → r .«goes_on» ≡ false
+          → Answers homes paths params vars₀ used₀ vars′ (r .«vars_used»)
       stopped (passes p) e = record { read = _; ran = p .stops e (variables vars₀ used₀) (g .read) (g .reached .told) (g .reached .reaches) }
-      stopped (finishes p) e = record { read = g .read; ran = run-ran homes paths (g .reached .reaches) (p .says) }
+      stopped (finishes p) e = record { read = g .read; ran = run-ran homes paths params (g .reached .reaches) (p .says) }
       stopped (fails p) e = record {
         read = g .read;
-        ran = subst (Ran homes paths (variables vars₀ used₀) (g .read)) (sym (ap (λ (x : Text). variables x (r .«vars_used»)) (p .sameVars) ∙
-            ap (λ (n : ℕ). variables vars n) (p .sameUsed))) (reaches-ran homes paths (g .reached .reaches));
+        ran = subst (Ran homes paths params (variables vars₀ used₀) (g .read)) (sym (ap (λ (x : Text). variables x (r .«vars_used»)) (p .sameVars) ∙
+            ap (λ (n : ℕ). variables vars n) (p .sameUsed))) (reaches-ran homes paths params (g .reached .reaches));
       }

@@ -3,15 +3,17 @@
 use Prim.Native.Nat.{ℕ, zero, suc, _<_, min}
 use mathlib.Core.Path.{_≡_}
 use mathlib.Core.Bool.{true, false}
-use mathlib.Core.List.{[], _++_}
+use mathlib.Core.List.{List, [], _++_}
 use mathlib.Core.Option.{Option}
 use lib.IntN.{ℤ, pos, negsuc}
 use lib.ListN.{length, take, replicate}
 use Rattle.stages.specs.Numbers.{imageLimit}
 use Rattle.stages.specs.Bytes.{Text}
+use Rattle.stages.specs.Images.{image}
 use Rattle.stages.specs.Call.{Answer, over}
 use Rattle.stages.specs.Program.{tableOr, Variables, said, firstVariables, program}
 use Rattle.io.specs.Counts.{Counts}
+use Rattle.recipe_arguments.specs.Packs.{Packs}
 use Rattle.recipe_cut.specs.Lines.{lastLine}
 use Rattle.recipe_answer.specs.Says.{variables, Says}
 use Rattle.recipe_answer.specs.Turns.{Reaches, Ran}
@@ -40,28 +42,28 @@ pub record Spoken (words : Text) : Type 0 where
   pub is : words ≡ said answer
 
 -- turns have come so far, by something that was read and something that was said
-pub record Reached (homes paths : Text) (first : Variables) (read line : Text) (kept : ℕ) (now : Variables) : Type 0 where
+pub record Reached (homes paths params : Text) (first : Variables) (read line : Text) (kept : ℕ) (now : Variables) : Type 0 where
   pub told : Text
-  pub reaches : Reaches homes paths first read told line kept now
+  pub reaches : Reaches homes paths params first read told line kept now
 
-pub record Going (homes paths : Text) (first : Variables) (line : Text) (kept : ℕ) (now : Variables) : Type 0 where
+pub record Going (homes paths params : Text) (first : Variables) (line : Text) (kept : ℕ) (now : Variables) : Type 0 where
   pub read : Text
-  pub reached : Reached homes paths first read line kept now
+  pub reached : Reached homes paths params first read line kept now
 
 -- the lines of a block are answered: whatever was read before, its lines are those of both; or the output failed, after some of them
-pub record Passes (homes paths block line vars : Text) (k : Run) (line′ vars′ : Text) (r : Run) : Type 0 where
+pub record Passes (homes paths params block line vars : Text) (k : Run) (line′ vars′ : Text) (r : Run) : Type 0 where
   pub goes : r .«goes_on» ≡ true → (first : Variables) (read told : Text)
-      → Reaches homes paths first read told line (k .kept) (variables vars (k .«vars_used»))
-      → Reached homes paths first (read ++ block) line′ (r .kept) (variables vars′ (r .«vars_used»))
+      → Reaches homes paths params first read told line (k .kept) (variables vars (k .«vars_used»))
+      → Reached homes paths params first (read ++ block) line′ (r .kept) (variables vars′ (r .«vars_used»))
   pub stops : r .«goes_on» ≡ false → (first : Variables) (read told : Text)
-      → Reaches homes paths first read told line (k .kept) (variables vars (k .«vars_used»))
-      → Ran homes paths first (read ++ block) (variables vars′ (r .«vars_used»))
+      → Reaches homes paths params first read told line (k .kept) (variables vars (k .«vars_used»))
+      → Ran homes paths params first (read ++ block) (variables vars′ (r .«vars_used»))
 
 -- the input ended: what is kept is a line more, if it is not empty
-pub record Finishes (homes paths line vars said : Text) (k : Run) (vars′ said′ : Text) (r : Run) : Type 0 where
+pub record Finishes (homes paths params line vars said : Text) (k : Run) (vars′ said′ : Text) (r : Run) : Type 0 where
   pub stops : r .«goes_on» ≡ false
   pub len : ℕ
-  pub says : Says homes paths (variables vars (k .«vars_used»)) (lastLine (take (k .kept) line)) said said′ vars′
+  pub says : Says homes paths params (variables vars (k .«vars_used»)) (lastLine (take (k .kept) line)) said said′ vars′
       (record { len = len; «vars_used» = r .«vars_used» })
 
 -- the input failed: nothing more is answered
@@ -73,25 +75,31 @@ pub record Fails (line vars said : Text) (k : Run) (line′ vars′ said′ : Te
   pub sameSaid : said′ ≡ said
 
 -- by what a read gave
-pub data Follows (homes paths block line vars said : Text) (k : Run) (line′ vars′ said′ : Text) (r : Run) : Input → Type 0 where
-  passes : {n : ℕ} → Passes homes paths (take n block) line vars k line′ vars′ r → Follows homes paths block line vars said k line′ vars′ said′ r (Block n)
-  finishes : Finishes homes paths line vars said k vars′ said′ r → Follows homes paths block line vars said k line′ vars′ said′ r Ended
-  fails : Fails line vars said k line′ vars′ said′ r → Follows homes paths block line vars said k line′ vars′ said′ r Failed
+pub data Follows (homes paths params block line vars said : Text) (k : Run) (line′ vars′ said′ : Text) (r : Run) : Input → Type 0 where
+  passes : {n : ℕ} → Passes homes paths params (take n block) line vars k line′ vars′ r
+      → Follows homes paths params block line vars said k line′ vars′ said′ r (Block n)
+  finishes : Finishes homes paths params line vars said k vars′ said′ r
+      → Follows homes paths params block line vars said k line′ vars′ said′ r Ended
+  fails : Fails line vars said k line′ vars′ said′ r → Follows homes paths params block line vars said k line′ vars′ said′ r Failed
 
 -- all turns: of what was read lines are answered, and the variables are those after them
-pub record Answers (homes paths vars : Text) (used : ℕ) (vars′ : Text) (used′ : ℕ) : Type 0 where
+pub record Answers (homes paths params vars : Text) (used : ℕ) (vars′ : Text) (used′ : ℕ) : Type 0 where
   pub read : Text
-  pub ran : Ran homes paths (variables vars used) read (variables vars′ used′)
+  pub ran : Ran homes paths params (variables vars used) read (variables vars′ used′)
 
--- the files as far as they were read, the lines of the input, and what is said of them: all, where nothing failed, is what document 01's program writes
-pub record Runs (vars homes paths : Text) : Type 0 where
+-- the files as far as they were read, the arguments, the lines of the input, and what is said of them: all, where nothing failed, is what the stage's
+-- program writes
+pub record Runs (vars homes paths params : Text) : Type 0 where
   pub varsFile : Option Text
   pub homesFile : Option Text
   pub pathsFile : Option Text
+  pub arguments : List Text
   pub input : Text
   pub now : Variables
-  pub ran : Ran (tableOr homesFile) (tableOr pathsFile) (firstVariables varsFile) input now
-  pub whole : ran .others ≡ [] → ran .told ≡ program varsFile homesFile pathsFile input
+  pub ran : Ran (tableOr homesFile) (tableOr pathsFile) (image arguments) (firstVariables varsFile) input now
+  pub whole : ran .others ≡ [] → ran .told ≡ program varsFile homesFile pathsFile arguments input
   pub varsAre : take imageLimit vars ≡ now .buffer
   pub homesAre : homes ≡ over (tableOr homesFile) (replicate (length homes) 0)
   pub pathsAre : paths ≡ over (tableOr pathsFile) (replicate (length paths) 0)
+  pub packed : ℕ
+  pub paramsAre : Packs arguments params packed

@@ -67,12 +67,13 @@ fn answer_block(
     line: &mut [u8],
     vars: &mut [u8],
     homes: &[u8],
+    params: &[u8],
     paths: &[u8],
     said: &mut [u8],
 ) -> Run
     requires { ⌜ Ready (now line) (now said) (run .kept) ⌝ }
-    ensures { λ r. ⌜ Passes (now (homes .entry)) (now (paths .entry)) (now (block .entry)) (now (line .entry)) (now (vars .entry)) run (now (line .exit))
-        (now (vars .exit)) r ⌝ }
+    ensures { λ r. ⌜ Passes (now (homes .entry)) (now (paths .entry)) (now (params .entry)) (now (block .entry)) (now (line .entry))
+        (now (vars .entry)) run (now (line .exit)) (now (vars .exit)) r ⌝ }
 {
     let mut so_far = run;
     let mut at = 0;
@@ -81,7 +82,17 @@ fn answer_block(
             kept: so_far.kept,
             vars_used: so_far.vars_used,
         };
-        let turn = recipe_answer::answer_next(carried, block, at, line, vars, homes, paths, said);
+        let turn = recipe_answer::answer_next(
+            carried,
+            block,
+            at,
+            line,
+            vars,
+            homes,
+            params,
+            paths,
+            said,
+        );
         match turn {
             Turn::Open(kept) => {
                 return Run {
@@ -114,18 +125,19 @@ fn answer_end(
     line: &[u8],
     vars: &mut [u8],
     homes: &[u8],
+    params: &[u8],
     paths: &[u8],
     said: &mut [u8],
 ) -> Run
     requires { ⌜ Ready (now line) (now said) (run .kept) ⌝ }
-    ensures { λ r. ⌜ Finishes (now (homes .entry)) (now (paths .entry)) (now (line .entry)) (now (vars .entry)) (now (said .entry)) run (now (vars .exit))
-        (now (said .exit)) r ⌝ }
+    ensures { λ r. ⌜ Finishes (now (homes .entry)) (now (paths .entry)) (now (params .entry)) (now (line .entry)) (now (vars .entry))
+        (now (said .entry)) run (now (vars .exit)) (now (said .exit)) r ⌝ }
 {
     let carried = Carried {
         kept: run.kept,
         vars_used: run.vars_used,
     };
-    let told = recipe_answer::answer_last(carried, line, vars, homes, paths, said);
+    let told = recipe_answer::answer_last(carried, line, vars, homes, params, paths, said);
     let len = told.len;
     if len > 0 {
         write_words(&said[..len]);
@@ -145,16 +157,17 @@ fn answer_input(
     line: &mut [u8],
     vars: &mut [u8],
     homes: &[u8],
+    params: &[u8],
     paths: &[u8],
     said: &mut [u8],
 ) -> Run
     requires { ⌜ Ready (now line) (now said) (run .kept) × Comes (now block) input ⌝ }
-    ensures { λ r. ⌜ Follows (now (homes .entry)) (now (paths .entry)) (now (block .entry)) (now (line .entry)) (now (vars .entry)) (now (said .entry)) run
-        (now (line .exit)) (now (vars .exit)) (now (said .exit)) r input ⌝ }
+    ensures { λ r. ⌜ Follows (now (homes .entry)) (now (paths .entry)) (now (params .entry)) (now (block .entry)) (now (line .entry))
+        (now (vars .entry)) (now (said .entry)) run (now (line .exit)) (now (vars .exit)) (now (said .exit)) r input ⌝ }
 {
     match input {
-        Input::Block(n) => answer_block(run, &block[..n], line, vars, homes, paths, said),
-        Input::Ended => answer_end(run, line, vars, homes, paths, said),
+        Input::Block(n) => answer_block(run, &block[..n], line, vars, homes, params, paths, said),
+        Input::Ended => answer_end(run, line, vars, homes, params, paths, said),
         Input::Failed => Run {
             kept: 0,
             vars_used: run.vars_used,
@@ -171,11 +184,12 @@ pub fn answer_all(
     line: &mut [u8],
     vars: &mut [u8],
     homes: &[u8],
+    params: &[u8],
     paths: &[u8],
     said: &mut [u8],
 ) -> usize
     requires { ⌜ Ready (now line) (now said) 0 ⌝ }
-    ensures { λ r. ⌜ Answers (now (homes .entry)) (now (paths .entry)) (now (vars .entry)) «vars_used» (now (vars .exit)) r ⌝ }
+    ensures { λ r. ⌜ Answers (now (homes .entry)) (now (paths .entry)) (now (params .entry)) (now (vars .entry)) «vars_used» (now (vars .exit)) r ⌝ }
 {
     let mut so_far = Run {
         kept: 0,
@@ -185,7 +199,7 @@ pub fn answer_all(
     let mut turns = u64::MAX;
     while turns > 0 && so_far.goes_on {
         let input = read_block(block);
-        so_far = answer_input(input, so_far, block, line, vars, homes, paths, said);
+        so_far = answer_input(input, so_far, block, line, vars, homes, params, paths, said);
         turns -= 1;
     }
     so_far.vars_used

@@ -1,5 +1,5 @@
-// The program of document 01. It reads the tables of the current folder, then answers the lines of standard input one by one. The buffers are made here
-// and lent; how an answer is worked out is in the libraries.
+// The program of document 01. It reads the tables of the current folder, then answers the lines of standard input one by one; its arguments are their
+// positional parameters. The buffers are made here and lent; how an answer is worked out is in the libraries.
 mod answering;
 
 ghost use mathlib.Core.Path.{_≡_};
@@ -40,9 +40,15 @@ fn said_room() -> [u8; numbers::SAID_ROOM]
     [0; numbers::SAID_ROOM]
 }
 
-// Answers all lines with the tables that were read, and gives the variables' used length after them.
-fn answer_with(vars: &mut [u8], vars_used: usize, homes: &[u8], paths: &[u8]) -> usize
-    ensures { λ r. ⌜ Answers (now (homes .entry)) (now (paths .entry)) (now (vars .entry)) «vars_used» (now (vars .exit)) r ⌝ }
+// Answers all lines with the tables that were read and the parameters, and gives the variables' used length after them.
+fn answer_with(
+    vars: &mut [u8],
+    vars_used: usize,
+    homes: &[u8],
+    params: &[u8],
+    paths: &[u8],
+) -> usize
+    ensures { λ r. ⌜ Answers (now (homes .entry)) (now (paths .entry)) (now (params .entry)) (now (vars .entry)) «vars_used» (now (vars .exit)) r ⌝ }
 {
     let mut line = line_room();
     let mut block = io::buffer();
@@ -53,15 +59,17 @@ fn answer_with(vars: &mut [u8], vars_used: usize, homes: &[u8], paths: &[u8]) ->
         &mut line,
         vars,
         homes,
+        params,
         paths,
         &mut said,
     )
 }
 
-// Reads the three tables and answers all lines. If a table cannot be read, no line is answered.
-fn run(vars: &mut [u8], homes: &mut [u8], paths: &mut [u8]) -> bool
-    requires { ⌜ (imageLimit + 1 ≡ length (now vars)) × (imageLimit + 1 ≡ length (now homes)) × (pathsLimit + 1 ≡ length (now paths)) ⌝ }
-    ensures { λ r. ⌜ (r ≡ true → Runs (now (vars .exit)) (now (homes .exit)) (now (paths .exit))) ⌝ }
+// Reads the three tables and the arguments, which are the positional parameters, and answers all lines. If a table cannot be read, no line is answered.
+fn run(vars: &mut [u8], homes: &mut [u8], params: &mut [u8], paths: &mut [u8]) -> bool
+    requires { ⌜ (imageLimit + 1 ≡ length (now vars)) × (imageLimit + 1 ≡ length (now homes)) × (imageLimit + 1 ≡ length (now params))
+        × (pathsLimit + 1 ≡ length (now paths)) ⌝ }
+    ensures { λ r. ⌜ (r ≡ true → Runs (now (vars .exit)) (now (homes .exit)) (now (paths .exit)) (now (params .exit))) ⌝ }
 {
     let Loaded::Length(vars_used) = recipe_load::load(b"vars.tab", vars) else {
         return false;
@@ -72,10 +80,12 @@ fn run(vars: &mut [u8], homes: &mut [u8], paths: &mut [u8]) -> bool
     let Loaded::Length(p) = recipe_load::load(b"paths.tab", paths) else {
         return false;
     };
+    let packed = recipe_arguments::gather(params);
     answer_with(
         &mut vars[..numbers::IMAGE_LIMIT],
         vars_used,
         &homes[..h],
+        &params[..packed],
         &paths[..p],
     );
     true
@@ -84,6 +94,7 @@ fn run(vars: &mut [u8], homes: &mut [u8], paths: &mut [u8]) -> bool
 fn main() {
     let mut vars = image_room();
     let mut homes = image_room();
+    let mut params = image_room();
     let mut paths = paths_room();
-    run(&mut vars, &mut homes, &mut paths);
+    run(&mut vars, &mut homes, &mut params, &mut paths);
 }

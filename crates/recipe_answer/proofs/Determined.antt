@@ -16,9 +16,9 @@ use Rattle.recipe_answer.specs.declared.Turn.{Turn}
 use Rattle.recipe_answer.specs.declared.Turn.the-variants.{Open, Answered}
 
 -- `say` and `answer_last`
-pub says-determined : (homes paths : Text) (v : Variables) (lines : List Text) (old left left′ vars vars′ : Text) (r s : Said)
-    → Says homes paths v lines old left vars r → Says homes paths v lines old left′ vars′ s → (r ≡ s) × (left ≡ left′) × (vars ≡ vars′)
-says-determined homes paths v lines old left left′ vars vars′ r s g h =
+pub says-determined : (homes paths params : Text) (v : Variables) (lines : List Text) (old left left′ vars vars′ : Text) (r s : Said)
+    → Says homes paths params v lines old left vars r → Says homes paths params v lines old left′ vars′ s → (r ≡ s) × (left ≡ left′) × (vars ≡ vars′)
+says-determined homes paths params v lines old left left′ vars vars′ r s g h =
     let e : variables vars (r .«vars_used») ≡ variables vars′ (s .«vars_used») = one-answer (g .after) (h .after) in
     let p : (r .len ≡ s .len) × (left ≡ left′) = puts-once (g .words) (h .words) in
     let u : r .«vars_used» ≡ s .«vars_used» = ap (λ (w : Variables). w .varsUsed) e in (
@@ -28,8 +28,9 @@ says-determined homes paths v lines old left left′ vars vars′ r s g h =
     )
 
 -- `answer_next`
-module _ (homes paths : Text) (k : Carried) (block : Text) (at : ℕ) (b : Buffers) where
-  pub turned-determined : (c d : Buffers) (r s : Turn) → Turned homes paths k block at b c r → Turned homes paths k block at b d s → (r ≡ s) × (c ≡ d)
+module _ (homes paths params : Text) (k : Carried) (block : Text) (at : ℕ) (b : Buffers) where
+  pub turned-determined : (c d : Buffers) (r s : Turn) → Turned homes paths params k block at b c r → Turned homes paths params k block at b d s
+      → (r ≡ s) × (c ≡ d)
   turned-determined c d (Open n) (Open m) (stays g) (stays h) =
       let p : (n ≡ m) × (c .line ≡ d .line) = puts-once (g .keeps) (h .keeps) in
       (ap Open (p .0), rw (p .1, one-answer (g .sameVars) (h .sameVars), one-answer (g .sameSaid) (h .sameSaid)))
@@ -38,7 +39,7 @@ module _ (homes paths : Text) (k : Carried) (block : Text) (at : ℕ) (b : Buffe
   turned-determined c d (Answered len used next) (Answered len′ used′ next′) (tells g) (tells h) =
       let n : next ≡ next′ = some-same (sym (g .ends) ∙ h .ends) in
       let v : Variables = variables (b .vars) (k .«vars_used») in
-      let p = says-determined homes paths v _ (b .said) (c .said) (d .said) (c .vars) (d .vars) _ _ (g .says) (h .says) in (
+      let p = says-determined homes paths params v _ (b .said) (c .said) (d .said) (c .vars) (d .vars) _ _ (g .says) (h .says) in (
         ap (λ (s : Said). Answered (s .len) (s .«vars_used») next) (p .0) ∙ ap (Answered len′ used′) n,
         rw (one-answer (g .keeps) (h .keeps), p .2, p .1),
       )

@@ -47,27 +47,27 @@ unfoldable outcome : Given → Placed (Text × Pairs)
 unfolding expanded quotedIn
 outcome g = expanded g imageLimit then λ r. quotedIn (length (g .out)) (r .0) then λ t. doneAt (t, r .1)
 
-module _ (line vars : Text) (used : ℕ) (homes paths work out work' out' : Text) (w : length work ≡ length work') (o : length out ≡ length out') where
-  same-outcome : outcome (given line vars used homes paths work out) ≡ outcome (given line vars used homes paths work' out')
+module _ (line vars : Text) (used : ℕ) (homes params paths work out work' out' : Text) (w : length work ≡ length work') (o : length out ≡ length out') where
+  same-outcome : outcome (given line vars used homes params paths work out) ≡ outcome (given line vars used homes params paths work' out')
   unfolding outcome expanded
   same-outcome = rw (w, o)
 
-  same-lengths : Alike (normaliser (given line vars used homes paths work out)) (normaliser (given line vars used homes paths work' out'))
+  same-lengths : Alike (normaliser (given line vars used homes params paths work out)) (normaliser (given line vars used homes params paths work' out'))
   unfolding normaliser outcome
   same-lengths =
       subst
-      (λ (x : Placed (Text × Pairs)). Alike (normaliser (given line vars used homes paths work out))
-      (answered (given line vars used homes paths work' out') x)) same-outcome
-      (answered-alike (given line vars used homes paths work out) (given line vars used homes paths work' out')
-      (outcome (given line vars used homes paths work out)) refl refl)
+      (λ (x : Placed (Text × Pairs)). Alike (normaliser (given line vars used homes params paths work out))
+      (answered (given line vars used homes params paths work' out') x)) same-outcome
+      (answered-alike (given line vars used homes params paths work out) (given line vars used homes params paths work' out')
+      (outcome (given line vars used homes params paths work out)) refl refl)
 
 -- the code's answer, said
 
-module _ (line vars : Text) (used : ℕ) (homes paths work out : Text) (w : workLeast ≡ length work) (o : imageLimit ≡ length out) where
-  to-stage : Alike (normaliser (given line vars used homes paths work out)) (normaliser (givenLine homes paths line (variables vars used)))
+module _ (line vars : Text) (used : ℕ) (homes params paths work out : Text) (w : workLeast ≡ length work) (o : imageLimit ≡ length out) where
+  to-stage : Alike (normaliser (given line vars used homes params paths work out)) (normaliser (givenLine homes paths params line (variables vars used)))
   unfolding givenLine
   to-stage =
-      same-lengths line vars used homes paths work out (replicate workLeast 0) (replicate imageLimit 0)
+      same-lengths line vars used homes params paths work out (replicate workLeast 0) (replicate imageLimit 0)
       (sym w ∙ sym (length-replicate {A = ℕ} workLeast 0)) (sym o ∙ sym (length-replicate {A = ℕ} imageLimit 0))
 
 -- the output's length is within the output
@@ -101,30 +101,30 @@ module _ (g : Given) {r : Answer} {vars work out : Text} (h : Gives (normaliser 
       ∙ sym (said-is (normaliser g))
 
 -- what is said of a line is the stage's
-module _ (homes paths line vars : Text) (used : ℕ) where
+module _ (homes paths params line vars : Text) (used : ℕ) where
   abbrev answer : stage.Answer
-  answer = normaliser (givenLine homes paths line (variables vars used))
+  answer = normaliser (givenLine homes paths params line (variables vars used))
 
-  one-said : said answer ≡ saidOf homes paths (variables vars used) (line ∷ [])
+  one-said : said answer ≡ saidOf homes paths params (variables vars used) (line ∷ [])
   unfolding saidOf
   one-said = sym (append-nil (said answer))
 
   one-after : (buffer : Text) (n : ℕ) → buffer ≡ answer .vars → n ≡ answer .varsUsed
-      → variables buffer n ≡ afterLines homes paths (variables vars used) (line ∷ [])
+      → variables buffer n ≡ afterLines homes paths params (variables vars used) (line ∷ [])
   unfolding afterLines afterLine
   one-after buffer n e f = ap (λ (b : Text). variables b n) e ∙ ap (λ (k : ℕ). variables (answer .vars) k) f
 
-module _ (line vars : Text) (used : ℕ) (homes paths work out : Text) {r : Answer} {vars' work' out' : Text} where
+module _ (line vars : Text) (used : ℕ) (homes params paths work out : Text) {r : Answer} {vars' work' out' : Text} where
   pub said-so : {old left : Text} {len : ℕ} → workLeast ≡ length work → imageLimit ≡ length out
-      → Gives (normaliser (given line vars used homes paths work out)) r vars' work' out'
+      → Gives (normaliser (given line vars used homes params paths work out)) r vars' work' out'
       → Puts (saidBy (r .number) (r .place) (take (r .«out_len») out')) old left len
-      → Says homes paths (variables vars used) (line ∷ []) old left vars' (record { len = len; «vars_used» = r .«vars_used» })
+      → Says homes paths params (variables vars used) (line ∷ []) old left vars' (record { len = len; «vars_used» = r .«vars_used» })
   said-so {old} {left} {len} w o h p =
-      let a : Alike (normaliser (given line vars used homes paths work out)) (answer homes paths line vars used) =
-      to-stage line vars used homes paths work out w o in
+      let a : Alike (normaliser (given line vars used homes params paths work out)) (answer homes paths params line vars used) =
+      to-stage line vars used homes params paths work out w o in
       record {
         words = subst (λ (t : Text). Puts t old left len)
-            (words-are (given line vars used homes paths work out) h ∙ a .words ∙ one-said homes paths line vars used) p;
-        after = one-after homes paths line vars used vars' (r .«vars_used») (h .hands .variables ∙ a .variables) (h .hands .varsUsed ∙ a .varsUsed);
+            (words-are (given line vars used homes params paths work out) h ∙ a .words ∙ one-said homes paths params line vars used) p;
+        after = one-after homes paths params line vars used vars' (r .«vars_used») (h .hands .variables ∙ a .variables) (h .hands .varsUsed ∙ a .varsUsed);
         within = puts-counts (saidBy (r .number) (r .place) (take (r .«out_len») out')) old left len p;
       }

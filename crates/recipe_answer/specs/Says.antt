@@ -12,7 +12,7 @@ abbrev pub variables : Text → ℕ → Variables
 variables vars used = record { buffer = vars; varsUsed = used }
 
 -- the words stand at the front of a buffer, and the variables are as the lines leave them
-pub record Says (homes paths : Text) (v : Variables) (lines : List Text) (old left vars : Text) (r : Said) : Type 0 where
-  pub words : Puts (saidOf homes paths v lines) old left (r .len)
-  pub after : variables vars (r .«vars_used») ≡ afterLines homes paths v lines
+pub record Says (homes paths params : Text) (v : Variables) (lines : List Text) (old left vars : Text) (r : Said) : Type 0 where
+  pub words : Puts (saidOf homes paths params v lines) old left (r .len)
+  pub after : variables vars (r .«vars_used») ≡ afterLines homes paths params v lines
   pub within : Counts (r .len) left

@@ -43,30 +43,30 @@ pub record Stays (kept : ℕ) (block : Text) (at : ℕ) (b c : Buffers) (n : ℕ
   pub sameSaid : c .said ≡ b .said
 
 -- the line ended: its answer is said, by the variables as they stand
-pub record Tells (homes paths : Text) (k : Carried) (block : Text) (at : ℕ) (b c : Buffers) (len used next : ℕ) : Type 0 where
+pub record Tells (homes paths params : Text) (k : Carried) (block : Text) (at : ℕ) (b c : Buffers) (len used next : ℕ) : Type 0 where
   pub ends : nextPlace block (behind block at) ≡ some next
   pub keeps : c .line ≡ over (grown (b .line) (k .kept) block at) (b .line)
-  pub says : Says homes paths (variables (b .vars) (k .«vars_used»)) (grown (b .line) (k .kept) block at ∷ []) (b .said) (c .said) (c .vars)
+  pub says : Says homes paths params (variables (b .vars) (k .«vars_used»)) (grown (b .line) (k .kept) block at ∷ []) (b .said) (c .said) (c .vars)
       (record { len = len; «vars_used» = used })
 
-pub data Turned (homes paths : Text) (k : Carried) (block : Text) (at : ℕ) (b c : Buffers) : Turn → Type 0 where
-  stays : {n : ℕ} → Stays (k .kept) block at b c n → Turned homes paths k block at b c (Open n)
-  tells : {len used next : ℕ} → Tells homes paths k block at b c len used next → Turned homes paths k block at b c (Answered len used next)
+pub data Turned (homes paths params : Text) (k : Carried) (block : Text) (at : ℕ) (b c : Buffers) : Turn → Type 0 where
+  stays : {n : ℕ} → Stays (k .kept) block at b c n → Turned homes paths params k block at b c (Open n)
+  tells : {len used next : ℕ} → Tells homes paths params k block at b c len used next → Turned homes paths params k block at b c (Answered len used next)
 
 -- turns so far: of what was read the lines that ended are answered, in these words, and the buffer holds what is left of the last one
-pub record Reaches (homes paths : Text) (first : Variables) (read told : Text) (line : Text) (kept : ℕ) (now : Variables) : Type 0 where
+pub record Reaches (homes paths params : Text) (first : Variables) (read told : Text) (line : Text) (kept : ℕ) (now : Variables) : Type 0 where
   pub ended : List Text
   pub left : Text
   pub cuts : Cuts read ended left
   pub holds : Holding left line kept
-  pub words : told ≡ saidOf homes paths first ended
-  pub after : now ≡ afterLines homes paths first ended
+  pub words : told ≡ saidOf homes paths params first ended
+  pub after : now ≡ afterLines homes paths params first ended
 
 -- turns came to their end: of the lines of what was read these are answered, in these words; the others are not, since the system failed
-pub record Ran (homes paths : Text) (first : Variables) (read : Text) (now : Variables) : Type 0 where
+pub record Ran (homes paths params : Text) (first : Variables) (read : Text) (now : Variables) : Type 0 where
   pub told : Text
   pub lines : List Text
   pub others : List Text
   pub all : linesOf read ≡ lines ++ others
-  pub words : told ≡ saidOf homes paths first lines
-  pub after : now ≡ afterLines homes paths first lines
+  pub words : told ≡ saidOf homes paths params first lines
+  pub after : now ≡ afterLines homes paths params first lines

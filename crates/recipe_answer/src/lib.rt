@@ -49,16 +49,17 @@ fn say_in(
     vars: &mut [u8],
     vars_used: usize,
     homes: &[u8],
+    params: &[u8],
     paths: &[u8],
     work: &mut [u8],
     out: &mut [u8],
     said: &mut [u8],
 ) -> Said
     requires { ⌜ (workLeast ≡ length (now work)) × (imageLimit ≡ length (now out)) × (imageLimit + answerRoom ≤ length (now said)) ⌝ }
-    ensures { λ r. ⌜ Says (now (homes .entry)) (now (paths .entry)) (variables (now (vars .entry)) «vars_used») (now (line .entry) ∷ []) (now (said .entry))
-        (now (said .exit)) (now (vars .exit)) r ⌝ }
+    ensures { λ r. ⌜ Says (now (homes .entry)) (now (paths .entry)) (now (params .entry)) (variables (now (vars .entry)) «vars_used»)
+        (now (line .entry) ∷ []) (now (said .entry)) (now (said .exit)) (now (vars .exit)) r ⌝ }
 {
-    let answer = drunquill::normalise(line, vars, vars_used, homes, paths, work, out);
+    let answer = drunquill::normalise(line, vars, vars_used, homes, params, paths, work, out);
     let n = answer.out_len;
     let len = recipe_cut::put_answer(answer.number, answer.place, &out[..n], said);
     Said {
@@ -73,12 +74,13 @@ fn say(
     vars: &mut [u8],
     vars_used: usize,
     homes: &[u8],
+    params: &[u8],
     paths: &[u8],
     said: &mut [u8],
 ) -> Said
     requires { ⌜ imageLimit + answerRoom ≤ length (now said) ⌝ }
-    ensures { λ r. ⌜ Says (now (homes .entry)) (now (paths .entry)) (variables (now (vars .entry)) «vars_used») (now (line .entry) ∷ []) (now (said .entry))
-        (now (said .exit)) (now (vars .exit)) r ⌝ }
+    ensures { λ r. ⌜ Says (now (homes .entry)) (now (paths .entry)) (now (params .entry)) (variables (now (vars .entry)) «vars_used»)
+        (now (line .entry) ∷ []) (now (said .entry)) (now (said .exit)) (now (vars .exit)) r ⌝ }
 {
     let mut work = io::large_buffer();
     let mut out = out_room();
@@ -87,6 +89,7 @@ fn say(
         vars,
         vars_used,
         homes,
+        params,
         paths,
         &mut work,
         &mut out,
@@ -102,18 +105,27 @@ pub fn answer_next(
     line: &mut [u8],
     vars: &mut [u8],
     homes: &[u8],
+    params: &[u8],
     paths: &[u8],
     said: &mut [u8],
 ) -> Turn
     requires { ⌜ Ready (now line) (now said) (carried .kept) × (at ≤ length (now block)) ⌝ }
-    ensures { λ r. ⌜ Turned (now (homes .entry)) (now (paths .entry)) carried (now (block .entry)) at
+    ensures { λ r. ⌜ Turned (now (homes .entry)) (now (paths .entry)) (now (params .entry)) carried (now (block .entry)) at
         (buffers (now (line .entry)) (now (vars .entry)) (now (said .entry))) (buffers (now (line .exit)) (now (vars .exit)) (now (said .exit))) r ⌝ }
 {
     let taken = recipe_cut::take_in(line, carried.kept, block, at);
     match taken {
         Taken::Open(kept) => Turn::Open(kept),
         Taken::Ended { kept, next } => {
-            let told = say(&line[..kept], vars, carried.vars_used, homes, paths, said);
+            let told = say(
+                &line[..kept],
+                vars,
+                carried.vars_used,
+                homes,
+                params,
+                paths,
+                said,
+            );
             Turn::Answered {
                 len: told.len,
                 vars_used: told.vars_used,
@@ -129,16 +141,25 @@ pub fn answer_last(
     line: &[u8],
     vars: &mut [u8],
     homes: &[u8],
+    params: &[u8],
     paths: &[u8],
     said: &mut [u8],
 ) -> Said
     requires { ⌜ Ready (now line) (now said) (carried .kept) ⌝ }
-    ensures { λ r. ⌜ Says (now (homes .entry)) (now (paths .entry)) (variables (now (vars .entry)) (carried .«vars_used»))
+    ensures { λ r. ⌜ Says (now (homes .entry)) (now (paths .entry)) (now (params .entry)) (variables (now (vars .entry)) (carried .«vars_used»))
         (lastLine (take (carried .kept) (now (line .entry)))) (now (said .entry)) (now (said .exit)) (now (vars .exit)) r ⌝ }
 {
     let kept = carried.kept;
     if recipe_cut::is_last_line(&line[..kept]) {
-        return say(&line[..kept], vars, carried.vars_used, homes, paths, said);
+        return say(
+            &line[..kept],
+            vars,
+            carried.vars_used,
+            homes,
+            params,
+            paths,
+            said,
+        );
     }
     Said {
         len: 0,

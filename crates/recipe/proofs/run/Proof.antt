@@ -1,4 +1,4 @@
--- Each table lies within its buffer, and the lines are answered among them.
+-- Each table lies within its buffer, as the arguments do, and the lines are answered among them.
 use borrow.Author.Needs.{needs}
 use Prim.Native.Nat.{ℕ}
 use native.Mathlib.Omega.{arith}
@@ -15,7 +15,7 @@ use Rattle.recipe.proofs.run.Tie as tie
 
 -- where each table has been loaded, and the entry
 abbrev begun : tie.After-load → tie.Start
-begun c = c .before .before .before .before .before .before
+begun c = c .before .before .before .before .before .before .before
 
 abbrev first : tie.After-load2 → tie.After-load
 first c = c .before .before .before .before .before .before .before .before
@@ -32,6 +32,10 @@ loaded-2 c = c .before .before .before .before
 
 abbrev loaded-3 : tie.After-p → tie.After-load3
 loaded-3 c = c .before .before .before .before
+
+-- where the arguments are packed
+abbrev gathered : tie.After-gather → tie.After-p
+gathered c = c .before .before .before
 
 abbrev homed : tie.After-load3 → tie.After-h
 homed c = c .before .before .before .before
@@ -120,26 +124,36 @@ same-length-6 c = search needs
 returns-3 : tie.Need-returns-3
 returns-3 c = λ e. absurd (no e)
 
+gather-requires : tie.Need-gather-requires
+gather-requires c κs = search needs
+
 slice-relend-prefix-answer-with : tie.Need-slice-relend-prefix-answer-with
 slice-relend-prefix-answer-with c = search needs
 
 slice-aggregate-answer-with : tie.Need-slice-aggregate-answer-with
 slice-aggregate-answer-with c =
-    let l = first (second (c .before .before .before .before .before .before)) in
+    let l = first (second (loaded-3 (gathered (c .before .before .before)))) in
     sym (length-take-le _ (l .load .last .1 .0) (omega (arith, l .load .kept .1 .0)))
 
 slice-reshare-prefix-answer-with : tie.Need-slice-reshare-prefix-answer-with
-slice-reshare-prefix-answer-with c = omega (arith, homes-held (homed (c .before .before .before .before .before .before)) .within)
+slice-reshare-prefix-answer-with c = omega (arith, homes-held (homed (loaded-3 (gathered (c .before .before .before)))) .within)
 
 slice-aggregate-answer-with-2 : tie.Need-slice-aggregate-answer-with-2
 slice-aggregate-answer-with-2 c =
-    sym (length-take-le _ _ (omega (arith, homes-held (homed (c .before .before .before .before .before .before .before)) .within)))
+    sym (length-take-le _ _ (omega (arith, homes-held (homed (loaded-3 (gathered (c .before .before .before .before)))) .within)))
 
 slice-reshare-prefix-answer-with-2 : tie.Need-slice-reshare-prefix-answer-with-2
-slice-reshare-prefix-answer-with-2 c = omega (arith, paths-held (c .before .before .before) .within)
+slice-reshare-prefix-answer-with-2 c = c .before .before .before .before .gather .ensures .within
 
 slice-aggregate-answer-with-3 : tie.Need-slice-aggregate-answer-with-3
-slice-aggregate-answer-with-3 c = sym (length-take-le _ _ (omega (arith, paths-held (c .before .before .before .before) .within)))
+slice-aggregate-answer-with-3 c = sym (length-take-le _ _ (c .before .before .before .before .before .gather .ensures .within))
+
+slice-reshare-prefix-answer-with-3 : tie.Need-slice-reshare-prefix-answer-with-3
+slice-reshare-prefix-answer-with-3 c = omega (arith, paths-held (gathered (c .before .before .before .before .before)) .within)
+
+slice-aggregate-answer-with-4 : tie.Need-slice-aggregate-answer-with-4
+slice-aggregate-answer-with-4 c =
+    sym (length-take-le _ _ (omega (arith, paths-held (gathered (c .before .before .before .before .before .before)) .within)))
 
 answer-with-requires : tie.Need-answer-with-requires
 answer-with-requires c κs = search needs
@@ -153,16 +167,22 @@ same-length-8 c = search needs
 same-length-9 : tie.Need-same-length-9
 same-length-9 c = search needs
 
+same-length-10 : tie.Need-same-length-10
+same-length-10 c = search needs
+
 returns-4 : tie.Need-returns-4
 returns-4 c =
-    let p = c .before .before .before .before .before .before .before in
+    let g = c .before .before .before .before .before .before .before .before .before in
+    let p = gathered g in
     let l = loaded-3 p in
     let m = second l in
     let v = m .before .before .before .before in
     let a = c .before .before .answer-with in
     let e = begun (loaded v) .pre .0 in
     let k = a .kept .0 ∙ length-take-le imageLimit (loaded v .load .last .1 .0) (omega (arith, loaded v .load .kept .1 .0, e)) in
-    λ _. answers-run (vars-held v) (sym e) (homes-held (homed l)) (m .load2 .kept .1 .0) (paths-held p) (l .load3 .kept .1 .0) (a .ensures) k
+    let i = begun (loaded v) .pre .2 ∙ sym (g .gather .kept .0) in
+    λ _. answers-run (vars-held v) (sym e) (homes-held (homed l)) (m .load2 .kept .1 .0) (paths-held p) (l .load3 .kept .1 .0) (g .gather .ensures) i
+    (a .ensures) k
 
 pub run-spec : {M : Type 1} → statement M
 run-spec =
@@ -189,14 +209,18 @@ run-spec =
     same-length-5
     same-length-6
     returns-3
+    gather-requires
     slice-relend-prefix-answer-with
     slice-aggregate-answer-with
     slice-reshare-prefix-answer-with
     slice-aggregate-answer-with-2
     slice-reshare-prefix-answer-with-2
     slice-aggregate-answer-with-3
+    slice-reshare-prefix-answer-with-3
+    slice-aggregate-answer-with-4
     answer-with-requires
     same-length-7
     same-length-8
     same-length-9
+    same-length-10
     returns-4)

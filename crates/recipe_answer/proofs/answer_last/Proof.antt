@@ -15,7 +15,7 @@ inside c = omega (arith, c .pre .most, c .pre .room)
 
 slice-aggregate-is-last-line : tie.Need-slice-aggregate-is-last-line
 slice-aggregate-is-last-line c =
-    let a = c .before .before .before .before .before .before in
+    let a = c .before .before .before .before .before .before .before in
     sym (length-take-le _ (a .args .line .now) (omega (arith, inside a)))
 
 is-last-line-requires : tie.Need-is-last-line-requires
@@ -23,7 +23,7 @@ is-last-line-requires c κs = search needs
 
 slice-aggregate-say : tie.Need-slice-aggregate-say
 slice-aggregate-say c =
-    let a = c .before .before .before .before .before .before .before .before .before in
+    let a = c .before .before .before .before .before .before .before .before .before .before in
     sym (length-take-le _ (a .args .line .now) (omega (arith, inside a)))
 
 say-requires : tie.Need-say-requires
@@ -39,14 +39,15 @@ returns : tie.Need-returns
 returns c =
     let s = c .before .before .before .before in
     let i = s .before .before .before .before in
-    let a = i .before .before .before .before .before .before .before .before .args in
-    last-said (a .homes .now) (a .paths .now) (variables (a .vars .now) (a .carried .«vars_used»)) (take (a .carried .kept) (a .line .now))
+    let a = i .before .before .before .before .before .before .before .before .before .args in
+    last-said (a .homes .now) (a .paths .now) (a .params .now) (variables (a .vars .now) (a .carried .«vars_used»)) (take (a .carried .kept) (a .line .now))
     (sym (i .before .is-last-line .ensures) ∙ i .if1 .taken) (s .say .ensures)
 
 returns-2 : tie.Need-returns-2
 returns-2 c =
-    let a = c .before .before .before .before .before .before .before .before .args in
-    last-unsaid (a .homes .now) (a .paths .now) (variables (a .vars .now) (a .carried .«vars_used»)) (take (a .carried .kept) (a .line .now)) (a .said .now)
+    let a = c .before .before .before .before .before .before .before .before .before .args in
+    last-unsaid (a .homes .now) (a .paths .now) (a .params .now) (variables (a .vars .now) (a .carried .«vars_used»)) (take (a .carried .kept) (a .line .now))
+    (a .said .now)
     (sym (c .before .is-last-line .ensures) ∙ c .if1 .left)
 
 pub answer-last-spec : {M : Type 1} → statement M

@@ -14,7 +14,7 @@ use Rattle.recipe_answer.proofs.answer_next.Tie as tie
 inside : (c : tie.After-known-told2) → (c .before .taken2 .given .0 .0) ≤ length (c .before .before .before .before .before .take-in .last .0)
 inside c =
     let t = c .before .before .before .before .before in
-    ended-inside (t .take-in .ensures) (c .before .taken2 .given .1) (t .before .before .before .before .before .before .before .before .pre .0 .room)
+    ended-inside (t .take-in .ensures) (c .before .taken2 .given .1) (t .before .before .before .before .before .before .before .before .before .pre .0 .room)
 
 take-in-requires : tie.Need-take-in-requires
 take-in-requires c κs = search needs
@@ -40,7 +40,7 @@ same-length c = search needs
 returns : tie.Need-returns
 returns c =
     let t = c .before .before .before .before .before in
-    let a = c .before .before .before .before .before .before .before .before .before .before .before .before .before .args in
+    let a = c .before .before .before .before .before .before .before .before .before .before .before .before .before .before .args in
     stays (turn-open (a .carried) (t .take-in .ensures) (a .vars .now) (a .said .now) (c .before .taken .given .1))
 
 same-length-2 : tie.Need-same-length-2
@@ -56,9 +56,9 @@ returns-2 : tie.Need-returns-2
 returns-2 c =
     let s = c .before .before .before .before in
     let t = s .before .before .before .before .before .before .before .before .before in
-    let a = t .before .before .before .before .before .before .before .before .args in
-    tells (turn-ended (a .carried) (t .take-in .ensures) (a .homes .now) (a .paths .now) (a .vars .now) (s .say .last .1 .0) (a .said .now)
-    (s .say .last .1 .1 .1 .1 .1 .0) (s .say .result) (s .before .before .before .before .before .taken2 .given .1) (s .say .ensures))
+    let a = t .before .before .before .before .before .before .before .before .before .args in
+    tells (turn-ended (a .carried) (t .take-in .ensures) (a .homes .now) (a .paths .now) (a .params .now) (a .vars .now) (s .say .last .1 .0) (a .said .now)
+    (s .say .last .1 .1 .1 .1 .1 .1 .0) (s .say .result) (s .before .before .before .before .before .taken2 .given .1) (s .say .ensures))
 
 pub answer-next-spec : {M : Type 1} → statement M
 answer-next-spec =

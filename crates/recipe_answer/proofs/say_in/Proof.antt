@@ -13,14 +13,14 @@ use Rattle.recipe_answer.proofs.say_in.Tie as tie
 
 -- the call's entry, where the normaliser has answered, and what it was given
 abbrev entry : tie.After-normalise → tie.Start
-entry c = c .before .before .before .before .before .before .before .before .before .before .before
+entry c = c .before .before .before .before .before .before .before .before .before .before .before .before
 
 abbrev asked : tie.After-normalise → Given
 asked c =
     let a = entry c .args in
-    given (a .line .now) (a .vars .now) (a .vars-used) (a .homes .now) (a .paths .now) (a .work .now) (a .out .now)
+    given (a .line .now) (a .vars .now) (a .vars-used) (a .homes .now) (a .params .now) (a .paths .now) (a .work .now) (a .out .now)
 
-inside : (c : tie.After-normalise) → (c .normalise .result .«out_len») ≤ length (c .normalise .last .1 .1 .1 .1 .1 .1 .0)
+inside : (c : tie.After-normalise) → (c .normalise .result .«out_len») ≤ length (c .normalise .last .1 .1 .1 .1 .1 .1 .1 .0)
 inside c = out-inside (asked c) (c .normalise .ensures)
 
 normalise-requires : tie.Need-normalise-requires
@@ -32,7 +32,7 @@ slice-reshare-prefix-put-answer c = omega (arith, inside (c .before .before .bef
 slice-aggregate-put-answer : tie.Need-slice-aggregate-put-answer
 slice-aggregate-put-answer c =
     let n = c .before .before .before .before .before .before .before in
-    sym (length-take-le _ (n .normalise .last .1 .1 .1 .1 .1 .1 .0) (omega (arith, inside n)))
+    sym (length-take-le _ (n .normalise .last .1 .1 .1 .1 .1 .1 .1 .0) (omega (arith, inside n)))
 
 put-answer-requires : tie.Need-put-answer-requires
 put-answer-requires c κs =
@@ -55,7 +55,7 @@ returns : tie.Need-returns
 returns c =
     let n = c .before .before .before .before .before .before .before .before .before .before .before in
     let a = entry n .args in
-    said-so (a .line .now) (a .vars .now) (a .vars-used) (a .homes .now) (a .paths .now) (a .work .now) (a .out .now) (entry n .pre .0)
+    said-so (a .line .now) (a .vars .now) (a .vars-used) (a .homes .now) (a .params .now) (a .paths .now) (a .work .now) (a .out .now) (entry n .pre .0)
     (entry n .pre .1) (n .normalise .ensures) (c .before .before .put-answer .ensures)
 
 pub say-in-spec : {M : Type 1} → statement M

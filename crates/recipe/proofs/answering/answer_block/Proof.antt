@@ -11,11 +11,11 @@ use Rattle.recipe.proofs.answering.answer_block.Statement.{statement}
 use Rattle.recipe.proofs.answering.answer_block.Tie as tie
 
 abbrev Inv-loop : tie.InvT-loop
-Inv-loop block line₀ vars₀ homes paths said₀ so-far₀ at₀ line vars said so-far at =
-    Goes homes paths block line₀ vars₀ said₀ so-far₀ line vars said so-far at
+Inv-loop block line₀ vars₀ homes params paths said₀ so-far₀ at₀ line vars said so-far at =
+    Goes homes paths params block line₀ vars₀ said₀ so-far₀ line vars said so-far at
 
 abbrev μ-loop : tie.MeasureT-loop
-μ-loop block line₀ vars₀ homes paths said₀ so-far₀ at₀ line vars said so-far at = length block - at
+μ-loop block line₀ vars₀ homes params paths said₀ so-far₀ at₀ line vars said so-far at = length block - at
 
 -- a turn in the loop, and the one in which a line ended
 abbrev turn : tie.After-answer-next Inv-loop μ-loop → tie.At-loop Inv-loop μ-loop
@@ -26,9 +26,9 @@ answered c = c .before .before .before .before .before .before .before .before
 
 loop-holds : tie.Need-loop-holds Inv-loop μ-loop
 loop-holds c =
-    let a = c .before .before .before .before .before .before in
-    goes-starts (a .args .homes .now) (a .args .paths .now) (a .args .block .now) (a .args .line .now) (a .args .vars .now) (a .args .said .now) (a .args .run)
-    (a .pre)
+    let a = c .before .before .before .before .before .before .before in
+    goes-starts (a .args .homes .now) (a .args .paths .now) (a .args .params .now) (a .args .block .now) (a .args .line .now) (a .args .vars .now)
+    (a .args .said .now) (a .args .run) (a .pre)
 
 answer-next-requires : tie.Need-answer-next-requires Inv-loop μ-loop
 answer-next-requires c κs = let i = c .before .before .before .before .before .loop .inv in (i .ready, i .inside)
@@ -84,7 +84,7 @@ loop-again c =
     let e = c .before .before .before in
     let n = answered e .answer-next in
     let t = turned-told (n .ensures) (e .turn2 .given .1) in
-    goes-line (turn (answered e) .loop .inv) (c .write-words .result) t (n .kept .1 .1 .1 .0) (n .kept .1 .1 .1 .1 .0) (n .kept .1 .1 .1 .1 .1 .1 .1 .0)
+    goes-line (turn (answered e) .loop .inv) (c .write-words .result) t (n .kept .1 .1 .1 .0) (n .kept .1 .1 .1 .1 .0) (n .kept .1 .1 .1 .1 .1 .1 .1 .1 .0)
 
 same-length-4 : tie.Need-same-length-4 Inv-loop μ-loop
 same-length-4 c = search needs

@@ -17,7 +17,7 @@ slice-aggregate-write-words c = search needs
 
 write-words-requires : tie.Need-write-words-requires
 write-words-requires c κs =
-    let a = c .before .before .before .before .before .before .before .before .before .before .before .before .before .before .args in
+    let a = c .before .before .before .before .before .before .before .before .before .before .before .before .before .before .before .args in
     last-spoken (take (a .run .kept) (a .line .now)) (c .before .before .before .before .before .before .answer-last .ensures) (c .before .if1 .taken)
 
 same-length : tie.Need-same-length

@@ -10,7 +10,7 @@ enum-known-input c = search needs
 
 slice-aggregate-answer-block : tie.Need-slice-aggregate-answer-block
 slice-aggregate-answer-block c =
-    let a = c .before .before .before .before .before .before .before .before .before .before in
+    let a = c .before .before .before .before .before .before .before .before .before .before .before in
     comes-counts (a .args .block .now) (c .before .before .input .given .1) (a .pre .1) .1
 
 answer-block-requires : tie.Need-answer-block-requires
