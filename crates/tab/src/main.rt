@@ -4,8 +4,6 @@ ghost use mathlib.Core.Path.{_≡_};
 ghost use Prim.Native.Nat.{_+_, _*_, _≤_};
 ghost use lib.ListN.{length};
 ghost use Rattle.stages.specs.Numbers.{pathsLimit};
-ghost use Rattle.table.specs.Kinds.{inTwos};
-ghost use Rattle.tab_enter.specs.Records.{limitBy};
 use libc::STDERR_FILENO;
 use libc::STDIN_FILENO;
 use libc::STDOUT_FILENO;
@@ -79,13 +77,13 @@ fn show(kind: Kind) {
     show_input(kind, &mut image, &mut out);
 }
 
-// A line without a key: of paths it is empty, and no line is a record of fields.
+// A line without a key: of paths it is empty. Fields have no keys: nothing is said of them.
 fn say_no_key(kind: Kind) {
     match kind {
         Kind::Variables => say(b": no name before its `=`\n"),
         Kind::Homes => say(b": no login before its `=`\n"),
         Kind::Paths => say(b": an empty line is no path\n"),
-        Kind::Fields => say(b": no record of fields\n"),
+        Kind::Fields => {}
     }
 }
 
@@ -101,9 +99,21 @@ fn say_fault(kind: Kind, fault: Fault) {
     }
 }
 
+// Packs lines: records by their keys, fields as they stand.
+fn pack_lines(kind: Kind, text: &[u8], image: &mut [u8], work: &mut [u8]) -> Packed
+    requires { ⌜ (pathsLimit + 1 ≡ length (now image)) × (length (now text) ≤ length (now work)) ⌝ }
+{
+    match kind {
+        Kind::Variables => tab_pack::pack(kind, text, image, work),
+        Kind::Homes => tab_pack::pack(kind, text, image, work),
+        Kind::Paths => tab_pack::pack(kind, text, image, work),
+        Kind::Fields => tab_list::pack_fields(text, &mut image[..numbers::IMAGE_LIMIT], work),
+    }
+}
+
 // Packs the lines that are read.
 fn pack_input(kind: Kind, text: &mut [u8], image: &mut [u8], work: &mut [u8])
-    requires { ⌜ (limitBy (inTwos kind) ≤ length (now image)) × (length (now text) ≤ length (now work)) ⌝ }
+    requires { ⌜ (pathsLimit + 1 ≡ length (now image)) × (length (now text) ≤ length (now work)) ⌝ }
 {
     let n = io::read_full(STDIN_FILENO, text);
     if !was_read(n, text.len()) {
@@ -113,7 +123,7 @@ fn pack_input(kind: Kind, text: &mut [u8], image: &mut [u8], work: &mut [u8])
         say(b"tab: a text of more than 131,075 bytes\n");
         return;
     }
-    let packed = tab_pack::pack(kind, &text[..n], image, work);
+    let packed = pack_lines(kind, &text[..n], image, work);
     match packed {
         Packed::Len(m) => write_out(image, m),
         Packed::Bad { line, fault } => {
@@ -124,9 +134,7 @@ fn pack_input(kind: Kind, text: &mut [u8], image: &mut [u8], work: &mut [u8])
     }
 }
 
-fn pack(kind: Kind)
-    requires { ⌜ limitBy (inTwos kind) ≤ pathsLimit ⌝ }
-{
+fn pack(kind: Kind) {
     let mut text = lines_room();
     let mut image = image_room();
     let mut work = lines_room();
@@ -135,7 +143,7 @@ fn pack(kind: Kind)
 
 fn usage() {
     say(
-        b"usage: tab show vars|homes|paths < image > text\n       tab pack vars|homes|paths < text > image\n",
+        b"usage: tab show vars|homes|paths|fields < image > text\n       tab pack vars|homes|paths|fields < text > image\n",
     );
 }
 
@@ -152,6 +160,10 @@ fn pack_named(word: &[u8]) {
         pack(Kind::Paths);
         return;
     }
+    if text::same(word, b"fields") {
+        pack(Kind::Fields);
+        return;
+    }
     usage();
 }
 
@@ -166,6 +178,10 @@ fn show_named(word: &[u8]) {
     }
     if text::same(word, b"paths") {
         show(Kind::Paths);
+        return;
+    }
+    if text::same(word, b"fields") {
+        show(Kind::Fields);
         return;
     }
     usage();

@@ -32,7 +32,7 @@ use Rattle.tab_pack.specs.declared.Packed.the-variants as told
 use Rattle.tab_enter.proofs.Sounds.{Bare, Sound, sound-none, Kept, kept}
 
 -- an image over a shorter one
-over-over : (a b old : Text) → length a ≤ length b → over b (over a old) ≡ over b old
+pub over-over : (a b old : Text) → length a ≤ length b → over b (over a old) ≡ over b old
 unfolding over
 over-over a b old h =
     let n : length b ≡ length a + (length b - length a) = omega arith in
