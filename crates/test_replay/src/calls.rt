@@ -1,5 +1,6 @@
 // Runs one case. Its buffers are cut to the case's sizes and filled as it says, the job is called, and every byte of every buffer is held against
 // the case's answer.
+use crate::kinds::is_normaliser;
 use crate::laying::OUT_FILL;
 use crate::laying::cut_to_bytes;
 use crate::laying::cut_to_size;
@@ -39,75 +40,65 @@ fn hold_numbers(told: Told, case: &[u8], answer: Answer) -> Told {
 
 // Calls the expander or the normaliser.
 fn call(
-    is_normaliser: bool,
     case: &[u8],
     line: &[u8],
     vars: &mut [u8],
     homes: &[u8],
+    params: &[u8],
     paths: &[u8],
     work: &mut [u8],
     out: &mut [u8],
 ) -> Answer {
     let used = number(word(case, words::USED));
-    if is_normaliser {
-        drunquill::normalise(line, vars, used, homes, paths, work, out)
+    if is_normaliser(case) {
+        drunquill::normalise(line, vars, used, homes, params, paths, work, out)
     } else {
-        drunquill::expand(line, vars, used, homes, paths, work, out)
+        drunquill::expand(line, vars, used, homes, params, paths, work, out)
     }
 }
 
 // Fills the buffers that the expander or the normaliser writes, calls it and holds what it gave against the case.
 fn run_laid(
-    is_normaliser: bool,
     told: Told,
     case: &[u8],
     line: &[u8],
     vars: &mut [u8],
     homes: &[u8],
+    params: &[u8],
     paths: &[u8],
     work: &mut [u8],
     out: &mut [u8],
 ) -> Told {
     lay_buffers(case, vars, work, out);
-    let answer = call(is_normaliser, case, line, vars, homes, paths, work, out);
+    let answer = call(case, line, vars, homes, params, paths, work, out);
     let told = hold_numbers(told, case, answer);
     hold_buffers(told, case, vars, work, out)
 }
 
 // Runs a case of the expander or the normaliser in buffers of its sizes.
 fn run_line(
-    is_normaliser: bool,
     told: Told,
     case: &[u8],
     line: &mut [u8],
     vars: &mut [u8],
     homes: &mut [u8],
+    params: &mut [u8],
     paths: &mut [u8],
     work: &mut [u8],
     out: &mut [u8],
 ) -> Told {
-    lay_given(case, line, homes, paths);
-    run_laid(
-        is_normaliser,
-        told,
-        case,
-        line,
-        vars,
-        homes,
-        paths,
-        work,
-        out,
-    )
+    lay_given(case, line, homes, params, paths);
+    run_laid(told, case, line, vars, homes, params, paths, work, out)
 }
 
 // Cuts the areas of the buffers that a job writes, and runs the case.
 fn cut_buffers(
-    is_normaliser: bool,
     told: Told,
     case: &[u8],
     line: &mut [u8],
     vars: &mut [u8],
     homes: &mut [u8],
+    params: &mut [u8],
     paths: &mut [u8],
     work: &mut [u8],
     out: &mut [u8],
@@ -116,12 +107,12 @@ fn cut_buffers(
     let e = cut_to_size(case, words::WORK, work);
     let f = cut_to_size(case, words::OUT, out);
     run_line(
-        is_normaliser,
         told,
         case,
         line,
         &mut vars[..b],
         homes,
+        params,
         paths,
         &mut work[..e],
         &mut out[..f],
@@ -130,26 +121,27 @@ fn cut_buffers(
 
 // Cuts the areas to the sizes of a case of the expander or the normaliser, first those of what a job reads, and runs it.
 pub(crate) fn try_line(
-    is_normaliser: bool,
     told: Told,
     case: &[u8],
     line: &mut [u8],
     vars: &mut [u8],
     homes: &mut [u8],
+    params: &mut [u8],
     paths: &mut [u8],
     work: &mut [u8],
     out: &mut [u8],
 ) -> Told {
     let a = cut_to_bytes(case, words::LINE, line);
-    let c = cut_to_bytes(case, words::HOMES, homes);
+    let b = cut_to_bytes(case, words::HOMES, homes);
+    let c = cut_to_bytes(case, words::PARAMS, params);
     let d = cut_to_bytes(case, words::PATHS, paths);
     cut_buffers(
-        is_normaliser,
         told,
         case,
         &mut line[..a],
         vars,
-        &mut homes[..c],
+        &mut homes[..b],
+        &mut params[..c],
         &mut paths[..d],
         work,
         out,

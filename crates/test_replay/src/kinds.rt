@@ -4,7 +4,7 @@ use crate::words;
 // What a case asks for, if it is one.
 pub enum Job {
     // The expander's, or the normaliser's.
-    Line { is_normaliser: bool },
+    Line,
     Quoter,
     None,
 }
@@ -12,7 +12,7 @@ pub enum Job {
 // Is the case one of the expander or the normaliser: words of the right kinds, variables that their buffer holds, bytes as many as told? On a refusal
 // there are none.
 fn is_line_case(case: &[u8]) -> bool {
-    if !words::has_shape(case, b"jhhdshhss=dddhdh")
+    if !words::has_shape(case, b"jhhdshhssh=dddhdh")
         || !words::fits(case, words::VARS, words::VARS_BUFFER)
         || !words::agrees(case, words::OUT_LENGTH, words::OUT_BYTES)
     {
@@ -23,6 +23,11 @@ fn is_line_case(case: &[u8]) -> bool {
     } else {
         words::byte_count(words::word(case, words::VARS_BYTES)) == 0
     }
+}
+
+// Is the case one of the normaliser, by its job?
+pub(crate) fn is_normaliser(case: &[u8]) -> bool {
+    text::same(words::word(case, words::JOB), b"normalise")
 }
 
 // Is the case one of the quoter?
@@ -37,18 +42,9 @@ pub(crate) fn job_of(case: &[u8]) -> Job {
     if text::same(job, b"quote") && is_quote_case(case) {
         return Job::Quoter;
     }
-    if !is_line_case(case) {
-        return Job::None;
-    }
-    if text::same(job, b"expand") {
-        return Job::Line {
-            is_normaliser: false,
-        };
-    }
-    if text::same(job, b"normalise") {
-        return Job::Line {
-            is_normaliser: true,
-        };
+    let has_line = text::same(job, b"expand") || is_normaliser(case);
+    if has_line && is_line_case(case) {
+        return Job::Line;
     }
     Job::None
 }

@@ -81,10 +81,17 @@ pub(crate) fn hold_buffers(told: Told, case: &[u8], vars: &[u8], work: &[u8], ou
     hold_bytes(told, b"work area", work, b"-", b"-", WORK_ZERO)
 }
 
-// Writes a case's line, homes and paths.
-pub(crate) fn lay_given(case: &[u8], line: &mut [u8], homes: &mut [u8], paths: &mut [u8]) {
+// Writes a case's line, homes, parameters and paths.
+pub(crate) fn lay_given(
+    case: &[u8],
+    line: &mut [u8],
+    homes: &mut [u8],
+    params: &mut [u8],
+    paths: &mut [u8],
+) {
     lay_word(line, case, words::LINE, 0);
     lay_word(homes, case, words::HOMES, 0);
+    lay_word(params, case, words::PARAMS, 0);
     lay_word(paths, case, words::PATHS, 0);
 }
 

@@ -38,23 +38,14 @@ fn try_case(
     line: &mut [u8],
     vars: &mut [u8],
     homes: &mut [u8],
+    params: &mut [u8],
     paths: &mut [u8],
     work: &mut [u8],
     out: &mut [u8],
 ) -> Told {
     let job = kinds::job_of(case);
     match job {
-        Job::Line { is_normaliser } => calls::try_line(
-            is_normaliser,
-            told,
-            case,
-            line,
-            vars,
-            homes,
-            paths,
-            work,
-            out,
-        ),
+        Job::Line => calls::try_line(told, case, line, vars, homes, params, paths, work, out),
         Job::Quoter => calls::try_quote(told, case, line, out),
         Job::None => telling::tell(told, b"not a case, or too large for its buffers here"),
     }
@@ -65,6 +56,7 @@ fn try_in_areas(told: Told, case: &[u8]) -> Told {
     let mut line = area();
     let mut vars = area();
     let mut homes = area();
+    let mut params = area();
     let mut paths = area();
     let mut work = area();
     let mut out = area();
@@ -74,6 +66,7 @@ fn try_in_areas(told: Told, case: &[u8]) -> Told {
         &mut line,
         &mut vars,
         &mut homes,
+        &mut params,
         &mut paths,
         &mut work,
         &mut out,

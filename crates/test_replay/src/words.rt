@@ -9,7 +9,7 @@ pub const ROOM: usize = 131072;
 // The places of a case's words. Its job comes first.
 pub const JOB: usize = 0;
 
-// Those of the expander and the normaliser; `=` stands at 9.
+// Those of the expander and the normaliser; `=` stands at 10.
 pub const LINE: usize = 1;
 
 pub const VARS: usize = 2;
@@ -26,17 +26,19 @@ pub const WORK: usize = 7;
 
 pub const OUT: usize = 8;
 
-pub const NUMBER: usize = 10;
+pub const PARAMS: usize = 9;
 
-pub const PLACE: usize = 11;
+pub const NUMBER: usize = 11;
 
-pub const OUT_LENGTH: usize = 12;
+pub const PLACE: usize = 12;
 
-pub const OUT_BYTES: usize = 13;
+pub const OUT_LENGTH: usize = 13;
 
-pub const USED_LENGTH: usize = 14;
+pub const OUT_BYTES: usize = 14;
 
-pub const VARS_BYTES: usize = 15;
+pub const USED_LENGTH: usize = 15;
+
+pub const VARS_BYTES: usize = 16;
 
 // Those of the quoter; `=` stands at 3.
 pub const FIELDS: usize = 1;
