@@ -23,13 +23,20 @@ pub struct Answer {
     pub used: usize,
 }
 
+/// The images that a call reads and leaves as they are.
+#[derive(Clone, Copy, Debug)]
+pub struct Tables<'a> {
+    pub homes: &'a [u8],
+    pub paths: &'a [u8],
+    pub parameters: &'a [u8],
+}
+
 /// What the expander and the normaliser read; the variables are the whole buffer.
-struct Given<'a> {
+struct Lent<'a> {
     line: &'a [u8],
     variables: &'a [u8],
     used: usize,
-    homes: &'a [u8],
-    paths: &'a [u8],
+    tables: Tables<'a>,
     work: usize,
 }
 
@@ -44,14 +51,13 @@ pub fn expand(
     line: &[u8],
     variables: &mut [u8],
     used: usize,
-    homes: &[u8],
-    paths: &[u8],
+    tables: Tables,
     work: &mut [u8],
     out: &mut [u8],
 ) -> Answer {
     work.fill(0);
-    let given = Given { line, variables, used, homes, paths, work: work.len() };
-    let written = given.expand(out.len());
+    let lent = Lent { line, variables, used, tables, work: work.len() };
+    let written = lent.expand(out.len());
     answer(written, variables, used, out)
 }
 
@@ -60,14 +66,13 @@ pub fn normalise(
     line: &[u8],
     variables: &mut [u8],
     used: usize,
-    homes: &[u8],
-    paths: &[u8],
+    tables: Tables,
     work: &mut [u8],
     out: &mut [u8],
 ) -> Answer {
     work.fill(0);
-    let given = Given { line, variables, used, homes, paths, work: work.len() };
-    let written = given.expand(limits::IMAGE).and_then(|written| {
+    let lent = Lent { line, variables, used, tables, work: work.len() };
+    let written = lent.expand(limits::IMAGE).and_then(|written| {
         let out = quoted(&written.out, out.len())?;
         Ok(Written { out, ..written })
     });
@@ -92,16 +97,17 @@ fn answer(written: Result<Written, Refusal>, variables: &mut [u8], used: usize, 
     }
 }
 
-impl Given<'_> {
-    /// The numbers 1 to 6 in order, then reading, then the words from left to right.
+impl Lent<'_> {
+    /// The numbers 1 to 4, 23, 5 and 6 in this order, then reading, then the words from left to right.
     fn expand(&self, out_length: usize) -> Result<Written, Refusal> {
         if self.work < limits::WORK_AREA {
             return Err(Number::WorkArea.at(0));
         }
         let variables = self.variables.get(..self.used).and_then(image::variables);
         let variables = variables.ok_or(Number::Variables.at(0))?;
-        let homes = image::homes(self.homes).ok_or(Number::Homes.at(0))?;
-        let paths = image::paths(self.paths).ok_or(Number::Paths.at(0))?;
+        let homes = image::homes(self.tables.homes).ok_or(Number::Homes.at(0))?;
+        let paths = image::paths(self.tables.paths).ok_or(Number::Paths.at(0))?;
+        let parameters = image::fields(self.tables.parameters).ok_or(Number::Parameters.at(0))?;
         if self.line.len() > limits::LINE {
             return Err(Number::LineTooLong.at(0));
         }
@@ -112,6 +118,7 @@ impl Given<'_> {
         let mut expander = Expander {
             variables: Variables::new(variables, self.variables.len().min(limits::IMAGE)),
             homes: &homes,
+            parameters: &parameters,
             seen: Seen::default(),
         };
         let out = expand_words(&words, &mut expander, &paths, out_length)?;

@@ -1,7 +1,8 @@
 //! A case: one call with its answer, on one line of text in the format of tests/vectors/README.md.
 
-use crate::calls::{expand, normalise, quote, Answer};
+use crate::calls::{expand, normalise, quote, Answer, Tables};
 use crate::hex;
+use crate::image;
 use crate::number::ACCEPTED;
 
 /// What stands in the buffers where the case says nothing.
@@ -26,6 +27,13 @@ pub struct Lent {
     pub paths: Vec<u8>,
     pub work: usize,
     pub out: usize,
+    pub parameters: Vec<u8>,
+}
+
+impl Lent {
+    pub fn tables(&self) -> Tables<'_> {
+        Tables { homes: &self.homes, paths: &self.paths, parameters: &self.parameters }
+    }
 }
 
 #[derive(Clone, Debug)]
@@ -52,6 +60,7 @@ impl Call {
                     hex::write(&lent.paths),
                     lent.work.to_string(),
                     lent.out.to_string(),
+                    hex::write(&lent.parameters),
                 ];
                 format!("{job} {}", words.join(" "))
             }
@@ -110,9 +119,15 @@ pub fn replay(text: &str) -> Result<(), String> {
     Err(format!("{words}\n  wanted {wanted}\n  given  {given}"))
 }
 
+/// What the words lend. The last one is the parameters' image; without it there are no parameters.
 fn lent(words: &[&str]) -> Option<Lent> {
-    let [line, variables, used, variables_buffer, homes, paths, work, out] = words else {
+    let [line, variables, used, variables_buffer, homes, paths, work, out, parameters @ ..] = words else {
         return None;
+    };
+    let parameters = match parameters {
+        [] => image::empty(),
+        [parameters] => hex::read(parameters)?,
+        _ => return None,
     };
     Some(Lent {
         line: hex::read(line)?,
@@ -123,6 +138,7 @@ fn lent(words: &[&str]) -> Option<Lent> {
         paths: hex::read(paths)?,
         work: work.parse().ok()?,
         out: out.parse().ok()?,
+        parameters,
     })
 }
 
@@ -136,7 +152,7 @@ fn lines_answer(job: Job, lent: &Lent) -> Result<(Answer, String), String> {
         Job::Expand => expand,
         Job::Normalise => normalise,
     };
-    let answer = call(&lent.line, &mut variables, lent.used, &lent.homes, &lent.paths, &mut work, &mut out);
+    let answer = call(&lent.line, &mut variables, lent.used, lent.tables(), &mut work, &mut out);
     if work.iter().any(|&byte| byte != 0) {
         return Err("the work area is not zero".to_string());
     }

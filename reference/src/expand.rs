@@ -5,14 +5,15 @@ use crate::image::Pair;
 use crate::matching::remaining;
 use crate::number::Number;
 use crate::pattern::{self, Purpose};
-use crate::row::{bytes, marked, Mark, Row, Unit};
-use crate::tree::{Choice, End, Form, Part};
+use crate::row::{bytes, marked, Given, Mark, Row, Unit};
+use crate::tree::{Choice, End, Form, List, Parameter, Part};
 use crate::variables::Variables;
 
 /// What expanding reads and, for the variables, changes.
 pub struct Expander<'a> {
     pub variables: Variables,
     pub homes: &'a [Pair],
+    pub parameters: &'a [Vec<u8>],
     pub seen: Seen,
 }
 
@@ -21,10 +22,25 @@ pub struct Expander<'a> {
 pub struct Seen {
     /// The patterns that were read, a refused one too.
     pub patterns: Vec<SeenPattern>,
-    /// The units of each row; of a refused one, with what would have passed the limit.
-    pub rows: Vec<usize>,
+    /// Each row; a refused one with what would have passed the limit.
+    pub rows: Vec<SeenRow>,
     /// The arithmetic texts that were worked out or refused.
     pub sums: Vec<Vec<u8>>,
+    /// The quotes that gave back their empty mark.
+    pub given_back: usize,
+}
+
+/// How many units a row has, and how many of them are break marks.
+#[derive(Clone, Copy, Debug)]
+pub struct SeenRow {
+    pub units: usize,
+    pub breaks: usize,
+}
+
+impl SeenRow {
+    fn of(units: &[Unit]) -> SeenRow {
+        SeenRow { units: units.len(), breaks: units.iter().filter(|unit| **unit == Unit::Break).count() }
+    }
 }
 
 #[derive(Debug)]
@@ -53,31 +69,68 @@ impl SeenPattern {
 impl Expander<'_> {
     pub fn row(&mut self, parts: &[Part]) -> Result<Row, Number> {
         let mut row = Row::default();
-        for part in parts {
-            let units = self.part(part)?;
-            if let Err(refused) = row.add(&units) {
-                self.seen.rows.push(row.units().len() + units.len());
-                return Err(refused);
-            }
-        }
-        self.seen.rows.push(row.units().len());
+        self.add_parts(&mut row, parts)?;
+        self.seen.rows.push(SeenRow::of(row.units()));
         Ok(row)
     }
 
-    fn part(&mut self, part: &Part) -> Result<Vec<Unit>, Number> {
-        match part {
-            Part::Literal(byte) => Ok(vec![Unit::Byte(*byte, Mark::Literal)]),
-            Part::Quoted(byte) => Ok(vec![Unit::Byte(*byte, Mark::Quoted)]),
-            Part::OpeningQuote => Ok(vec![Unit::Empty]),
-            Part::Tilde(login) => Ok(self.tilde(login)),
-            Part::Parameter { name, form, quoted } => self.parameter(name, form, mark(*quoted)),
+    fn add_parts(&mut self, row: &mut Row, parts: &[Part]) -> Result<(), Number> {
+        parts.iter().try_for_each(|part| self.add_part(row, part))
+    }
+
+    fn add_part(&mut self, row: &mut Row, part: &Part) -> Result<(), Number> {
+        let given = match part {
+            Part::Quotes(inside) => return self.add_quotes(row, inside),
+            Part::Literal(byte) => marked(&[*byte], Mark::Literal).into(),
+            Part::Quoted(byte) => marked(&[*byte], Mark::Quoted).into(),
+            Part::Tilde(login) => self.tilde(login).into(),
+            Part::Parameter { parameter, form, quoted } => self.parameter(parameter, form, mark(*quoted))?,
+            Part::Count { quoted } => marked(self.parameters.len().to_string().as_bytes(), mark(*quoted)).into(),
+            Part::List { list, quoted } => self.list(*list, *quoted),
             Part::Arithmetic { text, quoted } => {
                 let text = bytes(self.row(text)?.units());
                 let result = arithmetic::result(&text, &self.variables);
                 self.seen.sums.push(text);
-                Ok(marked(result?.to_string().as_bytes(), mark(*quoted)))
+                marked(result?.to_string().as_bytes(), mark(*quoted)).into()
             }
+        };
+        self.add(row, &given)
+    }
+
+    fn add(&mut self, row: &mut Row, given: &Given) -> Result<(), Number> {
+        let added = row.add(given);
+        if added.is_err() {
+            self.seen.rows.push(SeenRow::of(&[row.units(), &given.units].concat()));
         }
+        added
+    }
+
+    /// An empty mark and what is inside. If nothing came of that and a `$@` in it had no parameters, the mark is taken back.
+    fn add_quotes(&mut self, row: &mut Row, inside: &[Part]) -> Result<(), Number> {
+        self.add(row, &vec![Unit::Empty].into())?;
+        let opened = row.units().len();
+        row.had_no_parameters();
+        self.add_parts(row, inside)?;
+        if row.had_no_parameters() && row.units().len() == opened {
+            row.take_back();
+            self.seen.given_back += 1;
+        }
+        Ok(())
+    }
+
+    /// `"$*"` is joined by the first byte of IFS as it stands. All others break between parameters, in quotes with an empty mark behind.
+    fn list(&self, list: List, quoted: bool) -> Given {
+        let mark = mark(quoted);
+        let between = match (list, quoted) {
+            (List::Star, true) => {
+                let ifs = self.variables.value(b"IFS").unwrap_or(b" ");
+                marked(&ifs[..ifs.len().min(1)], mark)
+            }
+            (List::At, true) => vec![Unit::Break, Unit::Empty],
+            (_, false) => vec![Unit::Break],
+        };
+        let texts: Vec<Vec<Unit>> = self.parameters.iter().map(|text| marked(text, mark)).collect();
+        Given { units: texts.join(between.as_slice()), no_parameters: list == List::At && texts.is_empty() }
     }
 
     fn tilde(&self, login: &[u8]) -> Vec<Unit> {
@@ -103,55 +156,70 @@ impl Expander<'_> {
         home.map(|(_, directory)| directory.as_slice())
     }
 
-    fn parameter(&mut self, name: &[u8], form: &Form, mark: Mark) -> Result<Vec<Unit>, Number> {
+    fn parameter(&mut self, parameter: &Parameter, form: &Form, mark: Mark) -> Result<Given, Number> {
         match form {
-            Form::Plain => Ok(marked(self.value(name), mark)),
+            Form::Plain => Ok(marked(self.value_or_nothing(parameter), mark).into()),
             Form::Length => {
-                let length = self.value(name).len().to_string();
-                Ok(marked(length.as_bytes(), mark))
+                let length = self.value_or_nothing(parameter).len().to_string();
+                Ok(marked(length.as_bytes(), mark).into())
             }
             Form::Choice { choice, colon, operand } => {
-                let value = self.variables.value(name);
+                let value = self.value(parameter);
                 let missing = value.is_none_or(|value| *colon && value.is_empty());
-                self.choose(name, *choice, missing, operand, mark)
+                self.choose(parameter, *choice, missing, operand, mark)
             }
             Form::Removal { end, extent, operand } => {
                 let operand = self.row(operand)?;
-                let held_to = HeldTo::Value(self.value(name).to_vec(), *end);
+                let held_to = HeldTo::Value(self.value_or_nothing(parameter).to_vec(), *end);
                 self.seen.patterns.push(SeenPattern { units: operand.units().to_vec(), held_to });
                 let pattern = pattern::read(operand.units(), Purpose::Removal)?;
-                let value = self.value(name);
-                Ok(marked(remaining(&pattern.elements, value, *end, *extent), mark))
+                let value = self.value_or_nothing(parameter);
+                Ok(marked(remaining(&pattern.elements, value, *end, *extent), mark).into())
             }
         }
     }
 
-    /// The value, nothing if unset.
-    fn value(&self, name: &[u8]) -> &[u8] {
-        self.variables.value(name).unwrap_or_default()
+    fn value(&self, parameter: &Parameter) -> Option<&[u8]> {
+        match parameter {
+            Parameter::Name(name) => self.variables.value(name),
+            Parameter::Number(number) => self.parameters.get(number - 1).map(Vec::as_slice),
+        }
+    }
+
+    fn value_or_nothing(&self, parameter: &Parameter) -> &[u8] {
+        self.value(parameter).unwrap_or_default()
     }
 
     fn choose(
         &mut self,
-        name: &[u8],
+        parameter: &Parameter,
         choice: Choice,
         missing: bool,
         operand: &[Part],
         mark: Mark,
-    ) -> Result<Vec<Unit>, Number> {
+    ) -> Result<Given, Number> {
         match (choice, missing) {
             (Choice::Default, true) | (Choice::Alternative, false) => {
-                let operand = self.row(operand)?;
-                Ok(operand.units().iter().map(as_expansion).collect())
+                let mut given = self.row(operand)?.given();
+                given.units.iter_mut().for_each(as_expansion);
+                Ok(given)
             }
-            (Choice::Alternative, true) => Ok(Vec::new()),
+            (Choice::Alternative, true) => Ok(Given::default()),
             (Choice::Demand, true) => Err(Number::Missing),
             (Choice::Store, true) => {
                 let value = bytes(self.row(operand)?.units());
-                self.variables.store(name, value)?;
-                Ok(marked(self.value(name), mark))
+                self.store(parameter, value)?;
+                Ok(marked(self.value_or_nothing(parameter), mark).into())
             }
-            (_, false) => Ok(marked(self.value(name), mark)),
+            (_, false) => Ok(marked(self.value_or_nothing(parameter), mark).into()),
+        }
+    }
+
+    /// Sets a variable; reading has left no store under a number.
+    fn store(&mut self, parameter: &Parameter, value: Vec<u8>) -> Result<(), Number> {
+        match parameter {
+            Parameter::Name(name) => self.variables.store(name, value),
+            Parameter::Number(_) => Err(Number::NotServed),
         }
     }
 }
@@ -164,10 +232,9 @@ fn mark(quoted: bool) -> Mark {
     }
 }
 
-/// A unit of the operand of `-` or `+`: bare literal bytes become E, Q and N stay.
-fn as_expansion(unit: &Unit) -> Unit {
-    match unit {
-        Unit::Byte(byte, Mark::Literal) => Unit::Byte(*byte, Mark::Expansion),
-        _ => *unit,
+/// A unit of the operand of `-` or `+`: bare literal bytes become E, all others stay.
+fn as_expansion(unit: &mut Unit) {
+    if let Unit::Byte(_, mark @ Mark::Literal) = unit {
+        *mark = Mark::Expansion;
     }
 }

@@ -24,4 +24,4 @@ mod split;
 mod tree;
 mod variables;
 
-pub use calls::{expand, normalise, quote, Answer};
+pub use calls::{expand, normalise, quote, Answer, Tables};

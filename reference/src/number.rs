@@ -1,6 +1,6 @@
-//! The numbers of document 01's table, each with its name, and the refusal that pairs one with a place.
+//! The numbers of document 01's table and those that document 02 adds, each with its name, and the refusal that pairs one with a place.
 
-/// Why a call is refused. The discriminant is the number document 01 gives.
+/// Why a call is refused. The discriminant is the number the documents give.
 #[derive(Clone, Copy, Debug, PartialEq, Eq)]
 #[repr(u8)]
 pub enum Number {
@@ -26,11 +26,12 @@ pub enum Number {
     NoRoomForVariable = 20,
     NoRoomForOutput = 21,
     Fields = 22,
+    Parameters = 23,
 }
 
 /// The number of an accepted call, and the last number of the table.
 pub const ACCEPTED: u8 = 0;
-pub const LAST_NUMBER: u8 = Number::Fields as u8;
+pub const LAST_NUMBER: u8 = Number::Parameters as u8;
 
 /// A number and the place it was met at.
 #[derive(Clone, Copy, Debug, PartialEq, Eq)]

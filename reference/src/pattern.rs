@@ -81,6 +81,6 @@ pub fn stars(pattern: &Pattern) -> usize {
 fn pattern_byte(unit: &Unit) -> Option<PatternByte> {
     match *unit {
         Unit::Byte(byte, mark) => Some(PatternByte { byte, active: mark != Mark::Quoted }),
-        Unit::Empty => None,
+        Unit::Empty | Unit::Break => None,
     }
 }

@@ -1,25 +1,26 @@
-//! The program of document 01: tables from a folder, lines from a reader, one answer to a line.
+//! The program of document 01: tables from a folder, parameters from its arguments, lines from a reader, one answer to a line.
 
 use std::fs;
 use std::io::{self, BufRead, ErrorKind, Write};
 use std::path::Path;
 
-use crate::calls::{normalise, Answer};
+use crate::calls::{normalise, Answer, Tables};
 use crate::image;
 use crate::limits;
 use crate::number::ACCEPTED;
 
-/// The tables of a folder, and the variables as the lines so far have left them.
+/// The tables of a folder, the parameters, and the variables as the lines so far have left them.
 struct Program {
     variables: Vec<u8>,
     used: usize,
     homes: Vec<u8>,
     paths: Vec<u8>,
+    parameters: Vec<u8>,
 }
 
 /// Answers every line; a table that is there and cannot be read is an error before any answer.
-pub fn run(folder: &Path, mut lines: impl BufRead, mut out: impl Write) -> io::Result<()> {
-    let mut program = Program::new(folder)?;
+pub fn run(folder: &Path, parameters: &[Vec<u8>], mut lines: impl BufRead, mut out: impl Write) -> io::Result<()> {
+    let mut program = Program::new(folder, parameters)?;
     let mut line = Vec::new();
     while lines.read_until(b'\n', &mut line)? > 0 {
         out.write_all(&program.answer(line.strip_suffix(b"\n").unwrap_or(&line)))?;
@@ -30,11 +31,12 @@ pub fn run(folder: &Path, mut lines: impl BufRead, mut out: impl Write) -> io::R
 }
 
 impl Program {
-    fn new(folder: &Path) -> io::Result<Self> {
+    fn new(folder: &Path, parameters: &[Vec<u8>]) -> io::Result<Self> {
         let mut variables = table(folder, "vars.tab")?;
         let used = variables.len();
         variables.resize(limits::IMAGE, 0);
-        Ok(Program { variables, used, homes: table(folder, "homes.tab")?, paths: table(folder, "paths.tab")? })
+        let (homes, paths) = (table(folder, "homes.tab")?, table(folder, "paths.tab")?);
+        Ok(Program { variables, used, homes, paths, parameters: list(parameters) })
     }
 
     fn answer(&mut self, line: &[u8]) -> Vec<u8> {
@@ -43,8 +45,7 @@ impl Program {
             line,
             &mut self.variables,
             self.used,
-            &self.homes,
-            &self.paths,
+            Tables { homes: &self.homes, paths: &self.paths, parameters: &self.parameters },
             &mut vec![0; limits::WORK_AREA],
             &mut out,
         );
@@ -52,6 +53,15 @@ impl Program {
         out.truncate(answer.length);
         said(&answer, &out)
     }
+}
+
+/// The image of the parameters. Those that no image of its length can hold are one that is too long, whatever they are.
+fn list(parameters: &[Vec<u8>]) -> Vec<u8> {
+    let length: usize = 1 + parameters.iter().map(|text| 2 + text.len()).sum::<usize>();
+    if length > limits::IMAGE {
+        return vec![0; length];
+    }
+    image::of_texts(parameters)
 }
 
 /// The answer as the program writes it.

@@ -40,16 +40,17 @@ pub enum DoubleEnd {
     Operand = b'}' as isize,
 }
 
-/// A line, how far it has been read, and how many expansions are open.
+/// A line, how far it has been read, how many expansions are open, and whether `$@` and `$*` are served here.
 pub struct Reader<'a> {
     pub(crate) line: &'a [u8],
     pub(crate) at: usize,
     pub(crate) open: usize,
+    pub(crate) lists: bool,
 }
 
 /// All words of the line, or the first fault met from the left.
 pub fn read(line: &[u8]) -> Result<Vec<Word>, Refusal> {
-    let mut reader = Reader { line, at: 0, open: 0 };
+    let mut reader = Reader { line, at: 0, open: 0, lists: true };
     let mut words = Vec::new();
     while let Some(byte) = reader.peek(0) {
         if is_separator(byte) {
@@ -108,11 +109,10 @@ impl Reader<'_> {
             };
             match byte {
                 b'`' => return Err(Number::CommandSubstitution),
-                b'\'' => self.single(&mut parts)?,
+                b'\'' => parts.push(self.single()?),
                 b'"' => {
                     self.at += 1;
-                    parts.push(Part::OpeningQuote);
-                    parts.extend(self.double(DoubleEnd::Quote)?);
+                    parts.push(Part::Quotes(self.double(DoubleEnd::Quote)?));
                 }
                 b'\\' => parts.push(self.bare_backslash()?),
                 b'$' => parts.push(self.dollar(Setting::Bare)?),
@@ -130,14 +130,12 @@ impl Reader<'_> {
         }
     }
 
-    fn single(&mut self, parts: &mut Vec<Part>) -> Result<(), Number> {
+    fn single(&mut self) -> Result<Part, Number> {
         let text = &self.line[self.at + 1..];
         let length = text.iter().position(|&byte| byte == b'\'');
         let length = length.ok_or(Number::LineEnds)?;
-        parts.push(Part::OpeningQuote);
-        parts.extend(text[..length].iter().map(|&byte| Part::Quoted(byte)));
         self.at += length + 2;
-        Ok(())
+        Ok(Part::Quotes(text[..length].iter().map(|&byte| Part::Quoted(byte)).collect()))
     }
 
     fn bare_backslash(&mut self) -> Result<Part, Number> {
@@ -228,6 +226,17 @@ impl Reader<'_> {
         self.open += 1;
         let read = inside(self)?;
         self.open -= 1;
+        Ok(read)
+    }
+
+    /// Reads an operand or a text in which, at any depth, `$@` and `$*` are not served.
+    pub(crate) fn without_lists<T>(
+        &mut self,
+        inside: impl FnOnce(&mut Self) -> Result<T, Number>,
+    ) -> Result<T, Number> {
+        let lists = std::mem::replace(&mut self.lists, false);
+        let read = inside(self)?;
+        self.lists = lists;
         Ok(read)
     }
 }

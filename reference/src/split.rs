@@ -1,4 +1,5 @@
-//! Splitting a row into fields, by the paper's own loop: a field, then its delimiters, while units remain.
+//! Splitting a row into fields: each part between break marks by itself, by the paper's own loop, a field, then its delimiters, while units
+//! remain.
 
 use crate::row::{Mark, Unit};
 
@@ -15,6 +16,12 @@ enum Kind {
 /// The fields of a row; no IFS means space, tab, newline.
 pub fn split<'a>(units: &'a [Unit], ifs: Option<&[u8]>) -> Vec<&'a [Unit]> {
     let ifs = ifs.unwrap_or(UNSET_IFS);
+    let parts = units.split(|unit| *unit == Unit::Break);
+    parts.flat_map(|part| split_part(part, ifs)).collect()
+}
+
+/// The fields of a part without break marks; no units, no field.
+fn split_part<'a>(units: &'a [Unit], ifs: &[u8]) -> Vec<&'a [Unit]> {
     let count = |units: &[Unit], wanted: Kind| {
         let wanted = |unit: &&Unit| kind(unit, ifs) == wanted;
         units.iter().take_while(wanted).count()

@@ -14,19 +14,44 @@ pub enum Part {
     Literal(u8),
     /// A byte behind a bare backslash or inside quotes.
     Quoted(u8),
-    /// An opening quote, single or double.
-    OpeningQuote,
+    /// Quotes, single or double: what stands between the opening one and the closing one.
+    Quotes(Vec<Part>),
     /// A `~` at the start of a word or of an operand read as bare text, and the login behind it.
     Tilde(Vec<u8>),
     Parameter {
-        name: Vec<u8>,
+        parameter: Parameter,
         form: Form,
+        quoted: bool,
+    },
+    /// `$#`
+    Count {
+        quoted: bool,
+    },
+    /// `$@` or `$*`
+    List {
+        list: List,
         quoted: bool,
     },
     Arithmetic {
         text: Vec<Part>,
         quoted: bool,
     },
+}
+
+/// A parameter that has a value or is unset.
+#[derive(Clone, Debug, PartialEq, Eq)]
+pub enum Parameter {
+    Name(Vec<u8>),
+    /// A positional one, by its number from 1.
+    Number(usize),
+}
+
+#[derive(Clone, Copy, Debug, PartialEq, Eq)]
+pub enum List {
+    /// `$@`
+    At,
+    /// `$*`
+    Star,
 }
 
 /// What `${name...}` asks for.

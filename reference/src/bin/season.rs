@@ -40,6 +40,6 @@ fn write_season(folder: &Path, season: &Season) -> std::io::Result<()> {
     let lines: Vec<u8> = season.lines.iter().flat_map(|line| [line.as_slice(), b"\n"].concat()).collect();
     write(folder.join("recipe.txt"), &lines)?;
     let mut answers = Vec::new();
-    program::run(folder, lines.as_slice(), &mut answers)?;
+    program::run(folder, &[], lines.as_slice(), &mut answers)?;
     write(folder.join("expected.txt"), answers)
 }

@@ -4,21 +4,30 @@ use std::process::ExitCode;
 
 use reference::generate::random::Random;
 use reference::shells::script::is_harmless;
-use reference::shells::{differences, lines, reference, Folder, Outcome, Shell, Table};
+use reference::shells::{differences, lines, positional, reference, Folder, Given, Outcome, Shell, Table};
 
 fn main() -> ExitCode {
     let words: Vec<String> = std::env::args().skip(1).collect();
     let words: Vec<&str> = words.iter().map(String::as_str).collect();
-    let missing: Vec<&str> = Shell::ALL.into_iter().filter(|shell| !shell.is_installed()).map(Shell::name).collect();
+    let compared = match words[..] {
+        ["--differences", ref names @ ..] | ["--parameters", _, _, ref names @ ..] if !names.is_empty() => {
+            names.iter().map(|name| Shell::named(name)).collect()
+        }
+        _ => Some(Shell::COMPARED.to_vec()),
+    };
+    let Some(compared) = compared else {
+        return usage();
+    };
+    let missing: Vec<&str> = compared.iter().filter(|shell| !shell.is_installed()).map(|shell| shell.name()).collect();
     if !missing.is_empty() {
         let missing = missing.join(", ");
         eprintln!("not installed, so nothing is compared: {missing}");
         return ExitCode::FAILURE;
     }
     let differ = match words[..] {
-        ["--differences"] => show_differences(),
-        [seed, count] => match (seed.parse(), count.parse()) {
-            (Ok(seed), Ok(count)) => compare(seed, count),
+        ["--differences", ..] => show_differences(&compared),
+        [seed, count] | ["--parameters", seed, count, ..] => match (seed.parse(), count.parse()) {
+            (Ok(seed), Ok(count)) => compare(seed, count, words.len() > 2, &compared),
             _ => return usage(),
         },
         _ => return usage(),
@@ -33,65 +42,73 @@ fn main() -> ExitCode {
     }
 }
 
-/// Prints what docs/SHELLS.md lists; how many of its lines show no difference.
-fn show_differences() -> std::io::Result<usize> {
-    let (text, alike) = differences::measured(&Folder::new()?)?;
+/// Prints what docs/SHELLS.md lists, for these shells; how many of its lines show no difference.
+fn show_differences(shells: &[Shell]) -> std::io::Result<usize> {
+    let (text, alike) = differences::measured(&Folder::new()?, shells)?;
     print!("{text}");
     Ok(alike)
 }
 
 fn usage() -> ExitCode {
-    eprintln!("usage: shells SEED COUNT, or shells --differences");
+    eprintln!(
+        "usage: shells SEED COUNT, shells --parameters SEED COUNT [SHELL...], or shells --differences [SHELL...]"
+    );
     ExitCode::FAILURE
 }
 
-/// Compares so many accepted lines and says how many have a class and how many differ, and how many more were made but not compared.
-fn compare(seed: u64, count: usize) -> std::io::Result<usize> {
+/// Compares so many accepted lines, with positional parameters if they are wanted, and says how many have a class or a list and how many differ, and how many
+/// more were made but not compared.
+fn compare(seed: u64, count: usize, parameters: bool, shells: &[Shell]) -> std::io::Result<usize> {
     let folder = Folder::new()?;
-    let (mut compared, mut classes, mut differ, mut refused, mut left_out) = (0, 0, 0, 0, 0);
+    let (mut compared, mut classes, mut lists, mut differ, mut refused, mut left_out) = (0, 0, 0, 0, 0, 0);
     for case in 0.. {
         if compared == count {
             break;
         }
         let random = &mut Random::new(seed, case);
-        let variables = lines::variables(random);
-        let line = lines::line(random);
-        let Ok(wanted) = reference(&line, &variables) else {
+        let mut given = Given { variables: lines::variables(random), parameters: Vec::new() };
+        if parameters {
+            given.parameters = positional::parameters(random);
+        }
+        let line = lines::line(random, parameters);
+        let Ok(wanted) = reference(&line, &given) else {
             refused += 1;
             continue;
         };
-        if !is_harmless(&line) || !lines::splits_alike(&line, &variables) || !lines::stays_in_table(&wanted) {
+        let alike = shells.iter().all(|shell| shell.is_alike(&line, &given));
+        if !is_harmless(&line) || !alike || !lines::stays_in_table(&wanted) {
             left_out += 1;
             continue;
         }
         compared += 1;
         classes += usize::from(lines::has_class(&line));
-        for shell in Shell::ALL {
-            let given = shell.outcome(&folder, &line, &variables)?;
-            if given.as_ref() != Some(&wanted) {
+        lists += usize::from(positional::has_list(&line));
+        for shell in shells {
+            let said = shell.outcome(&folder, &line, &given)?;
+            if said.as_ref() != Some(&wanted) {
                 differ += 1;
-                report(shell, &line, &variables, &wanted, given.as_ref());
+                report(*shell, &line, &given, &wanted, said.as_ref());
             }
         }
     }
     println!("not compared: {refused} lines refused by the reference, {left_out} left out");
-    println!("{compared} lines, {classes} with a class, {differ} differ");
+    println!("{compared} lines, {classes} with a class, {lists} with a list, {differ} differ");
     Ok(differ)
 }
 
-fn report(shell: Shell, line: &[u8], before: &Table, wanted: &Outcome, given: Option<&Outcome>) {
+fn report(shell: Shell, line: &[u8], before: &Given, wanted: &Outcome, given: Option<&Outcome>) {
     println!("{}: {}", shell.name(), line.escape_ascii());
-    println!("  variables {}", shown(before));
-    println!("  reference {} {}", fields(wanted), shown(&wanted.variables));
+    println!("  variables {}", shown(&before.variables));
+    println!("  parameters {}", fields(&before.parameters));
+    println!("  reference {} {}", fields(&wanted.fields), shown(&wanted.variables));
     match given {
-        Some(given) => println!("  shell     {} {}", fields(given), shown(&given.variables)),
+        Some(given) => println!("  shell     {} {}", fields(&given.fields), shown(&given.variables)),
         None => println!("  shell     fails"),
     }
 }
 
-fn fields(outcome: &Outcome) -> String {
-    let fields = outcome.fields.iter();
-    fields.map(|field| format!("<{}>", field.escape_ascii())).collect()
+fn fields(texts: &[Vec<u8>]) -> String {
+    texts.iter().map(|text| format!("<{}>", text.escape_ascii())).collect()
 }
 
 fn shown(table: &Table) -> String {

@@ -1,6 +1,7 @@
 //! Lines made by document 01's grammar: words of pieces, with operands, quotes, patterns and arithmetic inside.
 
 use super::expression;
+use super::lists;
 use super::random::Random;
 use super::tables::NAMES;
 use super::tildes::tilde;
@@ -22,7 +23,7 @@ const OPERAND_ONLY: [&str; 10] = [" ", "  ", "\t", "\n", "|", ";", "(", ")", "#"
 const QUOTED: [&str; 14] = ["", "a", " ", "a b", "*", "?", "[a]", "\\", ":", "|", "#", "\n", "~", "}"];
 const ESCAPES: [&str; 10] = ["\\a", "\\$", "\\`", "\\\"", "\\\\", "\\}", "\\*", "\\ ", "\\'", "\\~"];
 const SPICE: [&str; 22] = [
-    "$((1)`", "${x`", "${#x`", "${x:`", "`", "$1", "$@", "$'a'", "$(", "$$", "|", "&", "(", "${", "${x.}", "${#x-}",
+    "$((1)`", "${x`", "${#x`", "${x:`", "`", "$0", "${@:", "$'a'", "$(", "$$", "|", "&", "(", "${", "${x.}", "${#x-}",
     "${}", "\\\n", "$((1)", "\"", "'", "${x:",
 ];
 const FORMS: [&str; 13] = ["-", ":-", "=", ":=", "?", ":?", "+", ":+", "%", "%%", "#", "##", ":-"];
@@ -95,7 +96,7 @@ pub fn pieces(random: &mut Random, depth: usize, setting: Setting) -> Vec<u8> {
 
 fn piece(random: &mut Random, depth: usize, setting: Setting) -> Vec<u8> {
     let quoted = matches!(setting, Setting::Double | Setting::DoubleOperand);
-    match random.below(28) {
+    match random.below(29) {
         0..=5 => literal(random, setting),
         6..=8 if !quoted => random.text(&WILD),
         9..=10 if !quoted => quotes(random, depth),
@@ -104,6 +105,7 @@ fn piece(random: &mut Random, depth: usize, setting: Setting) -> Vec<u8> {
         17..=23 if depth < 4 => brace(random, depth + 1, quoted),
         24 if depth < 4 => [b"$((".to_vec(), expression::text(random, depth + 1), b"))".to_vec()].concat(),
         25 if random.once_in(5) => random.text(&SPICE),
+        27 => lists::any(random, depth, quoted),
         26 if !quoted && random.once_in(2) => random.text(&CLASSES),
         _ => literal(random, setting),
     }

@@ -8,8 +8,10 @@ mod expression;
 mod focus;
 pub mod grammar;
 pub mod hostile;
+pub mod lists;
 pub mod operands;
 pub mod patterns;
+pub mod positional;
 pub mod quoting;
 pub mod random;
 pub mod season;
@@ -19,6 +21,7 @@ pub mod steps;
 pub mod tables;
 pub mod tally;
 mod tildes;
+mod unserved;
 mod walk;
 
 use self::random::Random;
@@ -34,18 +37,19 @@ pub const MOST_STEPS: usize = 5_000_000;
 /// The call of this case; the same for the same seed and case.
 pub fn call(seed: u64, case: u64) -> Call {
     let random = &mut Random::new(seed, case);
-    let call = match random.below(112) {
-        0..=4 => sizes::call(random),
-        5..=9 => quoting::call(random),
-        10..=13 => malformed(random),
-        14..=18 => storing(random),
-        19..=27 => focused(random, focus::patterns),
-        28..=33 => focused(random, focus::splitting),
-        34..=43 => focused(random, tildes::case),
-        44..=46 => focused(random, quoting::fed_again),
-        47..=61 => focused(random, classes::case),
-        62..=68 => focused(random, stars::case),
-        69..=73 => focused(random, crowds::case),
+    let call = match random.below(200) {
+        0..=8 => sizes::call(random),
+        9..=14 => quoting::call(random),
+        15..=20 => malformed(random),
+        21..=26 => storing(random),
+        27..=35 => focused(random, focus::patterns),
+        36..=41 => focused(random, focus::splitting),
+        42..=57 => focused(random, tildes::case),
+        58..=60 => lone(random, quoting::fed_again),
+        61..=86 => focused(random, classes::case),
+        87..=98 => focused(random, stars::case),
+        99..=105 => focused(random, crowds::case),
+        106..=163 => lone(random, lists::case),
         _ => lines(random),
     };
     match call {
@@ -70,6 +74,7 @@ pub fn ordinary(random: &mut Random) -> Lent {
         paths: of_texts(&tables::paths(random)),
         work: limits::WORK_AREA,
         out: limits::IMAGE,
+        parameters: of_texts(&lists::parameters(random)),
     }
 }
 
@@ -85,6 +90,9 @@ fn lines(random: &mut Random) -> Call {
         3..=4 => [b"$((".to_vec(), expression::text(random, 0), b"))".to_vec()].concat(),
         _ => grammar::line(random),
     };
+    if random.below(5) < 2 {
+        lists::join(random, &mut lent);
+    }
     if random.once_in(60) && !lent.line.is_empty() {
         let at = random.below(lent.line.len());
         lent.line[at] = 0;
@@ -104,7 +112,18 @@ fn storing(random: &mut Random) -> Call {
     Call::Lines(job(random), lent)
 }
 
+/// A case about one thing, often with a list of parameters beside it.
 fn focused(random: &mut Random, focus: fn(&mut Random, &mut Lent)) -> Call {
+    let mut lent = ordinary(random);
+    focus(random, &mut lent);
+    if random.below(5) < 2 {
+        lists::join(random, &mut lent);
+    }
+    Call::Lines(job(random), lent)
+}
+
+/// A case about one thing and nothing beside it.
+fn lone(random: &mut Random, focus: fn(&mut Random, &mut Lent)) -> Call {
     let mut lent = ordinary(random);
     focus(random, &mut lent);
     Call::Lines(job(random), lent)
@@ -114,7 +133,7 @@ fn focused(random: &mut Random, focus: fn(&mut Random, &mut Lent)) -> Call {
 fn malformed(random: &mut Random) -> Call {
     let mut lent = ordinary(random);
     lent.line = grammar::line(random);
-    let which = random.below(7);
+    let which = random.below(10);
     if matches!(which, 0 | 3) {
         lent.variables = tables::malformed(random, Kind::Pairs);
         lent.used = lent.variables.len();
@@ -123,10 +142,13 @@ fn malformed(random: &mut Random) -> Call {
     if matches!(which, 1 | 3 | 4) {
         lent.homes = tables::malformed(random, Kind::Pairs);
     }
-    if matches!(which, 2 | 4) {
+    if matches!(which, 2 | 4 | 5) {
         lent.paths = tables::malformed(random, Kind::Paths);
     }
-    if which > 4 {
+    if matches!(which, 5..=7) {
+        lent.parameters = tables::malformed(random, Kind::Fields);
+    }
+    if which > 7 {
         lent.used = wrong_used(random, &lent);
     }
     Call::Lines(job(random), lent)

@@ -44,6 +44,7 @@ impl Tildes {
     fn walk(&mut self, parts: &[Part], text: Setting, lent: &Lent) {
         for part in parts {
             match part {
+                Part::Quotes(inside) => self.walk(inside, text, lent),
                 Part::Arithmetic { text, .. } => self.walk(text, Setting::Arithmetic, lent),
                 Part::Parameter { form, quoted, .. } => {
                     self.form(form, if *quoted { Setting::Double } else { text }, lent);

@@ -1,4 +1,4 @@
-//! Cases about the limits: lines and rows of 2,047 to 2,049, images of 8,191 to 8,193, paths of 32,768 and one more.
+//! Cases about the limits: lines and rows of 2,047 to 2,049, with break marks too, images of 8,191 to 8,193, paths of 32,768 and one more.
 
 use super::ordinary;
 use super::random::Random;
@@ -9,19 +9,21 @@ use crate::limits;
 
 pub fn call(random: &mut Random) -> Call {
     let mut lent = ordinary(random);
-    match random.below(32) {
+    match random.below(54) {
         0..=5 => lent.line = line(random),
         6..=13 => row(random, &mut lent),
         14..=15 => variables(random, &mut lent),
-        16 => lent.homes = filled(Kind::Pairs, about(random, limits::IMAGE)),
-        17..=18 => output(random, &mut lent),
-        19..=20 => store(random, &mut lent),
-        21..=23 => return quoter(random),
-        24..=26 => {
+        16..=17 => lent.homes = filled(Kind::Pairs, about(random, limits::IMAGE)),
+        18..=19 => output(random, &mut lent),
+        20..=21 => store(random, &mut lent),
+        22..=24 => return quoter(random),
+        25..=27 => {
             quoted(random, &mut lent);
             return Call::Lines(Job::Normalise, lent);
         }
-        27 => paths(random, &mut lent),
+        28..=29 => paths(random, &mut lent),
+        30..=46 => list(random, &mut lent),
+        47..=48 => full_list(random, &mut lent),
         _ => directory(random, &mut lent),
     }
     let job = *random.pick(&[Job::Expand, Job::Expand, Job::Normalise]);
@@ -90,6 +92,66 @@ fn directory(random: &mut Random, lent: &mut Lent) {
     given(lent, image(&table));
 }
 
+/// Parameters whose list makes a row about the limit: so many bytes, break marks and, in quotes, empty marks. `v` fills a row but for a unit or two.
+fn list(random: &mut Random, lent: &mut Lent) {
+    let (line, quoted) = *random.pick(&[
+        ("$@", false),
+        ("$*", false),
+        ("a$@", false),
+        ("$@b", false),
+        ("${@}$e", false),
+        ("${u-$@}", false),
+        ("${u-$*}''", false),
+        ("$@${u?}", false),
+        ("a ${e+$@}", false),
+        ("\"$@\"", true),
+        ("\"$@\"$e", true),
+        ("\"a$@\"", true),
+        ("\"${u-$@}\"", true),
+        ("${u-\"$@\"}", true),
+        ("\"$@\"\"\"", true),
+        ("\"$*\"", false),
+        ("\"${e+$*}\"b", false),
+        ("$v\"$@\"", true),
+        ("$v\"$e$@\"a", true),
+        ("$v\"$@\"''", true),
+        ("$v$@$*", false),
+        ("$v\"$*\"", false),
+    ]);
+    let units = random.between(limits::ROW - 3, limits::ROW + 1);
+    let mut table = Table::from([(b"e".to_vec(), vec![]), (b"v".to_vec(), vec![b'x'; units])]);
+    if random.once_in(2) {
+        table.insert(b"IFS".to_vec(), random.text(&["", ":", "x", "a "]));
+    }
+    given(lent, image(&table));
+    lent.line = line.into();
+    let none = line.starts_with("$v") && !random.once_in(8);
+    lent.parameters = if none { of_texts::<&str>(&[]) } else { of_texts(&texts(random, units, quoted)) };
+}
+
+/// Parameters of just so many units, break marks and, in quotes, empty marks counted.
+fn texts(random: &mut Random, units: usize, quoted: bool) -> Vec<Vec<u8>> {
+    let marks = if quoted { 2 } else { 1 };
+    let length = *random.pick(&[0, 0, 1, 1, 2, 7, 100, 900]);
+    let byte = *random.pick(b"xx: 1");
+    let count = units / (length + marks);
+    let last = units - count * (length + marks);
+    let mut texts = vec![vec![byte; length]; count];
+    texts.push(vec![byte; last]);
+    texts
+}
+
+/// An image of parameters about its limit, one long or many.
+fn full_list(random: &mut Random, lent: &mut Lent) {
+    let length = about(random, limits::IMAGE);
+    lent.parameters = match random.below(3) {
+        0 => filled(Kind::Fields, length),
+        1 => of_texts(&[vec![""; 4_000], vec![&"x".repeat(length - 8_003)]].concat()),
+        _ => of_texts(&[vec!["a"; 2_000], vec![&"x".repeat(length - 6_003)]].concat()),
+    };
+    lent.line = random.text(&["$#", "${#1} ${#2001}", "${4001}", "$1", "${2001#x}", "a", "|", "$@", "\"$*\""]);
+}
+
 /// Lends an image of variables in a buffer with room for more.
 fn given(lent: &mut Lent, image: Vec<u8>) {
     lent.used = image.len();
@@ -132,14 +194,14 @@ fn quoter(random: &mut Random) -> Call {
         1 => of_texts(&["x".repeat(length)]),
         2 => of_texts(&["'".to_string(), "x".repeat(length - 7)]),
         3 => of_texts(&vec![""; length / 3 + 1]),
-        4..=6 => list(random, length),
+        4..=6 => fields(random, length),
         _ => filled(Kind::Fields, about(random, limits::IMAGE)),
     };
     Call::Quote { fields, out }
 }
 
 /// Many short fields of one kind or two, and a last one that makes their quoted line just this long.
-fn list(random: &mut Random, length: usize) -> Vec<u8> {
+fn fields(random: &mut Random, length: usize) -> Vec<u8> {
     let (short, bytes) = *random.pick(&[(["a", "-"], 4), (["", "b"], 5), ([" ", ""], 7), (["/", ":"], 6)]);
     let count = random.between(1, (length - 3) / bytes);
     let rest = length - count * bytes;

@@ -38,7 +38,17 @@ fn text_steps(runs: &[usize], length: usize) -> usize {
 /// Takes stars away, all of them, if the patterns cost more than they may.
 pub fn thin(lent: &mut Lent, allowed: usize) {
     if steps(lent) > allowed {
-        let bytes = lent.line.iter_mut().chain(lent.variables.iter_mut()).chain(lent.homes.iter_mut());
+        for at in 0..lent.line.len() {
+            if lent.line[at] == b'*' && !is_list(&lent.line[..at]) {
+                lent.line[at] = b'?';
+            }
+        }
+        let bytes = lent.variables.iter_mut().chain(lent.homes.iter_mut()).chain(lent.parameters.iter_mut());
         bytes.filter(|byte| **byte == b'*').for_each(|byte| *byte = b'?');
     }
+}
+
+/// Whether a `*` behind these bytes is that of `$*`.
+fn is_list(before: &[u8]) -> bool {
+    before.ends_with(b"$") || before.ends_with(b"${")
 }

@@ -8,9 +8,11 @@ use super::brackets::Brackets;
 use super::call;
 use super::operands::Tildes;
 use super::patterns::Patterns;
+use super::positional::Positional;
 use super::quoting::Quoting;
 use super::walk::walk;
 use crate::case::{Call, Job, Lent};
+use crate::expand::SeenRow;
 use crate::image;
 use crate::limits;
 use crate::number::{Number, ACCEPTED, LAST_NUMBER};
@@ -34,6 +36,7 @@ pub struct Tally {
     pub quoting: Quoting,
     pub brackets: Brackets,
     pub patterns: Patterns,
+    pub positional: Positional,
 }
 
 impl Tally {
@@ -57,9 +60,11 @@ impl Tally {
             Call::Lines(Job::Normalise, _) => &mut self.normalise,
             Call::Quote { .. } => &mut self.quote,
         } += 1;
-        match call {
-            Call::Lines(_, lent) if is_walked(answer.number) => self.add_seen(lent),
-            _ => (),
+        if let Call::Lines(_, lent) = call {
+            self.positional.add(lent, answer.number);
+            if is_walked(answer.number) {
+                self.add_seen(lent);
+            }
         }
         match call {
             Call::Lines(Job::Expand, _) => (),
@@ -72,12 +77,13 @@ impl Tally {
         let seen = walk(lent);
         self.full_lines += usize::from(lent.line.len() == limits::LINE);
         self.tildes.add(lent);
+        self.positional.add_seen(lent, &seen);
         let paths = image::paths(&lent.paths).unwrap_or_default();
         self.brackets.add(&seen, &paths);
         self.patterns.add(&seen, paths.len());
         self.sums += seen.sums.len();
         self.different_sums.extend(seen.sums);
-        for units in seen.rows {
+        for SeenRow { units, .. } in seen.rows {
             if (limits::ROW - 1..=limits::ROW + 1).contains(&units) {
                 self.rows[units + 1 - limits::ROW] += 1;
             }
@@ -87,7 +93,8 @@ impl Tally {
 
 /// Whether the call came to all that the walk over its line comes to: not where it stopped before reading, and not where its output had no room.
 fn is_walked(number: u8) -> bool {
-    number == ACCEPTED || number > Number::ZeroByte as u8 && number != Number::NoRoomForOutput as u8
+    let stopped = [Number::NoRoomForOutput as u8, Number::Parameters as u8];
+    number == ACCEPTED || number > Number::ZeroByte as u8 && !stopped.contains(&number)
 }
 
 impl fmt::Display for Tally {
@@ -96,12 +103,12 @@ impl fmt::Display for Tally {
             writeln!(out, "{number:2} {count}")?;
         }
         let Tally { expand, normalise, quote, bytes, sums, different_sums, full_lines, rows, .. } = self;
-        let Tally { tildes, quoting, brackets, patterns, .. } = self;
+        let Tally { tildes, quoting, brackets, patterns, positional, .. } = self;
         writeln!(out, "expand {expand}, normalise {normalise}, quote {quote}")?;
         writeln!(out, "{bytes} bytes")?;
         writeln!(out, "arithmetic texts {sums}, different ones {}", different_sums.len())?;
         writeln!(out, "lines of 2048 bytes {full_lines}")?;
         writeln!(out, "rows of 2047 units {}, of 2048 {}, refused at 2049 {}", rows[0], rows[1], rows[2])?;
-        write!(out, "{tildes}{quoting}{brackets}{patterns}")
+        write!(out, "{tildes}{quoting}{brackets}{patterns}{positional}")
     }
 }

@@ -14,9 +14,11 @@ pub fn walk(lent: &Lent) -> Seen {
     let used = lent.variables.get(..lent.used);
     let variables = used.and_then(image::variables).unwrap_or_default();
     let homes = image::homes(&lent.homes).unwrap_or_default();
+    let parameters = image::fields(&lent.parameters).unwrap_or_default();
     let mut expander = Expander {
         variables: Variables::new(variables, lent.variables_buffer.min(limits::IMAGE)),
         homes: &homes,
+        parameters: &parameters,
         seen: Seen::default(),
     };
     for word in read(&lent.line).unwrap_or_default() {

@@ -3,7 +3,7 @@
 use std::io;
 
 use super::script::is_harmless;
-use super::{reference, Folder, Outcome, Shell, Table};
+use super::{reference, Folder, Given, Outcome, Shell, Table};
 
 /// A phrase of document 01 or 02, a line, and the variables it is expanded with.
 type Difference = (&'static str, &'static str, &'static [(&'static str, &'static str)]);
@@ -14,11 +14,11 @@ const READING: &[Difference] = &[
     ("A backquote outside single quotes [...] is 9", "`a`", &[]),
     ("`$(` otherwise is 9", "$(a)", &[]),
     ("before a newline it is 11, also in double quotes", "a\\\nb \"c\\\nd\"", &[]),
-    ("`$` before a digit or one of `@*#?-$!` is 10", "a$1 $# $?", &[]),
+    ("`$` before a digit or one of `@*#?-$!` is 10", "a$?", &[]),
     ("and so is `$'` in bare text", "$'a\\tb'", &[]),
     ("Any other `$` is literal", "$\"a\"", &[]),
     ("Any other `$` is literal", "$x$%", &[("x", "a b")]),
-    ("a byte that cannot begin the name is 10", "a${1} ${#}", &[]),
+    ("a byte that cannot begin the name is 10", "a${?}", &[]),
     ("a byte that cannot begin the name is 10", "${!x}", &[("x", "y"), ("y", "z")]),
     ("anything else is 11", "${x:1}", &[("x", "abc")]),
     ("anything else is 11", "${x/b/c}", &[("x", "abc")]),
@@ -90,8 +90,37 @@ const FIELDS: &[Difference] = &[
     ("becomes all matching paths in order", "*/ d//b*", &[]),
 ];
 
+/// The same, and the positional parameters.
+type Listed = (&'static str, &'static str, &'static [(&'static str, &'static str)], &'static [&'static str]);
+
+const POSITIONAL: &[Listed] = &[
+    ("a leading zero stays 10", "${01}", &[], &["a"]),
+    ("`=` on one stays 10", "${1=b}", &[], &["a"]),
+    ("if there are none and nothing else came of those quotes, they give no field", "\"$e$@\"", &[("e", "")], &[]),
+    ("if there are none and nothing else came of those quotes, they give no field", "\"${u-$@}\"", &[], &[]),
+    ("if there are none and nothing else came of those quotes", "\"${#2}$@\"", &[("IFS", "0")], &[]),
+    ("text before joined to the first and text after to the last", "1\"$@\"${e%%}", &[("e", "")], &["b", ""]),
+    ("Bare `$@` and `$*` break between parameters", "$@${IFS=^}", &[], &["a", "b c"]),
+    ("Bare `$@` and `$*` break between parameters", "${u-x$@}", &[("IFS", ",")], &["a", "b"]),
+    ("Bare `$@` and `$*` break between parameters", "x${y+$*'a'\"$@\"}", &[("y", "1")], &["", "b"]),
+    ("each part is split by itself", "x$@", &[("IFS", ":")], &[":", "a"]),
+    ("each part is split by itself", "$@", &[("IFS", ":")], &["a", ":b"]),
+    ("each part is split by itself", "\"$@\"$1", &[], &["c  d", "b"]),
+    ("each part is split by itself", "$x\"$@\"", &[("IFS", " :"), ("x", " :a")], &["b", "c"]),
+    ("each part is split by itself", "a${u-$@\"$@\"}", &[], &[" b"]),
+    ("and an empty one gives nothing", "x$*", &[("IFS", ":")], &["a", "", "b"]),
+    ("`$@` and `$*` stay 10", "${u=$@}", &[], &["a", "b c"]),
+    ("`$@` and `$*` stay 10", "${x?$@}", &[("x", "a")], &["b"]),
+    ("`$@` and `$*` stay 10", "${x%\"$*\"}", &[("x", "ab")], &["b"]),
+    ("and in arithmetic, `$@` and `$*` stay 10", "$(($*))", &[], &["1"]),
+    ("so do length and operators on them and on `#`", "${#@}", &[], &["a", "bc"]),
+    ("so do length and operators on them and on `#`", "${*-x}", &[], &["a", "b"]),
+    ("so do length and operators on them and on `#`", "${@%b}", &[], &["ab", "bb"]),
+    ("so do length and operators on them and on `#`", "${##}", &[], &["a"]),
+];
+
 /// Every difference as docs/SHELLS.md lists it, and how many lines show none.
-pub fn measured(folder: &Folder) -> io::Result<(String, usize)> {
+pub fn measured(folder: &Folder, shells: &[Shell]) -> io::Result<(String, usize)> {
     let (mut text, mut alike) = (String::new(), 0);
     for (title, list) in [
         ("Reading", READING),
@@ -100,23 +129,38 @@ pub fn measured(folder: &Folder) -> io::Result<(String, usize)> {
         ("Splitting, patterns, paths", FIELDS),
     ] {
         text.push_str(&format!("## {title}\n\n"));
-        for difference in list {
-            let (shown, parts) = measure(folder, difference)?;
+        for (phrase, line, pairs) in list {
+            let (shown, parts) = measure(folder, shells, &(phrase, line, pairs, &[]))?;
             text.push_str(&shown);
             alike += usize::from(!parts);
         }
+    }
+    text.push_str("## Positional parameters\n\n");
+    for listed in POSITIONAL {
+        let (shown, parts) = measure(folder, shells, listed)?;
+        text.push_str(&shown);
+        alike += usize::from(!parts);
     }
     Ok((text, alike))
 }
 
 /// One difference as text, and whether a shell does part there, as it does from any line it must not run.
-fn measure(folder: &Folder, (phrase, line, pairs): &Difference) -> io::Result<(String, bool)> {
+fn measure(
+    folder: &Folder,
+    shells: &[Shell],
+    (phrase, line, pairs, parameters): &Listed,
+) -> io::Result<(String, bool)> {
     let before: Table = pairs.iter().map(|(name, value)| ((*name).into(), (*value).into())).collect();
+    let parameters = parameters.iter().map(|text| text.as_bytes().to_vec()).collect();
+    let lent = Given { variables: before.clone(), parameters };
     let line = line.as_bytes();
-    let wanted = reference(line, &before);
+    let wanted = reference(line, &lent);
     let mut text = format!("- {phrase}\n\n      line         {}", printable(line));
     for (name, value) in &before {
         text.push_str(&format!("   {}='{}'", printable(name), printable(value)));
+    }
+    for (number, parameter) in (1..).zip(&lent.parameters) {
+        text.push_str(&format!("   {number}='{}'", printable(parameter)));
     }
     let given = match &wanted {
         Ok(outcome) => shown(outcome, &before),
@@ -125,9 +169,9 @@ fn measure(folder: &Folder, (phrase, line, pairs): &Difference) -> io::Result<(S
     text.push_str(&format!("\n      documents    {given}\n"));
     let harmless = is_harmless(line);
     let mut parts = !harmless;
-    for shell in Shell::ALL {
+    for shell in shells {
         let given = match harmless {
-            true => shell.outcome(folder, line, &before)?,
+            true => shell.outcome(folder, line, &lent)?,
             false => None,
         };
         parts |= given.as_ref() != wanted.as_ref().ok();

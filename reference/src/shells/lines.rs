@@ -1,6 +1,6 @@
 //! Lines on which documents 01 and 02 and POSIX agree: nested like those of the grammar, without what docs/SHELLS.md lists.
 
-use super::{Outcome, Table};
+use super::{positional, Outcome, Table};
 use crate::generate::random::Random;
 
 const DEEPEST: usize = 4;
@@ -72,9 +72,10 @@ pub fn variables(random: &mut Random) -> Table {
     table
 }
 
-pub fn line(random: &mut Random) -> Vec<u8> {
+/// A line, with positional parameters in it if they are wanted.
+pub fn line(random: &mut Random, positional: bool) -> Vec<u8> {
     let words = random.between(1, 4);
-    let mut lines = Lines { random, depth: 0, in_removal: false };
+    let mut lines = Lines { random, depth: 0, in_removal: false, positional, lists: true };
     let mut line = Vec::new();
     for _ in 0..words {
         line.extend(lines.word());
@@ -107,11 +108,14 @@ pub fn has_class(line: &[u8]) -> bool {
     line.windows(2).any(|two| two == b"[:")
 }
 
-/// How deep the line being made is, and whether inside a removal's operand, where nothing is stored.
+/// How deep the line being made is, whether inside a removal's operand, where nothing is stored, whether it has positional parameters, and whether
+/// `$@` and `$*` are served here.
 struct Lines<'a> {
     random: &'a mut Random,
     depth: usize,
     in_removal: bool,
+    positional: bool,
+    lists: bool,
 }
 
 impl Lines<'_> {
@@ -133,6 +137,9 @@ impl Lines<'_> {
 
     fn piece(&mut self, setting: Setting) -> Vec<u8> {
         let quoted = matches!(setting, Setting::Double | Setting::DoubleOperand);
+        if self.positional && self.random.once_in(3) {
+            return positional::piece(self.random, self.lists, quoted);
+        }
         match self.random.below(24) {
             5..=7 if !quoted && self.random.once_in(3) => self.random.text(CLASSES),
             5..=7 if !quoted => self.random.text(WILD),
@@ -191,7 +198,11 @@ impl Lines<'_> {
             return [name, self.random.text(&["=^", "=\t", "="])].concat();
         }
         let setting = if quoted { Setting::DoubleOperand } else { Setting::Operand };
-        [name, choice, self.operand_text(setting)].concat()
+        let lists = self.lists;
+        self.lists &= !choice.ends_with(b"=") && !choice.ends_with(b"?");
+        let operand = self.operand_text(setting);
+        self.lists = lists;
+        [name, choice, operand].concat()
     }
 
     /// The text of an operand, which begins with a tilde now and then.
@@ -206,8 +217,10 @@ impl Lines<'_> {
 
     fn removal(&mut self) -> Vec<u8> {
         let outer = std::mem::replace(&mut self.in_removal, true);
+        let lists = std::mem::replace(&mut self.lists, false);
         let removal = [self.random.text(&REMOVALS), self.operand_text(Setting::Operand)].concat();
         self.in_removal = outer;
+        self.lists = lists;
         removal
     }
 

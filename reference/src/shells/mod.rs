@@ -1,7 +1,8 @@
-//! The reference beside dash and bash: the same line, variables and paths, and whether all give the same.
+//! The reference beside dash and bash: the same line, variables, parameters and paths, and whether all give the same.
 
 pub mod differences;
 pub mod lines;
+pub mod positional;
 pub mod script;
 
 use std::collections::BTreeMap;
@@ -10,7 +11,7 @@ use std::io;
 use std::path::{Path, PathBuf};
 use std::process::{Command, Stdio};
 
-use crate::calls::expand;
+use crate::calls::{expand, Tables};
 use crate::image::{self, of_texts};
 use crate::limits;
 use crate::number::ACCEPTED;
@@ -28,6 +29,13 @@ pub const PATHS: [&str; 26] = [
 
 const DIRECTORIES: [&str; 2] = ["d", "d/e"];
 
+/// What a line is expanded with.
+#[derive(Clone, Debug, Default)]
+pub struct Given {
+    pub variables: Table,
+    pub parameters: Vec<Vec<u8>>,
+}
+
 /// What a line gives: its fields, and the variables that are set afterwards.
 #[derive(Clone, Debug, PartialEq, Eq)]
 pub struct Outcome {
@@ -40,15 +48,27 @@ pub struct Outcome {
 pub enum Shell {
     Dash,
     Bash,
+    Busybox,
+    Mksh,
+    Yash,
 }
 
 impl Shell {
-    pub const ALL: [Shell; 2] = [Shell::Dash, Shell::Bash];
+    /// Those that generated lines are compared with, and all.
+    pub const COMPARED: [Shell; 2] = [Shell::Dash, Shell::Bash];
+    const ALL: [Shell; 5] = [Shell::Dash, Shell::Bash, Shell::Busybox, Shell::Mksh, Shell::Yash];
+
+    pub fn named(name: &str) -> Option<Shell> {
+        Shell::ALL.into_iter().find(|shell| shell.name() == name)
+    }
 
     pub fn name(self) -> &'static str {
         match self {
             Shell::Dash => "dash",
             Shell::Bash => "bash",
+            Shell::Busybox => "busybox",
+            Shell::Mksh => "mksh",
+            Shell::Yash => "yash",
         }
     }
 
@@ -56,29 +76,52 @@ impl Shell {
         match self {
             Shell::Dash => &[],
             Shell::Bash => &["--posix", "+B"],
+            Shell::Busybox => &["ash"],
+            Shell::Mksh => &["-o", "posix"],
+            Shell::Yash => &["-o", "posixly-correct"],
         }
+    }
+
+    /// Whether nothing is known by which the shell would take an accepted line otherwise. Yash reads some ranges otherwise, has tildes in operands that
+    /// stand in quotes, and wants single quotes closed there; with lists it does as the documents say.
+    pub fn is_alike(self, line: &[u8], given: &Given) -> bool {
+        let has = |text: &&str| line.windows(text.len()).any(|here| here == text.as_bytes());
+        match self {
+            Shell::Yash => {
+                let quotes = line.iter().filter(|byte| **byte == b'\'').count();
+                quotes % 2 == 0 && !["c-a", "a-c-", "[--", "-~", "=~", "+~"].iter().any(has)
+            }
+            _ => lines::splits_alike(line, &given.variables) && positional::spreads_alike(line, given),
+        }
+    }
+
+    /// Where yash must find a `printf` before it uses its own; the others look for nothing.
+    fn path(self) -> Option<(&'static str, &'static str)> {
+        matches!(self, Shell::Yash).then_some(("PATH", "/usr/bin"))
     }
 
     pub fn is_installed(self) -> bool {
         let mut command = Command::new(self.name());
-        command.args(["-c", ":"]).stdin(Stdio::null());
+        command.args(self.options()).args(["-c", ":"]).stdin(Stdio::null());
         command.status().is_ok_and(|status| status.success())
     }
 
     /// What the shell makes of the line in the folder; `None` if it fails, an error if the line is not harmless.
-    pub fn outcome(self, folder: &Folder, line: &[u8], variables: &Table) -> io::Result<Option<Outcome>> {
+    pub fn outcome(self, folder: &Folder, line: &[u8], given: &Given) -> io::Result<Option<Outcome>> {
         let harmless = script::is_harmless(line);
-        if !harmless || !variables.values().all(|value| script::is_harmless_value(value)) {
+        let mut values = given.variables.values().chain(&given.parameters);
+        if !harmless || !values.all(|value| script::is_harmless_value(value)) {
             return Err(io::Error::other("a line that could run something is not run"));
         }
         let script = folder.0.join(".script");
-        fs::write(&script, script::script(line, variables, &NAMES))?;
+        fs::write(&script, script::script(line, given, &NAMES))?;
         let output = Command::new(self.name())
             .args(self.options())
             .arg(&script)
             .current_dir(folder.files())
             .env_clear()
             .env("LC_ALL", "C")
+            .envs(self.path())
             .stdin(Stdio::null())
             .output()?;
         Ok(output.status.success().then(|| parsed(&output.stdout)).flatten())
@@ -102,8 +145,8 @@ fn parsed(printed: &[u8]) -> Option<Outcome> {
 }
 
 /// What the reference makes of the line, or its number.
-pub fn reference(line: &[u8], variables: &Table) -> Result<Outcome, u8> {
-    let texts: Vec<&Vec<u8>> = variables.iter().flat_map(|(key, value)| [key, value]).collect();
+pub fn reference(line: &[u8], given: &Given) -> Result<Outcome, u8> {
+    let texts: Vec<&Vec<u8>> = given.variables.iter().flat_map(|(key, value)| [key, value]).collect();
     let mut variables = of_texts(&texts);
     let used = variables.len();
     variables.resize(limits::IMAGE, 0);
@@ -112,8 +155,7 @@ pub fn reference(line: &[u8], variables: &Table) -> Result<Outcome, u8> {
         line,
         &mut variables,
         used,
-        &image::empty(),
-        &of_texts(&PATHS),
+        Tables { homes: &image::empty(), paths: &of_texts(&PATHS), parameters: &of_texts(&given.parameters) },
         &mut vec![0; limits::WORK_AREA],
         &mut out,
     );

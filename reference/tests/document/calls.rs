@@ -2,30 +2,33 @@
 
 use reference::image::of_texts;
 use reference::limits;
-use reference::number::{Number, ACCEPTED};
-use reference::Answer;
+use reference::number::Number::{
+    self, Homes, LineTooLong, NoRoomForOutput, Operator, Parameters, Paths, Variables, WorkArea, ZeroByte,
+};
+use reference::number::ACCEPTED;
+use reference::{Answer, Tables};
 
 use crate::support::{gives, refuses, World};
 
-fn none() -> Vec<u8> {
-    of_texts::<&str>(&[])
-}
+/// The image without records.
+const NONE: &[u8] = &[1];
+const NO_TABLES: Tables = Tables { homes: NONE, paths: NONE, parameters: NONE };
 
-/// A call with every fault at once, but those left out of `faults`.
-fn faulty(faults: std::ops::RangeInclusive<u8>) -> u8 {
-    let bad = |number: Number| faults.contains(&(number as u8));
-    let image = |number| if bad(number) { vec![] } else { none() };
+/// A call with all these faults at once.
+fn faulty(faults: &[Number]) -> u8 {
+    let bad = |number: Number| faults.contains(&number);
+    let image = |number| if bad(number) { &[] } else { NONE };
     let mut work = vec![7; limits::WORK_AREA - usize::from(bad(Number::WorkArea))];
-    let mut variables = image(Number::Variables);
+    let mut variables = image(Number::Variables).to_vec();
     let used = variables.len();
     let mut line = vec![b'a'; if bad(Number::LineTooLong) { 2_049 } else { 9 }];
     if bad(Number::ZeroByte) {
         line[1] = 0;
     }
     line[2] = if bad(Number::Operator) { b'|' } else { b'a' };
-    let homes = image(Number::Homes);
-    let paths = image(Number::Paths);
-    let answer = reference::expand(&line, &mut variables, used, &homes, &paths, &mut work, &mut []);
+    let tables =
+        Tables { homes: image(Number::Homes), paths: image(Number::Paths), parameters: image(Number::Parameters) };
+    let answer = reference::expand(&line, &mut variables, used, tables, &mut work, &mut []);
     assert!(work.iter().all(|&byte| byte == 0));
     assert_eq!((answer.place, answer.length, answer.used), (0, 0, used));
     answer.number
@@ -33,10 +36,11 @@ fn faulty(faults: std::ops::RangeInclusive<u8>) -> u8 {
 
 #[test]
 fn numbers_come_in_order() {
-    for first in [1, 2, 3, 4, 5, 6, 8] {
-        assert_eq!(faulty(first..=8), first);
+    let order = [WorkArea, Variables, Homes, Paths, Parameters, LineTooLong, ZeroByte, Operator];
+    for (at, first) in order.into_iter().enumerate() {
+        assert_eq!(faulty(&order[at..]), first as u8);
     }
-    assert_eq!(faulty(9..=9), Number::NoRoomForOutput as u8);
+    assert_eq!(faulty(&[]), NoRoomForOutput as u8);
 }
 
 #[test]
@@ -45,7 +49,7 @@ fn used_length() {
         let mut variables = vec![b'x'; buffer];
         variables[0] = 1;
         let (work, out) = (&mut vec![0; limits::WORK_AREA], &mut [0; 9]);
-        reference::expand(b"", &mut variables, used, &none(), &none(), work, out).number
+        reference::expand(b"", &mut variables, used, NO_TABLES, work, out).number
     };
     assert_eq!(call(9_000, 1), ACCEPTED);
     assert_eq!(call(1, 1), ACCEPTED);
@@ -84,7 +88,7 @@ fn storing(line: &[u8], out: usize) -> (Answer, Vec<u8>) {
     let used = variables.len();
     variables.resize(40, 0x5a);
     let (work, out) = (&mut vec![0; limits::WORK_AREA], &mut vec![0xa5; out]);
-    let answer = reference::normalise(line, &mut variables, used, &none(), &none(), work, out);
+    let answer = reference::normalise(line, &mut variables, used, NO_TABLES, work, out);
     (answer, variables)
 }
 
@@ -147,7 +151,7 @@ fn the_normalisers_expander_refuses_at_the_word() {
     let mut variables = of_texts(&["v".to_string(), "x".repeat(2_045)]);
     let used = variables.len();
     let (work, out) = (&mut vec![0; limits::WORK_AREA], &mut vec![0; 9_000]);
-    let mut call = |line: &[u8]| reference::normalise(line, &mut variables, used, &none(), &none(), work, out);
+    let mut call = |line: &[u8]| reference::normalise(line, &mut variables, used, NO_TABLES, work, out);
     let room = Number::NoRoomForOutput as u8;
     let answer = call(b"$v $v $v $v ab");
     assert_eq!((answer.number, answer.place), (room, 12));
@@ -163,7 +167,7 @@ fn the_quoter() {
         assert!(buffer[answer.length..].iter().all(|&byte| byte == 0xa5));
         (answer.number, answer.place, answer.length)
     };
-    assert_eq!(call(&none(), 0), (ACCEPTED, 0, 0));
+    assert_eq!(call(NONE, 0), (ACCEPTED, 0, 0));
     assert_eq!(call(b"", 0), (Number::Fields as u8, 0, 0));
     assert_eq!(call(&of_texts(&[""]), 1), (Number::NoRoomForOutput as u8, 0, 0));
     assert_eq!(call(&of_texts(&[""]), 3), (ACCEPTED, 0, 2));

@@ -6,13 +6,13 @@ use std::sync::OnceLock;
 use reference::case::{case, replay, Call, Job};
 use reference::generate::random::Random;
 use reference::generate::{
-    brackets::KINDS, call, classes::BORDERS, hostile, operands::SIGNS, ordinary, quoting, season::Season, steps::steps,
-    tally::Tally, MOST_STEPS,
+    brackets::KINDS, call, classes::BORDERS, hostile, operands::SIGNS, ordinary, positional, quoting, season::Season,
+    steps::steps, tally::Tally, MOST_STEPS,
 };
 use reference::{image, limits};
 
 const SEED: u64 = 2_001;
-const CASES: u64 = 20_000;
+const CASES: u64 = 30_000;
 
 fn tally() -> &'static Tally {
     static TALLY: OnceLock<Tally> = OnceLock::new();
@@ -83,6 +83,20 @@ fn stars_come_up() {
     assert!(answers.filter(|number| *number == 0).count() >= 20);
 }
 
+/// Lists in half of the cases, every kind of positional parameter, quotes that give back their mark, and rows with break marks about their limit.
+#[test]
+fn positional_parameters_come_up() {
+    let positional = &tally().positional;
+    assert!(positional.lists >= CASES as usize / 2 && positional.lists_read >= CASES as usize / 5 * 2, "{positional}");
+    assert!(positional.lists_refused >= 200 && positional.numbers >= CASES as usize / 10, "{positional}");
+    for kind in positional::KINDS {
+        assert!(positional.kinds[kind] >= 100, "{kind}: {positional}");
+    }
+    assert!(positional.given_back >= 200 && positional.breaks >= CASES as usize / 10, "{positional}");
+    assert!(positional.rows.iter().all(|count| *count >= 10), "{positional}");
+    assert!(positional.lengths.iter().all(|count| *count >= 1_000) && positional.with_empty >= 1_000, "{positional}");
+}
+
 /// Demand 3 on made fields: their quoted line gives them again and is its own quoted line, under tables that were not asked for.
 #[test]
 fn quoted_lines_come_back() {
@@ -105,7 +119,8 @@ fn quoted_lines_come_back() {
 
 #[test]
 fn limits_come_up() {
-    let [mut lines, mut variables, mut homes, mut paths, mut fields] = <[BTreeSet<usize>; 5]>::default();
+    let [mut lines, mut variables, mut homes, mut paths, mut parameters, mut fields] =
+        <[BTreeSet<usize>; 6]>::default();
     for number in 0..CASES {
         match call(SEED, number) {
             Call::Lines(_, lent) => {
@@ -115,13 +130,14 @@ fn limits_come_up() {
                 variables.insert(lent.used);
                 homes.insert(lent.homes.len());
                 paths.insert(lent.paths.len());
+                parameters.insert(lent.parameters.len());
             }
             Call::Quote { fields: image, .. } => drop(fields.insert(image.len())),
         }
     }
     for about in 0..3 {
         assert!(lines.contains(&(limits::LINE - 1 + about)));
-        for lengths in [&variables, &homes, &fields] {
+        for lengths in [&variables, &homes, &parameters, &fields] {
             assert!(lengths.contains(&(limits::IMAGE - 1 + about)));
         }
     }

@@ -22,7 +22,11 @@ impl Folder {
     }
 
     fn says(&self, lines: &[u8]) -> String {
-        said(&self.0, lines).expect("tables that can be read")
+        self.says_with(&[], lines)
+    }
+
+    fn says_with(&self, parameters: &[&str], lines: &[u8]) -> String {
+        said(&self.0, parameters, lines).expect("tables that can be read")
     }
 }
 
@@ -32,9 +36,10 @@ impl Drop for Folder {
     }
 }
 
-fn said(folder: &Path, lines: &[u8]) -> std::io::Result<String> {
+fn said(folder: &Path, parameters: &[&str], lines: &[u8]) -> std::io::Result<String> {
+    let parameters: Vec<Vec<u8>> = parameters.iter().map(|text| text.as_bytes().to_vec()).collect();
     let mut out = Vec::new();
-    run(folder, lines, &mut out).map(|()| String::from_utf8_lossy(&out).into_owned())
+    run(folder, &parameters, lines, &mut out).map(|()| String::from_utf8_lossy(&out).into_owned())
 }
 
 #[test]
@@ -74,9 +79,26 @@ fn tables() {
 }
 
 #[test]
+fn parameters() {
+    let folder = Folder::new("parameters");
+    let given = ["north", "base 07.dat", ""];
+    assert_eq!(
+        folder.says_with(&given, b"cp \"$2\" $1/ \"$@\"\n$#\n"),
+        "ok cp 'base 07.dat' north/ north 'base 07.dat' ''\nok 3\n"
+    );
+    assert_eq!(folder.says(b"$# \"$@\" $1"), "ok 0\n");
+    let most = "x".repeat(8_189);
+    assert_eq!(folder.says_with(&[&most], b"${#1}"), "ok 8189\n");
+    assert_eq!(folder.says_with(&[&most, ""], b"a\n|"), "no 23 0\nno 23 0\n");
+    assert_eq!(folder.says_with(&[&"x".repeat(70_000)], b"a"), "no 23 0\n");
+    folder.write("paths.tab", b"");
+    assert_eq!(folder.says_with(&[&most, ""], b"a"), "no 4 0\n");
+}
+
+#[test]
 fn a_table_that_cannot_be_read() {
     let folder = Folder::new("unreadable");
     fs::create_dir_all(folder.0.join("paths.tab")).expect("a folder");
-    let error = said(&folder.0, b"a\n").expect_err("an error");
+    let error = said(&folder.0, &[], b"a\n").expect_err("an error");
     assert!(error.to_string().starts_with("paths.tab: "));
 }

@@ -3,6 +3,7 @@
 use reference::image::of_texts;
 use reference::limits;
 use reference::number::{Number, ACCEPTED};
+use reference::Tables;
 
 use crate::support::{gives, refuses, stores, World};
 
@@ -41,8 +42,7 @@ fn c1_is_the_image_document_01_writes_out() {
         br#"cp "$job" $job"#,
         &mut variables,
         used,
-        &empty,
-        &empty,
+        Tables { homes: &empty, paths: &empty, parameters: &empty },
         &mut vec![1; limits::WORK_AREA],
         &mut out,
     );

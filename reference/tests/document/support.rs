@@ -5,16 +5,17 @@ use std::collections::{BTreeMap, BTreeSet};
 use reference::image::{self, of_texts};
 use reference::limits;
 use reference::number::{Number, ACCEPTED};
-use reference::Answer;
+use reference::{Answer, Tables};
 
 /// The expander or the normaliser.
-type Job = fn(&[u8], &mut [u8], usize, &[u8], &[u8], &mut [u8], &mut [u8]) -> Answer;
+type Job = fn(&[u8], &mut [u8], usize, Tables, &mut [u8], &mut [u8]) -> Answer;
 
 #[derive(Clone)]
 pub struct World {
     variables: BTreeMap<Vec<u8>, Vec<u8>>,
     homes: BTreeMap<Vec<u8>, Vec<u8>>,
     paths: BTreeSet<Vec<u8>>,
+    parameters: Vec<Vec<u8>>,
     variables_buffer: usize,
     out: usize,
 }
@@ -30,6 +31,7 @@ impl World {
             variables: BTreeMap::new(),
             homes: BTreeMap::new(),
             paths: BTreeSet::new(),
+            parameters: Vec::new(),
             variables_buffer: limits::IMAGE,
             out: limits::IMAGE,
         }
@@ -54,6 +56,12 @@ impl World {
 
     pub fn path(mut self, path: impl AsRef<[u8]>) -> World {
         self.paths.insert(path.as_ref().to_vec());
+        self
+    }
+
+    /// Positional parameters, in place of those before.
+    pub fn parameters<T: AsRef<[u8]>>(mut self, parameters: &[T]) -> World {
+        self.parameters = parameters.iter().map(|text| text.as_ref().to_vec()).collect();
         self
     }
 
@@ -98,12 +106,12 @@ impl World {
         let used = variables.len();
         variables.resize(self.variables_buffer, 0);
         let mut out = vec![0; self.out];
+        let (homes, paths) = (pairs(&self.homes), of_texts(&self.paths.iter().collect::<Vec<_>>()));
         let answer = job(
             line,
             &mut variables,
             used,
-            &pairs(&self.homes),
-            &of_texts(&self.paths.iter().collect::<Vec<_>>()),
+            Tables { homes: &homes, paths: &paths, parameters: &of_texts(&self.parameters) },
             &mut vec![0; limits::WORK_AREA],
             &mut out,
         );

@@ -19,7 +19,7 @@ fn lines(file: &str) -> Vec<String> {
 fn calls() {
     let cases = lines("calls.txt");
     let differ: Vec<String> = cases.iter().filter_map(|case| replay(case).err()).collect();
-    assert!(cases.len() > 900);
+    assert!(cases.len() > 1_700);
     assert!(differ.is_empty(), "{} differ, first:\n{}", differ.len(), differ[0]);
 }
 
@@ -34,6 +34,12 @@ fn named() {
     assert!(cases >= 29);
 }
 
+/// The arguments of a folder, one to a line, `\\n` in one being a newline; none if it has no such file.
+fn arguments(folder: &Path) -> Vec<Vec<u8>> {
+    let text = fs::read_to_string(folder.join("arguments")).unwrap_or_default();
+    text.lines().map(|line| line.replace("\\n", "\n").into_bytes()).collect()
+}
+
 #[test]
 fn program() {
     let mut folders = 0;
@@ -42,9 +48,9 @@ fn program() {
         let lines = fs::read(folder.join("stdin")).expect("stdin");
         let wanted = fs::read(folder.join("stdout")).expect("stdout");
         let mut out = Vec::new();
-        run(&folder, lines.as_slice(), &mut out).expect("an answer");
+        run(&folder, &arguments(&folder), lines.as_slice(), &mut out).expect("an answer");
         assert!(out == wanted, "{} differs", folder.display());
         folders += 1;
     }
-    assert!(folders >= 12);
+    assert!(folders >= 13);
 }
