@@ -14,7 +14,7 @@ BOTH = "pattern and value"
 UNBOUND = "unbound"
 # `kind` is what is dear, `parts` how many removals, fields or arithmetic texts of the line are
 Case = namedtuple("Case", "name kind grows make parts")
-Given = namedtuple("Given", "line variables homes paths", defaults=({}, {}, ()))
+Given = namedtuple("Given", "line variables homes paths params", defaults=({}, {}, (), ()))
 
 
 def image(texts):
@@ -32,7 +32,8 @@ def tables(given):
 
 def is_within_limits(given):
     sizes = {name: len(made) for name, made in tables(given).items()}
-    return len(given.line) <= LINE and sizes["vars.tab"] <= IMAGE and sizes["homes.tab"] <= IMAGE and sizes["paths.tab"] <= PATHS
+    longest = max(sizes["vars.tab"], sizes["homes.tab"], len(image(given.params)))
+    return len(given.line) <= LINE and longest <= IMAGE and sizes["paths.tab"] <= PATHS
 
 
 def filled(key, value, fill=b"x" * 20, room=IMAGE):
@@ -204,6 +205,31 @@ def others():
     yield "blanks", "the line", lambda n: Given(b" " * n(2040)), 1
 
 
+def params_of(count, text=b""):
+    """So many parameters of a text."""
+    return (text,) * count
+
+
+def parameters():
+    """Positional parameters: each is found by a walk over those before it, a list is walked whole. A row has room for 2,048 bare empty parameters with the
+    marks between them, and the program's answer for 680 in quotes."""
+    most = (IMAGE - 1) // 2  # empty ones
+    yield "$@ in words, of empty parameters", "their number", lambda n: Given(b"$@ " * n(680), params=params_of(2000)), 680
+    yield "$@ in words, of empty parameters", "parameters", lambda n: Given(b"$@ " * 680, params=params_of(n(2000))), 680
+    yield "$@ of a full list, too many units", "parameters", lambda n: Given(b"$@", params=params_of(n(4095))), 1
+    yield "$@ of a full list in unused operands", "their number", lambda n: Given(b"${z:-$@}" * n(250), {b"z": b"1"}, params=params_of(most)), 250
+    yield "\"$@\" of 4,000 empty parameters", "parameters", lambda n: Given(b'"$@"', params=params_of(n(4000))), 1
+    yield "\"$@\" of empty parameters", "parameters", lambda n: Given(b'"$@"', params=params_of(n(680))), 1
+    yield "\"$*\" in words, of empty parameters", "their number", lambda n: Given(b'"$*" ' * n(400), {b"IFS": b""}, params=params_of(most)), 400
+    yield "\"$*\" in words, of empty parameters", "parameters", lambda n: Given(b'"$*" ' * 400, {b"IFS": b""}, params=params_of(n(most))), 400
+    yield "$* split by a long IFS", "IFS", lambda n: Given(b"$*", {b"IFS": b":" * n(6000)}, params=params_of(600, b"aa")), 1
+    yield "numbers", "their number", lambda n: Given(b"${4000}" * n(290), params=params_of(most)), 290
+    yield "numbers", "parameters", lambda n: Given(b"${4000}" * 290, params=params_of(n(most))), 290
+    yield "numbers beyond the list", "their number", lambda n: Given(b"${99999}" * n(250), params=params_of(most)), 250
+    yield "a number", "its digits", lambda n: Given(b"${" + b"9" * n(2000) + b"}", params=params_of(most)), 1
+    yield "counts", "their number", lambda n: Given(b"$#" * n(500), params=params_of(most)), 500
+
+
 def one_of_each():
     """A removal, a field over paths and an arithmetic text, each dear."""
     def make(n):
@@ -219,7 +245,7 @@ def scaled(make):
 
 def cases():
     """All cases, in order."""
-    groups = {"removal": removals, "field": fields, "arithmetic": arithmetic, "other": others, "line": one_of_each, UNBOUND: dearest}
+    groups = {"removal": removals, "field": fields, "arithmetic": arithmetic, "parameter": parameters, "other": others, "line": one_of_each, UNBOUND: dearest}
     for kind, group in groups.items():
         for name, grows, make, parts in group():
             yield Case(name, kind, grows, scaled(make), parts)

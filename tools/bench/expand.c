@@ -24,7 +24,8 @@ static double call(const char *piece, size_t n, double seconds, unsigned *number
   long rounds = 0;
   while (spent < seconds) {
     double a = now();
-    for (int i = 0; i < 20; i++) *number = drunquill_expand(line, used, vars, sizeof vars, 1, none, 1, none, 1, work, sizeof work, out, sizeof out).number;
+    for (int i = 0; i < 20; i++)
+      *number = drunquill_expand(line, used, vars, sizeof vars, 1, none, 1, none, 1, none, 1, work, sizeof work, out, sizeof out).number;
     spent += now() - a, rounds += 20;
   }
   return spent / (double)rounds;
