@@ -1,0 +1,4 @@
+pub mod Counting
+pub mod Putting
+pub mod Gaps
+pub mod Determined

@@ -1,0 +1,4 @@
+pub mod Holding
+pub mod Digits
+pub mod Finding
+pub mod Determined

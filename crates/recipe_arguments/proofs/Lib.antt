@@ -1,0 +1,3 @@
+pub mod Packing
+pub mod Lists
+pub mod Determined
