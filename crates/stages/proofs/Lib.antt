@@ -33,3 +33,7 @@ pub mod Spreads  -- E5: what `"$@"` gives
 pub mod SpreadLines  -- E5: lines with positional parameters
 pub mod Barred  -- E5: where `$@` and `$*` may stand
 pub mod Unbroken  -- E5: where no break mark comes
+pub mod Bits  -- E6: the bits of a number
+pub mod Storeys  -- E6: the grammar in two storeys
+pub mod Turns  -- E6: reading as a loop
+pub mod Sums  -- E6: sums that compute, and sides that are not needed
