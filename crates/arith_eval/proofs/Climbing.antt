@@ -3,21 +3,25 @@ use Prim.Native.Nat.{ℕ, suc, _+_, _≤_, _<_}
 use native.Mathlib.Omega.{arith}
 use native.Mathlib.Numerals.{add-one}
 use mathlib.Core.Path.{_≡_, refl, sym, ap, _∙_, subst}
-use mathlib.Core.Bool.{Bool, true, false}
+use mathlib.Core.Bool.{Bool, true, false, _&&_}
+use mathlib.Core.Option.{Option, none, some}
 use lib.IntN.{ℤ}
 use lib.ListN.{length, drop}
 use borrow.Author.Tests.{le-leb, lt-leb}
 use Rattle.stages.specs.Bytes.{Text}
 use Rattle.stages.specs.Outcome.{Outcome, refused, done, _>>=_}
 use Rattle.stages.specs.Images.{Pairs}
-use Rattle.stages.specs.Arith.{Lexed, level, Tree, binary, Grown, operand, further, expression, furtherAt, growStep, grow, apply, withVariables}
+use Rattle.stages.specs.Arith.{choiceLevel, early, apply, Lexed, level, Tree, binary, Grown, operand, further, expression, furtherAt}
+use Rattle.stages.specs.Arith.{growStep, grow, withVariables, evaluate}
 use Rattle.stages.proofs.Bools.{no}
 use Rattle.stages.proofs.Arith.{grow-eq}
+use Rattle.stages.proofs.Storeys.{lowest}
+use Rattle.stages.proofs.Sums.{unneeded-right}
 use Rattle.text.specs.Places.{Behind}
 use Rattle.arith_int.specs.Answers.{opOf}
 use Rattle.arith_int.specs.declared.Op.{Op}
 use Rattle.arith_token.specs.Tokens.{levelOf, lexed, TokenAt}
-use Rattle.arith_eval.specs.Climbs.{turning, Joins, Fails, Comes, Says, Worth, Continues, Turns}
+use Rattle.arith_eval.specs.Climbs.{turning, unlessDecided, Joins, isNone, Fails, Comes, Says, Worth, Continues, Turns}
 use Rattle.arith_token.specs.declared.Token.{Token}
 use Rattle.arith_token.specs.declared.Token.the-variants as code
 use Rattle.arith_eval.specs.declared.climb.Climbed.{Climbed}
@@ -25,7 +29,7 @@ use Rattle.arith_eval.specs.declared.climb.Climbed.the-variants as climb
 use Rattle.arith_eval.specs.declared.climb.Turn.{Turn}
 use Rattle.arith_eval.specs.declared.climb.Turn.the-variants as turn
 use Rattle.arith_token.proofs.Lexing.{level-is}
-use Rattle.arith_eval.proofs.Trees.{right-refused, both-done, left-fails}
+use Rattle.arith_eval.proofs.Trees.{bound, right-refused, both-done, left-fails}
 use Rattle.arith_eval.proofs.Operands.{fault, work-fault, fails-same, fails-first}
 
 pub turns-shown : (text : Text) (at : ℕ) (v : Pairs) (counts : Bool) (d k : ℕ) (y : ℤ) {r s : Turn} → Turns text at v counts d k y r → r ≡
@@ -34,13 +38,13 @@ turns-shown text at v counts d k y h e = subst (Turns text at v counts d k y) e 
 
 module _ (text : Text) (v : Pairs) (counts : Bool) where
   -- An expression: an operand, and what is behind it.
-  module _ (at d k : ℕ) where
+  module _ (at d k : ℕ) (high : lowest ≤ k) where
     abbrev all-here : Grown
     all-here = expression grow d k (drop at text)
 
     pub expression-fails : (e : ℕ) → Fails v counts (grow (operand, d, drop at text)) e → Fails v counts all-here e
     expression-fails e f =
-        fails-first v counts (λ p. grow (further k (p .0), d, p .1)) f λ q p h b. left-fails v d k (q .0) (q .1) p h e b
+        fails-first v counts (λ p. grow (further k (p .0), d, p .1)) f λ q p h b. left-fails v d k (q .0) (q .1) high p h e b
 
     pub expression-says : (z : ℤ) (next : ℕ) (r : Climbed) → Comes text (suc at) v counts (grow (operand, d, drop at text)) z next
         → Continues text next v counts d k z r → Says text at v counts all-here r
@@ -90,6 +94,14 @@ module _ (text : Text) (v : Pairs) (counts : Bool) where
     unfolding furtherAt
     last-shuts n t l = by-operator (code.Shuts n) t l
 
+    pub last-query : (n : ℕ) → lowest ≤ k → TokenAt text at (code.Query n) → Turns text at v counts d k y turn.Last
+    unfolding furtherAt
+    last-query n h t l = by-operator (code.Query n) t l ∙ rw (lt-leb k choiceLevel (omega arith), furtherAt)
+
+    pub last-colon : (n : ℕ) → TokenAt text at (code.Colon n) → Turns text at v counts d k y turn.Last
+    unfolding furtherAt
+    last-colon n t l = by-operator (code.Colon n) t l
+
     module _ (o : Op) (next : ℕ) (t : TokenAt text at (code.Op o next)) where
       pub last-loose : levelOf o < k → Turns text at v counts d k y turn.Last
       unfolding furtherAt
@@ -106,18 +118,28 @@ module _ (text : Text) (v : Pairs) (counts : Bool) where
             (ap (λ (i : ℕ). expression grow d i (drop next text) >>= λ r. grow (further k (binary (opOf o) l (r .0)), d, r .1))
             (ap suc (sym (level-is o)) ∙ sym (add-one (levelOf o))))
 
-        pub right-fails : (e : ℕ) → Fails v counts (expression grow d (levelOf o + 1) (drop next text)) e → Turns text at v counts d k y (turn.Refused e)
+        reads-fails : (e : ℕ) → expression grow d (levelOf o + 1) (drop next text) ≡ refused e → Turns text at v counts d k y (turn.Refused e)
         unfolding right
-        right-fails e f l w = by-count counts refl
-          where
-            by-count : (b : Bool) → counts ≡ b → Fails v counts (behind-left l) e
-            by-count true c =
-                fails-same v counts (tight l)
-                (fails-first v counts (λ r. grow (further k (binary (opOf o) l (r .0)), d, r .1)) f λ q p s b.
-                left-fails v d k (binary (opOf o) l (q .0)) (q .1) p s e (right-refused v (opOf o) l (q .0) y e (w c) b))
-            by-count false c = fault v counts (tight l ∙ ap (λ (r : Grown). r >>= λ r. grow (further k (binary (opOf o) l (r .0)), d, r .1)) (f .reads c))
+        reads-fails e q l w = fault v counts (tight l ∙ ap (λ (r : Grown). r >>= λ r. grow (further k (binary (opOf o) l (r .0)), d, r .1)) q)
 
-        module _ (z : ℤ) (n : ℕ) (c : Comes text (suc next) v counts (expression grow d (levelOf o + 1) (drop next text)) z n) where
+        works-fails : (high : lowest ≤ k) (e : ℕ) → counts ≡ true → early (opOf o) y ≡ none
+            → Fails v true (expression grow d (levelOf o + 1) (drop next text)) e → Turns text at v counts d k y (turn.Refused e)
+        unfolding right
+        works-fails high e c i f l w =
+            fails-same v counts (tight l)
+            (work-fault v counts c λ p h.
+            let b = bound right (λ r. grow (further k (binary (opOf o) l (r .0)), d, r .1)) p h in
+            left-fails v d k (binary (opOf o) l (b .from .0)) (b .from .1) high p (b .then-is) e
+            (right-refused v (opOf o) l (b .from .0) y (w c) i e (f .works (b .from) (b .first))))
+
+        pub right-fails : (high : lowest ≤ k) (e : ℕ) (b : Bool) (u : Option ℤ) → counts ≡ b → early (opOf o) y ≡ u
+            → Fails v (b && isNone u) (expression grow d (levelOf o + 1) (drop next text)) e → Turns text at v counts d k y (turn.Refused e)
+        right-fails high e true none c i f = works-fails high e c i f
+        right-fails high e true (some z) c i f = reads-fails e (f .reads refl)
+        right-fails high e false u c i f = reads-fails e (f .reads refl)
+
+        module _ (high : lowest ≤ k) (b : Bool) (u : Option ℤ) (counted : counts ≡ b) (decides : early (opOf o) y ≡ u) (z : ℤ) (n : ℕ)
+            (c : Comes text (suc next) v (b && isNone u) (expression grow d (levelOf o + 1) (drop next text)) z n) where
           grown-on : (l : Tree) → behind-left l ≡ grow (further k (binary (opOf o) l (c .tree)), d, drop n text)
           unfolding right
           grown-on l = tight l ∙ ap (λ (r : Grown). r >>= λ r. grow (further k (binary (opOf o) l (r .0)), d, r .1)) (c .is)
@@ -125,25 +147,33 @@ module _ (text : Text) (v : Pairs) (counts : Bool) where
           next-behind : Behind text at n
           next-behind = let a = t .ends .onward in let b = c .onward in record { onward = omega arith; within = c .within }
 
-          outcome-turns : counts ≡ true → (u : Outcome ℤ) → apply (opOf o) y z ≡ u → Turns text at v counts d k y (turning u n)
-          outcome-turns q (refused e) a = λ l w.
-              work-fault v counts q λ p s.
-              left-fails v d k (binary (opOf o) l (c .tree)) (drop n text) p (sym (grown-on l) ∙ s) e
-              (both-done v (opOf o) l (c .tree) y z (w q) (c .worth q) ∙ ap (withVariables v) a)
-          outcome-turns q (done x) a = (
-            next-behind,
-            λ l w. record {
-              tree = binary (opOf o) l (c .tree);
-              is = grown-on l;
-              worth = λ t. both-done v (opOf o) l (c .tree) y z (w q) (c .worth q) ∙ ap (withVariables v) a;
-            },
-          )
+          -- the tree with its right side, whatever is known of it
+          next-turns : (x : ℤ) → ((l : Tree) → Worth v counts l y → Worth v counts (binary (opOf o) l (c .tree)) x)
+              → Turns text at v counts d k y (turn.Next x n)
+          next-turns x h = (next-behind, λ l w. record { tree = binary (opOf o) l (c .tree); is = grown-on l; worth = h l w })
 
-          pub turn-says : (r : Turn) (b : Bool) → counts ≡ b → Joins o y z n b r → Turns text at v counts d k y r
-          turn-says r true q s = subst (Turns text at v counts d k y) (sym s) (outcome-turns q (apply (opOf o) y z) refl)
-          turn-says r false q s =
-              subst (Turns text at v counts d k y) (sym s)
-              (next-behind, λ l w. record { tree = binary (opOf o) l (c .tree); is = grown-on l; worth = λ t. absurd (no (sym q ∙ t)) })
+          -- what both sides come to
+          both-turns : counts ≡ true → ((l : Tree) → Worth v counts l y → evaluate v (binary (opOf o) l (c .tree)) ≡ withVariables v (apply (opOf o) y z))
+              → (s : Outcome ℤ) → apply (opOf o) y z ≡ s → Turns text at v counts d k y (turning s n)
+          both-turns q h (refused e) a = λ l w.
+              work-fault v counts q λ p s.
+              left-fails v d k (binary (opOf o) l (c .tree)) (drop n text) high p (sym (grown-on l) ∙ s) e
+              (h l w ∙ ap (withVariables v) a)
+          both-turns q h (done x) a = next-turns x (λ l w _. h l w ∙ ap (withVariables v) a)
+
+        pub turn-says : (high : lowest ≤ k) (b : Bool) (u : Option ℤ) → counts ≡ b → early (opOf o) y ≡ u → (z : ℤ) (n : ℕ)
+            → Comes text (suc next) v (b && isNone u) (expression grow d (levelOf o + 1) (drop next text)) z n → (r : Turn) → Joins o y z n b r
+            → Turns text at v counts d k y r
+        turn-says high true none q i z n c r s =
+            let h : r ≡ turning (apply (opOf o) y z) n = s ∙ ap (λ (e : Option ℤ). turning (unlessDecided e (apply (opOf o) y z)) n) i in
+            subst (Turns text at v counts d k y) (sym h)
+            (both-turns high true none q i z n c q (λ l w. both-done v (opOf o) l (c .tree) y (w q) i z (c .worth refl)) (apply (opOf o) y z) refl)
+        turn-says high true (some x) q i z n c r s =
+            let h : r ≡ turn.Next x n = s ∙ ap (λ (e : Option ℤ). turning (unlessDecided e (apply (opOf o) y z)) n) i in
+            subst (Turns text at v counts d k y) (sym h)
+            (next-turns high true (some x) q i z n c x (λ l w _. unneeded-right v v y (opOf o) l (c .tree) x (w q) i))
+        turn-says high false u q i z n c r s =
+            subst (Turns text at v counts d k y) (sym s) (next-turns high false u q i z n c y (λ l w p. absurd (no (sym q ∙ p))))
 
   -- All operators behind a left side.
   pub record Climbs (at d k : ℕ) (l : Tree) (z : ℤ) (i : ℕ) : Type 0 where

@@ -3,28 +3,29 @@ use Prim.Native.Nat.{ℕ, suc, _-_, _≤_}
 use native.Mathlib.Omega.{arith}
 use mathlib.Core.Path.{_≡_, refl, sym, ap, _∙_, subst}
 use mathlib.Core.Bool.{Bool, true, false}
-use lib.IntN.{ℤ, pos, negℤ}
+use lib.Dec.{eqb}
+use lib.IntN.{ℤ, pos}
 use lib.ListN.{drop}
 use Rattle.stages.specs.Numbers.{tooDeep, arithmeticSyntax}
 use Rattle.stages.specs.Bytes.{Text, part}
 use Rattle.stages.specs.Outcome.{Outcome, refused, done, _>>=_}
 use Rattle.stages.specs.Images.{Pairs, lookup}
-use Rattle.stages.specs.Constants.{ranged, nameNumber}
-use Rattle.stages.specs.Arith.{Lexed, textEnd, num, name, op, opens, shuts, token, Tree, constantOf, nameOf, negated, Grown, grown}
-use Rattle.stages.specs.Arith.{operand, expression, shut, whole, enclosed, sign, operandAt, growStep, grow, evaluate, withVariables}
+use Rattle.stages.specs.Constants.{nameNumber}
+use Rattle.stages.specs.Arith.{wholeLevel, applyAlone, isSign, End, shuts, Lexed, ends, num, name, op, opens, query, token, Tree, constantOf}
+use Rattle.stages.specs.Arith.{nameOf, unary, Grown, grown, operand, expression, rank, ended, upTo, enclosed, sign, operandAt, growStep, grow, evaluate}
+use Rattle.stages.specs.Arith.{withVariables}
 use Rattle.stages.proofs.Bools.{no}
 use Rattle.stages.proofs.Arith.{grow-eq}
 use Rattle.stages.proofs.Outcomes.{done-same}
 use Rattle.arith_int.specs.Answers.{opOf}
 use Rattle.arith_int.specs.declared.Op.{Op}
-use Rattle.arith_int.specs.declared.Op.the-variants.{Add, Sub}
 use Rattle.arith_token.specs.Tokens.{lexed, TokenAt}
-use Rattle.arith_eval.specs.Climbs.{climbing, Names, Turned, Closes, Fails, Comes, Says, Worth}
+use Rattle.arith_eval.specs.Climbs.{climbing, Names, Turned, signOf, Closes, Fails, Comes, Says, Worth}
 use Rattle.arith_token.specs.declared.Token.{Token}
 use Rattle.arith_token.specs.declared.Token.the-variants as code
 use Rattle.arith_eval.specs.declared.climb.Climbed.{Climbed}
 use Rattle.arith_eval.specs.declared.climb.Climbed.the-variants as climbed
-use Rattle.arith_eval.proofs.Trees.{never, bound, negated-refused, negated-done, name-is, constant-is}
+use Rattle.arith_eval.proofs.Trees.{never, bound, unary-refused, unary-done, name-is, constant-is}
 
 -- An enum's answer, once its case is known.
 
@@ -37,13 +38,9 @@ says-shown text at v counts o h e = subst (Says text at v counts o) e h
 
 -- What stands behind a value, by its token.
 
-pub closes-by : (text : Text) (at : ℕ) (k : Token) → TokenAt text at k → (l : Tree) → (token (drop at text) >>= λ s. shut l s) ≡
-    (lexed text k >>= λ s. shut l s)
-closes-by text at k t l = ap (λ (o : Lexed). o >>= λ s. shut l s) (t .is)
-
-pub ends-by : (text : Text) (at : ℕ) (k : Token) → TokenAt text at k → (l : Tree) → (token (drop at text) >>= λ s. whole l s) ≡
-    (lexed text k >>= λ s. whole l s)
-ends-by text at k t l = ap (λ (o : Lexed). o >>= λ s. whole l s) (t .is)
+pub ended-by : (text : Text) (at : ℕ) (e : End) (k : Token) → TokenAt text at k → (l : Tree)
+    → (token (drop at text) >>= λ s. ended e l s) ≡ (lexed text k >>= λ s. ended e l s)
+ended-by text at e k t l = ap (λ (o : Lexed). o >>= λ s. ended e l s) (t .is)
 
 -- Refusals.
 
@@ -68,21 +65,20 @@ module _ (v : Pairs) (counts : Bool) where
     works = λ p h. let b = bound o f p h in on (b .from) p (b .then-is) (w .works (b .from) (b .first));
   }
 
--- an operator that is no sign
-pub no-sign : (v : Pairs) (counts : Bool) (d : ℕ) (t : Text) (o k : Op) → o ≡ k → sign grow (opOf k) d t ≡ refused arithmeticSyntax
-    → Fails v counts (sign grow (opOf o) d t) arithmeticSyntax
-no-sign v counts d t o k e q = fault v counts (ap (λ (x : Op). sign grow (opOf x) d t) e ∙ q)
-
--- a parenthesis that is shut holds its tree
-shut-tree : (o : Lexed) (l : Tree) (p : Tree × Text) → (o >>= λ s. shut l s) ≡ done p → p .0 ≡ l
-unfolding shut
-shut-tree (refused e) l p h = absurd (never h)
-shut-tree (done (textEnd, u)) l p h = absurd (never h)
-shut-tree (done (num z, u)) l p h = absurd (never h)
-shut-tree (done (name x, u)) l p h = absurd (never h)
-shut-tree (done (op o, u)) l p h = absurd (never h)
-shut-tree (done (opens, u)) l p h = absurd (never h)
-shut-tree (done (shuts, u)) l p h = ap (λ (x : Tree × Text). x .0) (sym (done-same h))
+-- a tree before its end is that tree
+pub ended-tree : (e : End) (o : Lexed) (l : Tree) (p : Tree × Text) → (o >>= λ s. ended e l s) ≡ done p → p .0 ≡ l
+unfolding ended
+ended-tree e (refused n) l p h = absurd (never h)
+ended-tree e (done (ends f, u)) l p h = go (eqb (rank e) (rank f)) refl
+  where
+    go : (x : Bool) → eqb (rank e) (rank f) ≡ x → p .0 ≡ l
+    go true q = ap (λ (x : Tree × Text). x .0) (sym (done-same (rw (q, ended) at h)))
+    go false q = absurd (never (rw (q, ended) at h))
+ended-tree e (done (num z, u)) l p h = absurd (never h)
+ended-tree e (done (name x, u)) l p h = absurd (never h)
+ended-tree e (done (op o, u)) l p h = absurd (never h)
+ended-tree e (done (opens, u)) l p h = absurd (never h)
+ended-tree e (done (query, u)) l p h = absurd (never h)
 
 module _ (text : Text) (v : Pairs) (counts : Bool) where
   pub says-same : (at next : ℕ) (o q : Grown) (r : Climbed) → o ≡ q → at ≤ next → Says text next v counts q r → Says text at v counts o r
@@ -110,6 +106,14 @@ module _ (text : Text) (v : Pairs) (counts : Bool) where
     unfolding operandAt
     operand-shut next t = fault v counts (by-token (code.Shuts next) t)
 
+    pub operand-query : (next : ℕ) → TokenAt text at (code.Query next) → Fails v counts here arithmeticSyntax
+    unfolding operandAt
+    operand-query next t = fault v counts (by-token (code.Query next) t)
+
+    pub operand-colon : (next : ℕ) → TokenAt text at (code.Colon next) → Fails v counts here arithmeticSyntax
+    unfolding operandAt
+    operand-colon next t = fault v counts (by-token (code.Colon next) t)
+
     pub operand-number : (z : ℤ) (next : ℕ) → TokenAt text at (code.Number z next) → Comes text (suc at) v counts here z next
     unfolding operandAt
     operand-number z next t = record {
@@ -121,7 +125,7 @@ module _ (text : Text) (v : Pairs) (counts : Bool) where
     }
 
     pub operand-sign : (o : Op) (next : ℕ) (r : Climbed) → TokenAt text at (code.Op o next) → Says text next v counts
-        (sign grow (opOf o) d (drop next text)) r → Says text at v counts here r
+        (signOf o d (drop next text)) r → Says text at v counts here r
     unfolding operandAt
     operand-sign o next r t h = let l = t .ends .onward in says-same at next here _ r (by-token (code.Op o next) t) (omega arith) h
 
@@ -159,51 +163,47 @@ module _ (text : Text) (v : Pairs) (counts : Bool) where
   -- A sign and its operand.
   module _ (at d : ℕ) (o : Op) where
     abbrev sign-here : Grown
-    sign-here = sign grow (opOf o) d (drop at text)
+    sign-here = signOf o d (drop at text)
 
-    pub plus-deep : o ≡ Add → d ≡ 0 → Fails v counts sign-here tooDeep
+    pub no-sign : isSign (opOf o) ≡ false → Fails v counts sign-here arithmeticSyntax
     unfolding sign
-    plus-deep e z = fault v counts (rw (e, z))
+    no-sign e = fault v counts (rw (e, sign))
 
-    pub minus-deep : o ≡ Sub → d ≡ 0 → Fails v counts sign-here tooDeep
-    unfolding sign
-    minus-deep e z = fault v counts (rw (e, z))
+    module _ (may : isSign (opOf o) ≡ true) where
+      pub sign-deep : d ≡ 0 → Fails v counts sign-here tooDeep
+      unfolding sign
+      sign-deep z = fault v counts (ap (λ (i : ℕ). sign grow (isSign (opOf o)) (opOf o) i (drop at text)) z ∙ rw (may, sign))
 
-    less : (d ≡ 0 → ⊥) → d ≡ suc (d - 1)
-    less n = omega arith
+      module _ (n : d ≡ 0 → ⊥) where
+        sign-is : sign-here ≡ grown (unary (opOf o)) (grow (operand, d - 1, drop at text))
+        unfolding sign
+        sign-is =
+            let e : d ≡ suc (d - 1) = omega arith in
+            ap (λ (i : ℕ). sign grow (isSign (opOf o)) (opOf o) i (drop at text)) e ∙ rw (may, sign)
 
-    pub plus-says : (r : Climbed) → o ≡ Add → (d ≡ 0 → ⊥) → Says text at v counts (grow (operand, d - 1, drop at text)) r → Says text
-        at v counts sign-here r
-    unfolding sign
-    plus-says r e n h = says-same at at sign-here _ r (ap (λ (i : ℕ). sign grow (opOf o) i (drop at text)) (less n) ∙ rw e) (omega arith) h
+        pub sign-fails : (e : ℕ) → Fails v counts (grow (operand, d - 1, drop at text)) e → Fails v counts sign-here e
+        sign-fails e f =
+            fails-same v counts sign-is
+            (fails-first v counts (λ p. done (unary (opOf o) (p .0), p .1)) f λ q p h b.
+            ap (λ (x : Tree × Text). evaluate v (x .0)) (sym (done-same h)) ∙ unary-refused v (opOf o) (q .0) e b)
 
-    minus-is : o ≡ Sub → (d ≡ 0 → ⊥) → sign-here ≡ grown negated (grow (operand, d - 1, drop at text))
-    unfolding sign
-    minus-is e n = ap (λ (i : ℕ). sign grow (opOf o) i (drop at text)) (less n) ∙ rw e
+        module _ (z : ℤ) (next : ℕ) (c : Comes text (suc at) v counts (grow (operand, d - 1, drop at text)) z next) where
+          signed-is : sign-here ≡ done (unary (opOf o) (c .tree), drop next text)
+          signed-is = sign-is ∙ ap (grown (unary (opOf o))) (c .is)
 
-    pub minus-fails : (e : ℕ) → o ≡ Sub → (d ≡ 0 → ⊥) → Fails v counts (grow (operand, d - 1, drop at text)) e → Fails v counts sign-here e
-    minus-fails e s n f =
-        fails-same v counts (minus-is s n)
-        (fails-first v counts (λ p. done (negated (p .0), p .1)) f λ q p h b.
-        ap (λ (x : Tree × Text). evaluate v (x .0)) (sym (done-same h)) ∙ negated-refused v (q .0) e b)
+          sign-comes : (y : ℤ) → Worth v counts (unary (opOf o) (c .tree)) y → Comes text (suc at) v counts sign-here y next
+          sign-comes y w = record { tree = unary (opOf o) (c .tree); is = signed-is; worth = w; onward = c .onward; within = c .within }
 
-    module _ (s : o ≡ Sub) (n : d ≡ 0 → ⊥) (z : ℤ) (next : ℕ) (c : Comes text (suc at) v counts (grow (operand, d - 1, drop at text)) z next) where
-      minus-here : sign-here ≡ done (negated (c .tree), drop next text)
-      minus-here = minus-is s n ∙ ap (grown negated) (c .is)
+          sign-outcome : counts ≡ true → (u : Outcome ℤ) → applyAlone (opOf o) z ≡ u → Says text at v counts sign-here (climbing u next)
+          sign-outcome k (refused e) q =
+              work-fault v counts k λ p h.
+              ap (λ (x : Tree × Text). evaluate v (x .0)) (done-same (sym h ∙ signed-is)) ∙ unary-done v (opOf o) (c .tree) z (c .worth k) ∙ ap
+              (withVariables v) q
+          sign-outcome k (done y) q = sign-comes y (λ _. unary-done v (opOf o) (c .tree) z (c .worth k) ∙ ap (withVariables v) q)
 
-      minus-comes : (y : ℤ) → Worth v counts (negated (c .tree)) y → Comes text (suc at) v counts sign-here y next
-      minus-comes y w = record { tree = negated (c .tree); is = minus-here; worth = w; onward = c .onward; within = c .within }
-
-      minus-outcome : counts ≡ true → (u : Outcome ℤ) → ranged (negℤ z) ≡ u → Says text at v counts sign-here (climbing u next)
-      minus-outcome k (refused e) q =
-          work-fault v counts k λ p h.
-          ap (λ (x : Tree × Text). evaluate v (x .0)) (done-same (sym h ∙ minus-here)) ∙ negated-done v (c .tree) z (c .worth k) ∙ ap
-          (withVariables v) q
-      minus-outcome k (done y) q = minus-comes y (λ _. negated-done v (c .tree) z (c .worth k) ∙ ap (withVariables v) q)
-
-      pub minus-says : (r : Climbed) (b : Bool) → counts ≡ b → Turned z next b r → Says text at v counts sign-here r
-      minus-says r true k h = subst (Says text at v counts sign-here) (sym h) (minus-outcome k (ranged (negℤ z)) refl)
-      minus-says r false k h = subst (Says text at v counts sign-here) (sym h) (minus-comes z (λ t. absurd (no (sym k ∙ t))))
+          pub sign-says : (r : Climbed) (b : Bool) → counts ≡ b → Turned o z next b r → Says text at v counts sign-here r
+          sign-says r true k h = subst (Says text at v counts sign-here) (sym h) (sign-outcome k (applyAlone (opOf o) z) refl)
+          sign-says r false k h = subst (Says text at v counts sign-here) (sym h) (sign-comes z (λ t. absurd (no (sym k ∙ t))))
 
   -- Parentheses.
   module _ (at d : ℕ) where
@@ -215,21 +215,21 @@ module _ (text : Text) (v : Pairs) (counts : Bool) where
     enclosed-deep z = fault v counts (rw z)
 
     inside : Grown
-    inside = expression grow (d - 1) 1 (drop at text)
+    inside = expression grow (d - 1) wholeLevel (drop at text)
 
     close : Tree × Text → Grown
-    close q = token (q .1) >>= λ s. shut (q .0) s
+    close q = token (q .1) >>= λ s. ended shuts (q .0) s
 
     enclosed-is : (d ≡ 0 → ⊥) → enclosed-here ≡ (inside >>= close)
-    unfolding enclosed inside close
+    unfolding enclosed upTo inside close
     enclosed-is n = let e : d ≡ suc (d - 1) = omega arith in ap (λ (i : ℕ). enclosed grow i (drop at text)) e
 
-    pub enclosed-fails : (e : ℕ) → (d ≡ 0 → ⊥) → Fails v counts (expression grow (d - 1) 1 (drop at text)) e → Fails v counts enclosed-here e
+    pub enclosed-fails : (e : ℕ) → (d ≡ 0 → ⊥) → Fails v counts (expression grow (d - 1) wholeLevel (drop at text)) e → Fails v counts enclosed-here e
     unfolding inside close
-    enclosed-fails e n f = fails-same v counts (enclosed-is n) (fails-first v counts close f λ q p h b. rw (shut-tree (token (q .1)) (q .0) p h) b)
+    enclosed-fails e n f = fails-same v counts (enclosed-is n) (fails-first v counts close f λ q p h b. rw (ended-tree shuts (token (q .1)) (q .0) p h) b)
 
     pub enclosed-says : (z : ℤ) (next : ℕ) (r : Climbed) → (d ≡ 0 → ⊥) → Comes text (suc at) v counts
-        (expression grow (d - 1) 1 (drop at text)) z next → Closes text next z r
+        (expression grow (d - 1) wholeLevel (drop at text)) z next → Closes text next z r
         → Says text at v counts enclosed-here r
     unfolding inside close
     enclosed-says z next (climbed.Refused e) n c h = fault v counts (enclosed-is n ∙ ap (λ (o : Grown). o >>= close) (c .is) ∙ h (c .tree))

@@ -8,55 +8,52 @@ use Rattle.stages.specs.Bytes.{Text}
 use Rattle.stages.specs.Outcome.{Outcome, refused, done, _>>=_}
 use Rattle.stages.specs.Images.{Pairs}
 use Rattle.stages.specs.Constants.{signed}
-use Rattle.stages.specs.Arith.{Lexed, textEnd, num, name, op, opens, shuts, token}
-use Rattle.stages.specs.Arith.{Tree, Grown, expression, grow, whole, tree, evaluate, Evaluated, arithmeticOf}
+use Rattle.stages.specs.Arith.{wholeLevel, stop, token, Tree, Grown, expression, grow, ended, upTo, tree, evaluate, Evaluated, arithmeticOf}
 use Rattle.stages.proofs.Outcomes.{done-same}
 use Rattle.arith_int.specs.Answers.{numbered}
 use Rattle.arith_int.specs.declared.Number.{Number}
 use Rattle.arith_int.specs.declared.Number.the-variants as number
 use Rattle.arith_eval.specs.Climbs.{Fails, Comes, Errs, Results, Answers, Finishes, comesTo}
 use Rattle.arith_eval.proofs.Trees.{never, bound, Keeps, evaluate-keeps}
+use Rattle.arith_eval.proofs.Operands.{ended-tree}
 
 pub answers-shown : (v : Pairs) (counts : Bool) (o : Outcome Tree) {r s : Number} → Answers v counts o r → r ≡ s → Answers v counts o s
 answers-shown v counts o h e = subst (Answers v counts o) e h
 
--- a text that ends holds its tree
-whole-tree : (o : Lexed) (l t : Tree) → (o >>= λ s. whole l s) ≡ done t → t ≡ l
-unfolding whole
-whole-tree (refused e) l t h = absurd (never h)
-whole-tree (done (textEnd, u)) l t h = sym (done-same h)
-whole-tree (done (num z, u)) l t h = absurd (never h)
-whole-tree (done (name x, u)) l t h = absurd (never h)
-whole-tree (done (op o, u)) l t h = absurd (never h)
-whole-tree (done (opens, u)) l t h = absurd (never h)
-whole-tree (done (shuts, u)) l t h = absurd (never h)
-
 module _ (text : Text) (v : Pairs) (counts : Bool) where
-  behind : Tree × Text → Outcome Tree
-  behind p = token (p .1) >>= λ s. whole (p .0) s
+  abbrev all-of : Grown
+  all-of = expression grow openLimit wholeLevel text
 
-  tree-is : tree text ≡ (expression grow openLimit 1 text >>= behind)
-  unfolding tree behind
+  behind : Tree × Text → Grown
+  behind p = token (p .1) >>= λ s. ended stop (p .0) s
+
+  only-tree : Tree × Text → Outcome Tree
+  only-tree p = done (p .0)
+
+  tree-is : tree text ≡ ((all-of >>= behind) >>= only-tree)
+  unfolding tree upTo behind only-tree
   tree-is = refl
 
-  pub once-fails : (e : ℕ) → Fails v counts (expression grow openLimit 1 text) e → Errs v counts (tree text) e
-  unfolding behind
+  pub once-fails : (e : ℕ) → Fails v counts all-of e → Errs v counts (tree text) e
+  unfolding behind only-tree
   once-fails e f = record {
-    reads = λ c. tree-is ∙ ap (λ (o : Grown). o >>= behind) (f .reads c);
+    reads = λ c. tree-is ∙ ap (λ (o : Grown). (o >>= behind) >>= only-tree) (f .reads c);
     works = λ l h.
-        let b = bound (expression grow openLimit 1 text) behind l (sym tree-is ∙ h) in
-        ap (evaluate v) (whole-tree (token (b .from .1)) (b .from .0) l (b .then-is)) ∙ f .works (b .from) (b .first);
+        let a = bound (all-of >>= behind) only-tree l (sym tree-is ∙ h) in
+        let b = bound all-of behind (a .from) (a .first) in
+        ap (evaluate v) (sym (done-same (a .then-is)) ∙ ended-tree stop (token (b .from .1)) (b .from .0) (a .from) (b .then-is))
+        ∙ f .works (b .from) (b .first);
   }
 
-  pub once-says : (z : ℤ) (next : ℕ) (r : Number) → Comes text 1 v counts (expression grow openLimit 1 text) z next → Finishes text next z r
-      → Answers v counts (tree text) r
-  unfolding behind
+  pub once-says : (z : ℤ) (next : ℕ) (r : Number) → Comes text 1 v counts all-of z next → Finishes text next z r → Answers v counts (tree text) r
+  unfolding behind only-tree
   once-says z next (number.Refused e) c h =
-      let q : tree text ≡ refused e = tree-is ∙ ap (λ (o : Grown). o >>= behind) (c .is) ∙ h (c .tree) in
+      let q : tree text ≡ refused e =
+      tree-is ∙ ap (λ (o : Grown). (o >>= behind) >>= only-tree) (c .is) ∙ ap (λ (o : Grown). o >>= only-tree) (h (c .tree)) in
       record { reads = λ _. q; works = λ l k. absurd (never (sym q ∙ k)) }
   once-says z next (number.Value y) c h = record {
     tree = c .tree;
-    is = tree-is ∙ ap (λ (o : Grown). o >>= behind) (c .is) ∙ h .1 (c .tree);
+    is = tree-is ∙ ap (λ (o : Grown). (o >>= behind) >>= only-tree) (c .is) ∙ ap (λ (o : Grown). o >>= only-tree) (h .1 (c .tree));
     worth = λ t. c .worth t ∙ ap (λ (x : ℤ). done (x, v)) (sym (h .0));
   }
 

@@ -13,7 +13,7 @@ use arith_int::Number;
 use arith_token::Token;
 use arith_token::token_at;
 use climb::Climbed;
-use climb::expression;
+use climb::whole;
 use table::Found;
 use text::numbers;
 
@@ -45,6 +45,8 @@ fn ended(text: &[u8], value: i64, at: usize) -> Number
         Token::Op(_, _) => Number::Refused(numbers::REFUSED_ARITHMETIC),
         Token::Opens(_) => Number::Refused(numbers::REFUSED_ARITHMETIC),
         Token::Shuts(_) => Number::Refused(numbers::REFUSED_ARITHMETIC),
+        Token::Query(_) => Number::Refused(numbers::REFUSED_ARITHMETIC),
+        Token::Colon(_) => Number::Refused(numbers::REFUSED_ARITHMETIC),
     }
 }
 
@@ -53,7 +55,7 @@ fn once(text: &[u8], counts: bool, vars: &[u8]) -> Number
     requires { ⌜ Table (now vars) ⌝ }
     ensures { λ r. ⌜ Answers (held (now (vars .entry))) counts (tree (now (text .entry))) r ⌝ }
 {
-    let got = expression(text, 0, numbers::OPEN_LIMIT, 1, counts, vars);
+    let got = whole(text, 0, numbers::OPEN_LIMIT, counts, vars);
     match got {
         Climbed::Refused(e) => Number::Refused(e),
         Climbed::Value { value, next } => ended(text, value, next),

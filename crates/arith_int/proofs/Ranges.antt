@@ -1,6 +1,6 @@
 -- The operations' laws: a result that fits is given, one that does not is refused, and each guard tells the two apart.
 use mathlib.Core.Path.{_≡_, refl, sym, _∙_, ap, subst}
-use mathlib.Core.Bool.{Bool, true, false, not}
+use mathlib.Core.Bool.{Bool, true, false}
 use Prim.Native.Nat.{ℕ, zero, suc, _+_, _-_, _*_, _/_, _≤_, _<_, _^_}
 use native.Mathlib.Omega.{arith}
 use native.Mathlib.Nat.{div-le-self, div-lt-self, div-one, zero-add, mul-comm, le-div-iff-mul-le, div-lt-iff-lt-mul}
@@ -18,7 +18,7 @@ use Rattle.stages.specs.Numbers.{zeroDivisor}
 use Rattle.stages.specs.Numbers as numbers
 use Rattle.stages.specs.Outcome.{refused, done}
 use Rattle.stages.specs.Constants.{fits, ranged}
-use Rattle.stages.specs.Arith.{divided, isZero, eqZ}
+use Rattle.stages.specs.Arith.{divided, isZero, eqZ, xor}
 use Rattle.arith_int.specs.Answers.{ofSign, Divides}
 use Rattle.arith_int.specs.declared.Division.{Division}
 
@@ -174,7 +174,7 @@ module _ (a b : ℤ) (ha : SFits w64 a) (hb : SFits w64 b) where
     }
 
 -- below zero, or not
-below-zero : (n : ℕ) → ltb n 0 ≡ true → ⊥
+pub below-zero : (n : ℕ) → ltb n 0 ≡ true → ⊥
 below-zero n e = let l = ltb-true n 0 e in omega arith
 
 -- -1 - a, the magnitude less one of a number below zero
@@ -202,11 +202,7 @@ sign-suc zero n = absurd (n refl)
 sign-suc (suc m) n = let z : suc m - 1 ≡ m = omega arith in rw z
 
 -- a product by its sign and its magnitude
-abbrev pub differ : Bool → Bool → Bool
-differ true t = not t
-differ false t = t
-
-pub signs : (a b : ℤ) (s t : Bool) → ltZ a (pos 0) ≡ s → ltZ b (pos 0) ≡ t → ofSign (differ s t) (natAbs a * natAbs b) ≡ a *ℤ b
+pub signs : (a b : ℤ) (s t : Bool) → ltZ a (pos 0) ≡ s → ltZ b (pos 0) ≡ t → ofSign (xor s t) (natAbs a * natAbs b) ≡ a *ℤ b
 signs (pos a) b true t e f = absurd (below-zero a e)
 signs (negsuc a) b false t e f = absurd (no (sym e))
 signs (pos a) (pos b) false true e f = absurd (below-zero b f)
@@ -228,18 +224,6 @@ unfolding ranged fits
 zero-signed true = refl
 zero-signed false = refl
 
-pub mul-zero : (a b : ℤ) → natAbs a ≡ 0 → done (pos 0) ≡ ranged (a *ℤ b)
-mul-zero a b h =
-    rw (← signs a b (ltZ a (pos 0)) (ltZ b (pos 0)) refl refl, h, NatL.zero-mul) (zero-signed (differ (ltZ a (pos 0)) (ltZ b (pos 0))))
-
-pub mul-over : (a b : ℤ) → 0 < natAbs a → 9223372036854775808 / natAbs a < natAbs b → refused numbers.overflow ≡ ranged (a *ℤ b)
-mul-over a b p h = overflow (a *ℤ b)
-    (rw (← signs a b (ltZ a (pos 0)) (ltZ b (pos 0)) refl refl)
-    (sign-mag (differ (ltZ a (pos 0)) (ltZ b (pos 0))) (natAbs a * natAbs b) (rw mul-comm at (div-lt-iff-lt-mul p .0 h))))
-
-pub mul-room : (x y : ℕ) → 0 < x → y ≤ 9223372036854775808 / x → x * y ≤ 9223372036854775808
-mul-room x y p h = rw mul-comm at (le-div-iff-mul-le p .0 h)
-
 -- a number less the least
 pub sub-least : (a : ℤ) → SFits w64 a → ltZ a (pos 0) ≡ true → SFits w64 (a -ℤ least)
 sub-least (pos n) h e = absurd (below-zero n e)
@@ -251,6 +235,16 @@ over-least (negsuc n) e = absurd (no (sym e))
 
 pub of-zero : (s : Bool) (m : ℕ) → m ≡ 0 → done (pos 0) ≡ ranged (ofSign s m)
 of-zero s m e = rw e (zero-signed s)
+
+-- a product by the magnitudes
+pub mul-zero : (s : Bool) (x y : ℕ) → x ≡ 0 → done (pos 0) ≡ ranged (ofSign s (x * y))
+mul-zero s x y e = of-zero s (x * y) (rw (e, NatL.zero-mul))
+
+pub mul-over : (s : Bool) (x y : ℕ) → 0 < x → 9223372036854775808 / x < y → refused numbers.overflow ≡ ranged (ofSign s (x * y))
+mul-over s x y p h = overflow (ofSign s (x * y)) (sign-mag s (x * y) (rw mul-comm at (div-lt-iff-lt-mul p .0 h)))
+
+pub mul-room : (x y : ℕ) → 0 < x → y ≤ 9223372036854775808 / x → x * y ≤ 9223372036854775808
+mul-room x y p h = rw mul-comm at (le-div-iff-mul-le p .0 h)
 
 pub held-pos : (n : ℕ) → n ≤ 9223372036854775807 → toZ w64 n ≡ pos n
 held-pos n h = toZ-pos w64 n (omega arith)
@@ -271,3 +265,7 @@ same-bits a b h k =
     same-tests (eqb (ofZ w64 a) (ofZ w64 b)) (eqZ a b)
     (λ e. rw (bits-eq a b h k (eqb-true (ofZ w64 a) (ofZ w64 b) e)) (and-both (leZ-refl b) (leZ-refl b)))
     (λ e. eq-eqb (ofZ w64 a) (ofZ w64 b) (ap (ofZ w64) (eqZ-same a b e)))
+
+pub zero-bits : (z : ℤ) → SFits w64 z → eqb (ofZ w64 z) 0 ≡ isZero z
+zero-bits (pos n) h = refl
+zero-bits (negsuc n) h = let f = h .sfits in ne-eqb (2 ^ 64 - suc n) 0 (λ e. omega arith)

@@ -5,12 +5,13 @@ use mathlib.Core.Path.{_≡_, refl, sym, ap, _∙_}
 use lib.ListN.{length, drop, length-drop}
 use Rattle.stages.specs.Bytes.{Text, part}
 use Rattle.stages.specs.Outcome.{refused, done}
-use Rattle.stages.specs.Arith.{Lexed, textEnd, num, name, op, opens, shuts}
+use Rattle.stages.specs.Arith.{Lexed, stop, shuts, colon, ends, num, name, op, opens, query}
 use Rattle.stages.specs.Arith as arith-stage
 use Rattle.text.proofs.Parts.{part-length}
 use Rattle.arith_int.specs.Answers.{opOf}
 use Rattle.arith_int.specs.declared.Op.{Op}
-use Rattle.arith_int.specs.declared.Op.the-variants.{Mul, Div, Rem, Add, Sub, Lt, Le, Gt, Ge, Eq, Ne}
+use Rattle.arith_int.specs.declared.Op.the-variants.{Mul, Div, Rem, Add, Sub, Shl, Shr, Lt, Le, Gt, Ge, Eq, Ne, BitAnd, BitXor, BitOr}
+use Rattle.arith_int.specs.declared.Op.the-variants.{LogAnd, LogOr, LogNot, BitNot}
 use Rattle.arith_token.specs.Tokens.{levelOf, lexed, Ends, TokenAt}
 use Rattle.arith_token.specs.declared.Token.{Token}
 use Rattle.arith_token.specs.declared.Token.the-variants as code
@@ -25,12 +26,21 @@ opBack arith-stage.div = Div
 opBack arith-stage.rem = Rem
 opBack arith-stage.add = Add
 opBack arith-stage.sub = Sub
+opBack arith-stage.shl = Shl
+opBack arith-stage.shr = Shr
 opBack arith-stage.lt = Lt
 opBack arith-stage.le = Le
 opBack arith-stage.gt = Gt
 opBack arith-stage.ge = Ge
 opBack arith-stage.eq = Eq
 opBack arith-stage.ne = Ne
+opBack arith-stage.bitAnd = BitAnd
+opBack arith-stage.bitXor = BitXor
+opBack arith-stage.bitOr = BitOr
+opBack arith-stage.logAnd = LogAnd
+opBack arith-stage.logOr = LogOr
+opBack arith-stage.logNot = LogNot
+opBack arith-stage.bitNot = BitNot
 
 op-back : (o : Op) → opBack (opOf o) ≡ o
 op-back Mul = refl
@@ -38,22 +48,33 @@ op-back Div = refl
 op-back Rem = refl
 op-back Add = refl
 op-back Sub = refl
+op-back Shl = refl
+op-back Shr = refl
 op-back Lt = refl
 op-back Le = refl
 op-back Gt = refl
 op-back Ge = refl
 op-back Eq = refl
 op-back Ne = refl
+op-back BitAnd = refl
+op-back BitXor = refl
+op-back BitOr = refl
+op-back LogAnd = refl
+op-back LogOr = refl
+op-back LogNot = refl
+op-back BitNot = refl
 
 -- the code's token of the stage's: a place is where what is behind it begins
 abbrev back : Text → Lexed → Token
 back text (refused e) = code.Refused e
-back text (done (textEnd, u)) = code.Stop
+back text (done (ends stop, u)) = code.Stop
+back text (done (ends shuts, u)) = code.Shuts (length text - length u)
+back text (done (ends colon, u)) = code.Colon (length text - length u)
 back text (done (num z, u)) = code.Number z (length text - length u)
 back text (done (name x, u)) = code.Name (length text - length u - length x) (length text - length u)
 back text (done (op o, u)) = code.Op (opBack o) (length text - length u)
 back text (done (opens, u)) = code.Opens (length text - length u)
-back text (done (shuts, u)) = code.Shuts (length text - length u)
+back text (done (query, u)) = code.Query (length text - length u)
 
 module _ (text : Text) where
   place : (next : ℕ) → next ≤ length text → length text - length (drop next text) ≡ next
@@ -70,6 +91,8 @@ module _ (text : Text) where
   token-back at (code.Op o next) w = rw (op-back o, place next (w .within))
   token-back at (code.Opens next) w = ap code.Opens (place next (w .within))
   token-back at (code.Shuts next) w = ap code.Shuts (place next (w .within))
+  token-back at (code.Query next) w = ap code.Query (place next (w .within))
+  token-back at (code.Colon next) w = ap code.Colon (place next (w .within))
 
   pub token-at-determined : (at : ℕ) (r s : Token) → TokenAt text at r → TokenAt text at s → r ≡ s
   token-at-determined at r s h k = sym (token-back at r (h .ends)) ∙ ap (back text) (sym (h .is) ∙ k .is) ∙ token-back at s (k .ends)

@@ -1,72 +1,140 @@
--- Laws of tokens: what the byte at a place tells of the token there, and what a `=` behind it tells.
+-- Laws of tokens: what the byte at a place tells of the token there, and what the byte behind it tells.
 use Prim.Native.Nat.{ℕ, suc, _+_, _-_, _≤_, _<_}
 use Prim.Native.Char.{code}
 use native.Mathlib.Omega.{arith}
 use native.Mathlib.Numerals.{add-one}
 use mathlib.Core.Path.{_≡_, refl, sym, ap, _∙_, subst}
-use mathlib.Core.Bool.{true, false}
+use mathlib.Core.Bool.{Bool, true, false, not, _&&_}
 use mathlib.Core.List.{[], _∷_, _++_}
+use mathlib.Core.Option.{Option, none, some}
 use lib.Dec.{eqb}
 use lib.IntN.{ℤ, pos}
 use lib.ListN.{length, drop, getD, length-take, drop-of-length-le}
 use lib.Seq.{drop-cons}
-use borrow.Author.Tests.{ne-eqb}
+use borrow.Author.Tests.{eq-eqb, ne-eqb, not-true}
 use Rattle.stages.specs.Numbers.{arithmeticSyntax}
 use Rattle.stages.specs.Bytes.{Text, part, all, span, isBlank, isDigit, isNameStart, isNameByte}
 use Rattle.stages.specs.Outcome.{Outcome, refused, done, _>>=_, choose}
 use Rattle.stages.specs.Constants.{number, constant}
-use Rattle.stages.specs.Arith.{num, name, token, level}
-use Rattle.stages.specs.Arith as arith-stage
-use Rattle.stages.proofs.Bools.{and-left, and-right}
+use Rattle.stages.specs.Arith.{operator, level, Lexed, num, name, op, Spellings, written, behind, spelled, token}
+use Rattle.stages.proofs.Bools.{no, and-left, and-right}
 use Rattle.stages.proofs.Texts.{Stops, span-join, span-all, span-stops, span-more, start-name-byte}
 use Rattle.stages.proofs.Arith.{digit-name-byte}
 use Rattle.text.specs.Classes.{Runs}
 use Rattle.text.specs.declared.Class.the-variants.{Blank, NameByte}
 use Rattle.arith_int.specs.Answers.{opOf}
 use Rattle.arith_int.specs.declared.Op.{Op}
-use Rattle.arith_int.specs.declared.Op.the-variants.{Mul, Div, Rem, Add, Sub, Lt, Le, Gt, Ge, Eq, Ne}
+use Rattle.arith_int.specs.declared.Op.the-variants.{Mul, Div, Rem, Add, Sub, Shl, Shr, Lt, Le, Gt, Ge, Eq, Ne, BitAnd, BitXor, BitOr}
+use Rattle.arith_int.specs.declared.Op.the-variants.{LogAnd, LogOr, LogNot, BitNot}
 use Rattle.arith_int.specs.declared.Number.{Number}
 use Rattle.text.specs.Places.{Behind}
-use Rattle.arith_token.specs.Tokens.{levelOf, lexed, Ends, TokenAt, Pairs, Symbol}
+use Rattle.arith_token.specs.Tokens.{levelOf, lexed, Ends, TokenAt, pairedBy, Pairs, Symbol}
 use Rattle.arith_token.specs.declared.Token.{Token}
 use Rattle.arith_token.specs.declared.Token.the-variants as code
 
 pub level-is : (o : Op) → levelOf o ≡ level (opOf o)
-unfolding level
+unfolding level operator
 level-is Mul = refl
 level-is Div = refl
 level-is Rem = refl
 level-is Add = refl
 level-is Sub = refl
+level-is Shl = refl
+level-is Shr = refl
 level-is Lt = refl
 level-is Le = refl
 level-is Gt = refl
 level-is Ge = refl
 level-is Eq = refl
 level-is Ne = refl
+level-is BitAnd = refl
+level-is BitXor = refl
+level-is BitOr = refl
+level-is LogAnd = refl
+level-is LogOr = refl
+level-is LogNot = refl
+level-is BitNot = refl
 
-pub level-small : (o : Op) → levelOf o ≤ 4
+pub level-small : (o : Op) → levelOf o ≤ 12
 level-small Mul = omega arith
 level-small Div = omega arith
 level-small Rem = omega arith
 level-small Add = omega arith
 level-small Sub = omega arith
+level-small Shl = omega arith
+level-small Shr = omega arith
 level-small Lt = omega arith
 level-small Le = omega arith
 level-small Gt = omega arith
 level-small Ge = omega arith
 level-small Eq = omega arith
 level-small Ne = omega arith
+level-small BitAnd = omega arith
+level-small BitXor = omega arith
+level-small BitOr = omega arith
+level-small LogAnd = omega arith
+level-small LogOr = omega arith
+level-small LogNot = omega arith
+level-small BitNot = omega arith
 
 -- the first byte decides
 
-none-fits : (b : ℕ) (u : Text) → isBlank b ≡ false → isDigit b ≡ false → isNameStart b ≡ false → eqb b 40 ≡ false → eqb b 41 ≡
-    false → eqb b 42 ≡ false → eqb b 47 ≡ false
-    → eqb b 37 ≡ false → eqb b 43 ≡ false → eqb b 45 ≡ false → eqb b 60 ≡ false → eqb b 62 ≡ false → eqb b 61 ≡ false → eqb
-    b 33 ≡ false
-    → token (b ∷ u) ≡ refused arithmeticSyntax
+-- a byte that begins no row of the table
+abbrev Others : ℕ → Type 0
+Others b =
+    (b ≡ 40 → ⊥) × (b ≡ 41 → ⊥) × (b ≡ 63 → ⊥) × (b ≡ 58 → ⊥) × (b ≡ 42 → ⊥) × (b ≡ 47 → ⊥) × (b ≡ 37 → ⊥) × (b ≡ 43 → ⊥) × (b ≡ 45 → ⊥)
+    × (b ≡ 94 → ⊥) × (b ≡ 126 → ⊥) × (b ≡ 60 → ⊥) × (b ≡ 62 → ⊥) × (b ≡ 61 → ⊥) × (b ≡ 33 → ⊥) × (b ≡ 38 → ⊥) × (b ≡ 124 → ⊥)
+
+-- no row of a table begins with the byte
+abbrev begins : ℕ → Text → Bool
+begins b [] = true
+begins b (c ∷ s) = eqb b c
+
+abbrev beginsNone : ℕ → Spellings → Bool
+beginsNone b [] = true
+beginsNone b (r ∷ l) = not (begins b (r .0)) && beginsNone b l
+
+behind-other : (b c : ℕ) (s u : Text) → eqb b c ≡ false → behind (c ∷ s) (b ∷ u) ≡ none
+unfolding behind
+behind-other b c s u e = rw (e, behind)
+
+row-other : (b : ℕ) (s u : Text) → not (begins b s) ≡ true → behind s (b ∷ u) ≡ none
+row-other b [] u e = absurd (no e)
+row-other b (c ∷ s) u e = behind-other b c s u (not-true (eqb b c) e)
+
+spelled-other : (l : Spellings) (b : ℕ) (u : Text) → beginsNone b l ≡ true → spelled l (b ∷ u) ≡ refused arithmeticSyntax
+unfolding spelled
+spelled-other [] b u e = refl
+spelled-other (r ∷ l) b u e =
+    rw (row-other b (r .0) u (and-left (not (begins b (r .0))) (beginsNone b l) e), spelled)
+    (spelled-other l b u (and-right (not (begins b (r .0))) (beginsNone b l) e))
+
+others-begin-none : (b : ℕ) → Others b → beginsNone b written ≡ true
+unfolding written
+others-begin-none b e =
+    rw (
+      ne-eqb b 40 (e .0),
+      ne-eqb b 41 (e .1),
+      ne-eqb b 63 (e .2),
+      ne-eqb b 58 (e .3),
+      ne-eqb b 42 (e .4),
+      ne-eqb b 47 (e .5),
+      ne-eqb b 37 (e .6),
+      ne-eqb b 43 (e .7),
+      ne-eqb b 45 (e .8),
+      ne-eqb b 94 (e .9),
+      ne-eqb b 126 (e .10),
+      ne-eqb b 60 (e .11),
+      ne-eqb b 62 (e .12),
+      ne-eqb b 61 (e .13),
+      ne-eqb b 33 (e .14),
+      ne-eqb b 38 (e .15),
+      ne-eqb b 124 (e .16),
+    )
+
+none-fits : (b : ℕ) (u : Text) → isBlank b ≡ false → isDigit b ≡ false → isNameStart b ≡ false → Others b → token (b ∷ u) ≡ refused arithmeticSyntax
 unfolding token choose
-none-fits b u x y z e1 e2 e3 e4 e5 e6 e7 e8 e9 e10 e11 = rw (x, y, z, e1, e2, e3, e4, e5, e6, e7, e8, e9, e10, e11)
+none-fits b u x y z e = rw (x, y, z) (spelled-other written b u (others-begin-none b e))
 
 constant-first : (b : ℕ) (u : Text) → isBlank b ≡ false → isDigit b ≡ true → (x y : Text) → span isNameByte (b ∷ u) ≡ (x, y)
     → token (b ∷ u) ≡ (number pos (constant x) >>= λ z. done (num z, y))
@@ -92,39 +160,46 @@ pub single : (text : Text) (at b : ℕ) (r : Token) → Symbol text at → getD 
 single text at b r s e t w = record { is = ap token (here text at (s .within) ∙ ap (λ (x : ℕ). x ∷ drop (at + 1) text) e) ∙ t; ends = w }
 
 -- a byte that begins no token
-pub no-token : (text : Text) (at : ℕ) → Symbol text at → (getD text at 0 ≡ 40 → ⊥) → (getD text at 0 ≡ 41 → ⊥) →
-    (getD text at 0 ≡ 42 → ⊥) → (getD text at 0 ≡ 47 → ⊥)
-    → (getD text at 0 ≡ 37 → ⊥) → (getD text at 0 ≡ 43 → ⊥) → (getD text at 0 ≡ 45 → ⊥) → (getD text at 0 ≡ 60 → ⊥)
-    → (getD text at 0 ≡ 62 → ⊥)
-    → (getD text at 0 ≡ 61 → ⊥) → (getD text at 0 ≡ 33 → ⊥) → TokenAt text at (code.Refused arithmeticSyntax)
-no-token text at s e1 e2 e3 e4 e5 e6 e7 e8 e9 e10 e11 = record {
-  is = ap token (here text at (s .within)) ∙ go (getD text at 0) (s .bare) (s .digit) (s .start) e1 e2 e3 e4 e5 e6 e7 e8 e9 e10 e11;
+pub no-token : (text : Text) (at : ℕ) → Symbol text at → Others (getD text at 0) → TokenAt text at (code.Refused arithmeticSyntax)
+no-token text at s e = record {
+  is = ap token (here text at (s .within)) ∙ none-fits (getD text at 0) (drop (at + 1) text) (s .bare) (s .digit) (s .start) e;
   ends = tt;
 }
-  where
-    go : (b : ℕ) → isBlank b ≡ false → isDigit b ≡ false → isNameStart b ≡ false → (b ≡ 40 → ⊥) → (b ≡ 41 → ⊥) →
-        (b ≡ 42 → ⊥) → (b ≡ 47 → ⊥) → (b ≡ 37 → ⊥)
-        → (b ≡ 43 → ⊥) → (b ≡ 45 → ⊥) → (b ≡ 60 → ⊥) → (b ≡ 62 → ⊥) → (b ≡ 61 → ⊥) → (b ≡ 33 → ⊥) →
-        token (b ∷ drop (at + 1) text) ≡ refused arithmeticSyntax
-    go b x y z e1 e2 e3 e4 e5 e6 e7 e8 e9 e10 e11 =
-        none-fits b (drop (at + 1) text) x y z (ne-eqb b 40 e1) (ne-eqb b 41 e2) (ne-eqb b 42 e3) (ne-eqb b 47 e4) (ne-eqb b 37 e5)
-        (ne-eqb b 43 e6) (ne-eqb b 45 e7) (ne-eqb b 60 e8) (ne-eqb b 62 e9) (ne-eqb b 61 e10) (ne-eqb b 33 e11)
 
--- with `=` behind it, or alone
-module _ (text : Text) (at : ℕ) (alone : Token) (both : Op) where
-  pub with-equals : at + 1 < length text → getD text (at + 1) 0 ≡ 61 → Pairs text at alone both (code.Op both (at + 2))
-  unfolding arith-stage.paired
-  with-equals h e = record {
-    is = let p : at + 1 + 1 ≡ at + 2 = omega arith in rw (here text (at + 1) h, e, p);
+-- with a byte behind it, or alone
+
+behind-one : (b c : ℕ) (u : Text) → eqb b c ≡ true → behind (c ∷ []) (b ∷ u) ≡ some u
+unfolding behind
+behind-one b c u e = rw (e, behind)
+
+module _ (text : Text) (at second : ℕ) (alone : Token) (both : Op) where
+  -- by what is behind the first byte
+  abbrev told : Option Text → Lexed
+  told o = elim o [ some u ↦ done (op (opOf both), u) | none ↦ lexed text alone ]
+
+  by-second : (o : Option Text) → at + 1 < length text → behind (second ∷ []) (getD text (at + 1) 0 ∷ drop (at + 1 + 1) text) ≡ o
+      → pairedBy second (lexed text alone) (op (opOf both)) (drop (at + 1) text) ≡ told o
+  unfolding pairedBy
+  by-second o h e = rw (here text (at + 1) h) (ap told e)
+
+  pub with-second : at + 1 < length text → getD text (at + 1) 0 ≡ second → Pairs text at second alone both (code.Op both (at + 2))
+  with-second h e = record {
+    is =
+        let p : at + 1 + 1 ≡ at + 2 = omega arith in
+        ap (λ (i : ℕ). told (some (drop i text))) (sym p)
+        ∙ sym (by-second (some (drop (at + 1 + 1) text)) h
+        (behind-one (getD text (at + 1) 0) second (drop (at + 1 + 1) text) (eq-eqb (getD text (at + 1) 0) second e)));
     ends = record { onward = omega arith; within = omega arith };
   }
 
-  pub without-equals : at + 1 < length text → (getD text (at + 1) 0 ≡ 61 → ⊥) → Ends text at alone → Pairs text at alone both alone
-  unfolding arith-stage.paired
-  without-equals h n w = record { is = rw (here text (at + 1) h, ne-eqb (getD text (at + 1) 0) 61 n, arith-stage.paired); ends = w }
+  pub without-second : at + 1 < length text → (getD text (at + 1) 0 ≡ second → ⊥) → Ends text at alone → Pairs text at second alone both alone
+  without-second h n w = record {
+    is = sym (by-second none h (behind-other (getD text (at + 1) 0) second [] (drop (at + 1 + 1) text) (ne-eqb (getD text (at + 1) 0) second n)));
+    ends = w;
+  }
 
-  pub at-the-end : length text ≤ at + 1 → Ends text at alone → Pairs text at alone both alone
-  unfolding arith-stage.paired
+  pub at-the-end : length text ≤ at + 1 → Ends text at alone → Pairs text at second alone both alone
+  unfolding pairedBy behind
   at-the-end h w = record { is = rw (drop-of-length-le text h); ends = w }
 
 -- blanks in front are passed
@@ -155,6 +230,8 @@ module _ (text : Text) (at i : ℕ) (r : Runs text at Blank i) where
       wider (code.Op o next) w = further-on next w
       wider (code.Opens next) w = further-on next w
       wider (code.Shuts next) w = further-on next w
+      wider (code.Query next) w = further-on next w
+      wider (code.Colon next) w = further-on next w
 
   pub nothing-left : i ≡ length text → TokenAt text at code.Stop
   unfolding token

@@ -2,41 +2,55 @@
 use Prim.Native.Nat.{ℕ, _+_, _≤_, _<_}
 use mathlib.Core.Path.{_≡_}
 use mathlib.Core.Bool.{true, false}
-use mathlib.Core.List.{[]}
+use mathlib.Core.List.{[], _∷_}
+use mathlib.Core.Option.{none, some}
 use lib.ListN.{length, getD, drop}
 use Rattle.stages.specs.Bytes.{Text, part, isBlank, isDigit, isNameStart}
 use Rattle.stages.specs.Outcome.{refused, done}
-use Rattle.stages.specs.Arith.{Lexed, textEnd, num, name, op, opens, shuts, token, paired}
+use Rattle.stages.specs.Arith.{Lexed, stop, shuts, colon, ends, num, name, op, opens, query, behind, token}
+use Rattle.stages.specs.Arith as stage
 use Rattle.text.specs.Places.{Behind}
 use Rattle.arith_int.specs.Answers.{opOf}
 use Rattle.arith_int.specs.declared.Op.{Op}
-use Rattle.arith_int.specs.declared.Op.the-variants.{Mul, Div, Rem, Add, Sub, Lt, Le, Gt, Ge, Eq, Ne}
+use Rattle.arith_int.specs.declared.Op.the-variants.{Mul, Div, Rem, Add, Sub, Shl, Shr, Lt, Le, Gt, Ge, Eq, Ne, BitAnd, BitXor, BitOr}
+use Rattle.arith_int.specs.declared.Op.the-variants.{LogAnd, LogOr, LogNot, BitNot}
 use Rattle.arith_token.specs.declared.Token.{Token}
 use Rattle.arith_token.specs.declared.Token.the-variants as code
 
 -- an operator's level, by the code's operators
 abbrev pub levelOf : Op → ℕ
-levelOf Mul = 4
-levelOf Div = 4
-levelOf Rem = 4
-levelOf Add = 3
-levelOf Sub = 3
-levelOf Lt = 2
-levelOf Le = 2
-levelOf Gt = 2
-levelOf Ge = 2
-levelOf Eq = 1
-levelOf Ne = 1
+levelOf Mul = 12
+levelOf Div = 12
+levelOf Rem = 12
+levelOf Add = 11
+levelOf Sub = 11
+levelOf Shl = 10
+levelOf Shr = 10
+levelOf Lt = 9
+levelOf Le = 9
+levelOf Gt = 9
+levelOf Ge = 9
+levelOf Eq = 8
+levelOf Ne = 8
+levelOf BitAnd = 7
+levelOf BitXor = 6
+levelOf BitOr = 5
+levelOf LogAnd = 4
+levelOf LogOr = 3
+levelOf LogNot = 0
+levelOf BitNot = 0
 
 -- the stage's token, with what is behind it
 abbrev pub lexed : Text → Token → Lexed
 lexed text (code.Refused e) = refused e
-lexed text code.Stop = done (textEnd, [])
+lexed text code.Stop = done (ends stop, [])
 lexed text (code.Number z next) = done (num z, drop next text)
 lexed text (code.Name from to) = done (name (part text from to), drop to text)
 lexed text (code.Op o next) = done (op (opOf o), drop next text)
 lexed text (code.Opens next) = done (opens, drop next text)
-lexed text (code.Shuts next) = done (shuts, drop next text)
+lexed text (code.Shuts next) = done (ends shuts, drop next text)
+lexed text (code.Query next) = done (query, drop next text)
+lexed text (code.Colon next) = done (ends colon, drop next text)
 
 -- the places of a name
 pub record Named (text : Text) (at from to : ℕ) : Type 0 where
@@ -51,15 +65,22 @@ Ends text at (code.Name from to) = Named text at from to
 Ends text at (code.Op o next) = Behind text at next
 Ends text at (code.Opens next) = Behind text at next
 Ends text at (code.Shuts next) = Behind text at next
+Ends text at (code.Query next) = Behind text at next
+Ends text at (code.Colon next) = Behind text at next
 
 -- the token at a place is the stage's, and its places lie in the text
 pub record TokenAt (text : Text) (at : ℕ) (r : Token) : Type 0 where
   pub is : token (drop at text) ≡ lexed text r
   pub ends : Ends text at r
 
--- one operator with `=` behind its first byte, or the token alone
-pub record Pairs (text : Text) (at : ℕ) (alone : Token) (both : Op) (r : Token) : Type 0 where
-  pub is : lexed text r ≡ paired (lexed text alone) (op (opOf both)) (drop (at + 1) text)
+-- one token with the byte c behind its first, another without, before the text behind the first
+unfoldable pub pairedBy : ℕ → Lexed → stage.Token → Text → Lexed
+unfolding behind
+pairedBy c alone both t = elim (behind (c ∷ []) t) [ some u ↦ done (both, u) | none ↦ alone ]
+
+-- one operator with this byte behind its first, or the token without it
+pub record Pairs (text : Text) (at second : ℕ) (alone : Token) (both : Op) (r : Token) : Type 0 where
+  pub is : lexed text r ≡ pairedBy second (lexed text alone) (op (opOf both)) (drop (at + 1) text)
   pub ends : Ends text at r
 
 -- what stands at a place: a constant's first digit; a byte that begins neither a constant nor a name

@@ -17,24 +17,35 @@ pub enum Token {
     Op(Op, usize),
     Opens(usize),
     Shuts(usize),
+    Query(usize),
+    Colon(usize),
 }
 
-// "then `* / %`, then `+ -`, then `< <= > >=`, then `== !=`": how tightly an operator binds.
+// How tightly an operator binds between two operands, 0 if it does not stand there: "C's precedence".
 pub fn level(op: Op) -> usize
     ensures { λ r. ⌜ r ≡ levelOf op ⌝ }
 {
     match op {
-        Op::Mul => 4,
-        Op::Div => 4,
-        Op::Rem => 4,
-        Op::Add => 3,
-        Op::Sub => 3,
-        Op::Lt => 2,
-        Op::Le => 2,
-        Op::Gt => 2,
-        Op::Ge => 2,
-        Op::Eq => 1,
-        Op::Ne => 1,
+        Op::Mul => 12,
+        Op::Div => 12,
+        Op::Rem => 12,
+        Op::Add => 11,
+        Op::Sub => 11,
+        Op::Shl => 10,
+        Op::Shr => 10,
+        Op::Lt => 9,
+        Op::Le => 9,
+        Op::Gt => 9,
+        Op::Ge => 9,
+        Op::Eq => 8,
+        Op::Ne => 8,
+        Op::BitAnd => 7,
+        Op::BitXor => 6,
+        Op::BitOr => 5,
+        Op::LogAnd => 4,
+        Op::LogOr => 3,
+        Op::LogNot => 0,
+        Op::BitNot => 0,
     }
 }
 
@@ -51,21 +62,21 @@ fn constant_at(text: &[u8], at: usize) -> Token
     }
 }
 
-// One operator with a `=` behind its first byte, which is at `at`; else the token that it is alone.
-fn paired(text: &[u8], at: usize, alone: Token, both: Op) -> Token
+// One operator with this byte behind its first, which is at `at`; else the token that it is without.
+fn paired(text: &[u8], at: usize, second: u8, alone: Token, both: Op) -> Token
     requires { ⌜ (at < length (now text)) × Ends (now text) at alone ⌝ }
-    ensures { λ r. ⌜ Pairs (now (text .entry)) at alone both r ⌝ }
+    ensures { λ r. ⌜ Pairs (now (text .entry)) at second alone both r ⌝ }
 {
     let next = at + 1;
     if next < text.len() {
-        if text[next] == b'=' {
+        if text[next] == second {
             return Token::Op(both, at + 2);
         }
     }
     alone
 }
 
-// A token that is neither a constant nor a name.
+// A token that is neither a constant nor a name: the longest that is written there.
 fn symbol_at(text: &[u8], at: usize) -> Token
     requires { ⌜ Symbol (now text) at ⌝ }
     ensures { λ r. ⌜ TokenAt (now (text .entry)) at r ⌝ }
@@ -74,25 +85,33 @@ fn symbol_at(text: &[u8], at: usize) -> Token
     match text[at] {
         b'(' => Token::Opens(next),
         b')' => Token::Shuts(next),
+        b'?' => Token::Query(next),
+        b':' => Token::Colon(next),
         b'*' => Token::Op(Op::Mul, next),
         b'/' => Token::Op(Op::Div, next),
         b'%' => Token::Op(Op::Rem, next),
         b'+' => Token::Op(Op::Add, next),
         b'-' => Token::Op(Op::Sub, next),
-        b'<' => paired(text, at, Token::Op(Op::Lt, next), Op::Le),
-        b'>' => paired(text, at, Token::Op(Op::Gt, next), Op::Ge),
+        b'^' => Token::Op(Op::BitXor, next),
+        b'~' => Token::Op(Op::BitNot, next),
+        b'<' => {
+            let alone = paired(text, at, b'=', Token::Op(Op::Lt, next), Op::Le);
+            paired(text, at, b'<', alone, Op::Shl)
+        }
+        b'>' => {
+            let alone = paired(text, at, b'=', Token::Op(Op::Gt, next), Op::Ge);
+            paired(text, at, b'>', alone, Op::Shr)
+        }
         b'=' => paired(
             text,
             at,
+            b'=',
             Token::Refused(numbers::REFUSED_ARITHMETIC),
             Op::Eq,
         ),
-        b'!' => paired(
-            text,
-            at,
-            Token::Refused(numbers::REFUSED_ARITHMETIC),
-            Op::Ne,
-        ),
+        b'!' => paired(text, at, b'=', Token::Op(Op::LogNot, next), Op::Ne),
+        b'&' => paired(text, at, b'&', Token::Op(Op::BitAnd, next), Op::LogAnd),
+        b'|' => paired(text, at, b'|', Token::Op(Op::BitOr, next), Op::LogOr),
         _ => Token::Refused(numbers::REFUSED_ARITHMETIC),
     }
 }

@@ -1,7 +1,7 @@
 -- `arith_eval::ended` meets its contract: nothing else may stand behind the value.
-use Rattle.stages.specs.Arith.{whole}
+use Rattle.stages.specs.Arith.{stop, ended}
 use Rattle.arith_int.proofs.Ranges.{held}
-use Rattle.arith_eval.proofs.Operands.{token-shown, ends-by}
+use Rattle.arith_eval.proofs.Operands.{token-shown, ended-by}
 use borrow.Author.Needs.{needs}
 use Rattle.arith_eval.proofs.ended.Statement.{statement}
 use Rattle.arith_eval.proofs.ended.Tie as tie
@@ -30,50 +30,68 @@ enum-told-5 c = search needs
 enum-told-6 : tie.Need-enum-told-6
 enum-told-6 c = search needs
 
+enum-told-7 : tie.Need-enum-told-7
+enum-told-7 c = search needs
+
+enum-told-8 : tie.Need-enum-told-8
+enum-told-8 c = search needs
+
 returns : tie.Need-returns
-unfolding whole
+unfolding ended
 returns c =
     let s = c .before .before .before .before .before in
-    λ l. ends-by (s .args .text .now) (s .args .at) _ (token-shown (c .before .before .before .token-at .ensures) (c .before .token .given .1)) l
+    λ l. ended-by (s .args .text .now) (s .args .at) stop _ (token-shown (c .before .before .before .token-at .ensures) (c .before .token .given .1)) l
 
 returns-2 : tie.Need-returns-2
-unfolding whole
+unfolding ended
 returns-2 c =
     let s = c .before .before .before .before in (
       held (s .args .value) (s .fits .value),
-      λ l. ends-by (s .args .text .now) (s .args .at) _
+      λ l. ended-by (s .args .text .now) (s .args .at) stop _
           (token-shown (c .before .before .token-at .ensures) (c .enum-told .given .1)) l,
     )
 
 returns-3 : tie.Need-returns-3
-unfolding whole
+unfolding ended
 returns-3 c =
     let s = c .before .before .before .before in
-    λ l. ends-by (s .args .text .now) (s .args .at) _ (token-shown (c .before .before .token-at .ensures) (c .enum-told2 .given .1)) l
+    λ l. ended-by (s .args .text .now) (s .args .at) stop _ (token-shown (c .before .before .token-at .ensures) (c .enum-told2 .given .1)) l
 
 returns-4 : tie.Need-returns-4
-unfolding whole
+unfolding ended
 returns-4 c =
     let s = c .before .before .before .before in
-    λ l. ends-by (s .args .text .now) (s .args .at) _ (token-shown (c .before .before .token-at .ensures) (c .enum-told3 .given .1)) l
+    λ l. ended-by (s .args .text .now) (s .args .at) stop _ (token-shown (c .before .before .token-at .ensures) (c .enum-told3 .given .1)) l
 
 returns-5 : tie.Need-returns-5
-unfolding whole
+unfolding ended
 returns-5 c =
     let s = c .before .before .before .before in
-    λ l. ends-by (s .args .text .now) (s .args .at) _ (token-shown (c .before .before .token-at .ensures) (c .enum-told4 .given .1)) l
+    λ l. ended-by (s .args .text .now) (s .args .at) stop _ (token-shown (c .before .before .token-at .ensures) (c .enum-told4 .given .1)) l
 
 returns-6 : tie.Need-returns-6
-unfolding whole
+unfolding ended
 returns-6 c =
     let s = c .before .before .before .before in
-    λ l. ends-by (s .args .text .now) (s .args .at) _ (token-shown (c .before .before .token-at .ensures) (c .enum-told5 .given .1)) l
+    λ l. ended-by (s .args .text .now) (s .args .at) stop _ (token-shown (c .before .before .token-at .ensures) (c .enum-told5 .given .1)) l
 
 returns-7 : tie.Need-returns-7
-unfolding whole
+unfolding ended
 returns-7 c =
     let s = c .before .before .before .before in
-    λ l. ends-by (s .args .text .now) (s .args .at) _ (token-shown (c .before .before .token-at .ensures) (c .enum-told6 .given .1)) l
+    λ l. ended-by (s .args .text .now) (s .args .at) stop _ (token-shown (c .before .before .token-at .ensures) (c .enum-told6 .given .1)) l
+
+returns-8 : tie.Need-returns-8
+unfolding ended
+returns-8 c =
+    let s = c .before .before .before .before in
+    λ l. ended-by (s .args .text .now) (s .args .at) stop _ (token-shown (c .before .before .token-at .ensures) (c .enum-told7 .given .1)) l
+
+returns-9 : tie.Need-returns-9
+unfolding ended
+returns-9 c =
+    let s = c .before .before .before .before in
+    λ l. ended-by (s .args .text .now) (s .args .at) stop _ (token-shown (c .before .before .token-at .ensures) (c .enum-told8 .given .1)) l
 
 pub ended-spec : {M : Type 1} → statement M
 ended-spec =
@@ -87,10 +105,14 @@ ended-spec =
     enum-told-4
     enum-told-5
     enum-told-6
+    enum-told-7
+    enum-told-8
     returns
     returns-2
     returns-3
     returns-4
     returns-5
     returns-6
-    returns-7)
+    returns-7
+    returns-8
+    returns-9)

@@ -1,8 +1,7 @@
 -- `arith_int::difference` meets its contract: the smallest number has no negation and is taken away by itself; any other is added negated.
 use borrow.Author.Needs.{needs}
 use mathlib.Core.Path.{_∙_}
-use Prim.Native.Nat.{_-_}
-use lib.IntN.{negℤ, +ℤ-idl, _+ℤ_, _-ℤ_}
+use lib.IntN.{negℤ, +ℤ-idl, _-ℤ_}
 use mir.Syntax.{w64}
 use mir.Val.{SFits}
 use mir.Facts.{sfits-lit}

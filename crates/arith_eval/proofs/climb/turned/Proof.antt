@@ -1,4 +1,4 @@
--- `arith_eval::climb::turned` meets its contract: the negation's outcome, where it counts.
+-- `arith_eval::climb::turned` meets its contract: the sign's outcome, where it counts.
 use mathlib.Core.Path.{sym, _∙_, ap}
 use lib.IntN.{ℤ}
 use borrow.Author.Tests.{not-true, not-false}
@@ -15,8 +15,8 @@ returns : tie.Need-returns
 returns c =
     let s = c .before in rw (not-true (s .args .counts) (c .if1 .taken), held (s .args .value) (s .fits .value))
 
-negate-requires : tie.Need-negate-requires
-negate-requires c κs = search needs
+operate-alone-requires : tie.Need-operate-alone-requires
+operate-alone-requires c κs = search needs
 
 enum-known-got : tie.Need-enum-known-got
 enum-known-got c = search needs
@@ -29,16 +29,16 @@ returns-2 c =
     let s = c .before .before .before .before .before in
     rw (not-false (s .args .counts) (c .before .before .before .before .if1 .left))
     (ap (λ (o : Outcome ℤ). climbing o (s .args .next))
-    (sym (ap numbered (c .before .got .given .1)) ∙ (rw (held (s .args .value) (s .fits .value)) at (c .before .before .before .negate .ensures))))
+    (sym (ap numbered (c .before .got .given .1)) ∙ (rw (held (s .args .value) (s .fits .value)) at (c .before .before .before .operate-alone .ensures))))
 
 returns-3 : tie.Need-returns-3
 returns-3 c =
     let s = c .before .before .before .before .before in
     rw (not-false (s .args .counts) (c .before .before .before .before .if1 .left), kept (c .before .got2 .given .0 .0) (c .known-told2 .given .0 .1))
     (ap (λ (o : Outcome ℤ). climbing o (s .args .next))
-    (sym (ap numbered (c .before .got2 .given .1)) ∙ (rw (held (s .args .value) (s .fits .value)) at (c .before .before .before .negate .ensures))))
+    (sym (ap numbered (c .before .got2 .given .1)) ∙ (rw (held (s .args .value) (s .fits .value)) at (c .before .before .before .operate-alone .ensures))))
 
 pub turned-spec : {M : Type 1} → statement M
 turned-spec =
     tie.close
-    (tie.spec returns negate-requires enum-known-got enum-known-got-2 returns-2 returns-3)
+    (tie.spec returns operate-alone-requires enum-known-got enum-known-got-2 returns-2 returns-3)

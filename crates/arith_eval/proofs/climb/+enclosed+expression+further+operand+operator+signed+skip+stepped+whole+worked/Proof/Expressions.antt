@@ -16,42 +16,31 @@ use Rattle.arith_token.specs.Tokens.{levelOf, TokenAt}
 use Rattle.arith_token.specs.declared.Token.{Token}
 use Rattle.arith_token.specs.declared.Token.the-variants.{Op}
 use Rattle.arith_token.proofs.Lexing.{level-small}
-use Rattle.arith_eval.specs.Climbs.{Says, Turns}
+use Rattle.arith_eval.specs.Climbs.{Says, Turns, isNeeded}
 use Rattle.arith_eval.specs.declared.climb.Climbed.{Climbed}
 use Rattle.arith_eval.specs.declared.climb.Turn.{Turn}
 use Rattle.arith_eval.proofs.Operands.{token-shown, says-shown}
-use Rattle.arith_eval.proofs.Climbing.{
-  turns-shown,
-  expression-fails,
-  expression-says,
-  turn-refused,
-  last-stop,
-  last-number,
-  last-name,
-  last-opens,
-  last-shuts,
-  last-loose,
-}
-use Rattle.arith_eval.proofs.Climbing.{right-fails, turn-says, Going, going-start, going-refused, going-last, going-next}
+use Rattle.arith_eval.proofs.Climbing.{turns-shown, expression-fails, expression-says, turn-refused, last-stop, last-number, last-name, last-opens}
+use Rattle.arith_eval.proofs.Climbing.{last-shuts, last-query, last-colon, last-loose, right-fails, turn-says}
+use Rattle.arith_eval.proofs.Climbing.{Going, going-start, going-refused, going-last, going-next}
 use Rattle.arith_eval.proofs.climb.expression.Reads as expression
 use Rattle.arith_eval.proofs.climb.further.Reads as further
 use Rattle.arith_eval.proofs.climb.operand.Reads as operand
 use Rattle.arith_eval.proofs.climb.operator.Reads as operator
-use Rattle.arith_eval.proofs.climb.+enclosed+expression+further+operand+operator+signed.Lts-expression as expression-lts
-use Rattle.arith_eval.proofs.climb.+enclosed+expression+further+operand+operator+signed.Lts-further as further-lts
-use Rattle.arith_eval.proofs.climb.+enclosed+expression+further+operand+operator+signed.Lts-operator as operator-lts
+use Rattle.arith_eval.proofs.climb.+enclosed+expression+further+operand+operator+signed+skip+stepped+whole+worked.Lts-expression as expression-lts
+use Rattle.arith_eval.proofs.climb.+enclosed+expression+further+operand+operator+signed+skip+stepped+whole+worked.Lts-further as further-lts
+use Rattle.arith_eval.proofs.climb.+enclosed+expression+further+operand+operator+signed+skip+stepped+whole+worked.Lts-operator as operator-lts
 use Rattle.arith_eval.proofs.climb.joined.Reads as joined-reads
+use Rattle.arith_eval.proofs.climb.needed.Reads as needed-reads
 use Rattle.arith_token.proofs.level.Reads as level-reads
 use Rattle.arith_token.proofs.token_at.Reads as token-at-reads
-use Rattle.arith_eval.proofs.climb.+enclosed+expression+further+operand+operator+signed.Proof.Measures.{
-  expression-at,
-  expression-below,
-  further-at,
-  further-below,
-  operand-below,
-  operator-at,
-  operator-below,
-}
+use Rattle.arith_eval.proofs.climb.+enclosed+expression+further+operand+operator+signed+skip+stepped+whole+worked.Proof.Measures.{expression-at}
+use Rattle.arith_eval.proofs.climb.+enclosed+expression+further+operand+operator+signed+skip+stepped+whole+worked.Proof.Measures.{expression-below}
+use Rattle.arith_eval.proofs.climb.+enclosed+expression+further+operand+operator+signed+skip+stepped+whole+worked.Proof.Measures.{further-at}
+use Rattle.arith_eval.proofs.climb.+enclosed+expression+further+operand+operator+signed+skip+stepped+whole+worked.Proof.Measures.{further-below}
+use Rattle.arith_eval.proofs.climb.+enclosed+expression+further+operand+operator+signed+skip+stepped+whole+worked.Proof.Measures.{operand-below}
+use Rattle.arith_eval.proofs.climb.+enclosed+expression+further+operand+operator+signed+skip+stepped+whole+worked.Proof.Measures.{operator-at}
+use Rattle.arith_eval.proofs.climb.+enclosed+expression+further+operand+operator+signed+skip+stepped+whole+worked.Proof.Measures.{operator-below}
 
 abbrev pub expression-callees : ℕ → expression-lts.Claims
 expression-callees t = (operand-below t, operand.Post, further-below t, further.Post)
@@ -73,7 +62,9 @@ module _ (t : ℕ) where
       says-shown (a .text .now) (a .at) (held (a .vars .now)) (a .counts) _ (r .operand .ensures) e
 
   pub expression-operand-requires : expression-lts.Need-operand-requires (expression-callees t) (expression-at t) expression.Post
-  expression-operand-requires c κs = let s = c .before .before in (omega (arith, s .pre .0), s .pre .1)
+  expression-operand-requires c κs =
+      let s = c .before .before in
+      (omega (arith, s .pre .0), s .pre .1 .ready)
 
   pub expression-enum-known-got : expression-lts.Need-enum-known-got (expression-callees t) (expression-at t) expression.Post
   expression-enum-known-got c = search needs
@@ -88,19 +79,22 @@ module _ (t : ℕ) where
       let g = expression-operand r (c .before .got2 .given .1) in
       let l = g .onward in
       let w = g .within in
-      (omega (arith, s .pre .0), record { start = w; table = s .pre .1 .table })
+      (omega (arith, s .pre .0), record { ready = record { start = w; table = s .pre .1 .ready .table }; between = s .pre .1 .between })
 
   pub expression-returns : expression-lts.Need-returns (expression-callees t) (expression-at t) expression.Post
   expression-returns c =
       let r = c .before .before .before in
-      let a = expression-start r .args in
-      expression-fails (a .text .now) (held (a .vars .now)) (a .counts) (a .at) (a .room) (a .least) _ (expression-operand r (c .before .got .given .1))
+      let s = expression-start r in
+      let a = s .args in
+      expression-fails (a .text .now) (held (a .vars .now)) (a .counts) (a .at) (a .room) (a .least) (s .pre .1 .between) _
+      (expression-operand r (c .before .got .given .1))
 
   pub expression-returns-2 : expression-lts.Need-returns-2 (expression-callees t) (expression-at t) expression.Post
   expression-returns-2 c =
       let r = c .before .before .before .before in
-      let a = expression-start r .args in
-      expression-says (a .text .now) (held (a .vars .now)) (a .counts) (a .at) (a .room) (a .least) _ _ (c .further .result)
+      let s = expression-start r in
+      let a = s .args in
+      expression-says (a .text .now) (held (a .vars .now)) (a .counts) (a .at) (a .room) (a .least) (s .pre .1 .between) _ _ (c .further .result)
       (expression-operand r (c .before .before .got2 .given .1))
       (rw (kept (c .before .before .got2 .given .0 .0) (c .before .known-told2 .given .0 .1)) at (c .further .ensures))
 
@@ -132,14 +126,14 @@ module _ (t : ℕ) where
   further-loop-holds c =
       let s = c .before .before in
       let a = s .args in
-      going-start (a .text .now) (held (a .vars .now)) (a .counts) (a .at) (a .room) (a .least) _ (s .pre .1 .start)
+      going-start (a .text .now) (held (a .vars .now)) (a .counts) (a .at) (a .room) (a .least) _ (s .pre .1 .ready .start)
 
   pub further-operator-requires : further-lts.Need-operator-requires (further-callees t) (further-at t) further.Post further-Inv-loop further-μ-loop
   further-operator-requires c κs =
       let s = c .before .before .before in
       let l = c .loop .inv .onward in
       let w = c .loop .inv .within in
-      (omega (arith, s .pre .0), record { start = w; table = s .pre .1 .table })
+      (omega (arith, s .pre .0), record { ready = record { start = w; table = s .pre .1 .ready .table }; between = s .pre .1 .between })
 
   pub further-enum-known-got : further-lts.Need-enum-known-got (further-callees t) (further-at t) further.Post further-Inv-loop further-μ-loop
   further-enum-known-got c = search needs
@@ -183,13 +177,13 @@ module _ (t : ℕ) where
       (going-next (a .text .now) (held (a .vars .now)) (a .counts) (a .at) (a .room) (a .least) _ _ _ (r .before .loop .inv) _ _
       (further-turn r (c .before .got2 .given .1)))
 
--- the right side, at the level that the code computed, once its case is known
-right-shown : (text : Text) (next d : ℕ) (v : Pairs) (counts : Bool) {i j : ℕ} {r g : Climbed}
-    → Says text next v counts (stage.expression stage.grow d (i + 1) (drop next text)) r → i ≡ j → r ≡ g
-    → Says text next v counts (stage.expression stage.grow d (j + 1) (drop next text)) g
-right-shown text next d v counts {g = g} h e q =
-    subst (λ k. Says text next v counts (stage.expression stage.grow d (k + 1) (drop next text)) g) e
-    (says-shown text next v counts _ h q)
+-- the right side, at the level that the code computed and as far as it counts, once its case is known
+right-shown : (text : Text) (next d : ℕ) (v : Pairs) {x y : Bool} {i j : ℕ} {r g : Climbed}
+    → Says text next v x (stage.expression stage.grow d (i + 1) (drop next text)) r → x ≡ y → i ≡ j → r ≡ g
+    → Says text next v y (stage.expression stage.grow d (j + 1) (drop next text)) g
+right-shown text next d v {x} {j = j} {g = g} h b e q =
+    subst (λ z. Says text next v z (stage.expression stage.grow d (j + 1) (drop next text)) g) b
+    (subst (λ k. Says text next v x (stage.expression stage.grow d (k + 1) (drop next text)) g) e (says-shown text next v x _ h q))
 
 abbrev pub operator-callees : ℕ → operator-lts.Claims
 operator-callees t = (
@@ -197,6 +191,8 @@ operator-callees t = (
   token-at-reads.Learnt,
   level-reads.Asked,
   level-reads.Learnt,
+  needed-reads.Asked,
+  needed-reads.Learnt,
   expression-below t,
   expression.Post,
   joined-reads.Asked,
@@ -231,8 +227,28 @@ module _ (t : ℕ) where
   tight-level : (c : Tight) → tight-start c .args .least ≤ levelOf (c .before .before .before .token2 .given .0 .0)
   tight-level c = rw (c .before .level .ensures) at (c .if1 .left)
 
+  -- where its right side was read, and what was found there
+  abbrev Right : Type 0
+  Right = operator-lts.After-expression (operator-callees t) (operator-at t) operator.Post
+
+  abbrev right-tight : Right → Tight
+  right-tight e = e .before .before
+
+  right-found : (e : Right) {g : Climbed} → e .expression .result ≡ g
+      → Says (tight-start (right-tight e) .args .text .now) ((right-tight e) .before .before .before .token2 .given .0 .1 .0)
+      (held (tight-start (right-tight e) .args .vars .now))
+      (isNeeded ((right-tight e) .before .before .before .token2 .given .0 .0) (tight-start (right-tight e) .args .left)
+      (tight-start (right-tight e) .args .counts))
+      (stage.expression stage.grow (tight-start (right-tight e) .args .room) (levelOf ((right-tight e) .before .before .before .token2 .given .0 .0) + 1)
+      (drop ((right-tight e) .before .before .before .token2 .given .0 .1 .0) (tight-start (right-tight e) .args .text .now))) g
+  right-found e q =
+      let h = right-tight e in
+      let a = tight-start h .args in
+      right-shown (a .text .now) _ (a .room) (held (a .vars .now)) (e .expression .ensures)
+      (rw (ranges.held (a .left) (tight-start h .fits .left)) at (e .before .needed .ensures)) (h .before .level .ensures) q
+
   pub operator-token-at-requires : operator-lts.Need-token-at-requires (operator-callees t) (operator-at t) operator.Post
-  operator-token-at-requires c κs = c .before .before .pre .1 .start
+  operator-token-at-requires c κs = c .before .before .pre .1 .ready .start
 
   pub operator-enum-known-token : operator-lts.Need-enum-known-token (operator-callees t) (operator-at t) operator.Post
   operator-enum-known-token c = search needs
@@ -250,15 +266,22 @@ module _ (t : ℕ) where
       last-loose (a .text .now) (held (a .vars .now)) (a .counts) (a .at) (a .room) (a .least) (a .left) _ _
       (operator-token r (c .before .before .before .token2 .given .1)) (rw (c .before .level .ensures) at (c .if1 .taken))
 
+  pub operator-needed-requires : operator-lts.Need-needed-requires (operator-callees t) (operator-at t) operator.Post
+  operator-needed-requires c κs = search needs
+
   pub operator-add-expression : operator-lts.Need-add-expression (operator-callees t) (operator-at t) operator.Post
-  operator-add-expression c = omega (arith, c .before .level .ensures, level-small (c .before .before .before .token2 .given .0 .0))
+  operator-add-expression c = omega (arith, c .before .before .level .ensures, level-small (c .before .before .before .before .token2 .given .0 .0))
 
   pub operator-expression-requires : operator-lts.Need-expression-requires (operator-callees t) (operator-at t) operator.Post
   operator-expression-requires c κs =
-      let s = tight-start c in
-      let l = tight-token c .ends .onward in
-      let w = tight-token c .ends .within in
-      (omega (arith, s .pre .0), record { start = w; table = s .pre .1 .table })
+      let h = c .before in
+      let s = tight-start h in
+      let l = tight-token h .ends .onward in
+      let w = tight-token h .ends .within in
+      let e = tight-level h in
+      let k = s .pre .1 .between in
+      let j = h .before .level .ensures in
+      (omega (arith, s .pre .0), record { ready = record { start = w; table = s .pre .1 .ready .table }; between = omega arith })
 
   pub operator-enum-known-got : operator-lts.Need-enum-known-got (operator-callees t) (operator-at t) operator.Post
   operator-enum-known-got c = search needs
@@ -284,6 +307,12 @@ module _ (t : ℕ) where
   pub operator-enum-told-5 : operator-lts.Need-enum-told-5 (operator-callees t) (operator-at t) operator.Post
   operator-enum-told-5 c = search needs
 
+  pub operator-enum-told-6 : operator-lts.Need-enum-told-6 (operator-callees t) (operator-at t) operator.Post
+  operator-enum-told-6 c = search needs
+
+  pub operator-enum-told-7 : operator-lts.Need-enum-told-7 (operator-callees t) (operator-at t) operator.Post
+  operator-enum-told-7 c = search needs
+
   pub operator-returns-2 : operator-lts.Need-returns-2 (operator-callees t) (operator-at t) operator.Post
   operator-returns-2 c =
       let r = c .before .before .before in
@@ -293,25 +322,23 @@ module _ (t : ℕ) where
   pub operator-returns-3 : operator-lts.Need-returns-3 (operator-callees t) (operator-at t) operator.Post
   operator-returns-3 c =
       let e = c .before .before .before in
-      let h = e .before in
-      let a = tight-start h .args in
-      right-fails (a .text .now) (held (a .vars .now)) (a .counts) (a .at) (a .room) (a .least) (a .left) _ _ (tight-token h) (tight-level h) _
-      (right-shown (a .text .now) _ (a .room) (held (a .vars .now)) (a .counts) (e .expression .ensures) (h .before .level .ensures)
-      (c .before .got .given .1))
+      let h = right-tight e in
+      let s = tight-start h in
+      let a = s .args in
+      right-fails (a .text .now) (held (a .vars .now)) (a .counts) (a .at) (a .room) (a .least) (a .left) _ _ (tight-token h) (tight-level h)
+      (s .pre .1 .between) _ (a .counts) _ refl refl
+      (right-found e (c .before .got .given .1))
 
   pub operator-returns-4 : operator-lts.Need-returns-4 (operator-callees t) (operator-at t) operator.Post
   operator-returns-4 c =
       let e = c .before .before .before .before in
-      let h = e .before in
-      let a = tight-start h .args in
-      turn-says (a .text .now) (held (a .vars .now)) (a .counts) (a .at) (a .room) (a .least) (a .left) _ _ (tight-token h) (tight-level h) _ _
-      (right-shown (a .text .now) _ (a .room) (held (a .vars .now)) (a .counts) (e .expression .ensures) (h .before .level .ensures)
-      (c .before .before .got2 .given .1))
-      (c .joined .result) (a .counts) refl
-      (rw (
-        ranges.held (a .left) (tight-start h .fits .left),
-        kept (c .before .before .got2 .given .0 .0) (c .before .known-told4 .given .0 .1),
-      ) at (c .joined .ensures))
+      let h = right-tight e in
+      let s = tight-start h in
+      let a = s .args in
+      turn-says (a .text .now) (held (a .vars .now)) (a .counts) (a .at) (a .room) (a .least) (a .left) _ _ (tight-token h) (tight-level h)
+      (s .pre .1 .between) (a .counts) _ refl refl _ _
+      (right-found e (c .before .before .got2 .given .1)) (c .joined .result)
+      (rw (ranges.held (a .left) (s .fits .left), kept (c .before .before .got2 .given .0 .0) (c .before .known-told4 .given .0 .1)) at (c .joined .ensures))
 
   pub operator-returns-5 : operator-lts.Need-returns-5 (operator-callees t) (operator-at t) operator.Post
   operator-returns-5 c =
@@ -341,4 +368,17 @@ module _ (t : ℕ) where
   operator-returns-9 c =
       let r = c .before .before in
       let a = operator-start r .args in
-      last-stop (a .text .now) (held (a .vars .now)) (a .counts) (a .at) (a .room) (a .least) (a .left) (operator-token r (c .enum-told5 .given .1))
+      last-query (a .text .now) (held (a .vars .now)) (a .counts) (a .at) (a .room) (a .least) (a .left) _ (operator-start r .pre .1 .between)
+      (operator-token r (c .enum-told5 .given .1))
+
+  pub operator-returns-10 : operator-lts.Need-returns-10 (operator-callees t) (operator-at t) operator.Post
+  operator-returns-10 c =
+      let r = c .before .before in
+      let a = operator-start r .args in
+      last-colon (a .text .now) (held (a .vars .now)) (a .counts) (a .at) (a .room) (a .least) (a .left) _ (operator-token r (c .enum-told6 .given .1))
+
+  pub operator-returns-11 : operator-lts.Need-returns-11 (operator-callees t) (operator-at t) operator.Post
+  operator-returns-11 c =
+      let r = c .before .before in
+      let a = operator-start r .args in
+      last-stop (a .text .now) (held (a .vars .now)) (a .counts) (a .at) (a .room) (a .least) (a .left) (operator-token r (c .enum-told7 .given .1))
