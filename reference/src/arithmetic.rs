@@ -1,9 +1,10 @@
-//! Arithmetic: tokens are taken one ahead, a tree is built by precedence, and only a whole tree is worked out.
+//! Arithmetic: tokens are taken one ahead, a tree is built by precedence, and only a whole tree is worked out, by `operation`.
 
-use crate::constant::{constant, of_value};
+use crate::constant::constant;
 use crate::image::{begins_name, continues_name};
 use crate::limits;
 use crate::number::Number;
+use crate::operation::work_out;
 use crate::variables::Variables;
 
 #[derive(Clone, Debug, PartialEq, Eq)]
@@ -15,29 +16,53 @@ enum Token {
     End,
 }
 
-/// Two-byte signs stand first, so that the longer one is taken.
-const SIGNS: [&str; 13] = ["<=", ">=", "==", "!=", "<", ">", "+", "-", "*", "/", "%", "(", ")"];
+/// The longer signs stand first, so that the longest one is taken.
+const SIGNS: [&str; 24] = [
+    "<<", ">>", "<=", ">=", "==", "!=", "&&", "||", "<", ">", "&", "^", "|", "!", "~", "?", ":", "+", "-", "*", "/",
+    "%", "(", ")",
+];
 
 /// The binary operators from the loosest to the tightest level.
-const LEVELS: [&[&str]; 4] = [&["==", "!="], &["<", "<=", ">", ">="], &["+", "-"], &["*", "/", "%"]];
+pub const LEVELS: [&[&str]; 10] = [
+    &["||"],
+    &["&&"],
+    &["|"],
+    &["^"],
+    &["&"],
+    &["==", "!="],
+    &["<", "<=", ">", ">="],
+    &["<<", ">>"],
+    &["+", "-"],
+    &["*", "/", "%"],
+];
+
+/// The signs that stand before one operand.
+pub const UNARY: [&str; 4] = ["+", "-", "!", "~"];
 
 #[derive(Debug)]
-enum Tree {
+pub enum Tree {
     Constant(i64),
     Name(Vec<u8>),
-    Minus(Box<Tree>),
+    Unary(&'static str, Box<Tree>),
     Binary(&'static str, Box<Tree>, Box<Tree>),
+    /// The condition, the side for all numbers but 0, the side for 0.
+    Conditional(Box<Tree>, Box<Tree>, Box<Tree>),
 }
 
 /// What the text comes to, or its first fault.
 pub fn result(text: &[u8], variables: &Variables) -> Result<i64, Number> {
+    work_out(&read(text)?, variables)
+}
+
+/// The tree of the whole text, or its first fault of reading.
+pub fn read(text: &[u8]) -> Result<Tree, Number> {
     let mut parser = Parser { rest: text, next: Token::End, open: 0 };
     parser.advance()?;
-    let tree = parser.binary(0)?;
-    if parser.next != Token::End {
-        return Err(Number::ArithmeticSyntax);
+    let tree = parser.conditional()?;
+    match parser.next {
+        Token::End => Ok(tree),
+        _ => Err(Number::ArithmeticSyntax),
     }
-    work_out(&tree, variables)
 }
 
 /// The text behind the next token, that token, and how many parentheses and signs are open.
@@ -57,15 +82,26 @@ impl Parser<'_> {
         Ok(())
     }
 
-    fn binary(&mut self, level: usize) -> Result<Tree, Number> {
-        if level == LEVELS.len() {
-            return self.unary();
+    /// C's grammar: a whole expression stands between `?` and `:`, and a conditional behind the `:`.
+    fn conditional(&mut self) -> Result<Tree, Number> {
+        let condition = self.binary(0)?;
+        if self.next != Token::Sign("?") {
+            return Ok(condition);
         }
-        let mut left = self.binary(level + 1)?;
+        self.advance()?;
+        let if_true = self.conditional()?;
+        self.pass(":")?;
+        let if_zero = self.conditional()?;
+        Ok(Tree::Conditional(Box::new(condition), Box::new(if_true), Box::new(if_zero)))
+    }
+
+    /// Operands and the operators between them, as far as these are of this level or a tighter one, each from the left.
+    fn binary(&mut self, loosest: usize) -> Result<Tree, Number> {
+        let mut left = self.unary()?;
         while let Token::Sign(sign) = self.next {
-            if !LEVELS[level].contains(&sign) {
+            let Some(level) = level(sign).filter(|level| *level >= loosest) else {
                 break;
-            }
+            };
             self.advance()?;
             let right = self.binary(level + 1)?;
             left = Tree::Binary(sign, Box::new(left), Box::new(right));
@@ -83,20 +119,24 @@ impl Parser<'_> {
                 self.advance()?;
                 Ok(Tree::Name(name))
             }
-            Token::Sign("+") => self.opened(Self::unary),
-            Token::Sign("-") => Ok(Tree::Minus(Box::new(self.opened(Self::unary)?))),
             Token::Sign("(") => self.opened(Self::parenthesis),
+            Token::Sign(sign) if UNARY.contains(&sign) => Ok(Tree::Unary(sign, Box::new(self.opened(Self::unary)?))),
             _ => Err(Number::ArithmeticSyntax),
         }
     }
 
     fn parenthesis(&mut self) -> Result<Tree, Number> {
-        let tree = self.binary(0)?;
-        if self.next != Token::Sign(")") {
+        let tree = self.conditional()?;
+        self.pass(")")?;
+        Ok(tree)
+    }
+
+    /// Passes the one sign that may stand here.
+    fn pass(&mut self, sign: &'static str) -> Result<(), Number> {
+        if self.next != Token::Sign(sign) {
             return Err(Number::ArithmeticSyntax);
         }
-        self.advance()?;
-        Ok(tree)
+        self.advance()
     }
 
     /// Passes an opening sign, then reads what it opens; one too many is 12 before anything behind it.
@@ -110,6 +150,11 @@ impl Parser<'_> {
         self.open -= 1;
         Ok(tree)
     }
+}
+
+/// The level of a binary operator.
+fn level(sign: &str) -> Option<usize> {
+    LEVELS.iter().position(|signs| signs.contains(&sign))
 }
 
 /// The text behind the blanks, tabs and newlines that separate tokens.
@@ -133,41 +178,4 @@ fn token(text: &[u8]) -> Result<(Token, usize), Number> {
     let sign = SIGNS.iter().find(|sign| text.starts_with(sign.as_bytes()));
     let sign = sign.ok_or(Number::ArithmeticSyntax)?;
     Ok((Token::Sign(sign), sign.len()))
-}
-
-/// Left operand, right operand, operation.
-fn work_out(tree: &Tree, variables: &Variables) -> Result<i64, Number> {
-    match tree {
-        Tree::Constant(number) => Ok(*number),
-        Tree::Name(name) => of_value(variables.value(name).unwrap_or_default()),
-        Tree::Minus(operand) => {
-            let operand = work_out(operand, variables)?;
-            operand.checked_neg().ok_or(Number::Overflow)
-        }
-        Tree::Binary(sign, left, right) => {
-            let left = work_out(left, variables)?;
-            let right = work_out(right, variables)?;
-            operation(sign, left, right)
-        }
-    }
-}
-
-fn operation(sign: &str, left: i64, right: i64) -> Result<i64, Number> {
-    if matches!(sign, "/" | "%") && right == 0 {
-        return Err(Number::ZeroDivisor);
-    }
-    let result = match sign {
-        "*" => left.checked_mul(right),
-        "/" => left.checked_div(right),
-        "%" => left.checked_rem(right),
-        "+" => left.checked_add(right),
-        "-" => left.checked_sub(right),
-        "<" => Some(i64::from(left < right)),
-        "<=" => Some(i64::from(left <= right)),
-        ">" => Some(i64::from(left > right)),
-        ">=" => Some(i64::from(left >= right)),
-        "==" => Some(i64::from(left == right)),
-        _ => Some(i64::from(left != right)),
-    };
-    result.ok_or(Number::Overflow)
 }

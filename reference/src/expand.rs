@@ -25,9 +25,16 @@ pub struct Seen {
     /// Each row; a refused one with what would have passed the limit.
     pub rows: Vec<SeenRow>,
     /// The arithmetic texts that were worked out or refused.
-    pub sums: Vec<Vec<u8>>,
+    pub sums: Vec<SeenSum>,
     /// The quotes that gave back their empty mark.
     pub given_back: usize,
+}
+
+/// An arithmetic text, and the variables it was worked out with.
+#[derive(Debug)]
+pub struct SeenSum {
+    pub text: Vec<u8>,
+    pub variables: Variables,
 }
 
 /// How many units a row has, and how many of them are break marks.
@@ -90,7 +97,7 @@ impl Expander<'_> {
             Part::Arithmetic { text, quoted } => {
                 let text = bytes(self.row(text)?.units());
                 let result = arithmetic::result(&text, &self.variables);
-                self.seen.sums.push(text);
+                self.seen.sums.push(SeenSum { text, variables: self.variables.clone() });
                 marked(result?.to_string().as_bytes(), mark(*quoted)).into()
             }
         };

@@ -15,6 +15,7 @@ pub mod image;
 pub mod limits;
 mod matching;
 pub mod number;
+mod operation;
 mod pattern;
 pub mod program;
 mod read;

@@ -1,16 +1,19 @@
-//! Compares the reference with dash and bash on lines where documents 01 and 02 and POSIX agree.
+//! Compares the reference with dash and bash on lines and arithmetic texts where documents 01 and 02 and POSIX agree.
 
 use std::process::ExitCode;
 
 use reference::generate::random::Random;
 use reference::shells::script::is_harmless;
+use reference::shells::sums::{self, Sum, Sums};
 use reference::shells::{differences, lines, positional, reference, Folder, Given, Outcome, Shell, Table};
 
 fn main() -> ExitCode {
     let words: Vec<String> = std::env::args().skip(1).collect();
     let words: Vec<&str> = words.iter().map(String::as_str).collect();
     let compared = match words[..] {
-        ["--differences", ref names @ ..] | ["--parameters", _, _, ref names @ ..] if !names.is_empty() => {
+        ["--differences", ref names @ ..] | ["--parameters" | "--arithmetic", _, _, ref names @ ..]
+            if !names.is_empty() =>
+        {
             names.iter().map(|name| Shell::named(name)).collect()
         }
         _ => Some(Shell::COMPARED.to_vec()),
@@ -26,6 +29,10 @@ fn main() -> ExitCode {
     }
     let differ = match words[..] {
         ["--differences", ..] => show_differences(&compared),
+        ["--arithmetic", seed, count, ..] => match (seed.parse(), count.parse()) {
+            (Ok(seed), Ok(count)) => compare_sums(seed, count, &compared),
+            _ => return usage(),
+        },
         [seed, count] | ["--parameters", seed, count, ..] => match (seed.parse(), count.parse()) {
             (Ok(seed), Ok(count)) => compare(seed, count, words.len() > 2, &compared),
             _ => return usage(),
@@ -51,7 +58,7 @@ fn show_differences(shells: &[Shell]) -> std::io::Result<usize> {
 
 fn usage() -> ExitCode {
     eprintln!(
-        "usage: shells SEED COUNT, shells --parameters SEED COUNT [SHELL...], or shells --differences [SHELL...]"
+        "usage: shells SEED COUNT, shells --parameters|--arithmetic SEED COUNT [SHELL...], or shells --differences [SHELL...]"
     );
     ExitCode::FAILURE
 }
@@ -93,6 +100,28 @@ fn compare(seed: u64, count: usize, parameters: bool, shells: &[Shell]) -> std::
     }
     println!("not compared: {refused} lines refused by the reference, {left_out} left out");
     println!("{compared} lines, {classes} with a class, {lists} with a list, {differ} differ");
+    Ok(differ)
+}
+
+/// Compares so many different arithmetic texts that are accepted, and says how many differ, and how many more were made but not compared.
+fn compare_sums(seed: u64, count: usize, shells: &[Shell]) -> std::io::Result<usize> {
+    let folder = Folder::new()?;
+    let Sums { sums, refused, left_out } = Sums::of(seed, count);
+    let mut differ = 0;
+    for shell in shells {
+        let results = sums::results(*shell, &folder, &sums)?;
+        for (Sum { text, variables, result }, said) in sums.iter().zip(results) {
+            if said.as_ref() != Some(result) {
+                differ += 1;
+                let said = said.map_or("fails".to_string(), |said| said.escape_ascii().to_string());
+                println!("{}: {}", shell.name(), text.escape_ascii());
+                println!("  variables {}", shown(variables));
+                println!("  reference {}\n  shell     {said}", result.escape_ascii());
+            }
+        }
+    }
+    println!("not compared: {refused} texts refused by the reference, {left_out} left out");
+    println!("{} texts, {differ} differ", sums.len());
     Ok(differ)
 }
 

@@ -15,15 +15,16 @@ const BAD_NUMBERS: [&str; 9] = [
 ];
 
 /// Where 64 bits end.
-const EDGES: [&str; 13] = [
+const EDGES: [&str; 18] = [
     "(-9223372036854775807-1)%-1", "(-9223372036854775807-1)/-1", "(-9223372036854775807-1)%1",
     "(-9223372036854775807-1)/0", "-(-9223372036854775807-1)", "-9223372036854775807-1", "-9223372036854775807-2",
     "-9223372036854775808", "9223372036854775807+1", "9223372036854775807*-1-1", "4611686018427387904*-2",
-    "4611686018427387904*2", "3037000500*3037000500",
+    "4611686018427387904*2", "3037000500*3037000500", "-1<<63", "1<<63", "-1>>63", "0<<64", "~9223372036854775807",
 ];
-const OPERATORS: [&str; 11] = ["*", "/", "%", "+", "-", "<", "<=", ">", ">=", "==", "!="];
-const BAD_OPERATORS: [&str; 16] =
-    ["=", "!", "&&", "|", "**", "<<", "?", ",", "", "@", "~", "===", "\\", "'", "\"", "$'"];
+const OPERATORS: [&str; 18] =
+    ["*", "/", "%", "+", "-", "<", "<=", ">", ">=", "==", "!=", "<<", ">>", "&", "^", "|", "&&", "||"];
+const BAD_OPERATORS: [&str; 17] =
+    ["=", "!", "&&&", "|||", "**", "<<=", "?", ":", ",", "", "@", "~", "===", "\\", "'", "\"", "$'"];
 const BLANKS: [&str; 8] = ["", "", "", "", " ", "  ", "\t", "\n"];
 
 /// A text for `$((...))`, at this depth of open expansions.
@@ -32,6 +33,9 @@ pub fn text(random: &mut Random, depth: usize) -> Vec<u8> {
         0 => Vec::new(),
         1 => nested(random, b"(", b")"),
         2 => nested(random, b"-", b""),
+        8 => nested(random, b"!", b""),
+        9 => nested(random, b"~", b""),
+        10..=12 => conditional(random, depth),
         3 => nested(random, b"+(", b")"),
         4 => many(random),
         7 => resumed(random),
@@ -61,6 +65,12 @@ fn many(random: &mut Random) -> Vec<u8> {
     [part.repeat(random.between(31, 40)), b"1".to_vec()].concat()
 }
 
+/// A sum, and one of two more by what it comes to.
+fn conditional(random: &mut Random, depth: usize) -> Vec<u8> {
+    let [condition, first, last] = [1, 2, 2].map(|size| sum(random, depth, size));
+    [condition, b"?".to_vec(), first, b":".to_vec(), last].concat()
+}
+
 fn sum(random: &mut Random, depth: usize, size: usize) -> Vec<u8> {
     let mut text = operand(random, depth, size);
     for _ in 0..random.below(size + 1) {
@@ -74,7 +84,7 @@ fn sum(random: &mut Random, depth: usize, size: usize) -> Vec<u8> {
 
 fn operand(random: &mut Random, depth: usize, size: usize) -> Vec<u8> {
     match random.below(20) {
-        0..=1 => [random.text(&["-", "+", "- ", "--"]), operand(random, depth, size)].concat(),
+        0..=1 => [random.text(&["-", "+", "- ", "--", "!", "~"]), operand(random, depth, size)].concat(),
         2..=4 if size > 0 => [b"(".to_vec(), sum(random, depth, size - 1), b")".to_vec()].concat(),
         5..=7 => grammar::name(random),
         8 => [b"$".to_vec(), grammar::name(random)].concat(),

@@ -10,6 +10,7 @@ pub mod grammar;
 pub mod hostile;
 pub mod lists;
 pub mod operands;
+pub mod operators;
 pub mod patterns;
 pub mod positional;
 pub mod quoting;
@@ -18,6 +19,7 @@ pub mod season;
 mod sizes;
 mod stars;
 pub mod steps;
+pub mod sums;
 pub mod tables;
 pub mod tally;
 mod tildes;
@@ -50,6 +52,7 @@ pub fn call(seed: u64, case: u64) -> Call {
         87..=98 => focused(random, stars::case),
         99..=105 => focused(random, crowds::case),
         106..=163 => lone(random, lists::case),
+        164..=179 => focused(random, operators::case),
         _ => lines(random),
     };
     match call {

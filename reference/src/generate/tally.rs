@@ -10,6 +10,7 @@ use super::operands::Tildes;
 use super::patterns::Patterns;
 use super::positional::Positional;
 use super::quoting::Quoting;
+use super::sums::Sums;
 use super::walk::walk;
 use crate::case::{Call, Job, Lent};
 use crate::expand::SeenRow;
@@ -28,6 +29,7 @@ pub struct Tally {
     /// The arithmetic texts that were worked out or refused, and how many different ones.
     pub sums: usize,
     pub different_sums: BTreeSet<Vec<u8>>,
+    pub kinds_of_sums: Sums,
     /// The lines of as many bytes as a line may have.
     pub full_lines: usize,
     /// The rows of one unit less than a row may have, of as many, and of one more, which are refused.
@@ -82,7 +84,8 @@ impl Tally {
         self.brackets.add(&seen, &paths);
         self.patterns.add(&seen, paths.len());
         self.sums += seen.sums.len();
-        self.different_sums.extend(seen.sums);
+        seen.sums.iter().for_each(|sum| self.kinds_of_sums.add(sum));
+        self.different_sums.extend(seen.sums.into_iter().map(|sum| sum.text));
         for SeenRow { units, .. } in seen.rows {
             if (limits::ROW - 1..=limits::ROW + 1).contains(&units) {
                 self.rows[units + 1 - limits::ROW] += 1;
@@ -103,12 +106,12 @@ impl fmt::Display for Tally {
             writeln!(out, "{number:2} {count}")?;
         }
         let Tally { expand, normalise, quote, bytes, sums, different_sums, full_lines, rows, .. } = self;
-        let Tally { tildes, quoting, brackets, patterns, positional, .. } = self;
+        let Tally { tildes, quoting, brackets, patterns, positional, kinds_of_sums, .. } = self;
         writeln!(out, "expand {expand}, normalise {normalise}, quote {quote}")?;
         writeln!(out, "{bytes} bytes")?;
         writeln!(out, "arithmetic texts {sums}, different ones {}", different_sums.len())?;
         writeln!(out, "lines of 2048 bytes {full_lines}")?;
         writeln!(out, "rows of 2047 units {}, of 2048 {}, refused at 2049 {}", rows[0], rows[1], rows[2])?;
-        write!(out, "{tildes}{quoting}{brackets}{patterns}{positional}")
+        write!(out, "{tildes}{quoting}{brackets}{patterns}{positional}{kinds_of_sums}")
     }
 }

@@ -47,10 +47,7 @@ const EXPANDING: &[Difference] = &[
 
 const ARITHMETIC: &[Difference] = &[
     ("Signs are single tokens", "$((--x))", &[("x", "5")]),
-    ("parentheses, unary `+ -`, then `* / %`, then `+ -`, then [...]", "$((1<<2))", &[]),
     ("parentheses, unary `+ -`, then `* / %`, then `+ -`, then [...]", "$((x=5))", &[]),
-    ("parentheses, unary `+ -`, then `* / %`, then `+ -`, then [...]", "$((1?2:3))", &[]),
-    ("parentheses, unary `+ -`, then `* / %`, then `+ -`, then [...]", "$((!0))", &[]),
     ("its value must be an optional sign and a constant", "$((x))", &[("x", "1+1")]),
     ("its value must be an optional sign and a constant", "$((x))", &[("x", "y"), ("y", "3")]),
     ("nothing more, else 15", "$((x))", &[("x", " 1")]),
@@ -61,6 +58,12 @@ const ARITHMETIC: &[Difference] = &[
     ("Empty text is 16", "$(( ))", &[]),
     ("A constant is the longest run of letters, digits, `_`", "$((2#11))", &[]),
     ("`0x` or `0X` and a digit or more hexadecimal, else 15", "$((0x))", &[]),
+    ("Add `! ~`, `<< >>`, `& ^ |`, `&& ||` and `?:`", "$((2**3))", &[]),
+    ("A shift count outside 0 to 63 [...] is 17", "$((1<<64))", &[]),
+    ("A shift count outside 0 to 63 [...] is 17", "$((1>>-1))", &[]),
+    ("a left shift whose exact product leaves the 64-bit signed range, is 17", "$((1<<63))", &[]),
+    ("A constant that is bad or too large is still refused in reading", "$((0&&9223372036854775808))", &[]),
+    ("`!` and `~` count toward the 32", "$((!!!!!!!!!!!!!!!!!!!!!!!!!!!!!!!!!1))", &[]),
     (
         "More than 32 open parentheses and unary signs, together, is 12",
         "$((- - - - - - - - - - - - - - - - - - - - - - - - - - - - - - - - - 1))",

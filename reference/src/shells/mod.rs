@@ -4,6 +4,7 @@ pub mod differences;
 pub mod lines;
 pub mod positional;
 pub mod script;
+pub mod sums;
 
 use std::collections::BTreeMap;
 use std::fs;
@@ -106,6 +107,14 @@ impl Shell {
         command.status().is_ok_and(|status| status.success())
     }
 
+    /// The shell with a script, in the folder, and with nothing of the surroundings but what it needs.
+    fn command(self, folder: &Folder, script: &Path) -> Command {
+        let mut command = Command::new(self.name());
+        command.args(self.options()).arg(script).current_dir(folder.files());
+        command.env_clear().env("LC_ALL", "C").envs(self.path());
+        command
+    }
+
     /// What the shell makes of the line in the folder; `None` if it fails, an error if the line is not harmless.
     pub fn outcome(self, folder: &Folder, line: &[u8], given: &Given) -> io::Result<Option<Outcome>> {
         let harmless = script::is_harmless(line);
@@ -113,17 +122,9 @@ impl Shell {
         if !harmless || !values.all(|value| script::is_harmless_value(value)) {
             return Err(io::Error::other("a line that could run something is not run"));
         }
-        let script = folder.0.join(".script");
+        let script = folder.script();
         fs::write(&script, script::script(line, given, &NAMES))?;
-        let output = Command::new(self.name())
-            .args(self.options())
-            .arg(&script)
-            .current_dir(folder.files())
-            .env_clear()
-            .env("LC_ALL", "C")
-            .envs(self.path())
-            .stdin(Stdio::null())
-            .output()?;
+        let output = self.command(folder, &script).stdin(Stdio::null()).output()?;
         Ok(output.status.success().then(|| parsed(&output.stdout)).flatten())
     }
 }
@@ -186,6 +187,10 @@ impl Folder {
             }
         }
         Ok(folder)
+    }
+
+    fn script(&self) -> PathBuf {
+        self.0.join(".script")
     }
 
     fn files(&self) -> PathBuf {

@@ -69,7 +69,8 @@ pub fn script(line: &[u8], given: &Given, names: &[&str]) -> Vec<u8> {
     script
 }
 
-fn quoted(value: &[u8]) -> Vec<u8> {
+/// A value in single quotes.
+pub fn quoted(value: &[u8]) -> Vec<u8> {
     let mut quoted = vec![b'\''];
     for &byte in value {
         match byte {

@@ -62,8 +62,8 @@ fn constants() {
 #[test]
 fn reading_faults_in_order() {
     faults(NotANumber, &["1 08", "1/0+08", "(08", "1 08 )"]);
-    faults(ArithmeticSyntax, &["", " ", "1 1 08", "* 08", "1+", "()", "(1", "1=2", "!1", "1!", "a b"]);
-    faults(ArithmeticSyntax, &["1&&1", "1<<1", "1**2", "~1", "1?2:3", "1,2", "x=1", "é", "1===1"]);
+    faults(ArithmeticSyntax, &["", " ", "1 1 08", "* 08", "1+", "()", "(1", "1=2", "1!", "a b"]);
+    faults(ArithmeticSyntax, &["1**2", "1,2", "x=1", "é", "1===1", "1@2", "1#2", "$"]);
     faults(Overflow, &["1 9223372036854775808"]);
 }
 

@@ -7,7 +7,7 @@ use reference::case::{case, replay, Call, Job};
 use reference::generate::random::Random;
 use reference::generate::{
     brackets::KINDS, call, classes::BORDERS, hostile, operands::SIGNS, ordinary, positional, quoting, season::Season,
-    steps::steps, tally::Tally, MOST_STEPS,
+    steps::steps, sums, tally::Tally, MOST_STEPS,
 };
 use reference::{image, limits};
 
@@ -95,6 +95,16 @@ fn positional_parameters_come_up() {
     assert!(positional.given_back >= 200 && positional.breaks >= CASES as usize / 10, "{positional}");
     assert!(positional.rows.iter().all(|count| *count >= 10), "{positional}");
     assert!(positional.lengths.iter().all(|count| *count >= 1_000) && positional.with_empty >= 1_000, "{positional}");
+}
+
+/// Every operator of E6, and every kind of side that is not needed, of shift and of chain.
+#[test]
+fn operators_come_up() {
+    let found = &tally().kinds_of_sums;
+    assert!(found.texts >= CASES as usize / 20, "{found}");
+    for kind in sums::KINDS {
+        assert!(found.kinds[kind] >= 5, "{kind}: {found}");
+    }
 }
 
 /// Demand 3 on made fields: their quoted line gives them again and is its own quoted line, under tables that were not asked for.

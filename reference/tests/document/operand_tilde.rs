@@ -146,9 +146,11 @@ fn operands_read_as_double_quoted_text_stay_without_it() {
         gives(&world(), line, fields);
     }
     stores(&world(), "\"${u=~crew/a}\"", "u", "~crew/a");
-    for line in ["$((${u-~}))", "$((${u=~crew}))", "$((${e+~/}))"] {
-        refuses(&world().set("HOME", "7"), line, ArithmeticSyntax, 0);
+    let number = world().set("HOME", "7");
+    for line in ["$((${u-~}))", "$((${e+~/}))"] {
+        refuses(&number, line, ArithmeticSyntax, 0);
     }
+    gives(&number, "$((${u=~crew})) $((${w-~5}))", &["-1", "-6"]);
 }
 
 /// A removal's operand is bare text in quotes and in arithmetic too, with all inside it.
