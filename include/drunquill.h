@@ -40,7 +40,7 @@ extern "C" {
 #define DRUNQUILL_UNITS_MAX 2048   /* units of a word, an operand or an arithmetic text: its bytes, a mark for each opening quote, and between two
                                       parameters of $@ or $* a mark, in quotes $@ has two */
 #define DRUNQUILL_DEPTH_MAX 8      /* expansions open at once, "${" and "$((" together */
-#define DRUNQUILL_OPEN_MAX 32      /* parentheses and unary signs open at once in arithmetic, together */
+#define DRUNQUILL_OPEN_MAX 32      /* parentheses and unary signs, + - ! ~, open at once in arithmetic, together */
 
 /* What a call may need of the stack, in bytes: well above what tests/built/c measures on the deepest lines known (docs/TRUST.md). It is measured and not
  * proved. */
@@ -66,7 +66,7 @@ enum {
     DRUNQUILL_TOO_MANY_UNITS = 14,    /* a word, an operand or an arithmetic text above DRUNQUILL_UNITS_MAX units */
     DRUNQUILL_NOT_NUMBER = 15,        /* arithmetic: a constant or a variable's value that is not a number */
     DRUNQUILL_ARITHMETIC_SYNTAX = 16, /* arithmetic: bad syntax, or an empty text */
-    DRUNQUILL_OVERFLOW = 17,          /* arithmetic: out of the range of 64 signed bits */
+    DRUNQUILL_OVERFLOW = 17,          /* arithmetic: out of the range of 64 signed bits, or a shift count that is not 0 to 63 */
     DRUNQUILL_ZERO_DIVISOR = 18,      /* arithmetic: division or remainder by zero */
     DRUNQUILL_BRACKET_CLASS = 19,     /* in a bracket of a pattern: [: without one of the twelve names of POSIX, [. or [=, or a class in a range */
     DRUNQUILL_VARIABLE_ROOM = 20,     /* a store makes the variables longer than their buffer or DRUNQUILL_IMAGE_MAX */

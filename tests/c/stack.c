@@ -119,6 +119,14 @@ int main(void) {
     measure("seven ${u- around 32 parentheses after operators", 0);
     inside.len = 0;
     add_string(&inside, "$((");
+    repeat(&inside, "0||1&&1|1^1&1==1<1<<1+1*(", 32);
+    add_string(&inside, "1");
+    repeat(&inside, ")", 32);
+    add(&inside, "))", 3);
+    within(7, "${u-", (const char *)inside.at, "}");
+    measure("the same after an operator of every level", 0);
+    inside.len = 0;
+    add_string(&inside, "$((");
     repeat(&inside, "-", 32);
     add(&inside, "1))", 4);
     within(7, "$((", (const char *)inside.at, "))");

@@ -180,6 +180,18 @@ def arithmetic():
     yield "deep parentheses", "their number", lambda n: Given(b"$((" + (b"(" * 31 + b"1" + b")" * 31 + b"+") * n(30) + b"1))"), 1
     yield "parentheses without an end", "their number", lambda n: Given(b"$((" + b"(1+" * n(680)), 1
     yield "a constant", "its digits", lambda n: Given(b"$((" + b"0" * n(2000) + b"1))"), 1
+    bits = b"1<<2>>1&3^1|4&&1||0&&"
+    yield "arithmetic of bits and truths", "its text", lambda n: Given(b"$((" + bits * n(92) + b"1))"), 1
+    yield "signs", "their number", lambda n: Given(b"$((" + (b"!~" * 16 + b"1+") * n(60) + b"1))"), 1
+    yield "|| that is decided", "their number", lambda n: Given(b"$((" + b"1||" * n(680) + b"z))", far), 1
+    yield "&& that is decided", "their number", lambda n: Given(b"$((" + b"0&&z||" * n(340) + b"1))", far), 1
+    yield "&& that is not decided", "their number", lambda n: Given(b"$((" + b"z&&" * n(680) + b"1))", far), 1
+    yield "? in the middle, taken", "their number", lambda n: Given(b"$((" + b"1?" * n(510) + b"1" + b":2" * n(510) + b"))"), 1
+    yield "? in the middle, not taken", "their number", lambda n: Given(b"$((" + b"0?" * n(510) + b"1" + b":2" * n(510) + b"))"), 1
+    yield "? behind the colon, taken", "their number", lambda n: Given(b"$((" + b"1?2:" * n(510) + b"3))"), 1
+    yield "? behind the colon, not taken", "their number", lambda n: Given(b"$((" + b"0?2:" * n(510) + b"3))"), 1
+    yield "? without a colon", "their number", lambda n: Given(b"$((" + b"0?" * n(1020) + b"0))"), 1
+    yield "? in parentheses", "their number", lambda n: Given(b"$((" + (b"(1?" * 31 + b"2" + b":3)" * 31 + b"+") * n(10) + b"1))"), 1
 
 
 def others():

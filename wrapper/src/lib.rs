@@ -44,7 +44,7 @@ pub const PATHS_MAX: usize = 32_768;
 pub const UNITS_MAX: usize = 2_048;
 /// Expansions open at once.
 pub const DEPTH_MAX: usize = 8;
-/// Parentheses and unary signs open at once in arithmetic, together.
+/// Parentheses and unary signs, `+ - ! ~`, open at once in arithmetic, together.
 pub const OPEN_MAX: usize = 32;
 /// What a call may need of the stack, in bytes: measured, not proved. The main thread and the threads of std have more.
 pub const STACK: usize = 524_288;
