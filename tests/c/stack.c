@@ -51,6 +51,18 @@ static void within(int outer, const char *open, const char *inside, const char *
     repeat(&line, close, outer);
 }
 
+/* Seven expansions around an arithmetic text in which 32 parentheses are open, each opened so. */
+static void within_parentheses(const char *open) {
+    static struct bytes inside;
+    inside.len = 0;
+    add_string(&inside, "$((");
+    repeat(&inside, open, 32);
+    add_string(&inside, "1");
+    repeat(&inside, ")", 32);
+    add(&inside, "))", 3);
+    within(7, "${u-", (const char *)inside.at, "}");
+}
+
 static size_t most;
 
 /* The line is measured in both jobs; the number is to be as expected, so that the line went where it should. */
@@ -109,21 +121,9 @@ int main(void) {
     within(8, "${u-", "\"$@\"", "}");
     measure("eight nested ${u- around 500 parameters", 0);
 
-    inside.len = 0;
-    add_string(&inside, "$((");
-    repeat(&inside, "1==1<1+1*(", 32);
-    add_string(&inside, "1");
-    repeat(&inside, ")", 32);
-    add(&inside, "))", 3);
-    within(7, "${u-", (const char *)inside.at, "}");
+    within_parentheses("1==1<1+1*(");
     measure("seven ${u- around 32 parentheses after operators", 0);
-    inside.len = 0;
-    add_string(&inside, "$((");
-    repeat(&inside, "0||1&&1|1^1&1==1<1<<1+1*(", 32);
-    add_string(&inside, "1");
-    repeat(&inside, ")", 32);
-    add(&inside, "))", 3);
-    within(7, "${u-", (const char *)inside.at, "}");
+    within_parentheses("0||1&&1|1^1&1==1<1<<1+1*(");
     measure("the same after an operator of every level", 0);
     inside.len = 0;
     add_string(&inside, "$((");
