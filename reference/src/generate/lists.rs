@@ -27,7 +27,7 @@ const PARAMETERS: [&str; 32] = [
 
 /// Where pieces stand: in a word, in an operand read as bare text, in double quotes, in an operand there.
 #[derive(Clone, Copy, PartialEq, Eq)]
-enum Setting {
+pub enum Setting {
     Word,
     Operand,
     Double,

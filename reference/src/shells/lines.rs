@@ -1,6 +1,7 @@
 //! Lines on which documents 01 and 02 and POSIX agree: nested like those of the grammar, without what docs/SHELLS.md lists.
 
 use super::{positional, Outcome, Table};
+use crate::generate::lists::Setting;
 use crate::generate::random::Random;
 
 const DEEPEST: usize = 4;
@@ -47,15 +48,6 @@ const TILDES: [&str; 12] = ["~", "~", "~", "~/", "~/", "~/a", "~/~", "~ a", "~no
 const CONSTANTS: [&str; 12] =
     ["0", "1", "2", "3", "7", "10", "010", "0x1F", "2147483648", "9223372036854775807", "0x7fffffffffffffff", "100"];
 const OPERATORS: [&str; 11] = ["*", "/", "%", "+", "-", "<", "<=", ">", ">=", "==", "!="];
-
-/// Where pieces stand.
-#[derive(Clone, Copy, PartialEq, Eq)]
-enum Setting {
-    Word,
-    Operand,
-    Double,
-    DoubleOperand,
-}
 
 pub fn variables(random: &mut Random) -> Table {
     let mut table = Table::from([(b"HOME".to_vec(), b"/home/crew".to_vec())]);
