@@ -1,10 +1,10 @@
 -- Every call's answer is well formed, whatever is given: a refusal has a number of the table and leaves the buffers alone; an acceptance leaves
 -- well-formed images within their room.
-use Prim.Native.Nat.{ℕ, _-_, _≤_}
+use Prim.Native.Nat.{ℕ, zero, suc, _-_, _≤_}
 use native.Mathlib.Omega.{arith}
 use mathlib.Core.Path.{_≡_, refl, ap, _∙_}
 use mathlib.Core.Bool.{Bool, true, false, _&&_, _||_}
-use mathlib.Core.List.{List}
+use mathlib.Core.List.{List, [], _∷_}
 use mathlib.Core.Logic.{_⊎_, inl, inr}
 use mathlib.Core.Option.{Option, none, some}
 use lib.Dec.{leb, eqb}
@@ -19,6 +19,9 @@ use Rattle.stages.specs.Numbers.{
   badPaths,
   zeroByte,
   unended,
+  tooDeep,
+  demanded,
+  tooManyUnits,
   outputRoom,
   badFields,
   badParameters,
@@ -26,13 +29,28 @@ use Rattle.stages.specs.Numbers.{
   lineLimit,
   imageLimit,
 }
-use Rattle.stages.specs.Bytes.{Text, between}
-use Rattle.stages.specs.Outcome.{Placed, refusedAt, doneAt, _then_}
+use Rattle.stages.specs.Bytes.{Text, all, notZero, between}
+use Rattle.stages.specs.Outcome.{Placed, refusedAt, demandsAt, doneAt, _then_}
 use Rattle.stages.specs.Images.{Pairs, isName, isLogin, flat, image, imageLength, held, heldTexts, variablesOf, homesOf, pathsOf, fieldsOf}
 use Rattle.stages.specs.Line.{Fields}
 use Rattle.stages.specs.Quote.{quotedLine}
-use Rattle.stages.specs.Call.{Given, Answer, over, orRefused, expanded, cleared, answered, expander, quotedIn, normaliser, Quoting, quoting, quoter}
-use Rattle.stages.proofs.Bools.{and-left, and-right, or-cases, between-bounds}
+use Rattle.stages.specs.Call.{
+  Given,
+  Answer,
+  over,
+  orRefused,
+  expanded,
+  cleared,
+  shown,
+  answered,
+  expander,
+  quotedIn,
+  normaliser,
+  Quoting,
+  quoting,
+  quoter,
+}
+use Rattle.stages.proofs.Bools.{no, and-left, and-right, or-cases, between-bounds}
 use Rattle.stages.proofs.Rooms.{over-front, over-behind, over-length}
 use Rattle.stages.proofs.Images.{Fine, length-image, held-image, heldTexts-image}
 use Rattle.stages.proofs.Tables.{
@@ -49,7 +67,7 @@ use Rattle.stages.proofs.Tables.{
   fields-image,
   fields-are,
 }
-use Rattle.stages.proofs.Outcomes.{isEarly, SafeAt, early, refusesAt, givesAt, safe-then, safe-require}
+use Rattle.stages.proofs.Outcomes.{isFault, isEarly, SafeAt, early, refusesAt, asksAt, givesAt, safe-then, safe-require}
 use Rattle.stages.proofs.SafeRows.{Kept}
 use Rattle.stages.proofs.SafeLines.{Ready, line-safe}
 
@@ -77,12 +95,27 @@ pub record Accepts (P : Text → Type 0) (g : Given) (a : Answer) : Type 0 where
   pub small : a .varsUsed ≤ imageLimit
   pub behindVars : drop (a .varsUsed) (a .vars) ≡ drop (a .varsUsed) (g .vars)
 
+-- E7: "Its bytes without marks are written from the buffer's start, cut to the buffer": some text without a zero byte
+pub record Message (g : Given) (a : Answer) : Type 0 where
+  pub whole : Text
+  pub clean : all notZero whole ≡ true
+  pub written : take (a .messageLength) (a .message) ≡ shown g whole
+
+-- "On every other answer the message length is 0 and the buffer keeps its bytes; on 13 the bytes behind the message are kept."
+pub record Tells (g : Given) (a : Answer) : Type 0 where
+  pub kept : length (a .message) ≡ length (g .message)
+  pub fits : a .messageLength ≤ length (g .message)
+  pub behind : drop (a .messageLength) (a .message) ≡ drop (a .messageLength) (g .message)
+  pub quiet : (a .number ≡ demanded → ⊥) → (a .messageLength ≡ 0) × (a .message ≡ g .message)
+  pub says : a .number ≡ demanded → Message g a
+
 -- "The work area is zero throughout after every call of expander or normaliser", and no buffer has another length
 pub record Fits (P : Text → Type 0) (g : Given) (a : Answer) : Type 0 where
   pub clear : a .work ≡ replicate (length (g .work)) 0
   pub workKept : length (a .work) ≡ length (g .work)
   pub outKept : length (a .out) ≡ length (g .out)
   pub varsKept : length (a .vars) ≡ length (g .vars)
+  pub tells : Tells g a
   pub refuses : (a .number ≡ accepted → ⊥) → Refuses g a
   pub accepts : a .number ≡ accepted → Accepts P g a
 
@@ -99,6 +132,9 @@ early-bounds n e = go (or-cases (between workTooSmall n zeroByte) (eqb n badPara
     go (inl h) = let b = between-bounds workTooSmall n zeroByte h in (b .0, omega (arith, b .1))
     go (inr h) = let k = eqb-true n badParameters h in (omega arith, omega arith)
 
+early-not-demanded : (n : ℕ) → isEarly n ≡ true → n ≡ demanded → ⊥
+early-not-demanded n e k = no (rw k at e)
+
 -- a number that comes of the line
 late : (n : ℕ) → unended ≤ n → n ≤ outputRoom → isEarly n ≡ true → ⊥
 late n l m e = go (or-cases (between workTooSmall n zeroByte) (eqb n badParameters) e)
@@ -107,22 +143,73 @@ late n l m e = go (or-cases (between workTooSmall n zeroByte) (eqb n badParamete
     go (inl h) = let b = between-bounds workTooSmall n zeroByte h in omega (arith, b .1)
     go (inr h) = let k = eqb-true n badParameters h in omega arith
 
+-- and is no message's
+fault-bounds : (n : ℕ) → isFault n ≡ true → (unended ≤ n) × (n ≤ outputRoom) × (n ≡ demanded → ⊥)
+fault-bounds n e = go (or-cases (between unended n tooDeep) (between tooManyUnits n outputRoom) e)
+  where
+    go : (between unended n tooDeep ≡ true) ⊎ (between tooManyUnits n outputRoom ≡ true) → (unended ≤ n) × (n ≤ outputRoom) × (n ≡ demanded → ⊥)
+    go (inl h) = let b = between-bounds unended n tooDeep h in (b .0, omega (arith, b .1), λ k. omega (arith, b .1))
+    go (inr h) = let b = between-bounds tooManyUnits n outputRoom h in (omega (arith, b .0), b .1, λ k. omega (arith, b .0))
+
+-- a message is cut to the buffer
+take-short : (n : ℕ) (t : Text) → length (take n t) ≤ n
+take-short zero t = omega arith
+take-short (suc n) [] = omega arith
+take-short (suc n) (b ∷ t) = omega (arith, take-short n t)
+
 module _ (g : Given) where
   cleared-length : length (cleared (g .work)) ≡ length (g .work)
   unfolding cleared
   cleared-length = length-replicate (length (g .work)) 0
 
-  refuses-fits : (P : Text → Type 0) (n place : ℕ) → 1 ≤ n → n ≤ badParameters → place ≤ length (g .line) - 1 → (isEarly n ≡ true → place ≡ 0)
+  refuses-fits : (P : Text → Type 0) (n place : ℕ) → 1 ≤ n → n ≤ badParameters → (n ≡ demanded → ⊥) → place ≤ length (g .line) - 1
+      → (isEarly n ≡ true → place ≡ 0)
       → Fits P g (answered g (refusedAt n place))
   unfolding answered cleared
-  refuses-fits P n place l m i h = record {
+  refuses-fits P n place l m d i h = record {
     clear = refl;
     workKept = cleared-length;
     outKept = refl;
     varsKept = refl;
+    tells = record { kept = refl; fits = omega arith; behind = refl; quiet = λ _. (refl, refl); says = λ k. absurd (d k) };
     refuses = λ _. record { listed = m; inside = i; before = h; nothing = refl; sameUsed = refl; sameOut = refl; sameVars = refl };
     accepts = λ e. absurd (omega arith);
   }
+
+  module _ (t : Text) (place : ℕ) (z : all notZero t ≡ true) (i : place ≤ length (g .line) - 1) where
+    demand-tells : Tells g (answered g (demandsAt t place))
+    unfolding answered shown
+    demand-tells = record {
+      kept = over-length (shown g t) (g .message) (take-short (length (g .message)) t);
+      fits = take-short (length (g .message)) t;
+      behind = over-behind (shown g t) (g .message);
+      quiet = λ h. absurd (h refl);
+      says = λ _. record { whole = t; clean = z; written = over-front (shown g t) (g .message) };
+    }
+
+    demand-refuses : Refuses g (answered g (demandsAt t place))
+    unfolding answered
+    demand-refuses = record {
+      listed = omega arith;
+      inside = i;
+      before = λ e. absurd (late demanded (omega arith) (omega arith) e);
+      nothing = refl;
+      sameUsed = refl;
+      sameOut = refl;
+      sameVars = refl;
+    }
+
+    demand-fits : (P : Text → Type 0) → Fits P g (answered g (demandsAt t place))
+    unfolding answered cleared
+    demand-fits P = record {
+      clear = refl;
+      workKept = cleared-length;
+      outKept = refl;
+      varsKept = refl;
+      tells = demand-tells;
+      refuses = λ _. demand-refuses;
+      accepts = λ e. absurd (let k : _≡_ {A = ℕ} demanded accepted = e in omega arith);
+    }
 
   module _ (v : Pairs) (k : Kept (length (g .vars)) v) where
     kept-fits : length (image (flat v)) ≤ length (g .vars)
@@ -140,6 +227,13 @@ module _ (g : Given) where
     workKept = cleared-length;
     outKept = over-length (r .0) (g .out) (w .fits);
     varsKept = over-length (image (flat (r .1))) (g .vars) (kept-fits (r .1) (w .kept));
+    tells = record {
+      kept = refl;
+      fits = omega arith;
+      behind = refl;
+      quiet = λ _. (refl, refl);
+      says = λ k. absurd (let z : _≡_ {A = ℕ} accepted demanded = k in omega arith);
+    };
     refuses = λ h. absurd (h refl);
     accepts = λ _. record {
       place = refl;
@@ -157,10 +251,11 @@ module _ (g : Given) where
   answered-fits : (P : Text → Type 0) {o : Placed (Text × Pairs)} → SafeAt (length (g .line)) (Writes P g) o → Fits P g (answered g o)
   answered-fits P (early {n = n} e) =
       let b : (1 ≤ n) × (n ≤ badParameters) = early-bounds n e in
-      refuses-fits P n 0 (b .0) (b .1) (omega arith) (λ _. refl)
+      refuses-fits P n 0 (b .0) (b .1) (early-not-demanded n e) (omega arith) (λ _. refl)
   answered-fits P (refusesAt {n = n} {place = place} e l) =
-      let b : (unended ≤ n) × (n ≤ outputRoom) = between-bounds unended n outputRoom e in
-      refuses-fits P n place (omega (arith, b .0)) (omega (arith, b .1)) l (λ h. absurd (late n (b .0) (b .1) h))
+      let b : (unended ≤ n) × (n ≤ outputRoom) × (n ≡ demanded → ⊥) = fault-bounds n e in
+      refuses-fits P n place (omega (arith, b .0)) (omega (arith, b .1)) (b .2) l (λ h. absurd (late n (b .0) (b .1) h))
+  answered-fits P (asksAt {t = t} {place = place} z l) = demand-fits t place z l P
   answered-fits P (givesAt {a = r} w) = accepts-fits P r w
 
 -- the tables that are given

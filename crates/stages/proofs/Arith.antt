@@ -20,7 +20,7 @@ use Rattle.stages.specs.Arith.{Task, operand, further, Grow, expression,
 use Rattle.stages.specs.Arith.{growStep, growSize, grow}
 use Rattle.stages.proofs.Bools.{no, or-right, and-left, and-right, clash, some-same}
 use Rattle.stages.proofs.Texts.{start-name-byte, span-join, span-more}
-use Rattle.stages.proofs.Outcomes.{isFault, Safe, refuses, gives}
+use Rattle.stages.proofs.Outcomes.{isFault, Sure, fails, comes}
 
 pub digit-name-byte : (b : ℕ) → isDigit b ≡ true → isNameByte b ≡ true
 unfolding isNameByte
@@ -36,20 +36,20 @@ pub data Lexes (n : ℕ) : Lexed → Type 0 where
 
 -- refused with a number of the table, or done, whatever with
 abbrev pub Numbered : {A : Type 0} → Outcome A → Type 0
-Numbered o = Safe (λ a. Unit {0}) o
+Numbered o = Sure (λ a. Unit {0}) o
 
-pub ranged-safe : (z : ℤ) → Numbered (ranged z)
+pub ranged-sure : (z : ℤ) → Numbered (ranged z)
 unfolding ranged
-ranged-safe z = go (fits z) refl
+ranged-sure z = go (fits z) refl
   where
     go : (x : Bool) → fits z ≡ x → Numbered (ranged z)
-    go true e = rw (e, ranged) (gives tt)
-    go false e = rw (e, ranged) (refuses refl)
+    go true e = rw (e, ranged) (comes tt)
+    go false e = rw (e, ranged) (fails refl)
 
-pub number-safe : (sign : ℕ → ℤ) (o : Option ℕ) → Numbered (number sign o)
+pub number-sure : (sign : ℕ → ℤ) (o : Option ℕ) → Numbered (number sign o)
 unfolding number
-number-safe sign none = refuses refl
-number-safe sign (some n) = ranged-safe (sign n)
+number-sure sign none = fails refl
+number-sure sign (some n) = ranged-sure (sign n)
 
 module _ {n : ℕ} where
   lex-choose : (f g : Unit {0} → Lexed) (x : Bool) → (x ≡ true → Lexes n (f tt)) → (x ≡ false → Lexes n (g tt)) → Lexes n (choose x f g)
@@ -58,8 +58,8 @@ module _ {n : ℕ} where
   lex-choose f g false h k = k refl
 
   lex-number : (u : Text) {o : Outcome ℤ} → length u < n → Numbered o → Lexes n (o >>= λ z. done (num z, u))
-  lex-number u h (refuses w) = lex-refused w
-  lex-number u h (gives w) = lex-more h
+  lex-number u h (fails w) = lex-refused w
+  lex-number u h (comes w) = lex-more h
 
 lex-wider : {n : ℕ} {o : Lexed} → Lexes n o → Lexes (suc n) o
 lex-wider (lex-refused w) = lex-refused w
@@ -124,7 +124,7 @@ token-left (b ∷ t) =
     lex-choose _ _ (isBlank b) (λ e. lex-wider (token-left t)) λ e.
     lex-choose _ _ (isDigit b)
     (λ d. lex-number (span isNameByte (b ∷ t) .1) (span-shorter isNameByte b t (digit-name-byte b d))
-    (number-safe pos (constant (span isNameByte (b ∷ t) .0)))) λ e.
+    (number-sure pos (constant (span isNameByte (b ∷ t) .0)))) λ e.
     lex-choose _ _ (isNameStart b) (λ s. lex-more (span-shorter isNameByte b t (start-name-byte b s))) λ e. lex-spelled written (b ∷ t) written-fair
 
 -- the reader is never stuck

@@ -11,7 +11,7 @@ use lib.Dec.{eqb}
 use lib.ListN.{length, drop}
 use borrow.Author.Tests.{eqb-true}
 use Rattle.stages.specs.Bytes.{Text, text, between, eqText}
-use Rattle.stages.specs.Outcome.{Outcome, refused, done}
+use Rattle.stages.specs.Outcome.{Outcome, refused, done, demands}
 use Rattle.stages.specs.Units.{L, marked}
 use Rattle.stages.specs.Classes.{NamedClass, classes, written}
 use Rattle.stages.specs.Pattern.{
@@ -91,6 +91,7 @@ same x y = not (xor x y)
 agrees : NamedClass → Runs → Outcome (List Element) → Bool
 unfolding matches
 agrees c p (refused n) = false
+agrees c p (demands t) = false
 agrees c p (done l) =
     eqText (c .name) (p .name)
     && allBelow 256 (λ b. same (matches forRemoval l (b ∷ [])) (c .holds b) && same (c .holds b) (within (p .ends) b))

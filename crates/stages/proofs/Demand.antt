@@ -53,6 +53,8 @@ writes h t w = record {
   out = over t (h .out);
   vars = over w (h .vars);
   work = cleared (h .work);
+  messageLength = 0;
+  message = h .message;
 }
 
 -- the same, all variables being as they were
@@ -65,6 +67,8 @@ unchanged h t = record {
   out = over t (h .out);
   vars = h .vars;
   work = cleared (h .work);
+  messageLength = 0;
+  message = h .message;
 }
 
 -- a buffer's own front, put over it, leaves it as it was
@@ -154,6 +158,7 @@ asking l = record {
   params = image [];
   line = quotedLine l;
   out = replicate imageLimit 0;
+  message = [];
 }
 
 version-byte : Bytes (image [])

@@ -11,7 +11,7 @@ use lib.Seq.{take-all, take-nil, take-take, take-at, drop-at, take-append-le, ta
 use borrow.Author.Tests.{leb-true, leb-false, le-leb, lt-leb}
 use Rattle.stages.specs.Numbers.{badVariables, workLeast, imageLimit, pathsLimit}
 use Rattle.stages.specs.Bytes.{Text}
-use Rattle.stages.specs.Outcome.{Placed, refusedAt, doneAt, _then_}
+use Rattle.stages.specs.Outcome.{Placed, refusedAt, doneAt, _then_, demandsAt}
 use Rattle.stages.specs.Images.{Pairs, texts, isLogin, pairsOf, pairsChecked, pathsChecked, sized, homesOf, pathsOf, written, image}
 use Rattle.stages.specs.Call.{Given, over, expanded, answered, quotedIn, normaliser}
 use Rattle.stages.specs.Program.{linesOf, tableOr, buffered, Variables, givenLine, said, afterLine, saidOf, firstVariables, program}
@@ -58,6 +58,7 @@ withTables g homes paths = record {
   params = g .params;
   line = g .line;
   out = g .out;
+  message = g .message;
 }
 
 module _ (g : Given) (homes paths : Text) where
@@ -75,6 +76,7 @@ module _ (g : Given) (homes paths : Text) where
   answered-tables : (o : Placed (Text × Pairs)) → answered short o ≡ answered whole o
   unfolding answered
   answered-tables (refusedAt n place) = refl
+  answered-tables (demandsAt m place) = refl
   answered-tables (doneAt r) = refl
 
   normaliser-tables : normaliser short ≡ normaliser whole

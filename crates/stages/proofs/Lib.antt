@@ -37,3 +37,4 @@ pub mod Bits  -- E6: the bits of a number
 pub mod Storeys  -- E6: the grammar in two storeys
 pub mod Turns  -- E6: reading as a loop
 pub mod Sums  -- E6: sums that compute, and sides that are not needed
+pub mod Messages  -- E7: demanded messages

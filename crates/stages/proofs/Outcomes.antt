@@ -5,10 +5,24 @@ use mathlib.Core.Path.{_≡_, refl}
 use mathlib.Core.Bool.{Bool, true, false, _||_}
 use mathlib.Core.List.{List, [], _∷_, _++_}
 use lib.Dec.{eqb}
-use Rattle.stages.specs.Numbers.{workTooSmall, zeroByte, unended, outputRoom, badParameters}
-use Rattle.stages.specs.Bytes.{between}
+use Rattle.stages.specs.Numbers.{workTooSmall, zeroByte, unended, tooDeep, tooManyUnits, outputRoom, badParameters}
+use Rattle.stages.specs.Bytes.{Text, all, notZero, between}
 use Rattle.stages.specs.Recur.{below, below-ok, fix, fix-eq, by-size}
-use Rattle.stages.specs.Outcome.{Outcome, refused, done, _>>=_, Placed, refusedAt, doneAt, placedAt, _then_, require, choose}
+use Rattle.stages.specs.Outcome.{
+  Outcome,
+  refused,
+  demands,
+  done,
+  _>>=_,
+  Placed,
+  refusedAt,
+  demandsAt,
+  doneAt,
+  placedAt,
+  _then_,
+  require,
+  choose,
+}
 
 -- what holds of every element of a list
 abbrev pub Each : {A : Type 0} → (A → Type 0) → List A → Type 0
@@ -19,12 +33,15 @@ pub each-append : {A : Type 0} (P : A → Type 0) (l m : List A) → Each P l �
 each-append P [] m h k = k
 each-append P (a ∷ l) m h k = (h .0, each-append P l m (h .1) k)
 
--- an outcome has one result, and a result is no refusal
+-- an outcome has one result, and a result is neither refusal nor message
 pub done-same : {A : Type 0} {a b : A} → done a ≡ done b → a ≡ b
 done-same e = cc
 
 pub never : {A : Type 0} {a : A} {k : ℕ} → done a ≡ refused k → ⊥
 never e = let z : _≡_ {A = ℕ} 0 1 = cc in omega arith
+
+pub never-asks : {A : Type 0} {a : A} {t : Text} → demands t ≡ done a → ⊥
+never-asks e = let z : _≡_ {A = ℕ} 0 1 = cc in omega arith
 
 -- what a step makes of answers that P holds of, it holds of the whole recursion
 module _ {A R : Type 0} (size : A → ℕ) (stuck : R) (step : (A → R) → A → R) (P : A → R → Type 0)
@@ -37,32 +54,61 @@ module _ {A R : Type 0} (size : A → ℕ) (stuck : R) (step : (A → R) → A �
           rw (fix-eq size stuck step a)
           (h a (below size stuck (size a) (fix size stuck step)) (λ b l. rw (below-ok size stuck (size a) (fix size stuck step) b l) (ih b l)))
 
--- the numbers from 7 on, with which reading and expanding refuse; 0, the answer of a recursion that is stuck, is none of them
+-- the numbers from 7 on, with which reading and expanding refuse; 0, the answer of a recursion that is stuck, is none of them, nor is 13, which comes
+-- with its message alone
 abbrev pub isFault : ℕ → Bool
-isFault n = between unended n outputRoom
+isFault n = between unended n tooDeep || between tooManyUnits n outputRoom
 
--- refused with one of these numbers, or done with what P holds of
+-- refused with one of these numbers, or with a message that has no zero byte, or done with what P holds of
 pub data Safe {A : Type 0} (P : A → Type 0) : Outcome A → Type 0 where
   refuses : {n : ℕ} → isFault n ≡ true → Safe P (refused n)
+  asks : {t : Text} → all notZero t ≡ true → Safe P (demands t)
   gives : {a : A} → P a → Safe P (done a)
 
 -- what an outcome that is known tells
 pub safe-done : {A : Type 0} {P : A → Type 0} {o : Outcome A} {a : A} → Safe P o → o ≡ done a → P a
 safe-done {P = P} (refuses h) e = absurd (let z : _≡_ {A = ℕ} 0 1 = cc in omega arith)
+safe-done {P = P} (asks h) e = absurd (let z : _≡_ {A = ℕ} 0 1 = cc in omega arith)
 safe-done {P = P} {a = a} (gives {a = b} p) e = let k : b ≡ a = cc in rw (← k) p
 
 pub safe-refused : {A : Type 0} {P : A → Type 0} {o : Outcome A} {n : ℕ} → Safe P o → o ≡ refused n → isFault n ≡ true
 safe-refused {n = n} (refuses {n = m} h) e = let k : m ≡ n = cc in rw (← k) h
+safe-refused (asks h) e = absurd (let z : _≡_ {A = ℕ} 0 1 = cc in omega arith)
 safe-refused (gives p) e = absurd (let z : _≡_ {A = ℕ} 0 1 = cc in omega arith)
 
 pub safe-bind : {A B : Type 0} {P : A → Type 0} {Q : B → Type 0} {o : Outcome A} (f : A → Outcome B) → Safe P o →
     ((a : A) → P a → Safe Q (f a)) → Safe Q (o >>= f)
 safe-bind f (refuses e) h = refuses e
+safe-bind f (asks e) h = asks e
 safe-bind f (gives {a = a} p) h = h a p
 
 pub safe-weaker : {A : Type 0} {P Q : A → Type 0} {o : Outcome A} → ((a : A) → P a → Q a) → Safe P o → Safe Q o
 safe-weaker f (refuses e) = refuses e
+safe-weaker f (asks e) = asks e
 safe-weaker f (gives {a = a} p) = gives (f a p)
+
+-- the same where no message comes
+pub data Sure {A : Type 0} (P : A → Type 0) : Outcome A → Type 0 where
+  fails : {n : ℕ} → isFault n ≡ true → Sure P (refused n)
+  comes : {a : A} → P a → Sure P (done a)
+
+pub sure-safe : {A : Type 0} {P : A → Type 0} {o : Outcome A} → Sure P o → Safe P o
+sure-safe (fails e) = refuses e
+sure-safe (comes p) = gives p
+
+pub sure-quiet : {A : Type 0} {P : A → Type 0} {o : Outcome A} {t : Text} → Sure P o → o ≡ demands t → ⊥
+sure-quiet (fails e) q = let z : _≡_ {A = ℕ} 0 1 = cc in omega arith
+sure-quiet (comes p) q = let z : _≡_ {A = ℕ} 0 1 = cc in omega arith
+
+pub sure-bind : {A B : Type 0} {P : A → Type 0} {Q : B → Type 0} {o : Outcome A} (f : A → Outcome B) → Sure P o →
+    ((a : A) → P a → Sure Q (f a)) → Sure Q (o >>= f)
+sure-bind f (fails e) h = fails e
+sure-bind f (comes {a = a} p) h = h a p
+
+pub sure-choose : {A : Type 0} {P : A → Type 0} (x : Bool) (f g : Unit {0} → Outcome A) → Sure P (f tt) → Sure P (g tt) → Sure P (choose x f g)
+unfolding choose
+sure-choose true f g p q = p
+sure-choose false f g p q = q
 
 -- one of two outcomes that are safe, the first where its test passes
 pub safe-where : {A : Type 0} {P : A → Type 0} (x : Bool) (f g : Unit {0} → Outcome A) → (x ≡ true → Safe P (f tt)) → Safe P (g tt) →
@@ -78,26 +124,30 @@ safe-choose x f g p q = safe-where x f g (λ e. p) q
 abbrev pub isEarly : ℕ → Bool
 isEarly n = between workTooSmall n zeroByte || eqb n badParameters
 
--- the same for a line of so many bytes: 1 to 6 or 23 at place 0, or one of the other numbers at the place of a byte of the line, or at 0
+-- the same for a line of so many bytes: 1 to 6 or 23 at place 0, or one of the other numbers, or a message, at the place of a byte of the line, or at 0
 pub data SafeAt {A : Type 0} (size : ℕ) (P : A → Type 0) : Placed A → Type 0 where
   early : {n : ℕ} → isEarly n ≡ true → SafeAt size P (refusedAt n 0)
   refusesAt : {n place : ℕ} → isFault n ≡ true → place ≤ size - 1 → SafeAt size P (refusedAt n place)
+  asksAt : {t : Text} {place : ℕ} → all notZero t ≡ true → place ≤ size - 1 → SafeAt size P (demandsAt t place)
   givesAt : {a : A} → P a → SafeAt size P (doneAt a)
 
 module _ {A B : Type 0} {size : ℕ} {P : A → Type 0} {Q : B → Type 0} where
   pub safe-then : {o : Placed A} (f : A → Placed B) → SafeAt size P o → ((a : A) → P a → SafeAt size Q (f a)) → SafeAt size Q (o then f)
   safe-then f (early e) h = early e
   safe-then f (refusesAt e l) h = refusesAt e l
+  safe-then f (asksAt e l) h = asksAt e l
   safe-then f (givesAt {a = a} p) h = h a p
 
 pub safe-weakerAt : {A : Type 0} {size : ℕ} {P Q : A → Type 0} {o : Placed A} → ((a : A) → P a → Q a) → SafeAt size P o → SafeAt size Q o
 safe-weakerAt f (early e) = early e
 safe-weakerAt f (refusesAt e l) = refusesAt e l
+safe-weakerAt f (asksAt e l) = asksAt e l
 safe-weakerAt f (givesAt {a = a} p) = givesAt (f a p)
 
 pub safe-at : {A : Type 0} {size : ℕ} {P : A → Type 0} {o : Outcome A} (place : ℕ) → place ≤ size - 1 → Safe P o
     → SafeAt size P (placedAt place o)
 safe-at place l (refuses e) = refusesAt e l
+safe-at place l (asks e) = asksAt e l
 safe-at place l (gives p) = givesAt p
 
 -- a test that passes or refuses

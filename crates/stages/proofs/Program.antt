@@ -11,11 +11,11 @@ use lib.Seq.{take-all, length-take-le}
 use borrow.Author.Tests.{leb-true, leb-false, lt-leb, eqb-true, eqb-false, ne-eqb}
 use Rattle.stages.specs.Numbers.{lineLimit, imageLimit}
 use Rattle.stages.specs.Bytes.{Text, isIn}
-use Rattle.stages.specs.Outcome.{Placed, refusedAt, doneAt, _then_, pick}
+use Rattle.stages.specs.Outcome.{Placed, refusedAt, doneAt, _then_, pick, demandsAt}
 use Rattle.stages.specs.Images.{Pairs, image}
 use Rattle.stages.specs.Line.{Around, Fields, expandLine}
 use Rattle.stages.specs.Call.{Given, answered, expanded, expander, quotedIn, normaliser}
-use Rattle.stages.specs.Program.{longerLine, linesOf, Variables, givenLine, said, afterLine, afterLines, saidOf}
+use Rattle.stages.specs.Program.{longerLine, linesOf, Variables, givenLine, said, afterLine, afterLines, saidOf, told, nextNumber, toldOf, numberAfter}
 use Rattle.stages.proofs.Bools.{either, or-neither}
 use Rattle.stages.proofs.Outcomes.{Each}
 
@@ -41,7 +41,17 @@ line-cut a t v = either (leb (length t) lineLimit) short long
 
 -- what is given, with another line
 abbrev pub withLine : Given → Text → Given
-withLine g t = record { work = g .work; vars = g .vars; varsUsed = g .varsUsed; homes = g .homes; paths = g .paths; params = g .params; line = t; out = g .out }
+withLine g t = record {
+  work = g .work;
+  vars = g .vars;
+  varsUsed = g .varsUsed;
+  homes = g .homes;
+  paths = g .paths;
+  params = g .params;
+  line = t;
+  out = g .out;
+  message = g .message;
+}
 
 module _ (g : Given) (t : Text) where
   expanded-cut : (out : ℕ) → expanded (withLine g (cutLine t)) out ≡ expanded (withLine g t) out
@@ -52,6 +62,7 @@ module _ (g : Given) (t : Text) where
   answered-line : (o : Placed (Text × Pairs)) → answered (withLine g (cutLine t)) o ≡ answered (withLine g t) o
   unfolding answered
   answered-line (refusedAt n place) = refl
+  answered-line (demandsAt m place) = refl
   answered-line (doneAt r) = refl
 
   job-cut : (out : ℕ) (f : Fields × Pairs → Placed (Text × Pairs))
@@ -90,6 +101,11 @@ module _ (homes paths params : Text) where
   after-lines-cut v [] = refl
   after-lines-cut v (l ∷ ls) = ap (λ (w : Variables). afterLines homes paths params w (cutLines ls)) (after-cut v l) ∙ after-lines-cut _ ls
 
+  pub told-cut : (v : Variables) (n : ℕ) (ls : List Text) → toldOf homes paths params v n (cutLines ls) ≡ toldOf homes paths params v n ls
+  unfolding toldOf
+  told-cut v n [] = refl
+  told-cut v n (l ∷ ls) = rw (answer-cut l v) (ap (λ (s : Text). told n (normaliser (givenLine homes paths params l v)) ++ s) (told-cut _ _ ls))
+
   -- lines one by one: what is said of some and then of others, and the variables after them
   pub said-append : (v : Variables) (ls ms : List Text)
       → saidOf homes paths params v (ls ++ ms) ≡ saidOf homes paths params v ls ++ saidOf homes paths params (afterLines homes paths params v ls) ms
@@ -99,11 +115,30 @@ module _ (homes paths params : Text) where
       ap (λ (s : Text). said (normaliser (givenLine homes paths params l v)) ++ s) (said-append (afterLine homes paths params v l) ls ms)
       ∙ sym (append-assoc (said (normaliser (givenLine homes paths params l v))) _ _)
 
+  pub told-append : (v : Variables) (n : ℕ) (ls ms : List Text)
+      → toldOf homes paths params v n (ls ++ ms)
+      ≡ toldOf homes paths params v n ls ++ toldOf homes paths params (afterLines homes paths params v ls) (numberAfter n ls) ms
+  unfolding toldOf afterLines numberAfter
+  told-append v n [] ms = refl
+  told-append v n (l ∷ ls) ms =
+      ap (λ (s : Text). told n (normaliser (givenLine homes paths params l v)) ++ s) (told-append (afterLine homes paths params v l) (nextNumber n) ls ms)
+      ∙ sym (append-assoc (told n (normaliser (givenLine homes paths params l v))) _ _)
+
   pub after-append : (v : Variables) (ls ms : List Text) → afterLines homes paths params v (ls ++ ms)
       ≡ afterLines homes paths params (afterLines homes paths params v ls) ms
   unfolding afterLines
   after-append v [] ms = refl
   after-append v (l ∷ ls) ms = after-append (afterLine homes paths params v l) ls ms
+
+pub number-append : (n : ℕ) (ls ms : List Text) → numberAfter n (ls ++ ms) ≡ numberAfter (numberAfter n ls) ms
+unfolding numberAfter
+number-append n [] ms = refl
+number-append n (l ∷ ls) ms = number-append (nextNumber n) ls ms
+
+pub number-cut : (n : ℕ) (ls : List Text) → numberAfter n (cutLines ls) ≡ numberAfter n ls
+unfolding numberAfter
+number-cut n [] = refl
+number-cut n (l ∷ ls) = number-cut (nextNumber n) ls
 
 -- lines
 

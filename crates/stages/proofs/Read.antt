@@ -10,7 +10,7 @@ use lib.ListN.{length, drop}
 use lib.Seq.{drop-drop}
 use Rattle.stages.specs.Recur.{below, below-ok, fix-eq, by-size}
 use Rattle.stages.specs.Bytes.{Text, between, isBlank}
-use Rattle.stages.specs.Outcome.{refused, done}
+use Rattle.stages.specs.Outcome.{refused, done, demands}
 use Rattle.stages.specs.Syntax.{Form, plain, Escape, unescaped, Parts, end, lit, quo, par, len, lst, ari, til}
 use Rattle.stages.specs.Syntax.{Param, Counted, Spread}
 use Rattle.stages.specs.Syntax.{Start, Mode, word, bare, single, double, quotedOperand, arith as sums}
@@ -235,6 +235,7 @@ pub record Behind (f : Parts → Parts) (r : Taken) (p : Parts) (rest : Text) : 
 
 pub behind : (f : Parts → Parts) (r : Taken) (p : Parts) (rest : Text) → put f r ≡ done (p, rest) → Behind f r p rest
 behind f (refused n) p rest e = absurd (let z : _≡_ {A = ℕ} 0 1 = cc in omega arith)
+behind f (demands t) p rest e = absurd (let z : _≡_ {A = ℕ} 0 1 = cc in omega arith)
 behind f (done q) p rest e =
     let w : _≡_ {A = Parts × Text} (f (q .0), q .1) (p, rest) = cc in
     record { next = q .0; whole = sym (ap (λ (x : Parts × Text). x .0) w); read = ap (λ (u : Text). done (q .0, u)) (ap (λ (x : Parts × Text). x .1) w) }
@@ -250,6 +251,7 @@ pub record Within (f : Parts → Parts → Parts) (r : Taken) (more : Text → T
 pub within : (f : Parts → Parts → Parts) (r : Taken) (more : Text → Taken) (p : Parts) (rest : Text) → nest f r more ≡ done (p, rest) →
     Within f r more p rest
 within f (refused n) more p rest e = absurd (let z : _≡_ {A = ℕ} 0 1 = cc in omega arith)
+within f (demands t) more p rest e = absurd (let z : _≡_ {A = ℕ} 0 1 = cc in omega arith)
 within f (done q) more p rest e =
     let b = behind (f (q .0)) (more (q .1)) p rest e in
     record { inside = q .0; mid = q .1; first = refl; next = b .next; whole = b .whole; read = b .read }

@@ -6,9 +6,9 @@ use mathlib.Core.Bool.{Bool, true, false, _&&_}
 use mathlib.Core.List.{List, [], _∷_}
 use lib.Dec.{eqb}
 use lib.ListN.{length, take, replicate}
-use Rattle.stages.specs.Numbers.{workLeast, imageLimit}
+use Rattle.stages.specs.Numbers.{workLeast, imageLimit, demanded}
 use Rattle.stages.specs.Bytes.{Text, text, eqText}
-use Rattle.stages.specs.Outcome.{Placed, refusedAt, doneAt, choose}
+use Rattle.stages.specs.Outcome.{Placed, refusedAt, doneAt, choose, demandsAt}
 use Rattle.stages.specs.Images.{Pairs, flat, image}
 use Rattle.stages.specs.Line.{Around, Fields, expandLine}
 use Rattle.stages.specs.Quote.{quotedLine}
@@ -31,7 +31,7 @@ abbrev textsOf : List String → List Text
 textsOf [] = []
 textsOf (s ∷ l) = text s ∷ textsOf l
 
-abbrev pairsOf : Settings → Pairs
+abbrev pub pairsOf : Settings → Pairs
 pairsOf [] = []
 pairsOf (p ∷ l) = (text (p .0), text (p .1)) ∷ pairsOf l
 
@@ -49,8 +49,13 @@ eqPairs (t ∷ l) (u ∷ m) = eqText (t .0) (u .0) && (eqText (t .1) (u .1) && e
 
 same : Placed (Fields × Pairs) → Placed (List String × Settings) → Bool
 same (refusedAt n o) (refusedAt m p) = eqb n m && eqb o p
+same (refusedAt n o) (demandsAt u p) = false
 same (refusedAt n o) (doneAt b) = false
+same (demandsAt t o) (refusedAt m p) = false
+same (demandsAt t o) (demandsAt u p) = eqText t u && eqb o p
+same (demandsAt t o) (doneAt b) = false
 same (doneAt a) (refusedAt m p) = false
+same (doneAt a) (demandsAt u p) = false
 same (doneAt a) (doneAt b) = eqTexts (a .0) (textsOf (b .0)) && eqPairs (a .1) (pairsOf (b .1))
 
 around : Case → Around
@@ -122,7 +127,7 @@ abbrev C10 : Case
 C10 = gives "~/out '~'/out ~nobody" ("/home/crew/out" ∷ "~/out" ∷ "~nobody" ∷ [])
 
 abbrev C11 : Case
-C11 = record { line = "${note:?}"; vars = season; homes = []; paths = card; params = []; answer = refusedAt 13 0 }
+C11 = record { line = "${note:?}"; vars = season; homes = []; paths = card; params = []; answer = demandsAt [] 0 }
 
 abbrev C12 : Case
 C12 = gives "''" ("" ∷ [])
@@ -148,6 +153,7 @@ call c =
       params = image (textsOf (c .params));
       line = text (c .line);
       out = replicate imageLimit 0;
+      message = [];
     }
 
 -- "C1's whole image in hexadecimal .. 32 bytes": what the expander writes to its output
@@ -172,6 +178,7 @@ mixed-example = refl
 -- the number that a line is refused with, or 100 and the count of its fields
 verdict : Placed (Fields × Pairs) → ℕ
 verdict (refusedAt n o) = n
+verdict (demandsAt t o) = demanded
 verdict (doneAt r) = 100 + length (r .0)
 
 alone : Text → Pairs → ℕ

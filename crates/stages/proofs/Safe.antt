@@ -5,14 +5,14 @@ use mathlib.Core.Path.{_≡_, refl}
 use mathlib.Core.Bool.{true}
 use mathlib.Core.List.{[], _∷_}
 use lib.ListN.{length, drop}
-use Rattle.stages.specs.Numbers.{unended, tooDeep, outputRoom}
+use Rattle.stages.specs.Numbers.{unended, tooDeep, tooManyUnits, outputRoom}
 use Rattle.stages.specs.Bytes.{between, Text, all, notZero}
 use Rattle.stages.specs.Outcome.{refused, done}
 use Rattle.stages.specs.Syntax.{plain, unescaped, Parts, Mode, end, lit, quo, par}
 use Rattle.stages.specs.Syntax.{len, lst, ari, til, word, bare, single, double, quotedOperand, arith as sums}
 use Rattle.stages.specs.Items.{Item, item, ended, onward}
 use Rattle.stages.specs.Read.{Taken, Reader, put, nest, readItem, Ask, askSize, askStep, parts}
-use Rattle.stages.proofs.Bools.{and-left, and-right, and-both, between-bounds, between-true}
+use Rattle.stages.proofs.Bools.{and-left, and-right, and-both, or-left}
 use Rattle.stages.proofs.Texts.{drop-short, all-drop}
 use Rattle.stages.proofs.Items.{IsParam, IsCounted, Fair, faults, stops, a-byte, a-paren, a-quote, a-value, a-count, a-spread, an-inner, a-sum}
 use Rattle.stages.proofs.Items.{a-home, item-passes}
@@ -33,9 +33,7 @@ all-bytes [] h = refl
 all-bytes (b ∷ t) h = and-both (h .0) (all-bytes t (h .1))
 
 reading-fault : (n : ℕ) → between unended n tooDeep ≡ true → isFault n ≡ true
-reading-fault n e =
-    let b : (unended ≤ n) × (n ≤ tooDeep) = between-bounds unended n tooDeep e in
-    between-true unended n outputRoom (b .0) (omega (arith, b .1))
+reading-fault n e = or-left (between tooManyUnits n outputRoom) e
 
 -- parts whose bytes are not zero and whose parameters are parameters
 abbrev pub SafeParts : Parts → Type 0

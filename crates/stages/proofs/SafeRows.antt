@@ -21,7 +21,7 @@ use Rattle.stages.specs.Pattern.{Element, signs, hasClass, Purpose, forP
 use Rattle.stages.specs.Removal.{removed, left, cut}
 use Rattle.stages.specs.Params.{Lent, numbered, holding, value, missing, store, storeIn}
 use Rattle.stages.specs.Split.{ifsOr, ifsNow}
-use Rattle.stages.specs.Expand.{Made, plainly, given, assigned, cutBy, parameter, gap, between, listRow, ofNone, inQuotes, amount}
+use Rattle.stages.specs.Expand.{Made, plainly, given, assigned, cutBy, parameter, gap, between, listRow, ofNone, inQuotes, amount, demand}
 use Rattle.stages.specs.Expand.{directory, tildeRow, onto, adding, expand}
 use Rattle.stages.specs.Paths.{chosen, active, orElse, pathsFor, textsOfFields}
 use Rattle.stages.proofs.Bools.{either, and-left, and-right, and-both}
@@ -29,7 +29,7 @@ use Rattle.stages.proofs.Texts.{all-take, all-drop}
 use Rattle.stages.proofs.Images.{Fine, fine-append}
 use Rattle.stages.proofs.Stores.{lookup-fine, rising-stored, keys-stored, fine-stored, name-fine}
 use Rattle.stages.proofs.Items.{IsParam}
-use Rattle.stages.proofs.Outcomes.{Each, each-append, Safe, refuses, gives, safe-bind}
+use Rattle.stages.proofs.Outcomes.{Each, each-append, Safe, refuses, asks, gives, safe-bind}
 use Rattle.stages.proofs.Safe.{NoZero, SafeParts}
 use Rattle.stages.proofs.SafeSums.{decimal-safe, arithmetic-safe}
 
@@ -159,6 +159,10 @@ module _ (a : Lent) (l : SafeLent a) where
         (λ es _. plainly-safe (removed s reach es (value a (p .1) x)) m (p .1)
         (removed-safe s reach es (value a (p .1) x) (value-safe a (p .1) x l (h .1 .fine))) (h .1))
 
+    demand-safe : (p : Row × Pairs × Bool) → SafeMade (a .room) p → Safe (SafeMade (a .room)) (demand p)
+    unfolding demand
+    demand-safe p h = asks (bytes-safe (p .0) (h .0))
+
     pub parameter-safe : (q : Mark → Pairs → Made) → ((m : Mark) (v : Pairs) → Kept (a .room) v → Safe (SafeMade (a .room)) (q m v)) → (f : Form)
         (m : Mark) (v : Pairs) → Kept (a .room) v
         → Safe (SafeMade (a .room)) (parameter a q x f m v)
@@ -170,7 +174,10 @@ module _ (a : Lent) (l : SafeLent a) where
         either (missing a c x v)
         (λ e. rw (e, parameter) (safe-bind (λ p. assigned a x m p) (h m v k) (λ p g. assigned-safe m p g)))
         (λ e. rw (e, parameter) (given-safe m v k))
-    parameter-safe q h (query c) m v k = either (missing a c x v) (λ e. rw (e, parameter) (refuses refl)) (λ e. rw (e, parameter) (given-safe m v k))
+    parameter-safe q h (query c) m v k =
+        either (missing a c x v)
+        (λ e. rw (e, parameter) (safe-bind (λ p. demand p) (h m v k) (λ p g. demand-safe p g)))
+        (λ e. rw (e, parameter) (given-safe m v k))
     parameter-safe q h (plus c) m v k =
         either (missing a c x v) (λ e. rw (e, parameter) (gives (tt, k))) (λ e. rw (e, parameter) (h (expandedMark m) v k))
     parameter-safe q h (removal s reach) m v k = safe-bind _ (h L v k) (λ p g. cut-safe s reach m p g)

@@ -24,118 +24,118 @@ use Rattle.stages.specs.Arith.{Tree, constantOf, nameOf, unary, binary, 
 use Rattle.stages.specs.Arith.{arithmeticOf}
 use Rattle.stages.proofs.Bools.{and-both}
 use Rattle.stages.proofs.Texts.{all-append}
-use Rattle.stages.proofs.Outcomes.{Safe, refuses, gives, safe-bind, safe-choose}
-use Rattle.stages.proofs.Arith.{Numbered, ranged-safe, number-safe, Leaves, none-left, some-left, up-to-left, grow-left}
+use Rattle.stages.proofs.Outcomes.{Sure, fails, comes, sure-bind, sure-choose, Safe, sure-safe}
+use Rattle.stages.proofs.Arith.{Numbered, ranged-sure, number-sure, Leaves, none-left, some-left, up-to-left, grow-left}
 
 -- numbers
 
-valued-safe : (t : Text) → Numbered (valued t)
+valued-sure : (t : Text) → Numbered (valued t)
 unfolding valued
-valued-safe [] = gives tt
-valued-safe (b ∷ t) =
-    safe-choose _ _ _ (number-safe minusOf (constant t)) (safe-choose _ _ _ (number-safe pos (constant t)) (number-safe pos (constant (b ∷ t))))
+valued-sure [] = comes tt
+valued-sure (b ∷ t) =
+    sure-choose _ _ _ (number-sure minusOf (constant t)) (sure-choose _ _ _ (number-sure pos (constant t)) (number-sure pos (constant (b ∷ t))))
 
-name-safe : (o : Option Text) → Numbered (nameNumber o)
+pub name-sure : (o : Option Text) → Numbered (nameNumber o)
 unfolding nameNumber
-name-safe none = gives tt
-name-safe (some t) = valued-safe t
+name-sure none = comes tt
+name-sure (some t) = valued-sure t
 
-divided-safe : (f : ℤ → ℤ → ℤ) (a b : ℤ) → Numbered (divided f a b)
+divided-sure : (f : ℤ → ℤ → ℤ) (a b : ℤ) → Numbered (divided f a b)
 unfolding divided
-divided-safe f a b = go (isZero b) refl (fits (quotZ a b)) refl
+divided-sure f a b = go (isZero b) refl (fits (quotZ a b)) refl
   where
     go : (x : Bool) → isZero b ≡ x → (y : Bool) → fits (quotZ a b) ≡ y → Numbered (divided f a b)
-    go true e y d = rw (e, divided) (refuses refl)
-    go false e true d = rw (e, divided, d, divided) (gives tt)
-    go false e false d = rw (e, divided, d, divided) (refuses refl)
+    go true e y d = rw (e, divided) (fails refl)
+    go false e true d = rw (e, divided, d, divided) (comes tt)
+    go false e false d = rw (e, divided, d, divided) (fails refl)
 
-shifted-safe : (f : ℤ → ℕ → Outcome ℤ) (a b : ℤ) → ((n : ℕ) → Numbered (f a n)) → Numbered (shifted f a b)
+shifted-sure : (f : ℤ → ℕ → Outcome ℤ) (a b : ℤ) → ((n : ℕ) → Numbered (f a n)) → Numbered (shifted f a b)
 unfolding shifted
-shifted-safe f a (negsuc n) h = refuses refl
-shifted-safe f a (pos n) h = go (ltb n 64) refl
+shifted-sure f a (negsuc n) h = fails refl
+shifted-sure f a (pos n) h = go (ltb n 64) refl
   where
     go : (x : Bool) → ltb n 64 ≡ x → Numbered (shifted f a (pos n))
     go true e = rw (e, shifted) (h n)
-    go false e = rw (e, shifted) (refuses refl)
+    go false e = rw (e, shifted) (fails refl)
 
--- the table: each row gives a number or refuses with one of the table of numbers
-apply-safe : (o : Op) (a b : ℤ) → Numbered (apply o a b)
+-- the table: each row gives a number or fails with one of the table of numbers
+pub apply-sure : (o : Op) (a b : ℤ) → Numbered (apply o a b)
 unfolding apply operator
-apply-safe mul a b = ranged-safe (a *ℤ b)
-apply-safe div a b = divided-safe quotZ a b
-apply-safe rem a b = divided-safe remZ a b
-apply-safe add a b = ranged-safe (a +ℤ b)
-apply-safe sub a b = ranged-safe (a -ℤ b)
-apply-safe shl a b = shifted-safe (λ z n. ranged (z *ℤ pos (2 ^ n))) a b (λ n. ranged-safe (a *ℤ pos (2 ^ n)))
-apply-safe shr a b = shifted-safe (λ z n. done (shrZ z (2 ^ n))) a b (λ n. gives tt)
-apply-safe lt a b = gives tt
-apply-safe le a b = gives tt
-apply-safe gt a b = gives tt
-apply-safe ge a b = gives tt
-apply-safe eq a b = gives tt
-apply-safe ne a b = gives tt
-apply-safe bitAnd a b = gives tt
-apply-safe bitXor a b = gives tt
-apply-safe bitOr a b = gives tt
-apply-safe logAnd a b = gives tt
-apply-safe logOr a b = gives tt
-apply-safe logNot a b = refuses refl
-apply-safe bitNot a b = refuses refl
+apply-sure mul a b = ranged-sure (a *ℤ b)
+apply-sure div a b = divided-sure quotZ a b
+apply-sure rem a b = divided-sure remZ a b
+apply-sure add a b = ranged-sure (a +ℤ b)
+apply-sure sub a b = ranged-sure (a -ℤ b)
+apply-sure shl a b = shifted-sure (λ z n. ranged (z *ℤ pos (2 ^ n))) a b (λ n. ranged-sure (a *ℤ pos (2 ^ n)))
+apply-sure shr a b = shifted-sure (λ z n. done (shrZ z (2 ^ n))) a b (λ n. comes tt)
+apply-sure lt a b = comes tt
+apply-sure le a b = comes tt
+apply-sure gt a b = comes tt
+apply-sure ge a b = comes tt
+apply-sure eq a b = comes tt
+apply-sure ne a b = comes tt
+apply-sure bitAnd a b = comes tt
+apply-sure bitXor a b = comes tt
+apply-sure bitOr a b = comes tt
+apply-sure logAnd a b = comes tt
+apply-sure logOr a b = comes tt
+apply-sure logNot a b = fails refl
+apply-sure bitNot a b = fails refl
 
-alone-safe : (o : Op) (a : ℤ) → Numbered (applyAlone o a)
+pub alone-sure : (o : Op) (a : ℤ) → Numbered (applyAlone o a)
 unfolding applyAlone operator
-alone-safe mul a = refuses refl
-alone-safe div a = refuses refl
-alone-safe rem a = refuses refl
-alone-safe add a = gives tt
-alone-safe sub a = ranged-safe (negℤ a)
-alone-safe shl a = refuses refl
-alone-safe shr a = refuses refl
-alone-safe lt a = refuses refl
-alone-safe le a = refuses refl
-alone-safe gt a = refuses refl
-alone-safe ge a = refuses refl
-alone-safe eq a = refuses refl
-alone-safe ne a = refuses refl
-alone-safe bitAnd a = refuses refl
-alone-safe bitXor a = refuses refl
-alone-safe bitOr a = refuses refl
-alone-safe logAnd a = refuses refl
-alone-safe logOr a = refuses refl
-alone-safe logNot a = gives tt
-alone-safe bitNot a = gives tt
+alone-sure mul a = fails refl
+alone-sure div a = fails refl
+alone-sure rem a = fails refl
+alone-sure add a = comes tt
+alone-sure sub a = ranged-sure (negℤ a)
+alone-sure shl a = fails refl
+alone-sure shr a = fails refl
+alone-sure lt a = fails refl
+alone-sure le a = fails refl
+alone-sure gt a = fails refl
+alone-sure ge a = fails refl
+alone-sure eq a = fails refl
+alone-sure ne a = fails refl
+alone-sure bitAnd a = fails refl
+alone-sure bitXor a = fails refl
+alone-sure bitOr a = fails refl
+alone-sure logAnd a = fails refl
+alone-sure logOr a = fails refl
+alone-sure logNot a = comes tt
+alone-sure bitNot a = comes tt
 
 -- what is worked out keeps whatever holds of the variables
 module _ (K : Pairs → Type 0) where
-  with-safe : (v : Pairs) → K v → {o : Outcome ℤ} → Numbered o → Safe (λ p. K (p .1)) (withVariables v o)
-  with-safe v k s = safe-bind (λ z. done (z, v)) s (λ z _. gives k)
+  with-sure : (v : Pairs) → K v → {o : Outcome ℤ} → Numbered o → Sure (λ p. K (p .1)) (withVariables v o)
+  with-sure v k s = sure-bind (λ z. done (z, v)) s (λ z _. comes k)
 
-  unless-safe : (o : Option ℤ) (v : Pairs) (more : Unit {0} → Evaluated) → K v → Safe (λ p. K (p .1)) (more tt) → Safe (λ p. K (p .1)) (unless o v more)
-  unless-safe none v more k s = s
-  unless-safe (some z) v more k s = gives k
+  unless-sure : (o : Option ℤ) (v : Pairs) (more : Unit {0} → Evaluated) → K v → Sure (λ p. K (p .1)) (more tt) → Sure (λ p. K (p .1)) (unless o v more)
+  unless-sure none v more k s = s
+  unless-sure (some z) v more k s = comes k
 
-  evaluate-safe : (e : Tree) (v : Pairs) → K v → Safe (λ p. K (p .1)) (evaluate v e)
+  evaluate-sure : (e : Tree) (v : Pairs) → K v → Sure (λ p. K (p .1)) (evaluate v e)
   unfolding evaluate
-  evaluate-safe (constantOf z) v k = gives k
-  evaluate-safe (nameOf x) v k = with-safe v k (name-safe (lookup x v))
-  evaluate-safe (unary o l) v k = safe-bind _ (evaluate-safe l v k) (λ p i. with-safe (p .1) i (alone-safe o (p .0)))
-  evaluate-safe (binary o l r) v k =
-      safe-bind _ (evaluate-safe l v k)
-      (λ p i. unless-safe (early o (p .0)) (p .1) _ i
-      (safe-bind _ (evaluate-safe r (p .1) i) (λ q j. with-safe (q .1) j (apply-safe o (p .0) (q .0)))))
-  evaluate-safe (choice c l r) v k =
-      safe-bind _ (evaluate-safe c v k) (λ p i. safe-choose (isTrue (p .0)) _ _ (evaluate-safe l (p .1) i) (evaluate-safe r (p .1) i))
+  evaluate-sure (constantOf z) v k = comes k
+  evaluate-sure (nameOf x) v k = with-sure v k (name-sure (lookup x v))
+  evaluate-sure (unary o l) v k = sure-bind _ (evaluate-sure l v k) (λ p i. with-sure (p .1) i (alone-sure o (p .0)))
+  evaluate-sure (binary o l r) v k =
+      sure-bind _ (evaluate-sure l v k)
+      (λ p i. unless-sure (early o (p .0)) (p .1) _ i
+      (sure-bind _ (evaluate-sure r (p .1) i) (λ q j. with-sure (q .1) j (apply-sure o (p .0) (q .0)))))
+  evaluate-sure (choice c l r) v k =
+      sure-bind _ (evaluate-sure c v k) (λ p i. sure-choose (isTrue (p .0)) _ _ (evaluate-sure l (p .1) i) (evaluate-sure r (p .1) i))
 
 -- the reader of an expression
 
-grown-safe : {n : ℕ} {r : Grown} → Leaves n r → Numbered r
-grown-safe (none-left w) = refuses w
-grown-safe (some-left l) = gives tt
+grown-sure : {n : ℕ} {r : Grown} → Leaves n r → Numbered r
+grown-sure (none-left w) = fails w
+grown-sure (some-left l) = comes tt
 
-pub tree-safe : (t : Text) → Numbered (tree t)
+pub tree-sure : (t : Text) → Numbered (tree t)
 unfolding tree
-tree-safe t =
-    safe-bind (λ p. done (p .0)) (grown-safe (up-to-left (suc (length t)) grow (λ a _. grow-left a) stop openLimit t (omega arith))) (λ p _. gives tt)
+tree-sure t =
+    sure-bind (λ p. done (p .0)) (grown-sure (up-to-left (suc (length t)) grow (λ a _. grow-left a) stop openLimit t (omega arith))) (λ p _. comes tt)
 
 -- the text of a result
 
@@ -163,4 +163,4 @@ signed-safe (negsuc n) = decimal-safe (suc n)
 pub arithmetic-safe : (K : Pairs → Type 0) (v : Pairs) (t : Text) → K v → Safe (λ s. (all notZero (s .0) ≡ true) × K (s .1)) (arithmeticOf v t)
 unfolding arithmeticOf
 arithmetic-safe K v t k =
-    safe-bind _ (tree-safe t) (λ e _. safe-bind _ (evaluate-safe K e v k) (λ p l. gives {a = (signed (p .0), p .1)} (signed-safe (p .0), l)))
+    sure-safe (sure-bind _ (tree-sure t) (λ e _. sure-bind _ (evaluate-sure K e v k) (λ p l. comes {a = (signed (p .0), p .1)} (signed-safe (p .0), l))))

@@ -7,7 +7,7 @@ use mathlib.Core.List.{List, [], _∷_}
 use lib.Dec.{eqb}
 use lib.ListN.{replicate}
 use Rattle.stages.specs.Bytes.{Text, text, eqText}
-use Rattle.stages.specs.Outcome.{Placed, refusedAt, doneAt, choose}
+use Rattle.stages.specs.Outcome.{Placed, refusedAt, doneAt, choose, demandsAt}
 use Rattle.stages.specs.Images.{Pairs}
 use Rattle.stages.specs.Line.{Fields, expandLine}
 use Rattle.stages.proofs.Recipes.{Settings, Case, allPass}
@@ -149,8 +149,13 @@ eqTexts (t ∷ l) (u ∷ m) = eqText t u && eqTexts l m
 
 same : Placed (Fields × Pairs) → Placed (List Text) → Bool
 same (refusedAt n o) (refusedAt m p) = eqb n m && eqb o p
+same (refusedAt n o) (demandsAt u p) = false
 same (refusedAt n o) (doneAt b) = false
+same (demandsAt t o) (refusedAt m p) = false
+same (demandsAt t o) (demandsAt u p) = eqText t u && eqb o p
+same (demandsAt t o) (doneAt b) = false
 same (doneAt a) (refusedAt m p) = false
+same (doneAt a) (demandsAt u p) = false
 same (doneAt a) (doneAt b) = eqTexts (a .0) b
 
 passes : Edge → Bool

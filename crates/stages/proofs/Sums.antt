@@ -8,7 +8,7 @@ use mathlib.Core.Option.{some}
 use lib.Dec.{eqb}
 use lib.IntN.{ℤ}
 use Rattle.stages.specs.Bytes.{Text, text, eqText}
-use Rattle.stages.specs.Outcome.{Outcome, refused, done, _>>=_, choose}
+use Rattle.stages.specs.Outcome.{Outcome, refused, done, _>>=_, choose, demands}
 use Rattle.stages.specs.Images.{Pairs}
 use Rattle.stages.specs.Arith.{Op, early, isTrue, Tree, binary, choice, unless, evaluate, arithmeticOf}
 
@@ -21,8 +21,11 @@ known = (text "m", []) ∷ (text "n", text "5") ∷ (text "w", text "x") ∷ []
 
 same : Outcome (Text × Pairs) → Outcome String → Bool
 same (refused n) (refused m) = eqb n m
+same (refused n) (demands u) = false
 same (refused n) (done b) = false
+same (demands t) b = false
 same (done a) (refused m) = false
+same (done a) (demands u) = false
 same (done a) (done b) = eqText (a .0) (text b)
 
 allSame : List Sum → Bool

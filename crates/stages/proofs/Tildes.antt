@@ -3,7 +3,8 @@ use Prim.Native.String.{String}
 use mathlib.Core.Path.{_≡_, refl}
 use mathlib.Core.Bool.{true}
 use mathlib.Core.List.{List, [], _∷_}
-use Rattle.stages.specs.Outcome.{refusedAt, doneAt}
+use Rattle.stages.specs.Bytes.{text}
+use Rattle.stages.specs.Outcome.{refusedAt, doneAt, demandsAt}
 use Rattle.stages.proofs.Recipes.{Settings, Case, allPass}
 
 -- what is set: a home with a blank and a pattern byte, and values that begin with it; `y` is unset
@@ -42,7 +43,7 @@ covered =
     ∷ gives "${x##~/}" ("a" ∷ [])
     ∷ gives "${x%~*} ${x%%~*}" ("/h" ∷ "*/a" ∷ "/h" ∷ "*/a" ∷ [])
     ∷ gives "\"${x#~}\" $((${n#~}))" ("/a" ∷ "7" ∷ [])
-    ∷ record { line = "${y?~}"; vars = set; homes = houses; paths = []; params = []; answer = refusedAt 13 0 }
+    ∷ record { line = "${y?~}"; vars = set; homes = houses; paths = []; params = []; answer = demandsAt (text "/h *") 0 }
     ∷ []
 
 -- "Operands read as double-quoted text stay without it."; and a `:`, a blank, a quote, a backslash or something before the tilde leaves it literal

@@ -6,7 +6,7 @@ use mathlib.Core.Path.{_≡_, refl, sym, ap, _∙_}
 use mathlib.Core.Bool.{true, false}
 use Rattle.stages.specs.Numbers.{arithmeticSyntax}
 use Rattle.stages.specs.Bytes.{Text}
-use Rattle.stages.specs.Outcome.{Outcome, refused, done, _>>=_}
+use Rattle.stages.specs.Outcome.{Outcome, refused, demands, done, _>>=_}
 use Rattle.stages.specs.Arith.{wholeLevel, choiceLevel, End, stop, shuts, colon, Token, ends, num, name, op, opens, query, Lexed, token}
 use Rattle.stages.specs.Arith.{Tree, choice, Grown, grown, Task, operand, further, expression, ended, upTo, choiceAt, grow}
 use Rattle.stages.proofs.Storeys.{lowest, asked, upstairs, whole-storeys, choice-storeys}
@@ -17,6 +17,7 @@ rest r = r >>= λ p. done (p .1)
 
 rest-grown : (f : Tree → Tree) (r : Grown) → rest (grown f r) ≡ rest r
 rest-grown f (refused e) = refl
+rest-grown f (demands m) = refl
 rest-grown f (done p) = refl
 
 module _ (d : ℕ) where
@@ -56,12 +57,14 @@ module _ (d : ℕ) where
   colon-next : (l m : Tree) (o : Lexed)
       → rest ((o >>= λ s. ended colon m s) >>= λ a. grown (choice l (a .0)) (expression grow d choiceLevel (a .1))) ≡ (o >>= λ s. other s)
   colon-next l m (refused e) = refl
+  colon-next l m (demands t) = refl
   colon-next l m (done s) = colon-there l m s
 
   middle-then : (l : Tree) (r : Grown)
       → rest ((r >>= λ q. token (q .1) >>= λ s. ended colon (q .0) s) >>= λ a. grown (choice l (a .0)) (expression grow d choiceLevel (a .1)))
       ≡ (rest r >>= λ t. token t >>= λ s. other s)
   middle-then l (refused e) = refl
+  middle-then l (demands t) = refl
   middle-then l (done q) = colon-next l (q .0) (token (q .1))
 
   choice-rest : (l : Tree) (t : Text) → rest (choiceAt grow d l t) ≡ (rest (expression grow d wholeLevel t) >>= λ u. token u >>= λ s. other s)
@@ -90,6 +93,7 @@ module _ (d : ℕ) where
     where
       go : (r : Grown) → (r >>= λ q. grow (further wholeLevel (q .0), d, q .1)) ≡ (r >>= λ q. grow (further lowest (q .0), d, q .1) >>= upstairs d)
       go (refused e) = refl
+      go (demands m) = refl
       go (done q) = whole-storeys d (q .1) (q .0)
 
   pub begins-choice : (p : ℕ) (t : Text) → pending p (rest (expression grow d choiceLevel t))
@@ -98,4 +102,5 @@ module _ (d : ℕ) where
     where
       go : (r : Grown) → (r >>= λ q. grow (further choiceLevel (q .0), d, q .1)) ≡ (r >>= λ q. grow (further lowest (q .0), d, q .1) >>= upstairs d)
       go (refused e) = refl
+      go (demands m) = refl
       go (done q) = choice-storeys d (q .1) (q .0)

@@ -8,7 +8,7 @@ use mathlib.Core.List.{[], _∷_, _++_}
 use mathlib.Core.Option.{Option, none, some}
 use lib.ListN.{length}
 use Rattle.stages.specs.Bytes.{Text}
-use Rattle.stages.specs.Outcome.{Outcome, refused, done, _>>=_}
+use Rattle.stages.specs.Outcome.{Outcome, refused, done, _>>=_, demands}
 use Rattle.stages.specs.Images.{Pairs}
 use Rattle.stages.specs.Syntax.{Param, Lists, served, barred, Form, plain, minus, equals, query, plus, removal}
 use Rattle.stages.specs.Syntax.{Parts, end, lit, quo, par, len, lst, ari, til}
@@ -18,7 +18,7 @@ use Rattle.stages.specs.Arith.{arithmeticOf}
 use Rattle.stages.specs.Pattern.{pattern, forRemoval}
 use Rattle.stages.specs.Removal.{removed}
 use Rattle.stages.specs.Params.{Lent, value, missing, storeIn}
-use Rattle.stages.specs.Expand.{Made, plainly, given, assigned, cutBy, parameter, inQuotes, directory, tildeRow, amount, onto, adding, expand}
+use Rattle.stages.specs.Expand.{Made, plainly, given, assigned, cutBy, parameter, inQuotes, directory, tildeRow, amount, onto, adding, expand, demand}
 use Rattle.stages.proofs.Bools.{either}
 use Rattle.stages.proofs.Outcomes.{Each, each-append}
 use Rattle.stages.proofs.Barred.{clash, both-served, lets, Allowed, allowed-in}
@@ -29,18 +29,21 @@ Unbroken (cell m b) = Unit {0}
 Unbroken N = Unit {0}
 Unbroken B = ⊥
 
--- refused, or done with what P holds of
+-- refused, with a message or without, or done with what P holds of
 pub data When {A : Type 0} (P : A → Type 0) : Outcome A → Type 0 where
   not-done : {n : ℕ} → When P (refused n)
+  is-asked : {t : Text} → When P (demands t)
   is-done : {a : A} → P a → When P (done a)
 
 when-bind : {A C : Type 0} {P : A → Type 0} {R : C → Type 0} {o : Outcome A} (f : A → Outcome C) → When P o → ((a : A) → P a → When R (f a))
     → When R (o >>= f)
 when-bind f not-done h = not-done
+when-bind f is-asked h = is-asked
 when-bind f (is-done {a = a} p) h = h a p
 
 any-outcome : {A : Type 0} (o : Outcome A) → When (λ (a : A). Unit {0}) o
 any-outcome (refused n) = not-done
+any-outcome (demands t) = is-asked
 any-outcome (done a) = is-done tt
 
 -- such a row, and no `$@` of none came in it, so that quotes around it keep their N
@@ -70,7 +73,10 @@ module _ (a : Lent) where
       (λ e. rw (e, parameter) (when-bind (λ p. assigned a x m p) (h m v)
       (λ p k. when-bind _ (any-outcome (storeIn a x (bytes (p .0)) (p .1))) (λ w l. given-whole x m w))))
       (λ e. rw (e, parameter) (given-whole x m v))
-  parameter-whole q h x (query c) m v = either (missing a c x v) (λ e. rw (e, parameter) not-done) (λ e. rw (e, parameter) (given-whole x m v))
+  parameter-whole q h x (query c) m v =
+      either (missing a c x v)
+      (λ e. rw (e, parameter) (when-bind (λ p. demand p) (h m v) (λ p k. unfold demand in is-asked)))
+      (λ e. rw (e, parameter) (given-whole x m v))
   parameter-whole q h x (plus c) m v =
       either (missing a c x v) (λ e. rw (e, parameter) (is-done (tt, refl))) (λ e. rw (e, parameter) (h (expandedMark m) v))
   parameter-whole q h x (removal s reach) m v =

@@ -11,7 +11,7 @@ use lib.Seq.{drop-cons}
 use Rattle.stages.specs.Recur.{below, below-ok, fix-eq, by-size}
 use Rattle.stages.specs.Numbers.{depthLimit, bareOperator}
 use Rattle.stages.specs.Bytes.{Text, between, isBlank, isOperator}
-use Rattle.stages.specs.Outcome.{refused, done, refusedAt, doneAt, placedAt, _then_, choose}
+use Rattle.stages.specs.Outcome.{refused, done, refusedAt, doneAt, placedAt, _then_, choose, demandsAt}
 use Rattle.stages.specs.Syntax.{Parts, Word, fresh, word}
 use Rattle.stages.specs.Read.{Taken, parts, Words, wordAt, wordsStep, wordsSize, words}
 use Rattle.stages.proofs.Read.{Good, stays, leaves, parts-good, word-good}
@@ -114,6 +114,7 @@ record Tail (w : Words) (f : List Word → List Word) (ws : List Word) : Type 0 
 
 tail-of : (w : Words) (f : List Word → List Word) (ws : List Word) → (w then λ us. doneAt (f us)) ≡ doneAt ws → Tail w f ws
 tail-of (refusedAt n k) f ws e = absurd (let z : _≡_ {A = ℕ} 0 1 = cc in omega arith)
+tail-of (demandsAt t k) f ws e = absurd (let z : _≡_ {A = ℕ} 0 1 = cc in omega arith)
 tail-of (doneAt us) f ws e = record { left = us; is = refl; whole = cc }
 
 -- where a rest stands in a line

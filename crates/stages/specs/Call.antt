@@ -1,14 +1,14 @@
--- Document 01, "What a call gives back": the three jobs, from all that is given to all that comes back.
+-- Document 01, "What a call gives back", and document 02, E7: the three jobs, from all that is given to all that comes back.
 use Prim.Native.Nat.{ℕ, _+_}
 use mathlib.Core.Bool.{_&&_}
 use mathlib.Core.List.{_++_}
 use mathlib.Core.Option.{Option, none, some}
 use lib.Dec.{leb}
 use lib.ListN.{length, take, drop, replicate}
-use Rattle.stages.specs.Numbers.{accepted, workTooSmall, badVariables, badHomes, badPaths, outputRoom, badFields, badParameters, workLeast}
+use Rattle.stages.specs.Numbers.{accepted, workTooSmall, badVariables, badHomes, badPaths, demanded, outputRoom, badFields, badParameters, workLeast}
 use Rattle.stages.specs.Numbers.{lineLimit, imageLimit}
 use Rattle.stages.specs.Bytes.{Text}
-use Rattle.stages.specs.Outcome.{Placed, refusedAt, doneAt, _then_, require}
+use Rattle.stages.specs.Outcome.{Placed, refusedAt, demandsAt, doneAt, _then_, require}
 use Rattle.stages.specs.Images.{Pairs, flat, image, variablesOf, homesOf, pathsOf, fieldsOf}
 use Rattle.stages.specs.Line.{Fields, expandLine}
 use Rattle.stages.specs.Quote.{quotedLine}
@@ -23,6 +23,7 @@ pub record Given : Type 0 where
   pub params : Text  -- E5: "lent as a fields image"
   pub line : Text
   pub out : Text
+  pub message : Text  -- E7: "Lend a message buffer."
 
 -- "The answer is a number, a place, the output length and the variables' used length."; and what the buffers hold then
 pub record Answer : Type 0 where
@@ -33,6 +34,8 @@ pub record Answer : Type 0 where
   pub out : Text
   pub vars : Text
   pub work : Text
+  pub messageLength : ℕ  -- E7: "the answer gives the length written"
+  pub message : Text
 
 -- an image, or a line, at the front of a buffer: "bytes behind either new image are unchanged, so too behind a quoted line"
 unfoldable pub over : Text → Text → Text
@@ -58,10 +61,15 @@ expanded g out =
 unfoldable pub cleared : Text → Text
 cleared work = replicate (length work) 0
 
+-- E7: the message, "cut to the buffer"
+unfoldable pub shown : Given → Text → Text
+shown g t = take (length (g .message)) t
+
 -- the answer, by what is to be written and the variables: "On refusal the output length is 0, the used length is the one given, and output
--- and variable buffers hold their old bytes."
+-- and variable buffers hold their old bytes." E7: "On every other answer the message length is 0 and the buffer keeps its bytes; on 13 the bytes behind
+-- the message are kept."
 unfoldable pub answered : Given → Placed (Text × Pairs) → Answer
-unfolding over image cleared
+unfolding over image cleared shown
 answered g (refusedAt n place) = record {
   number = n;
   place = place;
@@ -70,6 +78,19 @@ answered g (refusedAt n place) = record {
   out = g .out;
   vars = g .vars;
   work = cleared (g .work);
+  messageLength = 0;
+  message = g .message;
+}
+answered g (demandsAt t place) = record {
+  number = demanded;
+  place = place;
+  outLength = 0;
+  varsUsed = g .varsUsed;
+  out = g .out;
+  vars = g .vars;
+  work = cleared (g .work);
+  messageLength = length (shown g t);
+  message = over (shown g t) (g .message);
 }
 answered g (doneAt r) = record {
   number = accepted;
@@ -79,6 +100,8 @@ answered g (doneAt r) = record {
   out = over (r .0) (g .out);
   vars = over (image (flat (r .1))) (g .vars);
   work = cleared (g .work);
+  messageLength = 0;
+  message = g .message;
 }
 
 -- "the expander turns a line into fields"
@@ -106,6 +129,7 @@ pub record Quoting : Type 0 where
 unfoldable pub quoting : Text → Placed Text → Quoting
 unfolding over
 quoting out (refusedAt n place) = record { number = n; place = place; outLength = 0; out = out }
+quoting out (demandsAt t place) = record { number = demanded; place = place; outLength = 0; out = out }
 quoting out (doneAt t) = record { number = accepted; place = 0; outLength = length t; out = over t out }
 
 -- "the quoter fields into a line"; "The check for 22 precedes it."

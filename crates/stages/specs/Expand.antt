@@ -1,13 +1,12 @@
--- Document 01, "Units and expansion", and document 02, E1 and E5: parts to rows, the tilde, the forms of a parameter, `$@` and `$*`.
+-- Document 01, "Units and expansion", and document 02, E1, E5 and E7: parts to rows, the tilde, the forms of a parameter, `$@` and `$*`.
 use Prim.Native.Nat.{ℕ, _+_}
 use Prim.Native.Char.{code}
 use mathlib.Core.Bool.{Bool, true, false, _||_}
 use mathlib.Core.List.{List, [], _∷_, _++_}
 use mathlib.Core.Option.{Option, none, some}
 use lib.ListN.{length, take}
-use Rattle.stages.specs.Numbers.{demanded}
 use Rattle.stages.specs.Bytes.{Text, text}
-use Rattle.stages.specs.Outcome.{Outcome, refused, done, _>>=_}
+use Rattle.stages.specs.Outcome.{Outcome, demands, done, _>>=_}
 use Rattle.stages.specs.Images.{Pairs, lookup}
 use Rattle.stages.specs.Syntax.{Side, Reach, Form, plain, minus, equals, query, plus, removal}
 use Rattle.stages.specs.Syntax.{Param, Counted, bytesOf, parameters, Spread, apart, joint}
@@ -36,6 +35,11 @@ unfoldable pub assigned : Lent → Param → Mark → Row × Pairs × Bool → M
 unfolding storeIn value bytes marked
 assigned a x m p = storeIn a x (bytes (p .0)) (p .1) >>= λ w. given a x m w
 
+-- E7, of `?` on a value that is missing: "On 13 the operand is now expanded first .. Its bytes without marks are written"
+unfoldable pub demand : Row × Pairs × Bool → Made
+unfolding bytes
+demand p = demands (bytes (p .0))
+
 -- "`%`, `%%`: the shortest, longest matching suffix is dropped; `#`, `##` the same for prefixes. .. The operand is always expanded, then the
 -- value is read, empty if unset."
 unfoldable pub cutBy : Lent → Side → Reach → Param → Mark → Row × Pairs × Bool → Made
@@ -45,11 +49,11 @@ cutBy a side reach x m p = pattern forRemoval (p .0) >>= λ es. plainly (removed
 -- one parameter in each form; `operand` expands its operand, literal bytes having the mark that it is handed. "Bare literal bytes of an operand
 -- of `-` or `+` become E; Q and N stay." "An unused operand is not expanded."
 unfoldable pub parameter : Lent → (Mark → Pairs → Made) → Param → Form → Mark → Pairs → Made
-unfolding value marked missing assigned cutBy
+unfolding value marked missing assigned demand cutBy
 parameter a operand x plain m v = given a x m v
 parameter a operand x (minus c) m v = elim (missing a c x v) [ true ↦ operand (expandedMark m) v | false ↦ given a x m v ]
 parameter a operand x (equals c) m v = elim (missing a c x v) [ true ↦ operand m v >>= (λ p. assigned a x m p) | false ↦ given a x m v ]
-parameter a operand x (query c) m v = elim (missing a c x v) [ true ↦ refused demanded | false ↦ given a x m v ]
+parameter a operand x (query c) m v = elim (missing a c x v) [ true ↦ operand m v >>= (λ p. demand p) | false ↦ given a x m v ]
 parameter a operand x (plus c) m v = elim (missing a c x v) [ true ↦ done ([], v, false) | false ↦ operand (expandedMark m) v ]
 parameter a operand x (removal side reach) m v = operand L v >>= λ p. cutBy a side reach x m p
 

@@ -122,6 +122,10 @@ rowLimit = 2048
 abbrev pub depthLimit : ℕ
 depthLimit = 8
 
+-- the lines of a recipe that the program numbers; those behind them have the last one's number
+abbrev pub countLimit : ℕ
+countLimit = 999999999
+
 -- "More than 32 open parentheses and unary signs, together, is 12."
 abbrev pub openLimit : ℕ
 openLimit = 32

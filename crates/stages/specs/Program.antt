@@ -1,13 +1,14 @@
--- Document 01, "The program": what it writes for what it reads.
-use Prim.Native.Nat.{ℕ, _+_, _-_}
+-- Document 01, "The program", and document 02, E7: what it writes for what it reads.
+use Prim.Native.Nat.{ℕ, suc, _+_, _-_}
 use Prim.Native.Char.{code}
 use mathlib.Core.Bool.{true, false}
 use mathlib.Core.List.{List, [], _∷_, _++_}
 use mathlib.Core.Option.{Option, none, some}
-use lib.Dec.{eqb}
+use lib.Dec.{eqb, leb}
 use lib.ListN.{length, take, replicate}
-use Rattle.stages.specs.Numbers.{workLeast, imageLimit}
+use Rattle.stages.specs.Numbers.{workLeast, imageLimit, rowLimit, countLimit, demanded}
 use Rattle.stages.specs.Bytes.{Text, text}
+use Rattle.stages.specs.Outcome.{pick}
 use Rattle.stages.specs.Images.{image}
 use Rattle.stages.specs.Units.{decimal}
 use Rattle.stages.specs.Call.{Given, Answer, normaliser}
@@ -48,6 +49,7 @@ givenLine homes paths params line v = record {
   params = params;
   line = line;
   out = replicate imageLimit 0;
+  message = replicate rowLimit 0;  -- E7: so no message is cut
 }
 
 -- "it writes `ok `, the quoted line, newline, or `no `, number, blank, place, newline"
@@ -58,6 +60,19 @@ said a =
       | true ↦ text "ok " ++ (take (a .outLength) (a .out) ++ text "\n")
       | false ↦ text "no " ++ (decimal (a .number) ++ (text " " ++ (decimal (a .place) ++ text "\n")))
     ]
+
+-- E7, for standard error: the message that line n demands, `line 3: no base file chosen`, and nothing of any other line
+unfoldable pub told : ℕ → Answer → Text
+unfolding decimal
+told n a =
+    elim (eqb (a .number) demanded) [
+      | true ↦ text "line " ++ (decimal n ++ (text ": " ++ (take (a .messageLength) (a .message) ++ text "\n")))
+      | false ↦ []
+    ]
+
+-- the number of the line behind line n
+unfoldable pub nextNumber : ℕ → ℕ
+nextNumber n = pick (leb (suc n) countLimit) (suc n) n
 
 -- "Variables carry over": the variables after a line
 unfoldable pub afterLine : Text → Text → Text → Variables → Text → Variables
@@ -79,6 +94,19 @@ unfolding givenLine normaliser said afterLine
 saidOf homes paths params v [] = []
 saidOf homes paths params v (l ∷ ls) = said (normaliser (givenLine homes paths params l v)) ++ saidOf homes paths params (afterLine homes paths params v l) ls
 
+-- what lines demand, the first of which has the number n
+unfoldable pub toldOf : Text → Text → Text → Variables → ℕ → List Text → Text
+unfolding givenLine normaliser told nextNumber afterLine
+toldOf homes paths params v n [] = []
+toldOf homes paths params v n (l ∷ ls) =
+    told n (normaliser (givenLine homes paths params l v)) ++ toldOf homes paths params (afterLine homes paths params v l) (nextNumber n) ls
+
+-- the number of the line behind lines
+unfoldable pub numberAfter : ℕ → List Text → ℕ
+unfolding nextNumber
+numberAfter n [] = n
+numberAfter n (l ∷ ls) = numberAfter (nextNumber n) ls
+
 -- the variables before the first line, by the file `vars.tab`
 unfoldable pub firstVariables : Option Text → Variables
 unfolding tableOr buffered
@@ -89,3 +117,8 @@ firstVariables vars = record { buffer = buffered (tableOr vars); varsUsed = leng
 unfoldable pub program : Option Text → Option Text → Option Text → List Text → Text → Text
 unfolding tableOr firstVariables saidOf linesOf image
 program vars homes paths arguments input = saidOf (tableOr homes) (tableOr paths) (image arguments) (firstVariables vars) (linesOf input)
+
+-- E7: and what it writes to standard error of what the lines demand, the first one being line 1
+unfoldable pub demandsOf : Option Text → Option Text → Option Text → List Text → Text → Text
+unfolding tableOr firstVariables toldOf linesOf image
+demandsOf vars homes paths arguments input = toldOf (tableOr homes) (tableOr paths) (image arguments) (firstVariables vars) 1 (linesOf input)
