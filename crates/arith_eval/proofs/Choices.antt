@@ -8,12 +8,12 @@ use lib.IntN.{ℤ, pos}
 use lib.ListN.{length, drop}
 use Rattle.stages.specs.Numbers.{arithmeticSyntax}
 use Rattle.stages.specs.Bytes.{Text}
-use Rattle.stages.specs.Outcome.{Outcome, refused, done, _>>=_}
+use Rattle.stages.specs.Outcome.{Outcome, refused, demands, done, _>>=_}
 use Rattle.stages.specs.Images.{Pairs}
 use Rattle.stages.specs.Arith.{wholeLevel, choiceLevel, isTrue, stop, shuts, colon, Token, ends, num, name, op, opens, query, Lexed, token, Tree, choice}
 use Rattle.stages.specs.Arith.{Grown, grown, operand, further, expression, ended, upTo, choiceAt, grow, evaluate}
 use Rattle.stages.proofs.Bools.{no}
-use Rattle.stages.proofs.Outcomes.{done-same}
+use Rattle.stages.proofs.Outcomes.{done-same, never-asks}
 use Rattle.stages.proofs.Storeys.{lowest, asked, upstairs, whole-storeys, choice-storeys}
 use Rattle.stages.proofs.Turns.{rest, other, pending, pending-refused, turn-query, turn-colon}
 use Rattle.stages.proofs.Sums.{unneeded-second, unneeded-first}
@@ -41,6 +41,7 @@ steps-shown text at d z p h e = subst (Steps text at d z p) e h
 -- what is behind a tree tells whether there is one
 rest-refused : (o : Grown) (e : ℕ) → rest o ≡ refused e → o ≡ refused e
 rest-refused (refused n) e q = cc
+rest-refused (demands t) e q = absurd (let z : _≡_ {A = ℕ} 0 1 = cc in omega arith)
 rest-refused (done p) e q = absurd (never (sym q))
 
 record Has (o : Grown) (u : Text) : Type 0 where
@@ -49,6 +50,7 @@ record Has (o : Grown) (u : Text) : Type 0 where
 
 rest-done : (o : Grown) (u : Text) → rest o ≡ done u → Has o u
 rest-done (refused n) u q = absurd (never q)
+rest-done (demands t) u q = absurd (never-asks q)
 rest-done (done (l, t)) u q = record { tree = l; is = ap (λ (x : Text). done (l, x)) (done-same q) }
 
 -- a token that is no `?`, and one that is no `:` either
@@ -102,6 +104,7 @@ module _ (d : ℕ) where
     where
       go : (r : Grown) → (r >>= λ q. grow (further wholeLevel (q .0), d, q .1)) ≡ ((r >>= λ q. grow (further lowest (q .0), d, q .1)) >>= upstairs d)
       go (refused e) = refl
+      go (demands t) = refl
       go (done q) = whole-storeys d (q .1) (q .0)
 
   -- what may stand behind a colon is the same
@@ -110,6 +113,7 @@ module _ (d : ℕ) where
     where
       go : (r : Grown) → (r >>= λ q. grow (further choiceLevel (q .0), d, q .1)) ≡ (r >>= λ q. grow (further wholeLevel (q .0), d, q .1))
       go (refused e) = refl
+      go (demands t) = refl
       go (done q) = choice-storeys d (q .1) (q .0) ∙ sym (whole-storeys d (q .1) (q .0))
 
   -- one less to come, as the code counts
@@ -322,14 +326,17 @@ pub record Working (text : Text) (v : Pairs) (at d p i : ℕ) : Type 0 where
 
 bind-done : (r : Grown) → r ≡ (r >>= λ q. done q)
 bind-done (refused e) = refl
+bind-done (demands t) = refl
 bind-done (done q) = refl
 
 bind-grown : (f : Tree → Tree) (k : Tree × Text → Grown) (r : Grown) → (grown f r >>= k) ≡ (r >>= λ q. k (f (q .0), q .1))
 bind-grown f k (refused e) = refl
+bind-grown f k (demands t) = refl
 bind-grown f k (done q) = refl
 
 bind-twice : (f g k : Tree × Text → Grown) (r : Grown) → (((r >>= f) >>= g) >>= k) ≡ (r >>= λ q. (f q >>= g) >>= k)
 bind-twice f g k (refused e) = refl
+bind-twice f g k (demands t) = refl
 bind-twice f g k (done q) = refl
 
 module _ (v : Pairs) (d : ℕ) where
@@ -345,6 +352,7 @@ module _ (v : Pairs) (d : ℕ) where
       → evaluate v (p .0) ≡ refused e
   unfolding asked
   upstairs-fails l t p e bad (refused n) q = absurd (never q)
+  upstairs-fails l t p e bad (demands m) q = absurd (never-asks q)
   upstairs-fails l t p e bad (done (ends i, u)) q = rw (sym (done-same q)) bad
   upstairs-fails l t p e bad (done (num z, u)) q = rw (sym (done-same q)) bad
   upstairs-fails l t p e bad (done (name x, u)) q = rw (sym (done-same q)) bad

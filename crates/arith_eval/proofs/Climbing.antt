@@ -9,12 +9,14 @@ use lib.IntN.{ℤ}
 use lib.ListN.{length, drop}
 use borrow.Author.Tests.{le-leb, lt-leb}
 use Rattle.stages.specs.Bytes.{Text}
-use Rattle.stages.specs.Outcome.{Outcome, refused, done, _>>=_}
+use Rattle.stages.specs.Outcome.{Outcome, refused, demands, done, _>>=_}
 use Rattle.stages.specs.Images.{Pairs}
 use Rattle.stages.specs.Arith.{choiceLevel, early, apply, Lexed, level, Tree, binary, Grown, operand, further, expression, furtherAt}
 use Rattle.stages.specs.Arith.{growStep, grow, withVariables, evaluate}
 use Rattle.stages.proofs.Bools.{no}
+use Rattle.stages.proofs.Outcomes.{sure-quiet}
 use Rattle.stages.proofs.Arith.{grow-eq}
+use Rattle.stages.proofs.SafeSums.{apply-sure}
 use Rattle.stages.proofs.Storeys.{lowest}
 use Rattle.stages.proofs.Sums.{unneeded-right}
 use Rattle.text.specs.Places.{Behind}
@@ -159,6 +161,7 @@ module _ (text : Text) (v : Pairs) (counts : Bool) where
               work-fault v counts q λ p s.
               left-fails v d k (binary (opOf o) l (c .tree)) (drop n text) high p (sym (grown-on l) ∙ s) e
               (h l w ∙ ap (withVariables v) a)
+          both-turns q h (demands m) a = absurd (sure-quiet (apply-sure (opOf o) y z) a)
           both-turns q h (done x) a = next-turns x (λ l w _. h l w ∙ ap (withVariables v) a)
 
         pub turn-says : (high : lowest ≤ k) (b : Bool) (u : Option ℤ) → counts ≡ b → early (opOf o) y ≡ u → (z : ℤ) (n : ℕ)

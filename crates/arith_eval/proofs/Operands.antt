@@ -8,7 +8,7 @@ use lib.IntN.{ℤ, pos}
 use lib.ListN.{drop}
 use Rattle.stages.specs.Numbers.{tooDeep, arithmeticSyntax}
 use Rattle.stages.specs.Bytes.{Text, part}
-use Rattle.stages.specs.Outcome.{Outcome, refused, done, _>>=_}
+use Rattle.stages.specs.Outcome.{Outcome, refused, demands, done, _>>=_}
 use Rattle.stages.specs.Images.{Pairs, lookup}
 use Rattle.stages.specs.Constants.{nameNumber}
 use Rattle.stages.specs.Arith.{wholeLevel, applyAlone, isSign, End, shuts, Lexed, ends, num, name, op, opens, query, token, Tree, constantOf}
@@ -16,7 +16,8 @@ use Rattle.stages.specs.Arith.{nameOf, unary, Grown, grown, operand, expression
 use Rattle.stages.specs.Arith.{withVariables}
 use Rattle.stages.proofs.Bools.{no}
 use Rattle.stages.proofs.Arith.{grow-eq}
-use Rattle.stages.proofs.Outcomes.{done-same}
+use Rattle.stages.proofs.Outcomes.{done-same, never-asks, sure-quiet}
+use Rattle.stages.proofs.SafeSums.{name-sure, alone-sure}
 use Rattle.arith_int.specs.Answers.{opOf}
 use Rattle.arith_int.specs.declared.Op.{Op}
 use Rattle.arith_token.specs.Tokens.{lexed, TokenAt}
@@ -69,6 +70,7 @@ module _ (v : Pairs) (counts : Bool) where
 pub ended-tree : (e : End) (o : Lexed) (l : Tree) (p : Tree × Text) → (o >>= λ s. ended e l s) ≡ done p → p .0 ≡ l
 unfolding ended
 ended-tree e (refused n) l p h = absurd (never h)
+ended-tree e (demands t) l p h = absurd (never-asks h)
 ended-tree e (done (ends f, u)) l p h = go (eqb (rank e) (rank f)) refl
   where
     go : (x : Bool) → eqb (rank e) (rank f) ≡ x → p .0 ≡ l
@@ -153,6 +155,7 @@ module _ (text : Text) (v : Pairs) (counts : Bool) where
       outcome-says c (refused e) q =
           work-fault v counts c λ p h.
           ap (λ (x : Tree × Text). evaluate v (x .0)) (done-same (sym h ∙ name-here)) ∙ name-is v (part text from to) ∙ ap (withVariables v) q
+      outcome-says c (demands m) q = absurd (sure-quiet (name-sure (lookup (part text from to) v)) q)
       outcome-says c (done z) q = value-comes z (λ _. name-is v (part text from to) ∙ ap (withVariables v) q)
 
     pub operand-name : (from to : ℕ) (r : Climbed) → TokenAt text at (code.Name from to) → (b : Bool) → counts ≡ b → Names text from to v
@@ -199,6 +202,7 @@ module _ (text : Text) (v : Pairs) (counts : Bool) where
               work-fault v counts k λ p h.
               ap (λ (x : Tree × Text). evaluate v (x .0)) (done-same (sym h ∙ signed-is)) ∙ unary-done v (opOf o) (c .tree) z (c .worth k) ∙ ap
               (withVariables v) q
+          sign-outcome k (demands m) q = absurd (sure-quiet (alone-sure (opOf o) z) q)
           sign-outcome k (done y) q = sign-comes y (λ _. unary-done v (opOf o) (c .tree) z (c .worth k) ∙ ap (withVariables v) q)
 
           pub sign-says : (r : Climbed) (b : Bool) → counts ≡ b → Turned o z next b r → Says text at v counts sign-here r

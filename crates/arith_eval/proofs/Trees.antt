@@ -10,14 +10,14 @@ use lib.ListN.{length}
 use borrow.Author.Tests.{lt-leb}
 use Rattle.stages.specs.Recur.{by-size}
 use Rattle.stages.specs.Bytes.{Text}
-use Rattle.stages.specs.Outcome.{Outcome, refused, done, _>>=_, choose}
+use Rattle.stages.specs.Outcome.{Outcome, refused, demands, done, _>>=_, choose}
 use Rattle.stages.specs.Images.{Pairs, lookup}
 use Rattle.stages.specs.Constants.{nameNumber}
 use Rattle.stages.specs.Arith.{choiceLevel, isTrue, early, apply, applyAlone}
 use Rattle.stages.specs.Arith.{Op, ends, num, name, op, opens, query, Lexed, token, level, Tree, constantOf, nameOf, unary, binary, choice}
 use Rattle.stages.specs.Arith.{Grown, further, expression, furtherAt, growStep, grow, Evaluated, withVariables, unless, evaluate}
 use Rattle.stages.proofs.Arith.{Lexes, lex-more, token-left, Leaves, some-left, expression-left, grow-left, grow-eq}
-use Rattle.stages.proofs.Outcomes.{done-same}
+use Rattle.stages.proofs.Outcomes.{done-same, never-asks}
 use Rattle.stages.proofs.Storeys.{lowest}
 
 -- a refusal is no result
@@ -32,6 +32,7 @@ pub record Bound {A B : Type 0} (r : Outcome A) (f : A → Outcome B) (b : B) : 
 
 pub bound : {A B : Type 0} (r : Outcome A) (f : A → Outcome B) (b : B) → (r >>= f) ≡ done b → Bound r f b
 bound (refused e) f b q = absurd (never q)
+bound (demands t) f b q = absurd (never-asks q)
 bound (done a) f b q = record { from = a; first = refl; then-is = q }
 
 -- working out
@@ -82,18 +83,22 @@ module _ (v : Pairs) where
 -- "leaves the variables as they are": the pairs behind a result are those before it
 abbrev pub Keeps : Pairs → Evaluated → Type 0
 Keeps v (refused e) = Unit {0}
+Keeps v (demands t) = Unit {0}
 Keeps v (done p) = p .1 ≡ v
 
 keeps-with : (v : Pairs) (r : Outcome ℤ) → Keeps v (withVariables v r)
 keeps-with v (refused e) = tt
+keeps-with v (demands t) = tt
 keeps-with v (done z) = refl
 
 keeps-unary : (v : Pairs) (o : Op) (r : Evaluated) → Keeps v r → Keeps v (r >>= λ p. withVariables (p .1) (applyAlone o (p .0)))
 keeps-unary v o (refused e) h = tt
+keeps-unary v o (demands t) h = tt
 keeps-unary v o (done p) h = rw h (keeps-with v (applyAlone o (p .0)))
 
 keeps-right : (v : Pairs) (o : Op) (x : ℤ) (r : Evaluated) → Keeps v r → Keeps v (r >>= λ q. withVariables (q .1) (apply o x (q .0)))
 keeps-right v o x (refused e) h = tt
+keeps-right v o x (demands t) h = tt
 keeps-right v o x (done p) h = rw h (keeps-with v (apply o x (p .0)))
 
 keeps-unless : (v : Pairs) (e : Option ℤ) (more : Unit {0} → Evaluated) → Keeps v (more tt) → Keeps v (unless e v more)
@@ -103,6 +108,7 @@ keeps-unless v (some z) more h = refl
 keeps-left : (v : Pairs) (o : Op) (b : Tree) (r : Evaluated) → Keeps v r → Keeps v (evaluate v b)
     → Keeps v (r >>= λ p. unless (early o (p .0)) (p .1) λ _. evaluate (p .1) b >>= λ q. withVariables (q .1) (apply o (p .0) (q .0)))
 keeps-left v o b (refused e) h k = tt
+keeps-left v o b (demands t) h k = tt
 keeps-left v o b (done (x, w)) h k = rw h (keeps-unless v (early o x) _ (keeps-right v o x (evaluate v b) k))
 
 keeps-side : (v : Pairs) (x : Bool) (l r : Tree) → Keeps v (evaluate v l) → Keeps v (evaluate v r)
@@ -114,6 +120,7 @@ keeps-side v false l r h k = k
 keeps-choice : (v : Pairs) (l m : Tree) (r : Evaluated) → Keeps v r → Keeps v (evaluate v l) → Keeps v (evaluate v m)
     → Keeps v (r >>= λ p. choose (isTrue (p .0)) (λ _. evaluate (p .1) l) (λ _. evaluate (p .1) m))
 keeps-choice v l m (refused e) h k j = tt
+keeps-choice v l m (demands t) h k j = tt
 keeps-choice v l m (done (x, w)) h k j = rw h (keeps-side v (isTrue x) l m k j)
 
 pub evaluate-keeps : (v : Pairs) (t : Tree) → Keeps v (evaluate v t)

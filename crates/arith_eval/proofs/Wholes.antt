@@ -5,7 +5,7 @@ use mathlib.Core.Bool.{Bool, true, false}
 use lib.IntN.{ℤ}
 use Rattle.stages.specs.Numbers.{openLimit}
 use Rattle.stages.specs.Bytes.{Text}
-use Rattle.stages.specs.Outcome.{Outcome, refused, done, _>>=_}
+use Rattle.stages.specs.Outcome.{Outcome, refused, demands, done, _>>=_}
 use Rattle.stages.specs.Images.{Pairs}
 use Rattle.stages.specs.Constants.{signed}
 use Rattle.stages.specs.Arith.{wholeLevel, stop, token, Tree, Grown, expression, grow, ended, upTo, tree, evaluate, Evaluated, arithmeticOf}
@@ -84,10 +84,12 @@ only p = done (p .0)
 
 number-text : (v : Pairs) (r : Evaluated) → Keeps v r → (r >>= result) ≡ ((r >>= only) >>= worded v)
 number-text v (refused e) k = refl
+number-text v (demands t) k = refl
 number-text v (done p) k = ap (λ (w : Pairs). worded w (p .0)) k
 
 tree-text : (v : Pairs) (o : Outcome Tree) → (o >>= λ l. evaluate v l >>= result) ≡ ((o >>= λ l. evaluate v l >>= only) >>= worded v)
 tree-text v (refused e) = refl
+tree-text v (demands t) = refl
 tree-text v (done l) = number-text v (evaluate v l) (evaluate-keeps v l)
 
 pub arithmetic-is : (v : Pairs) (t : Text) → arithmeticOf v t ≡ (comesTo v t >>= worded v)

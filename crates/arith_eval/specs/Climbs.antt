@@ -8,7 +8,8 @@ use mathlib.Core.Option.{Option, none, some}
 use lib.IntN.{ℤ, pos}
 use lib.ListN.{length, drop}
 use Rattle.stages.specs.Bytes.{Text, part}
-use Rattle.stages.specs.Outcome.{Outcome, refused, done, _>>=_}
+use Rattle.stages.specs.Numbers.{demanded}
+use Rattle.stages.specs.Outcome.{Outcome, refused, demands, done, _>>=_}
 use Rattle.stages.specs.Images.{Pairs, lookup}
 use Rattle.stages.specs.Constants.{nameNumber}
 use Rattle.stages.specs.Arith.{wholeLevel, isTrue, isSign, early, apply, applyAlone}
@@ -49,13 +50,15 @@ pub record Skippable (text : Text) (at colons : ℕ) (vars : Text) : Type 0 wher
   pub ready : Ready text at vars
   pub few : colons ≤ at
 
--- an outcome as an answer with a place
+-- an outcome as an answer with a place; no number demands a message
 abbrev pub climbing : Outcome ℤ → ℕ → Climbed
 climbing (refused e) next = climbed.Refused e
+climbing (demands t) next = climbed.Refused demanded
 climbing (done z) next = climbed.Value z next
 
 abbrev pub turning : Outcome ℤ → ℕ → Turn
 turning (refused e) next = turn.Refused e
+turning (demands t) next = turn.Refused demanded
 turning (done z) next = turn.Next z next
 
 -- the leaves: nothing is worked out where it does not count

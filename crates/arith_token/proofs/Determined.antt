@@ -4,7 +4,8 @@ use native.Mathlib.Omega.{arith}
 use mathlib.Core.Path.{_≡_, refl, sym, ap, _∙_}
 use lib.ListN.{length, drop, length-drop}
 use Rattle.stages.specs.Bytes.{Text, part}
-use Rattle.stages.specs.Outcome.{refused, done}
+use Rattle.stages.specs.Numbers.{demanded}
+use Rattle.stages.specs.Outcome.{refused, demands, done}
 use Rattle.stages.specs.Arith.{Lexed, stop, shuts, colon, ends, num, name, op, opens, query}
 use Rattle.stages.specs.Arith as arith-stage
 use Rattle.text.proofs.Parts.{part-length}
@@ -67,6 +68,7 @@ op-back BitNot = refl
 -- the code's token of the stage's: a place is where what is behind it begins
 abbrev back : Text → Lexed → Token
 back text (refused e) = code.Refused e
+back text (demands t) = code.Refused demanded
 back text (done (ends stop, u)) = code.Stop
 back text (done (ends shuts, u)) = code.Shuts (length text - length u)
 back text (done (ends colon, u)) = code.Colon (length text - length u)

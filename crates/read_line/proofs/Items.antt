@@ -5,7 +5,7 @@ use mathlib.Core.Path.{_≡_, refl, sym, ap, _∙_, subst}
 use mathlib.Core.Bool.{Bool, true, false}
 use lib.ListN.{length, drop}
 use Rattle.stages.specs.Bytes.{Text, part}
-use Rattle.stages.specs.Outcome.{refused, done}
+use Rattle.stages.specs.Outcome.{refused, demands, done}
 use Rattle.stages.specs.Syntax.{unescaped, Parts, plain, end, lit, quo, par, len, lst, ari, til, bytesOf, parameters, arith as sums}
 use Rattle.stages.specs.Syntax as syntax
 use Rattle.stages.specs.Items.{onward}
@@ -175,10 +175,12 @@ pub record Reads (text : Text) (from here : Cursor) : Type 0 where
 
 put-same : (r : Taken) → r ≡ put (λ p. p) r
 put-same (refused e) = refl
+put-same (demands t) = refl
 put-same (done p) = refl
 
 put-put : (f g : Parts → Parts) (r : Taken) → put f (put g r) ≡ put (λ p. f (g p)) r
 put-put f g (refused e) = refl
+put-put f g (demands t) = refl
 put-put f g (done p) = refl
 
 pub reads-start : (text : Text) (from : Cursor) → from .at ≤ length text → openIn (from .mode) ≤ from .at → Reads text from from

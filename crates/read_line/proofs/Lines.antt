@@ -9,7 +9,7 @@ use lib.ListN.{length, drop, getD, length-drop}
 use lib.Seq.{drop-cons}
 use Rattle.stages.specs.Numbers.{depthLimit, bareOperator}
 use Rattle.stages.specs.Bytes.{Text, part, span, isBlank, isOperator}
-use Rattle.stages.specs.Outcome.{done, refusedAt, doneAt, placedAt, _then_}
+use Rattle.stages.specs.Outcome.{done, refusedAt, demandsAt, doneAt, placedAt, _then_}
 use Rattle.stages.specs.Syntax.{Parts, Word, fresh, word}
 use Rattle.stages.specs.Read.{Taken, Words, parts, words, wordAt, readLine}
 use Rattle.stages.proofs.Read.{Good, stays, leaves, word-good}
@@ -147,10 +147,12 @@ pub record Walks (line : Text) (from : ℕ) : Type 0 where
 
 then-same : (w : Words) → w ≡ (w then λ ws. doneAt ws)
 then-same (refusedAt n p) = refl
+then-same (demandsAt t p) = refl
 then-same (doneAt ws) = refl
 
 then-then : (f g : List Word → List Word) (w : Words) → ((w then λ ws. doneAt (f ws)) then λ ws. doneAt (g ws)) ≡ (w then λ ws. doneAt (g (f ws)))
 then-then f g (refusedAt n p) = refl
+then-then f g (demandsAt t p) = refl
 then-then f g (doneAt ws) = refl
 
 pub walks-start : (line : Text) → Walks line 0
@@ -184,6 +186,7 @@ pub record Accepted (line : Text) : Type 0 where
 
 accepted-of : (line : Text) (w : Words) → readLine line ≡ w → verdict w ≡ doneAt tt → Accepted line
 accepted-of line (refusedAt n p) e h = absurd (let z : _≡_ {A = ℕ} 0 1 = cc in omega arith)
+accepted-of line (demandsAt t p) e h = absurd (let z : _≡_ {A = ℕ} 0 1 = cc in omega arith)
 accepted-of line (doneAt ws) e h = record { all = ws; is = e }
 
 pub accepted : (line : Text) → verdict (readLine line) ≡ doneAt tt → Accepted line
@@ -191,6 +194,7 @@ accepted line h = accepted-of line (readLine line) refl h
 
 refused-of : (w : Words) (n p : ℕ) → verdict w ≡ refusedAt n p → w ≡ refusedAt n p
 refused-of (refusedAt k q) n p h = cc
+refused-of (demandsAt t q) n p h = absurd (let z : _≡_ {A = ℕ} 0 1 = cc in omega arith)
 refused-of (doneAt ws) n p h = absurd (let z : _≡_ {A = ℕ} 0 1 = cc in omega arith)
 
 pub refused-line : (line : Text) (n p : ℕ) → verdict (readLine line) ≡ refusedAt n p → readLine line ≡ refusedAt n p

@@ -5,7 +5,7 @@ use mathlib.Core.Bool.{Bool, true, false}
 use mathlib.Core.List.{[], _∷_}
 use lib.ListN.{length, drop, getD}
 use Rattle.stages.specs.Bytes.{Text, span, isBlank}
-use Rattle.stages.specs.Outcome.{refused, done, Placed, refusedAt, doneAt, _then_}
+use Rattle.stages.specs.Outcome.{refused, done, Placed, refusedAt, demandsAt, doneAt, _then_}
 use Rattle.stages.specs.Syntax.{Parts, Word}
 use Rattle.stages.specs.Read.{Taken, Words, put, parts, words}
 use Rattle.text.specs.Places.{Behind}
@@ -93,6 +93,7 @@ WordSays line place (reading.End next) = WordTo line place next
 -- whether a line is accepted, or its first fault's number and place
 abbrev pub verdict : Words → Placed (Unit {0})
 verdict (refusedAt n place) = refusedAt n place
+verdict (demandsAt t place) = demandsAt t place
 verdict (doneAt ws) = doneAt tt
 
 abbrev pub verdictOf : LineRead → Placed (Unit {0})

@@ -1,5 +1,5 @@
--- What lines say depends on the list that their parameters' image holds, and on nothing else of it: so what was packed of the arguments serves as their
--- image, which is refused where it is too long.
+-- What lines say and demand depends on the list that their parameters' image holds, and on nothing else of it: so what was packed of the arguments serves
+-- as their image, which is refused where it is too long.
 use Prim.Native.Nat.{ℕ, _+_, _<_}
 use native.Mathlib.Omega.{arith}
 use mathlib.Core.Path.{_≡_, refl, sym, ap, _∙_}
@@ -10,10 +10,10 @@ use lib.Seq.{length-take-le}
 use borrow.Author.Tests.{lt-leb}
 use Rattle.stages.specs.Numbers.{imageLimit}
 use Rattle.stages.specs.Bytes.{Text}
-use Rattle.stages.specs.Outcome.{Placed, refusedAt, doneAt, _then_}
+use Rattle.stages.specs.Outcome.{Placed, refusedAt, demandsAt, doneAt, _then_}
 use Rattle.stages.specs.Images.{Pairs, texts, sized, fieldsOf, image}
 use Rattle.stages.specs.Call.{Given, expanded, answered, quotedIn, normaliser}
-use Rattle.stages.specs.Program.{Variables, givenLine, said, afterLine, saidOf, afterLines}
+use Rattle.stages.specs.Program.{Variables, givenLine, said, told, afterLine, saidOf, toldOf, afterLines}
 use Rattle.stages.proofs.Images.{length-image}
 use Rattle.recipe_arguments.specs.Packs.{Packs, whole, full}
 
@@ -43,6 +43,7 @@ module _ (g : Given) (params : Text) (e : fieldsOf (g .params) ≡ fieldsOf para
     params = params;
     line = g .line;
     out = g .out;
+    message = g .message;
   }
 
   expanded-params : (out : ℕ) → expanded g out ≡ expanded other out
@@ -52,6 +53,7 @@ module _ (g : Given) (params : Text) (e : fieldsOf (g .params) ≡ fieldsOf para
   answered-params : (o : Placed (Text × Pairs)) → answered g o ≡ answered other o
   unfolding answered
   answered-params (refusedAt n place) = refl
+  answered-params (demandsAt t place) = refl
   answered-params (doneAt r) = refl
 
   normaliser-params : normaliser g ≡ normaliser other
@@ -73,6 +75,12 @@ module _ (homes paths params params′ : Text) (e : fieldsOf params ≡ fieldsOf
   said-params v [] = refl
   said-params v (l ∷ ls) =
       rw (answer-params l v) (ap (λ (s : Text). said (normaliser (givenLine homes paths params′ l v)) ++ s) (said-params _ ls))
+
+  pub told-params : (v : Variables) (n : ℕ) (ls : List Text) → toldOf homes paths params v n ls ≡ toldOf homes paths params′ v n ls
+  unfolding toldOf
+  told-params v n [] = refl
+  told-params v n (l ∷ ls) =
+      rw (answer-params l v) (ap (λ (s : Text). told n (normaliser (givenLine homes paths params′ l v)) ++ s) (told-params _ _ ls))
 
   pub after-lines-params : (v : Variables) (ls : List Text) → afterLines homes paths params v ls ≡ afterLines homes paths params′ v ls
   unfolding afterLines

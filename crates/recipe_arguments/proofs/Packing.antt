@@ -2,16 +2,16 @@
 use Prim.Native.Nat.{ℕ, _+_, _-_, _≤_, _<_}
 use native.Mathlib.Omega.{arith}
 use mathlib.Core.Path.{_≡_, refl, sym, ap, _∙_, subst}
-use mathlib.Core.Bool.{Bool, true, false}
+use mathlib.Core.Bool.{Bool, true, false, _&&_}
 use mathlib.Core.List.{List, [], _∷_, _++_, append-assoc, append-nil}
 use lib.Dec.{leb}
 use lib.ListN.{length, take, drop, replicate, set, length-append, length-drop, length-set, length-replicate, take-append-drop}
 use lib.Seq.{length-take-le, take-at, drop-drop}
 use borrow.Author.Tests.{leb-true, leb-false}
 use borrow.Rule.Slice.PartMut.{putMid, midOf}
-use Rattle.stages.specs.Numbers.{imageLimit}
+use Rattle.stages.specs.Numbers.{imageLimit, outputRoom}
 use Rattle.stages.specs.Bytes.{Text}
-use Rattle.stages.specs.Outcome.{Outcome, refused, done}
+use Rattle.stages.specs.Outcome.{Outcome, refused, demands, done, pick}
 use Rattle.stages.specs.Images.{framed, written, image, recordBytes, imageLength}
 use Rattle.stages.specs.Call.{over}
 use Rattle.stages.proofs.Images.{length-image, written-append, recordBytes-append}
@@ -103,6 +103,15 @@ module _ (used : ℕ) (new old : Text) (h : used + length new ≤ length old) wh
   placed-length =
       simp (length-append, length-drop) (omega (arith, length-take-le used old (omega arith)))
 
+-- a record demands nothing
+record-quiet : (room : ℕ) (t m : Text) → recordIn room t ≡ demands m → ⊥
+unfolding recordIn
+record-quiet room t m = go (leb (length t) textLimit && leb (length (framed t)) room)
+  where
+    go : (x : Bool) → _≡_ {A = Outcome Text} (pick x (done (framed t)) (refused outputRoom)) (demands m) → ⊥
+    go true e = let z : _≡_ {A = ℕ} 0 1 = cc in omega arith
+    go false e = let z : _≡_ {A = ℕ} 0 1 = cc in omega arith
+
 module _ (t : Text) (used : ℕ) (old left : Text) (r : ℕ) (l : List Text) (h : used ≤ length old) (small : length old ≤ textLimit) where
   more-put : (new : Text) → recordIn (length old - used) t ≡ done new → r ≡ used + length new → left ≡ placed used new old → Packs l old used
       → Packs (l ++ t ∷ []) left r
@@ -135,6 +144,7 @@ module _ (t : Text) (used : ℕ) (old left : Text) (r : ℕ) (l : List Text) (h 
       go : (o : Outcome Text) → recordIn (length old - used) t ≡ o → Adds o used old left r → Packs l old used → Packs (l ++ t ∷ []) left r
       go (done new) e a = more-put new e (a .0) (a .1)
       go (refused k) e a = more-full (too-long k e) (a .0) (a .1)
+      go (demands m) e a = absurd (record-quiet (length old - used) t m e)
 
   -- what is counted lies in the buffer
   pub appends-within : Appends t used old left r → r ≤ length left
@@ -142,6 +152,7 @@ module _ (t : Text) (used : ℕ) (old left : Text) (r : ℕ) (l : List Text) (h 
     where
       go : (o : Outcome Text) → recordIn (length old - used) t ≡ o → Adds o used old left r → r ≤ length left
       go (refused k) e a = omega (arith, a .0, ap length (a .1))
+      go (demands m) e a = omega (arith, a .0, ap length (a .1))
       go (done new) e a =
           let g : (framed t ≡ new) × (length t ≤ textLimit) × (length t + 2 ≤ length old - used) = record-given (length old - used) t new e in
           let k : length (framed t) ≡ length new = ap length (g .0) in

@@ -5,7 +5,7 @@ use mathlib.Core.Path.{_≡_}
 use mathlib.Core.List.{List, [], _∷_, _++_}
 use lib.ListN.{length, take}
 use Rattle.stages.specs.Bytes.{Text}
-use Rattle.stages.specs.Outcome.{Outcome, refused, done}
+use Rattle.stages.specs.Outcome.{Outcome, refused, demands, done}
 use Rattle.stages.specs.Images.{image, imageLength}
 use Rattle.table_store.specs.Answers.{recordIn}
 use Rattle.table_store.specs.Splice.{placed}
@@ -13,6 +13,7 @@ use Rattle.table_store.specs.Splice.{placed}
 -- the record of a text stands behind the first `used` bytes, and is counted with them; without room for it all bytes stay, and all are counted
 abbrev pub Adds : Outcome Text → ℕ → Text → Text → ℕ → Type 0
 Adds (refused n) used old left r = (r ≡ length old) × (left ≡ old)
+Adds (demands m) used old left r = (r ≡ length old) × (left ≡ old)
 Adds (done new) used old left r = (r ≡ used + length new) × (left ≡ placed used new old)
 
 abbrev pub Appends : Text → ℕ → Text → Text → ℕ → Type 0

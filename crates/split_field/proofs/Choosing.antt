@@ -7,7 +7,7 @@ use mathlib.Core.Bool.{Bool, true, false}
 use mathlib.Core.List.{List, [], _∷_, _++_, append-assoc, append-nil}
 use lib.ListN.{length, take}
 use Rattle.stages.specs.Bytes.{Text, part}
-use Rattle.stages.specs.Outcome.{Outcome, refused, done, _>>=_}
+use Rattle.stages.specs.Outcome.{Outcome, refused, demands, done, _>>=_}
 use Rattle.stages.specs.Images.{written, recordBytes, heldTexts}
 use Rattle.stages.specs.Units.{Row, bytes}
 use Rattle.stages.specs.Pattern.{Element, elements, hasClass, forPaths, pattern}
@@ -204,6 +204,7 @@ paths-bytes paths p r s e = go (active p) refl
 module _ (paths : List Text) {field row : Text} {n : ℕ} (d : Dropped field row n) where
   texts-of : (o : Outcome (List Element)) → (o >>= λ p. done (pathsFor paths (rowOf (kept field)) p)) ≡ (o >>= λ p. done (pathsFor paths (rowOf field) p))
   texts-of (refused e) = refl
+  texts-of (demands t) = refl
   texts-of (done p) = ap done (paths-bytes paths p (rowOf (kept field)) (rowOf field) (kept-bytes field))
 
   same-texts : fieldTexts paths (rowOf (take n row)) ≡ fieldTexts paths (rowOf field)

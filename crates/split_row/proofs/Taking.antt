@@ -8,7 +8,7 @@ use mathlib.Core.List.{List, [], _∷_, _++_, append-assoc, append-nil}
 use lib.ListN.{length}
 use Rattle.stages.specs.Numbers.{bracketClass}
 use Rattle.stages.specs.Bytes.{Text}
-use Rattle.stages.specs.Outcome.{Outcome, refused, done, _>>=_}
+use Rattle.stages.specs.Outcome.{Outcome, refused, demands, done, _>>=_}
 use Rattle.stages.specs.Images.{recordBytes}
 use Rattle.stages.specs.Units.{Row}
 use Rattle.stages.specs.Pattern.{Element, forPaths, pattern}
@@ -30,14 +30,17 @@ firstThen o p = o >>= λ a. inFront a p
 
 in-front : (o : Outcome (List Text)) → o ≡ inFront [] o
 in-front (refused n) = refl
+in-front (demands t) = refl
 in-front (done l) = refl
 
 joined : (a b : List Text) (o : Outcome (List Text)) → inFront a (inFront b o) ≡ inFront (a ++ b) o
 joined a b (refused n) = refl
+joined a b (demands t) = refl
 joined a b (done l) = ap done (sym (append-assoc a b l))
 
 then-first : (a : List Text) (o p : Outcome (List Text)) → inFront a (firstThen o p) ≡ firstThen (inFront a o) p
 then-first a (refused n) p = refl
+then-first a (demands t) p = refl
 then-first a (done b) p = joined a b p
 
 module _ (paths : List Text) where
@@ -49,6 +52,7 @@ module _ (paths : List Text) where
       go : (o : Outcome (List Element)) → (o >>= λ p. inFront (pathsFor paths r p) (textsOfFields paths rs)) ≡ firstThen
           (o >>= λ p. done (pathsFor paths r p)) (textsOfFields paths rs)
       go (refused n) = refl
+      go (demands t) = refl
       go (done p) = refl
 
   -- .. or the first ones
@@ -61,6 +65,7 @@ module _ (paths : List Text) where
           → (o >>= λ p. inFront (pathsFor paths r p) (textsOfFields paths (rs ++ ss))) ≡ firstThen
           (o >>= λ p. inFront (pathsFor paths r p) (textsOfFields paths rs)) (textsOfFields paths ss)
       go (refused n) e = refl
+      go (demands t) e = refl
       go (done p) e = ap (inFront (pathsFor paths r p)) e ∙ then-first (pathsFor paths r p) (textsOfFields paths rs) (textsOfFields paths ss)
 
 -- the texts so far are written, or they are too long

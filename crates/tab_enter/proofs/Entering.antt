@@ -12,7 +12,7 @@ use lib.Seq.{take-at, take-all, length-take-le}
 use borrow.Author.Tests.{le-leb, lt-leb}
 use Rattle.stages.specs.Numbers.{imageLimit, pathsLimit}
 use Rattle.stages.specs.Bytes.{Text, eqText, ltText}
-use Rattle.stages.specs.Outcome.{Outcome, refused, done, pick}
+use Rattle.stages.specs.Outcome.{Outcome, refused, demands, done, pick}
 use Rattle.stages.specs.Images.{Pairs, image, imageLength, flat, lookup, stored, held, heldTexts}
 use Rattle.stages.specs.Call.{over}
 use Rattle.stages.proofs.Bools.{no, and-both, either, or-neither}
@@ -52,6 +52,7 @@ found-twice s w old a e q = stops {f = Twice} (rw (is-shown s a e q .gets)) refl
 
 is-done : {A : Type 0} → Outcome A → Bool
 is-done (refused k) = false
+is-done (demands t) = false
 is-done (done a) = true
 
 module _ (key w : Text) (v : Pairs) (old left : Text) (r : Stored) (m : lookup key v ≡ none)

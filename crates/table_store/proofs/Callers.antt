@@ -12,7 +12,7 @@ use lib.Seq.{take-at}
 use borrow.Author.Tests.{leb-true, leb-false, le-leb}
 use Rattle.stages.specs.Numbers.{variableRoom, outputRoom, imageLimit}
 use Rattle.stages.specs.Bytes.{Text, all, notZero, eqText}
-use Rattle.stages.specs.Outcome.{Outcome, refused, done}
+use Rattle.stages.specs.Outcome.{Outcome, refused, demands, done}
 use Rattle.stages.specs.Images.{Pairs, isName, framed, written, image, imageLength, flat, lookup, stored, held}
 use Rattle.stages.specs.Params.{store}
 use Rattle.stages.specs.Call.{over}
@@ -38,10 +38,12 @@ pub record Wrote (o : Outcome Text) (old left : Text) (n : ℕ) : Type 0 where
 pub wrote : (o : Outcome Text) (old left : Text) (n : ℕ) → Writes o old left (done n) → Wrote o old left n
 wrote (done t) old left n w = record { new = t; gives = refl; long = done-same (w .answers); leaves = w .leaves }
 wrote (refused k) old left n w = absurd (never (w .answers))
+wrote (demands t) old left n w = absurd (let e : _≡_ {A = Outcome ℕ} (done n) (demands t) = w .answers in let z : _≡_ {A = ℕ} 0 1 = cc in omega arith)
 
 -- and where it is a number: nothing was written
 pub unwritten : (o : Outcome Text) (old left : Text) (k : ℕ) → Writes o old left (refused k) → (o ≡ refused k) × (left ≡ old)
 unwritten (done t) old left k w = absurd (never (sym (w .answers)))
+unwritten (demands t) old left k w = absurd (let e : _≡_ {A = Outcome ℕ} (refused k) (demands t) = w .answers in let z : _≡_ {A = ℕ} 0 1 = cc in omega arith)
 unwritten (refused j) old left k w = (refusal (w .answers), w .leaves)
   where
     refusal : _≡_ {A = Outcome ℕ} (refused k) (refused j) → _≡_ {A = Outcome Text} (refused j) (refused k)

@@ -7,7 +7,7 @@ use lib.Dec.{leb}
 use lib.ListN.{length}
 use Rattle.stages.specs.Numbers.{variableRoom, outputRoom}
 use Rattle.stages.specs.Bytes.{Text}
-use Rattle.stages.specs.Outcome.{Outcome, refused, done, _>>=_, pick}
+use Rattle.stages.specs.Outcome.{Outcome, refused, demands, done, _>>=_, pick}
 use Rattle.stages.specs.Images.{Pairs, framed, image, flat}
 use Rattle.stages.specs.Params.{store}
 use Rattle.stages.specs.Call.{over}
@@ -41,11 +41,13 @@ imageIn room x t v = store room x t v >>= λ w. done (image (flat w))
 
 abbrev pub lengthOf : Outcome Text → Outcome ℕ
 lengthOf (refused n) = refused n
+lengthOf (demands t) = demands t
 lengthOf (done t) = done (length t)
 
 -- "bytes behind either new image are unchanged", "On refusal .. buffers hold their old bytes"
 abbrev pub leftBy : Outcome Text → Text → Text
 leftBy (refused n) old = old
+leftBy (demands t) old = old
 leftBy (done t) old = over t old
 
 -- what is answered and left where a stage gives bytes to write

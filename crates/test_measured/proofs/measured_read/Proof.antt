@@ -1,7 +1,7 @@
 -- The answer of `read_line` has the stage's number, whatever its case.
 use mathlib.Core.Path.{_≡_, refl, sym, ap, _∙_}
 use borrow.Author.Needs.{needs}
-use Rattle.stages.specs.Outcome.{refusedAt, doneAt}
+use Rattle.stages.specs.Outcome.{refusedAt, demandsAt, doneAt}
 use Rattle.stages.specs.Read.{Words, readLine}
 use Rattle.read_line.specs.Says.{verdict, verdictOf}
 use Rattle.read_line.specs.declared.LineRead.{LineRead}
@@ -12,6 +12,7 @@ use Rattle.test_measured.proofs.measured_read.Tie as tie
 verdict-number : (w : Words) → numberIn (verdict w) ≡ numberOf w
 unfolding numberOf
 verdict-number (refusedAt n place) = refl
+verdict-number (demandsAt t place) = refl
 verdict-number (doneAt ws) = refl
 
 told : (w : Words) (r s : LineRead) → verdict w ≡ verdictOf r → r ≡ s → numberIn (verdictOf s) ≡ numberOf w
