@@ -1,13 +1,15 @@
--- What the contracts determine: two outcomes for one row or one text are the same answer, with the same row in the area and the same image of variables.
--- Open are the bytes of the area behind the row, those of the variables' buffer behind the image, and both after a refusal.
+-- What the contracts determine: two outcomes for one row or one text are the same answer, with the same row in the area and the same image of variables,
+-- or with the same message. Open are the bytes of the area behind the row, those of the variables' buffer behind the image, and both after a refusal; and
+-- where in the area a message waits.
 use Prim.Native.Nat.{ℕ, _*_}
 use native.Mathlib.Omega.{arith}
-use mathlib.Core.Path.{_≡_, sym, ap, _∙_}
+use mathlib.Core.Path.{_≡_, refl, sym, ap, _∙_}
 use mathlib.Core.Bool.{Bool}
-use lib.ListN.{length, take, length-drop}
+use mathlib.Core.List.{[]}
+use lib.ListN.{length, take, drop, length-drop}
 use lib.Seq.{length-take-le}
 use Rattle.stages.specs.Bytes.{Text}
-use Rattle.stages.specs.Outcome.{Outcome, refused, done}
+use Rattle.stages.specs.Outcome.{Outcome, refused, demands, done}
 use Rattle.stages.specs.Images.{Pairs, isName, held, flat, image, imageLength}
 use Rattle.stages.specs.Syntax.{Parts}
 use Rattle.stages.specs.Read.{Taken}
@@ -17,12 +19,13 @@ use Rattle.stages.proofs.Images.{Bytes}
 use Rattle.stages.proofs.Tables.{table-length, table-canonical}
 use Rattle.stages.proofs.Rooms.{fit-ok}
 use Rattle.text.specs.Rows.{rowBytes}
-use Rattle.expand_add.specs.Answers.{Holds, IsRow, Ends, Answers, Says, Finishes}
+use Rattle.expand_add.specs.Answers.{Holds, IsRow, IsDemand, Ends, Answers, Says, Finishes}
 use Rattle.expand_add.specs.declared.answers.Onward.{Onward}
 use Rattle.expand_add.specs.declared.answers.Expanded.{Expanded}
 use Rattle.expand_add.specs.declared.answers.Expanded.the-variants as answer
 use Rattle.expand_add.proofs.Standing.{front}
 use Rattle.expand_add.proofs.Holding.{vars-held, says-known, answers-known}
+use Rattle.expand_add.proofs.Waiting.{waits-length}
 use Rattle.text.proofs.Determined.{one-answer}
 use Rattle.expand_add.specs.Added.{Adds, Fitting, measured}
 
@@ -52,7 +55,10 @@ module _ (units : ℕ) (on : Onward) (o : Outcome Row) (area area′ : Text) whe
       cc
   adds-determined (answer.Row n next u g) (answer.Refused e′) f h′ = absurd (measured-fits units on o area n next u g f h′)
   adds-determined (answer.Refused e) (answer.Row n′ next′ u′ g′) h f′ = absurd (measured-fits units on o area′ n′ next′ u′ g′ f′ h)
+  adds-determined (answer.Row n next u g) (answer.Demanded at len) f h′ = absurd h′
   adds-determined (answer.Refused e) (answer.Refused e′) h h′ = let q : e ≡ e′ = cc in ap answer.Refused q
+  adds-determined (answer.Refused e) (answer.Demanded at len) h h′ = absurd h′
+  adds-determined (answer.Demanded at len) r′ h h′ = absurd h
 
   pub adds-determined-row : {n next u n′ next′ u′ : ℕ} {g g′ : Bool} → Fitting units on o area n next u g → Fitting units on o area′ n′ next′ u′ g′
       → take (2 * n) area ≡ take (2 * n′) area′
@@ -60,6 +66,22 @@ module _ (units : ℕ) (on : Onward) (o : Outcome Row) (area area′ : Text) whe
       front (f .row) area n (f .stands) (f .counts) ∙ ap rowBytes (one-row f f′) ∙ sym (front (f′ .row) area′ n′ (f′ .stands) (f′ .counts))
 
 -- A text that is expanded.
+
+-- an answer without where its message waits, and the message
+abbrev pub apart : Expanded → Expanded
+apart (answer.Row n next u g) = answer.Row n next u g
+apart (answer.Refused e) = answer.Refused e
+apart (answer.Demanded at len) = answer.Demanded 0 len
+
+abbrev pub waiting : Text → Expanded → Text
+waiting area (answer.Row n next u g) = []
+waiting area (answer.Refused e) = []
+waiting area (answer.Demanded at len) = take len (drop at area)
+
+-- two answers are one, whose message may wait at two places
+pub record OneAnswer (area : Text) (r : Expanded) (area′ : Text) (r′ : Expanded) : Type 0 where
+  pub answers : apart r ≡ apart r′
+  pub message : waiting area r ≡ waiting area′ r′
 
 pub vars-used-is : (varsRoom : ℕ) (vars : Text) (varsUsed : ℕ) → Holds varsRoom vars varsUsed
     → varsUsed ≡ imageLength (flat (held (take varsUsed vars)))
@@ -69,6 +91,12 @@ vars-used-is varsRoom vars varsUsed w =
 module _ (varsRoom units : ℕ) (made : Made) (area vars area′ vars′ : Text) where
   clash : {e : ℕ} {p : Row × Pairs × Bool} → made ≡ refused e → made ≡ done p → ⊥
   clash a b = let z : _≡_ {A = ℕ} 0 1 = cc in omega arith
+
+  clash-demand : {t : Text} {p : Row × Pairs × Bool} → made ≡ demands t → made ≡ done p → ⊥
+  clash-demand a b = let z : _≡_ {A = ℕ} 0 1 = cc in omega arith
+
+  clash-both : {t : Text} {e : ℕ} → made ≡ demands t → made ≡ refused e → ⊥
+  clash-both a b = let z : _≡_ {A = ℕ} 0 1 = cc in omega arith
 
   one-number : {e e′ : ℕ} → made ≡ refused e → made ≡ refused e′ → e ≡ e′
   one-number h h′ = cc
@@ -103,18 +131,32 @@ module _ (varsRoom units : ℕ) (made : Made) (area vars area′ vars′ : Text)
         table-canonical isName (take varsUsed vars) (vars-held varsRoom vars varsUsed (i .holds)) b ∙ ap (λ (v : Pairs). image (flat v)) same-held
         ∙ sym (table-canonical isName (take varsUsed′ vars′) (vars-held varsRoom vars′ varsUsed′ (i′ .holds)) b′)
 
+  one-message : {at len at′ len′ : ℕ} → IsDemand made area at len → IsDemand made area′ at′ len′
+      → OneAnswer area (answer.Demanded at len) area′ (answer.Demanded at′ len′)
+  one-message {at} {len} {at′} {len′} d d′ =
+      let same : d .message ≡ d′ .message = (let a = d .is in let b = d′ .is in cc) in
+      record {
+        answers = ap (answer.Demanded 0) (sym (waits-length (d .waits)) ∙ ap length same ∙ waits-length (d′ .waits));
+        message = sym (d .waits .is) ∙ same ∙ d′ .waits .is;
+      }
+
   -- what a leaf hands on; its row and its image are one by `row-same` and `image-same`
   pub finishes-determined : (next : ℕ) (r r′ : Expanded) → Finishes varsRoom units made next area vars r → Finishes varsRoom units made next area′
-      vars′ r′ → r ≡ r′
-  finishes-determined next (answer.Refused e) (answer.Refused e′) h h′ = ap answer.Refused (one-number h h′)
+      vars′ r′ → OneAnswer area r area′ r′
+  finishes-determined next (answer.Refused e) (answer.Refused e′) h h′ = record { answers = ap answer.Refused (one-number h h′); message = refl }
   finishes-determined next (answer.Refused e) (answer.Row n′ next′ varsUsed′ g′) h h′ = absurd (clash h (h′ .1 .is))
+  finishes-determined next (answer.Refused e) (answer.Demanded at′ len′) h h′ = absurd (clash-both (h′ .is) h)
   finishes-determined next (answer.Row n after varsUsed g) (answer.Refused e′) h h′ = absurd (clash h′ (h .1 .is))
+  finishes-determined next (answer.Row n after varsUsed g) (answer.Demanded at′ len′) h h′ = absurd (clash-demand (h′ .is) (h .1 .is))
   finishes-determined next (answer.Row n after varsUsed g) (answer.Row n′ after′ varsUsed′ g′) h h′ =
       let a = same-units (h .1) (h′ .1) in
       let b : after ≡ after′ = one-answer (h .0) (h′ .0) in
       let c = same-vars-used (h .1) (h′ .1) in
       let d = same-tells (h .1) (h′ .1) in
-      cc
+      record { answers = cc; message = refl }
+  finishes-determined next (answer.Demanded at len) (answer.Refused e′) h h′ = absurd (clash-both (h .is) h′)
+  finishes-determined next (answer.Demanded at len) (answer.Row n′ after′ varsUsed′ g′) h h′ = absurd (clash-demand (h .is) (h′ .1 .is))
+  finishes-determined next (answer.Demanded at len) (answer.Demanded at′ len′) h h′ = one-message h h′
 
   module _ (text : Text) (at : ℕ) (rest : Text) where
     same-next : {next next′ : ℕ} → Ends text at next rest → Ends text at next′ rest → next ≡ next′
@@ -122,22 +164,27 @@ module _ (varsRoom units : ℕ) (made : Made) (area vars area′ vars′ : Text)
         omega (arith, length-drop next text, length-drop next′ text, ap length (k .ends), ap length (k′ .ends), k .within, k′ .within)
 
     answers-same : (r r′ : Expanded) → Answers varsRoom text at units made rest area vars r → Answers varsRoom text at units made rest area′ vars′
-        r′ → r ≡ r′
-    answers-same (answer.Refused e) (answer.Refused e′) h h′ = ap answer.Refused (one-number h h′)
+        r′ → OneAnswer area r area′ r′
+    answers-same (answer.Refused e) (answer.Refused e′) h h′ = record { answers = ap answer.Refused (one-number h h′); message = refl }
     answers-same (answer.Refused e) (answer.Row n′ next′ varsUsed′ g′) h h′ = absurd (clash h (h′ .0 .is))
+    answers-same (answer.Refused e) (answer.Demanded from′ len′) h h′ = absurd (clash-both (h′ .is) h)
     answers-same (answer.Row n next varsUsed g) (answer.Refused e′) h h′ = absurd (clash h′ (h .0 .is))
+    answers-same (answer.Row n next varsUsed g) (answer.Demanded from′ len′) h h′ = absurd (clash-demand (h′ .is) (h .0 .is))
     answers-same (answer.Row n next varsUsed g) (answer.Row n′ next′ varsUsed′ g′) h h′ =
         let a = same-units (h .0) (h′ .0) in
         let b = same-next (h .1) (h′ .1) in
         let c = same-vars-used (h .0) (h′ .0) in
         let d = same-tells (h .0) (h′ .0) in
-        cc
+        record { answers = cc; message = refl }
+    answers-same (answer.Demanded from len) (answer.Refused e′) h h′ = absurd (clash-both (h .is) h′)
+    answers-same (answer.Demanded from len) (answer.Row n′ next′ varsUsed′ g′) h h′ = absurd (clash-demand (h .is) (h′ .0 .is))
+    answers-same (answer.Demanded from len) (answer.Demanded from′ len′) h h′ = one-message h h′
 
 -- every function that answers for a text
 module _ (varsRoom : ℕ) (text : Text) (at units : ℕ) (own : Parts → Made) {o : Taken} {p : Parts × Text} (e : o ≡ done p)
     (area vars area′ vars′ : Text) (r r′ : Expanded)
     (s : Says varsRoom text at units own o area vars r) (s′ : Says varsRoom text at units own o area′ vars′ r′) where
-  pub determined : r ≡ r′
+  pub determined : OneAnswer area r area′ r′
   determined =
       answers-same varsRoom units (own (p .0)) area vars area′ vars′ text at (p .1) r r′
       (says-known varsRoom text at units own area vars r s e) (says-known varsRoom text at units own area′ vars′ r′ s′ e)

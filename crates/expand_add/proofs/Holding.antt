@@ -55,6 +55,7 @@ adds-finishes varsRoom units on o area vars (answer.Row count next varsUsed ofNo
         holds = w;
       }),
     )
+adds-finishes varsRoom units on o area vars (answer.Demanded at len) h w = absurd h
 
 -- the same of a row that is made the same
 pub finishes-same : (varsRoom units : ℕ) {made made′ : Made} (next : ℕ) (area vars : Text) (r : Expanded) → made ≡ made′
@@ -66,3 +67,4 @@ pub finishes-answers : (varsRoom : ℕ) (text : Text) (at units : ℕ) (made : M
     → Finishes varsRoom units made next area vars r → Ends text at next rest → Answers varsRoom text at units made rest area vars r
 finishes-answers varsRoom text at units made next rest area vars (answer.Refused e) h k = h
 finishes-answers varsRoom text at units made next rest area vars (answer.Row count after varsUsed ofNone) h k = (h .1, rw (h .0) k)
+finishes-answers varsRoom text at units made next rest area vars (answer.Demanded from len) h k = h

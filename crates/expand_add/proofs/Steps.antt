@@ -6,7 +6,7 @@ use mathlib.Core.Bool.{Bool, true, false, _||_}
 use mathlib.Core.List.{[], _∷_, _++_, append-assoc}
 use lib.ListN.{length}
 use Rattle.stages.specs.Bytes.{Text}
-use Rattle.stages.specs.Outcome.{Outcome, refused, done, _>>=_}
+use Rattle.stages.specs.Outcome.{Outcome, refused, demands, done, _>>=_}
 use Rattle.stages.specs.Images.{Pairs}
 use Rattle.stages.specs.Syntax.{Escape, Form, Param, Counted, Spread, Parts, lit, quo, par, len, lst, ari, til}
 use Rattle.stages.specs.Units.{Mark, Q, cell, Row, marked, bytes, expandedMark, litMark, decimal}
@@ -21,6 +21,7 @@ use Rattle.stages.proofs.Rooms.{fit-ok}
 
 pub onto-none : (o : Made) → o ≡ onto [] false o
 onto-none (refused e) = refl
+onto-none (demands t) = refl
 onto-none (done r) = refl
 
 or-or : (g h k : Bool) → (g || (h || k)) ≡ (g || h || k)
@@ -29,6 +30,7 @@ or-or false h k = refl
 
 pub onto-onto : (r s : Row) (g h : Bool) (o : Made) → onto r g (onto s h o) ≡ onto (r ++ s) (g || h) o
 onto-onto r s g h (refused e) = refl
+onto-onto r s g h (demands t) = refl
 onto-onto r s g h (done p) =
     ap (λ (t : Row). done (t, p .1, g || (h || p .2))) (sym (append-assoc r s (p .0)))
     ∙ ap (λ (k : Bool). done ((r ++ s) ++ p .0, p .1, k)) (or-or g h (p .2))
@@ -37,6 +39,7 @@ module _ (a : Lent) (p : Parts) (m : Mark) (n : ℕ) where
   placed-followed : (made : Made) → (made >>= λ r. adding n (r .0) (r .2) λ i. expand a p m i (r .1)) ≡ followed a p m n (placed n made)
   unfolding followed placed
   placed-followed (refused e) = refl
+  placed-followed (demands t) = refl
   placed-followed (done r) =
       by-fit
       (λ (o : Outcome ℕ). (o >>= λ i. onto (r .0) (r .2) (expand a p m i (r .1))) ≡
@@ -73,6 +76,7 @@ module _ (a : Lent) (p : Parts) (m : Mark) (n : ℕ) where
       ≡ (_>>=_ {B = Row × Pairs × Bool} o (λ r. done (inQuotes (r .2) (r .0), r .1, false))
       >>= λ r. onto (r .0) (r .2) (expand a p m (n + length (r .0)) (r .1)))
   quote-bind (refused e) = refl
+  quote-bind (demands t) = refl
   quote-bind (done r) = refl
 
   pub expand-quo : (q : Parts) (v : Pairs) → expand a (quo q p) m n v ≡ followed a p m n (quoted a q n v)
@@ -94,6 +98,7 @@ module _ (a : Lent) (p : Parts) (m : Mark) (n : ℕ) where
       ≡ ((o >>= λ s. done (numbered s)) >>= λ r. adding n (r .0) (r .2) λ i. expand a p m i (r .1))
   unfolding marked
   number-bind (refused e) = refl
+  number-bind (demands t) = refl
   number-bind (done s) = refl
 
   sum-bind : (o : Made)
@@ -101,6 +106,7 @@ module _ (a : Lent) (p : Parts) (m : Mark) (n : ℕ) where
       ≡ ((o >>= λ r. summed m r) >>= λ r. adding n (r .0) (r .2) λ i. expand a p m i (r .1))
   unfolding summed marked
   sum-bind (refused e) = refl
+  sum-bind (demands t) = refl
   sum-bind (done r) = number-bind (arithmeticOf (r .1) (bytes (r .0)))
 
   pub expand-ari : (q : Parts) (v : Pairs) → expand a (ari q p) m n v ≡ followed a p m n (placed n (expand a q Q 0 v >>= λ r. summed m r))
@@ -110,6 +116,10 @@ module _ (a : Lent) (p : Parts) (m : Mark) (n : ℕ) where
   pub followed-refused : (own : Made) (e : ℕ) → own ≡ refused e → followed a p m n own ≡ refused e
   unfolding followed
   followed-refused own e h = rw h
+
+  pub followed-demands : (own : Made) (t : Text) → own ≡ demands t → followed a p m n own ≡ demands t
+  unfolding followed
+  followed-demands own t h = rw h
 
   pub followed-row : (own : Made) (row : Row) (v : Pairs) (g : Bool) (count : ℕ) → own ≡ done (row, v, g) → length row ≡ count → followed a p m n own
       ≡ onto row g (expand a p m (n + count) v)
@@ -122,6 +132,10 @@ pub placed-refused : (n : ℕ) (made : Made) (e : ℕ) → made ≡ refused e �
 unfolding placed
 placed-refused n made e h = rw h
 
+pub placed-demands : (n : ℕ) (made : Made) (t : Text) → made ≡ demands t → placed n made ≡ demands t
+unfolding placed
+placed-demands n made t h = rw h
+
 pub placed-fits : (n : ℕ) (made : Made) (row : Row) (v : Pairs) (g : Bool) → made ≡ done (row, v, g) → n + length row ≤ rowLimit
     → placed n made ≡ done (row, v, g)
 unfolding placed
@@ -130,6 +144,7 @@ placed-fits n made row v g h l = rw (h, fit-ok n (length row) l)
 beside-placed : (n : ℕ) (v : Pairs) (g : Bool) (o : Outcome Row) → placed n (beside v g o) ≡ beside v g (measured n o)
 unfolding placed measured
 beside-placed n v g (refused e) = refl
+beside-placed n v g (demands t) = refl
 beside-placed n v g (done r) =
     by-fit (λ (o : Outcome ℕ). _≡_ {A = Made} (_>>=_ {B = Row × Pairs × Bool} o (λ i. done (r, v, g))) (beside v g (o >>= λ i. done r))) n (length r)
     refl refl

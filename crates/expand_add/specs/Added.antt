@@ -36,9 +36,11 @@ unfoldable pub measured : ℕ → Outcome Row → Outcome Row
 unfolding fit
 measured units o = o >>= λ r. fit units (length r) >>= λ i. done r
 
+-- what is added alone demands nothing
 abbrev pub Adds : ℕ → Onward → Outcome Row → Text → Expanded → Type 0
 Adds units on o area (expanded.Row count next varsUsed ofNone) = Fitting units on o area count next varsUsed ofNone
 Adds units on o area (expanded.Refused e) = measured units o ≡ refused e
+Adds units on o area (expanded.Demanded at len) = ⊥
 
 -- so many units after those before them
 abbrev pub admitted : ℕ → Onward → ℕ → Expanded

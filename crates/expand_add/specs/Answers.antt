@@ -5,7 +5,7 @@ use mathlib.Core.Bool.{Bool, true}
 use lib.ListN.{length, take, drop}
 use Rattle.stages.specs.Numbers.{rowLimit, imageLimit}
 use Rattle.stages.specs.Bytes.{Text, all, notZero}
-use Rattle.stages.specs.Outcome.{refused, done}
+use Rattle.stages.specs.Outcome.{refused, demands, done}
 use Rattle.stages.specs.Images.{variablesOf, held, isSome}
 use Rattle.stages.specs.Syntax.{Parts}
 use Rattle.stages.specs.Read.{Taken, parts}
@@ -45,6 +45,17 @@ pub record IsRow (varsRoom units : ℕ) (made : Made) (area vars : Text) (count 
   pub fits : units + count ≤ rowLimit
   pub holds : Holds varsRoom vars varsUsed
 
+-- a message waits in an area: its bytes are the `len` from `at` on
+pub record Waits (t area : Text) (at len : ℕ) : Type 0 where
+  pub is : t ≡ take len (drop at area)
+  pub fits : at + len ≤ length area
+
+-- E7: a missing value was demanded, and the message waits in the area
+pub record IsDemand (made : Made) (area : Text) (at len : ℕ) : Type 0 where
+  pub message : Text
+  pub is : made ≡ demands message
+  pub waits : Waits message area at len
+
 -- what is after the text stands at `next`
 pub record Ends (text : Text) (at next : ℕ) (rest : Text) : Type 0 where
   pub ends : drop next text ≡ rest
@@ -55,10 +66,12 @@ abbrev pub Answers : ℕ → Text → ℕ → ℕ → Made → Text → Text →
 Answers varsRoom text at units made rest area vars (expanded.Refused e) = made ≡ refused e
 Answers varsRoom text at units made rest area vars (expanded.Row count next varsUsed ofNone) =
     IsRow varsRoom units made area vars count varsUsed ofNone × Ends text at next rest
+Answers varsRoom text at units made rest area vars (expanded.Demanded from len) = IsDemand made area from len
 
--- the answer of a text that is read as `o`, of whose parts `own` is made
+-- the answer of a text that is read as `o`, of whose parts `own` is made; reading demands nothing
 abbrev pub Says : ℕ → Text → ℕ → ℕ → (Parts → Made) → Taken → Text → Text → Expanded → Type 0
 Says varsRoom text at units own (refused e) area vars r = Unit {0}
+Says varsRoom text at units own (demands t) area vars r = Unit {0}
 Says varsRoom text at units own (done p) area vars r = Answers varsRoom text at units (own (p .0)) (p .1) area vars r
 
 -- the same where a leaf hands the place on
@@ -66,3 +79,4 @@ abbrev pub Finishes : ℕ → ℕ → Made → ℕ → Text → Text → Expande
 Finishes varsRoom units made next area vars (expanded.Refused e) = made ≡ refused e
 Finishes varsRoom units made next area vars (expanded.Row count after varsUsed ofNone) =
     (after ≡ next) × IsRow varsRoom units made area vars count varsUsed ofNone
+Finishes varsRoom units made next area vars (expanded.Demanded at len) = IsDemand made area at len

@@ -14,7 +14,8 @@ pub struct Onward {
 }
 
 // What expanding answers: a row of so many units stands at the front of the area, the text goes on at `next`, the variables' image has `vars_used` bytes,
-// and `of_none` says whether `$@` of no parameters came in it; or the number that refuses it.
+// and `of_none` says whether `$@` of no parameters came in it; or the number that refuses it; or a missing value was demanded, and the message is the area's
+// `len` bytes from `at` on.
 pub enum Expanded {
     Row {
         units: usize,
@@ -23,4 +24,8 @@ pub enum Expanded {
         of_none: bool,
     },
     Refused(u8),
+    Demanded {
+        at: usize,
+        len: usize,
+    },
 }

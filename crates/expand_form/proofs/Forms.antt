@@ -2,7 +2,7 @@
 use mathlib.Core.Path.{_≡_, refl, sym, ap, _∙_}
 use mathlib.Core.Bool.{Bool, false}
 use Rattle.stages.specs.Bytes.{Text}
-use Rattle.stages.specs.Outcome.{refused, done, _>>=_, pick}
+use Rattle.stages.specs.Outcome.{refused, demands, done, _>>=_, pick}
 use Rattle.stages.specs.Images.{Pairs, held, heldTexts}
 use Rattle.stages.specs.Syntax.{Colon, Param, Form, plain, minus, equals, query, plus, removal, suffix, prefix, shortest, longest}
 use Rattle.stages.specs.Units.{Mark, expandedMark}
@@ -17,15 +17,15 @@ use Rattle.expand_add.specs.Steps.{beside}
 use Rattle.expand_form.specs.declared.Plan.{Plan}
 use Rattle.expand_form.specs.declared.Plan.the-variants as plan
 use Rattle.expand_form.specs.declared.Unused.{Unused}
-use Rattle.expand_form.specs.declared.Unused.the-variants.{Value, Nothing, Demand}
+use Rattle.expand_form.specs.declared.Unused.the-variants.{Value, Nothing}
 use Rattle.expand_form.specs.declared.Used.{Used}
-use Rattle.expand_form.specs.declared.Used.the-variants.{Given, Stored}
+use Rattle.expand_form.specs.declared.Used.the-variants.{Given, Stored, Demanded}
 
 plan-same : (f : Form) (g h : Colon → Bool) → ((c : Colon) → g c ≡ h c) → planOf f g ≡ planOf f h
 plan-same plain g h e = refl
 plan-same (minus c) g h e = ap (λ (b : Bool). pick b (plan.Used Given) (plan.Unused Value)) (e c)
 plan-same (equals c) g h e = ap (λ (b : Bool). pick b (plan.Used Stored) (plan.Unused Value)) (e c)
-plan-same (query c) g h e = ap (λ (b : Bool). pick b (plan.Unused Demand) (plan.Unused Value)) (e c)
+plan-same (query c) g h e = ap (λ (b : Bool). pick b (plan.Used Demanded) (plan.Unused Value)) (e c)
 plan-same (plus c) g h e = ap (λ (b : Bool). pick b (plan.Unused Nothing) (plan.Used Given)) (e c)
 plan-same (removal side reach) g h e = refl
 
@@ -33,6 +33,7 @@ plan-same (removal side reach) g h e = refl
 
 bind-done : (o : Made) → o ≡ (o >>= λ p. done p)
 bind-done (refused e) = refl
+bind-done (demands t) = refl
 bind-done (done p) = refl
 
 module _ (a : Lent) (operand : Mark → Pairs → Made) (x : Param) (m : Mark) (v : Pairs) where

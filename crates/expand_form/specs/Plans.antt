@@ -1,27 +1,26 @@
 -- What a form of a parameter asks for, and what each plan gives: document 01's forms with "missing" tested once.
 use mathlib.Core.Bool.{Bool}
 use mathlib.Core.List.{[]}
-use Rattle.stages.specs.Numbers.{demanded}
-use Rattle.stages.specs.Outcome.{Outcome, refused, done, pick}
+use Rattle.stages.specs.Outcome.{Outcome, done, pick}
 use Rattle.stages.specs.Images.{Pairs}
 use Rattle.stages.specs.Syntax.{Colon, Param, Form, plain, minus, equals, query, plus, removal}
 use Rattle.stages.specs.Units.{Mark, L, Row, marked, expandedMark}
 use Rattle.stages.specs.Params.{Lent, value}
-use Rattle.stages.specs.Expand.{Made, assigned, cutBy}
+use Rattle.stages.specs.Expand.{Made, assigned, demand, cutBy}
 use Rattle.text.specs.Cases.{sideOf, isSuffix, reachOf, isLongest}
 use Rattle.expand_form.specs.declared.Plan.{Plan}
 use Rattle.expand_form.specs.declared.Plan.the-variants as plan
 use Rattle.expand_form.specs.declared.Unused.{Unused}
-use Rattle.expand_form.specs.declared.Unused.the-variants.{Value, Nothing, Demand}
+use Rattle.expand_form.specs.declared.Unused.the-variants.{Value, Nothing}
 use Rattle.expand_form.specs.declared.Used.{Used}
-use Rattle.expand_form.specs.declared.Used.the-variants.{Given, Stored, Removed}
+use Rattle.expand_form.specs.declared.Used.the-variants.{Given, Stored, Removed, Demanded}
 
 -- what a form asks for, by whether the value is missing: with the colon, and without
 abbrev pub planOf : Form → (Colon → Bool) → Plan
 planOf plain missing = plan.Unused Value
 planOf (minus c) missing = pick (missing c) (plan.Used Given) (plan.Unused Value)
 planOf (equals c) missing = pick (missing c) (plan.Used Stored) (plan.Unused Value)
-planOf (query c) missing = pick (missing c) (plan.Unused Demand) (plan.Unused Value)
+planOf (query c) missing = pick (missing c) (plan.Used Demanded) (plan.Unused Value)
 planOf (plus c) missing = pick (missing c) (plan.Unused Nothing) (plan.Used Given)
 planOf (removal side reach) missing = plan.Used (Removed (isSuffix side) (isLongest reach))
 
@@ -30,18 +29,19 @@ abbrev pub operandMark : Used → Mark → Mark
 operandMark Given m = expandedMark m
 operandMark Stored m = m
 operandMark (Removed s long) m = L
+operandMark Demanded m = m
 
 -- what is given where the operand is not used
 unfoldable pub settled : Unused → Lent → Param → Mark → Pairs → Outcome Row
 unfolding value marked
 settled Value a x m v = done (marked (expandedMark m) (value a v x))
 settled Nothing a x m v = done []
-settled Demand a x m v = refused demanded
 
 -- what is given where it is, by its row, the variables after its stores, and whether `$@` of no parameters came in it: only an operand that is given
 -- hands that on
 unfoldable pub finished : Used → Lent → Param → Mark → Row × Pairs × Bool → Made
-unfolding assigned cutBy
+unfolding assigned demand cutBy
 finished Given a x m p = done p
 finished Stored a x m p = assigned a x m p
 finished (Removed s long) a x m p = cutBy a (sideOf s) (reachOf long) x m p
+finished Demanded a x m p = demand p

@@ -19,8 +19,6 @@ pub enum Plan {
 pub enum Unused {
     Value,
     Nothing,
-    // the value is missing, which is refused
-    Demand,
 }
 
 // What is done with the operand where it is used.
@@ -31,6 +29,8 @@ pub enum Used {
     Stored,
     // it is the pattern of a removal, and what that leaves of the value is given
     Removed { suffix: bool, long: bool },
+    // its bytes are the message of the refusal
+    Demanded,
 }
 
 // "Missing": unset, or with the colon also empty.
@@ -67,7 +67,7 @@ pub fn plan_of(form: Form, found: Found) -> Plan
         }
         Form::Query(colon) => {
             if is_missing(colon, found) {
-                return Plan::Unused(Unused::Demand);
+                return Plan::Used(Used::Demanded);
             }
             Plan::Unused(Unused::Value)
         }
@@ -96,5 +96,6 @@ pub fn operand_mark(used: Used, mark: Mark) -> Mark
         Used::Given => row::expanded_mark(mark),
         Used::Stored => mark,
         Used::Removed { suffix: _, long: _ } => Mark::L,
+        Used::Demanded => mark,
     }
 }

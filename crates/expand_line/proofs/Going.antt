@@ -8,7 +8,7 @@ use lib.ListN.{length, take, drop, set, length-append}
 use lib.Seq.{take-at, drop-at, drop-drop}
 use Rattle.stages.specs.Numbers.{outputRoom}
 use Rattle.stages.specs.Bytes.{Text}
-use Rattle.stages.specs.Outcome.{Outcome, refused, done, _>>=_, Placed, refusedAt, doneAt, placedAt, _then_, require, pick}
+use Rattle.stages.specs.Outcome.{Outcome, refused, demands, done, _>>=_, Placed, refusedAt, demandsAt, doneAt, placedAt, _then_, require, pick}
 use Rattle.stages.specs.Images.{Pairs, written, image, recordBytes}
 use Rattle.stages.specs.Syntax.{Word}
 use Rattle.stages.specs.Read.{words, readLine}
@@ -25,10 +25,12 @@ before l o = o then λ s. doneAt (l ++ s .0, s .1)
 
 before-none : (o : Placed (Fields × Pairs)) → o ≡ before [] o
 before-none (refusedAt n p) = refl
+before-none (demandsAt t p) = refl
 before-none (doneAt s) = refl
 
 before-both : (l m : Fields) (o : Placed (Fields × Pairs)) → before l (before m o) ≡ before (l ++ m) o
 before-both l m (refusedAt n p) = refl
+before-both l m (demandsAt t p) = refl
 before-both l m (doneAt s) = ap (λ (k : Fields). doneAt (k, s .1)) (sym (append-assoc l m (s .0)))
 
 module _ (a : Around) (w : Word) (ws : List Word) (n : ℕ) (v : Pairs) where
@@ -44,6 +46,7 @@ module _ (a : Around) (w : Word) (ws : List Word) (n : ℕ) (v : Pairs) where
       → (placedAt (w .place) o then λ r. require (outFits a (n + recordBytes (r .0))) outputRoom (w .place) then λ _. later r)
       ≡ (placedAt (w .place) (o >>= λ r. pick (outFits a (n + recordBytes (r .0))) (done r) (refused outputRoom)) then later)
   by-fields (refused e) = refl
+  by-fields (demands t) = refl
   by-fields (done r) = by-room r (outFits a (n + recordBytes (r .0)))
 
   -- a word's own faults, 21 among them, are met before the words behind it
@@ -109,6 +112,10 @@ module _ {a : Around} {o : Placed (Fields × Pairs)} {line : Text} {from len : �
     -- the word is refused
     pub goes-refused : {n : ℕ} → wordOutcome a (first .tree) len v ≡ refused n → o ≡ refusedAt n place
     goes-refused h = opened ∙ ap (λ (w : Outcome (Fields × Pairs)). before (g .fields) (placedAt place w then later a own (first .tail) len v)) h
+
+    -- the word demands a message
+    pub goes-demanded : {t : Text} → wordOutcome a (first .tree) len v ≡ demands t → o ≡ demandsAt t place
+    goes-demanded h = opened ∙ ap (λ (w : Outcome (Fields × Pairs)). before (g .fields) (placedAt place w then later a own (first .tail) len v)) h
 
     -- its fields stand behind those before them
     module _ {l : Fields} {u : Pairs} (h : wordOutcome a (first .tree) len v ≡ done (l, u)) {next len' : ℕ}

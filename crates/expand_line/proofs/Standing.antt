@@ -21,11 +21,11 @@ use Rattle.read_line.proofs.Lines.{good-left}
 use Rattle.expand_add.specs.Answers.{Holds}
 use Rattle.table_store.specs.Splice.{placed}
 use Rattle.table.specs.Around.{among}
-use Rattle.expand_line.specs.Answers.{wordOutcome, lineOutcome, WordReady, IsFields, WordOf, WordSays, LineReady, LineSays}
+use Rattle.expand_line.specs.Answers.{wordOutcome, lineOutcome, WordReady, IsFields, WordDemands, WordOf, WordSays, LineReady, LineSays}
 use Rattle.expand_line.specs.declared.WordExpanded.{WordExpanded}
 use Rattle.expand_line.specs.declared.WordExpanded.the-variants as word
 use Rattle.expand_line.specs.declared.LineExpanded.the-variants as line
-use Rattle.expand_line.proofs.Going.{Goes, goes-start, goes-end, first, goes-refused, goes-on}
+use Rattle.expand_line.proofs.Going.{Goes, goes-start, goes-end, first, goes-refused, goes-demanded, goes-on}
 
 -- a word has a byte, so the line goes on behind its place
 word-longer : (line : Text) (place next : ℕ) (tree : Parts) (rest : Text) → place < length line → isBlank (getD line place 0) ≡ false
@@ -73,7 +73,7 @@ module _ {text vars : Text} {varsUsed room : ℕ} {houses params paths work out 
     unfolding image
     some-byte = omega arith
 
-    pub state-end : NextNone text at → LineSays room outside vars' out out' (line.Done len left)
+    pub state-end : NextNone text at → LineSays room outside vars' out out' work' (line.Done len left)
     unfolding over
     state-end n =
         let k : 0 < len = omega (arith, some-byte, s .goes .long) in
@@ -114,23 +114,29 @@ module _ {text vars : Text} {varsUsed room : ℕ} {houses params paths work out 
           }
 
       -- the word's answer, by its parts and for the output as it was where the loop began
-      module _ {vars₂ out₂ : Text} {got : WordExpanded}
+      module _ {vars₂ out₂ work₂ : Text} {got : WordExpanded}
           (h : WordSays (among room houses params paths (length out')) (parts (words fresh) depthLimit (drop place text)) text place len
-          (held (take left vars')) vars₂ out' out₂ got) where
+          (held (take left vars')) vars₂ out' out₂ work₂ got) where
         abbrev a : Around
         a = among room houses params paths (length first-out)
 
         word-of : {x : WordExpanded} → got ≡ x → WordOf a (wordOutcome a (own .tree) len (held (take left vars'))) (own .rest) text place len
-            vars₂ out' out₂ x
+            vars₂ out' out₂ work₂ x
         word-of e =
-            subst (λ (y : WordExpanded). WordOf a (wordOutcome a (own .tree) len (held (take left vars'))) (own .rest) text place len vars₂ out' out₂ y) e
+            subst
+            (λ (y : WordExpanded). WordOf a (wordOutcome a (own .tree) len (held (take left vars'))) (own .rest) text place len vars₂ out' out₂ work₂ y) e
             (subst
             (λ (n : ℕ). WordSays (among room houses params paths n) (parts (words fresh) depthLimit (drop place text)) text place len (held (take left vars'))
-            vars₂ out' out₂ got)
+            vars₂ out' out₂ work₂ got)
             (s .same) h .says (own .tree, own .rest) (own .read))
 
-        pub state-refused : {e : ℕ} → got ≡ word.Refused e → LineSays room outside vars₂ out out₂ (line.Refused e place)
+        pub state-refused : {e : ℕ} → got ≡ word.Refused e → LineSays room outside vars₂ out out₂ work₂ (line.Refused e place)
         state-refused e = both ∙ goes-refused (s .goes) p (word-of e)
+
+        pub state-demanded : {from n : ℕ} → got ≡ word.Demanded from n → LineSays room outside vars₂ out out₂ work₂ (line.Demanded from n place)
+        state-demanded {from} {n} e =
+            let d : WordDemands (wordOutcome a (own .tree) len (held (take left vars'))) work₂ from n = word-of e in
+            record { message = d .message; is = both ∙ goes-demanded (s .goes) p (d .is); waits = d .waits }
 
         module _ {len₂ next left₂ : ℕ} (e : got ≡ word.Fields len₂ next left₂) where
           made : IsFields a (wordOutcome a (own .tree) len (held (take left vars'))) (own .rest) text place len vars₂ out' out₂ len₂ next left₂
@@ -141,7 +147,7 @@ module _ {text vars : Text} {varsUsed room : ℕ} {houses params paths work out 
               let k = word-longer text place next (own .tree) (own .rest) (p .within) (p .starts) (own .read) (made .ends .ends) (made .ends .within) in
               (omega (arith, p .onward, k), made .ends .within)
 
-          pub state-next : {work₂ : Text} → length work₂ ≡ length work' → length out₂ ≡ length out'
+          pub state-next : length work₂ ≡ length work' → length out₂ ≡ length out'
               → State text houses params paths room inside first-out next len₂ left₂ vars₂ work₂ out₂
           unfolding placed
           state-next m n =

@@ -8,7 +8,7 @@ use lib.Seq.{take-at}
 use borrow.Author.Tests.{le-leb, lt-leb}
 use Rattle.stages.specs.Numbers.{depthLimit, imageLimit, bracketClass, outputRoom}
 use Rattle.stages.specs.Bytes.{Text}
-use Rattle.stages.specs.Outcome.{Outcome, refused, done}
+use Rattle.stages.specs.Outcome.{Outcome, refused, demands, done}
 use Rattle.stages.specs.Images.{Pairs, held, heldTexts, recordBytes, written}
 use Rattle.stages.specs.Syntax.{Parts, fresh, word as words}
 use Rattle.stages.specs.Read.{Taken, parts}
@@ -19,7 +19,7 @@ use Rattle.stages.specs.Paths.{textsOfFields}
 use Rattle.stages.specs.Line.{Around, Fields, wordFields, outFits}
 use Rattle.text.specs.Rows.{rowBytes, rowOf}
 use Rattle.text.proofs.Rows.{rowOf-rowBytes, length-rowBytes}
-use Rattle.expand_add.specs.Answers.{IsRow, Answers as RowOf, Says as Expands}
+use Rattle.expand_add.specs.Answers.{IsRow, IsDemand, Answers as RowOf, Says as Expands}
 use Rattle.expand_add.specs.declared.answers.Expanded.{Expanded}
 use Rattle.expand_add.specs.declared.answers.Expanded.the-variants as expanded
 use Rattle.table_store.specs.Splice.{placed}
@@ -82,6 +82,10 @@ module _ (a : Around) (tree : Parts) (n : ℕ) (v : Pairs) where
   unfolding wordOutcome wordFields
   outcome-refused h = rw h
 
+  outcome-demands : {t : Text} → expand (a .lent) tree L 0 v ≡ demands t → wordOutcome a tree n v ≡ demands t
+  unfolding wordOutcome wordFields
+  outcome-demands h = rw h
+
   module _ {row : Row} {u : Pairs} {came : Bool} (h : expand (a .lent) tree L 0 v ≡ done (row, u, came)) where
     outcome-class : {e : ℕ} → textsOfFields (a .paths) (fieldsOfRow u row) ≡ refused e → wordOutcome a tree n v ≡ refused e
     unfolding wordOutcome wordFields
@@ -112,14 +116,14 @@ module _ {line : Text} {at : ℕ} {vars : Text} {varsUsed room : ℕ} {houses pa
   abbrev rest : Text
   rest = w .ready .rest
 
-  said : (vars' out : Text) (r : WordExpanded) → WordOf a (wordOutcome a tree used v) rest line at used vars' old out r
-      → WordSays a (parts (words fresh) depthLimit (drop at line)) line at used v vars' old out r
-  said vars' out r h =
+  said : (vars' out work' : Text) (r : WordExpanded) → WordOf a (wordOutcome a tree used v) rest line at used vars' old out work' r
+      → WordSays a (parts (words fresh) depthLimit (drop at line)) line at used v vars' old out work' r
+  said vars' out work' r h =
       record {
         says = λ p e.
             let d = w .ready .is in
             let k : _≡_ {A = Parts × Text} (tree, rest) p = cc in
-            subst (λ (x : Parts × Text). WordOf a (wordOutcome a (x .0) used v) (x .1) line at used vars' old out r) k h;
+            subst (λ (x : Parts × Text). WordOf a (wordOutcome a (x .0) used v) (x .1) line at used vars' old out work' r) k h;
       }
 
   module _ (area vars' : Text) (got : Expanded)
@@ -129,9 +133,16 @@ module _ {line : Text} {at : ℕ} {vars : Text} {varsUsed room : ℕ} {houses pa
         subst (λ (x : Expanded). RowOf room line at 0 (expand (lentOf room houses params) tree L 0 v) rest area vars' x) e
         (subst (λ (o : Taken). Expands room line at 0 (λ t. expand (lentOf room houses params) t L 0 v) o area vars' got) (w .ready .is) h)
 
-    pub word-refused : {e : ℕ} {out : Text} → got ≡ expanded.Refused e → WordSays a (parts (words fresh) depthLimit (drop at line)) line at used v
-        vars' old out (word.Refused e)
-    word-refused {e = e} {out = out} g = said vars' out (word.Refused e) (outcome-refused a tree used v (row-of g))
+    pub word-refused : {e : ℕ} {out work' : Text} → got ≡ expanded.Refused e → WordSays a (parts (words fresh) depthLimit (drop at line)) line at used v
+        vars' old out work' (word.Refused e)
+    word-refused {e = e} {out = out} {work' = work'} g = said vars' out work' (word.Refused e) (outcome-refused a tree used v (row-of g))
+
+    pub word-demanded : {from count : ℕ} {out : Text} → got ≡ expanded.Demanded from count
+        → WordSays a (parts (words fresh) depthLimit (drop at line)) line at used v vars' old out area (word.Demanded from count)
+    word-demanded {from = from} {count = count} {out = out} g =
+        let d : IsDemand (expand (lentOf room houses params) tree L 0 v) area from count = row-of g in
+        said vars' out area (word.Demanded from count)
+        (record { message = d .message; is = outcome-demands a tree used v (d .is); waits = d .waits })
 
     module _ {units next left : ℕ} {came : Bool} (g : got ≡ expanded.Row units next left came) where
       pub there : IsRow room 0 (expand (lentOf room houses params) tree L 0 v) area vars' units left came
@@ -142,19 +153,21 @@ module _ {line : Text} {at : ℕ} {vars : Text} {varsUsed room : ℕ} {houses pa
         split : Says (textsOfFields (heldTexts paths) (fieldsOfRow (held (take left vars')) (there .row))) used old out r
         split = subst (λ (x : Row). Says (textsOfFields (heldTexts paths) (fieldsOfRow (held (take left vars')) x)) used old out r) (row-there there) (p .says)
 
-        pub word-class : r ≡ Class → WordSays a (parts (words fresh) depthLimit (drop at line)) line at used v vars' old out (word.Refused bracketClass)
-        word-class c = said vars' out (word.Refused bracketClass) (outcome-class a tree used v (there .is) (class-of split c))
+        pub word-class : {work' : Text} → r ≡ Class → WordSays a (parts (words fresh) depthLimit (drop at line)) line at used v vars' old out work'
+            (word.Refused bracketClass)
+        word-class {work' = work'} c = said vars' out work' (word.Refused bracketClass) (outcome-class a tree used v (there .is) (class-of split c))
 
-        pub word-full : r ≡ NoRoom → WordSays a (parts (words fresh) depthLimit (drop at line)) line at used v vars' old out (word.Refused outputRoom)
-        word-full c =
+        pub word-full : {work' : Text} → r ≡ NoRoom → WordSays a (parts (words fresh) depthLimit (drop at line)) line at used v vars' old out work'
+            (word.Refused outputRoom)
+        word-full {work' = work'} c =
             let f = full-of split c in
-            said vars' out (word.Refused outputRoom) (outcome-full a tree used v (there .is) (f .is) (f .full))
+            said vars' out work' (word.Refused outputRoom) (outcome-full a tree used v (there .is) (f .is) (f .full))
 
-        pub word-written : {n : ℕ} → r ≡ Len n → WordSays a (parts (words fresh) depthLimit (drop at line)) line at used v vars' old out
+        pub word-written : {work' : Text} {n : ℕ} → r ≡ Len n → WordSays a (parts (words fresh) depthLimit (drop at line)) line at used v vars' old out work'
             (word.Fields n next left)
-        word-written {n = n} c =
+        word-written {work' = work'} {n = n} c =
             let f = len-of split c in
-            said vars' out (word.Fields n next left)
+            said vars' out work' (word.Fields n next left)
             (record {
               fields = f .fields;
               is = outcome-done a tree used v (there .is) (f .is) (omega (arith, f .long, f .fits)) (w .few);

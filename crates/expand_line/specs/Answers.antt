@@ -6,14 +6,14 @@ use mathlib.Core.List.{List}
 use lib.ListN.{length, take}
 use Rattle.stages.specs.Numbers.{depthLimit, workLeast, imageLimit, outputRoom}
 use Rattle.stages.specs.Bytes.{Text, all, notZero}
-use Rattle.stages.specs.Outcome.{Outcome, refused, done, _>>=_, Placed, refusedAt, doneAt, _then_, pick}
+use Rattle.stages.specs.Outcome.{Outcome, refused, demands, done, _>>=_, Placed, refusedAt, demandsAt, doneAt, _then_, pick}
 use Rattle.stages.specs.Images.{Pairs, held, isSome, homesOf, pathsOf, fieldsOf, written, image, recordBytes}
 use Rattle.stages.specs.Syntax.{Parts, Word}
 use Rattle.stages.specs.Read.{Taken, readLine}
 use Rattle.stages.specs.Line.{Around, Fields, wordFields, outFits, expandWords}
 use Rattle.stages.specs.Call.{over}
 use Rattle.read_mode.specs.declared.Mode.the-variants as mode
-use Rattle.expand_add.specs.Answers.{Holds, Ready, Ends}
+use Rattle.expand_add.specs.Answers.{Holds, Ready, Waits, Ends}
 use Rattle.table_store.specs.Splice.{placed}
 use Rattle.expand_line.specs.declared.WordExpanded.{WordExpanded}
 use Rattle.expand_line.specs.declared.WordExpanded.the-variants as word
@@ -49,13 +49,20 @@ pub record IsFields (a : Around) (made : Outcome (Fields × Pairs)) (rest text :
   pub holds : Holds (a .lent .room) vars varsUsed
   pub ends : Ends text at next rest
 
-abbrev pub WordOf : Around → Outcome (Fields × Pairs) → Text → Text → ℕ → ℕ → Text → Text → Text → WordExpanded → Type 0
-WordOf a made rest text at used vars old out (word.Refused e) = made ≡ refused e
-WordOf a made rest text at used vars old out (word.Fields len next varsUsed) = IsFields a made rest text at used vars old out len next varsUsed
+-- a word demands a message, which waits in the work area
+pub record WordDemands (made : Outcome (Fields × Pairs)) (work : Text) (from len : ℕ) : Type 0 where
+  pub message : Text
+  pub is : made ≡ demands message
+  pub waits : Waits message work from len
+
+abbrev pub WordOf : Around → Outcome (Fields × Pairs) → Text → Text → ℕ → ℕ → Text → Text → Text → Text → WordExpanded → Type 0
+WordOf a made rest text at used vars old out work (word.Refused e) = made ≡ refused e
+WordOf a made rest text at used vars old out work (word.Demanded from len) = WordDemands made work from len
+WordOf a made rest text at used vars old out work (word.Fields len next varsUsed) = IsFields a made rest text at used vars old out len next varsUsed
 
 -- the answer of a word, whatever it is read as
-pub record WordSays (a : Around) (o : Taken) (text : Text) (at used : ℕ) (v : Pairs) (vars old out : Text) (r : WordExpanded) : Type 0 where
-  pub says : (p : Parts × Text) → o ≡ done p → WordOf a (wordOutcome a (p .0) used v) (p .1) text at used vars old out r
+pub record WordSays (a : Around) (o : Taken) (text : Text) (at used : ℕ) (v : Pairs) (vars old out work : Text) (r : WordExpanded) : Type 0 where
+  pub says : (p : Parts × Text) → o ≡ done p → WordOf a (wordOutcome a (p .0) used v) (p .1) text at used vars old out work r
 
 -- the line is read and no byte of it is zero; the tables are well formed; the empty fields image has room
 pub record LineReady (text vars : Text) (varsUsed room : ℕ) (houses params paths work out : Text) : Type 0 where
@@ -79,6 +86,13 @@ pub record IsLine (room : ℕ) (o : Placed (Fields × Pairs)) (vars old out : Te
   pub stands : out ≡ over (image fields) old
   pub holds : Holds room vars varsUsed
 
-abbrev pub LineSays : ℕ → Placed (Fields × Pairs) → Text → Text → Text → LineExpanded → Type 0
-LineSays room o vars old out (line.Refused n place) = o ≡ refusedAt n place
-LineSays room o vars old out (line.Done len varsUsed) = IsLine room o vars old out len varsUsed
+-- a word of the line demands a message, which waits in the work area
+pub record LineDemands (o : Placed (Fields × Pairs)) (work : Text) (from len place : ℕ) : Type 0 where
+  pub message : Text
+  pub is : o ≡ demandsAt message place
+  pub waits : Waits message work from len
+
+abbrev pub LineSays : ℕ → Placed (Fields × Pairs) → Text → Text → Text → Text → LineExpanded → Type 0
+LineSays room o vars old out work (line.Refused n place) = o ≡ refusedAt n place
+LineSays room o vars old out work (line.Demanded from len place) = LineDemands o work from len place
+LineSays room o vars old out work (line.Done len varsUsed) = IsLine room o vars old out len varsUsed

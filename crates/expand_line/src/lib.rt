@@ -18,10 +18,11 @@ ghost use Rattle.table.specs.Around.{among};
 ghost use Rattle.expand_line.specs.Answers.{lineOutcome, WordReady, WordSays, LineReady, LineSays};
 
 // What a line's words give: the fields' image is the first `used` bytes of the output, and the variables' the first `vars_used` of their buffer; or the
-// number that refuses a word, and that word's place.
+// number that refuses a word, and that word's place; or the message that a word demands, which is the work area's `len` bytes from `at` on, and its place.
 pub enum LineExpanded {
     Done { used: usize, vars_used: usize },
     Refused { number: u8, place: usize },
+    Demanded { at: usize, len: usize, place: usize },
 }
 
 // Where the line is read next, and how many bytes of the output are written.
@@ -30,7 +31,7 @@ struct Progress {
     used: usize,
 }
 
-// What one word gives: the same lengths, and where the line goes on; or the number that refuses it.
+// What one word gives: the same lengths, and where the line goes on; or the number that refuses it, or where the message waits that it demands.
 enum WordExpanded {
     Fields {
         used: usize,
@@ -38,6 +39,10 @@ enum WordExpanded {
         vars_used: usize,
     },
     Refused(u8),
+    Demanded {
+        at: usize,
+        len: usize,
+    },
 }
 
 // The word at a place: its fields, after the bytes of the output that are written. "Fields are checked for 19 in order.", and "21 is met at the end of
@@ -57,7 +62,7 @@ fn put_word(
         (now out) (from .used) ⌝ }
     ensures { λ r. ⌜ WordSays (among (extent .«vars_room») (now (homes .entry)) (now (params .entry)) (now (paths .entry)) (length (now (out .entry))))
         (parts (word fresh) depthLimit (drop (from .at) (now (line .entry)))) (now (line .entry)) (from .at) (from .used)
-        (held (take (extent .«vars_used») (now (vars .entry)))) (now (vars .exit)) (now (out .entry)) (now (out .exit)) r ⌝ }
+        (held (take (extent .«vars_used») (now (vars .entry)))) (now (vars .exit)) (now (out .entry)) (now (out .exit)) (now (work .exit)) r ⌝ }
 {
     let word = Cursor {
         at: from.at,
@@ -71,6 +76,7 @@ fn put_word(
     let got = expand_text::expand_text(line, word, start, vars, extent, homes, params, work);
     match got {
         Expanded::Refused(e) => WordExpanded::Refused(e),
+        Expanded::Demanded { at, len } => WordExpanded::Demanded { at: at, len: len },
         Expanded::Row {
             units,
             next,
@@ -114,7 +120,8 @@ pub fn expand_line(
     requires { ⌜ LineReady (now line) (now vars) (extent .«vars_used») (extent .«vars_room») (now homes) (now params) (now paths) (now work) (now out) ⌝ }
     ensures { λ r. ⌜ LineSays (extent .«vars_room»)
         (lineOutcome (among (extent .«vars_room») (now (homes .entry)) (now (params .entry)) (now (paths .entry)) (length (now (out .entry))))
-        (now (line .entry)) (held (take (extent .«vars_used») (now (vars .entry))))) (now (vars .exit)) (now (out .entry)) (now (out .exit)) r ⌝ }
+        (now (line .entry)) (held (take (extent .«vars_used») (now (vars .entry))))) (now (vars .exit)) (now (out .entry)) (now (out .exit))
+        (now (work .exit)) r ⌝ }
 {
     out[0] = numbers::VERSION;
     let mut at: usize = 0;
@@ -144,6 +151,13 @@ pub fn expand_line(
                         return LineExpanded::Refused {
                             number: e,
                             place: place,
+                        };
+                    }
+                    WordExpanded::Demanded { at: message, len } => {
+                        return LineExpanded::Demanded {
+                            at: message,
+                            len: len,
+                            place: from.at,
                         };
                     }
                     WordExpanded::Fields {

@@ -1,5 +1,5 @@
--- The contracts determine every answer, with the row in the area and the image of variables: two outcomes that a contract allows for one input are
--- equal. Open is what crates/expand_add/proofs/Determined.antt names.
+-- The contracts determine every answer, with the row in the area and the image of variables, or with the message: two outcomes that a contract allows for
+-- one input are equal. Open is what crates/expand_add/proofs/Determined.antt names.
 use Prim.Native.Nat.{ℕ}
 use mathlib.Core.Path.{_≡_}
 use mathlib.Core.Bool.{Bool}
@@ -14,7 +14,7 @@ use Rattle.expand_add.specs.Steps.{placed}
 use Rattle.expand_add.specs.Answers.{Finishes}
 use Rattle.expand_add.specs.declared.answers.Onward.{Onward}
 use Rattle.expand_add.specs.declared.answers.Expanded.{Expanded}
-use Rattle.expand_add.proofs.Determined.{adds-determined, finishes-determined}
+use Rattle.expand_add.proofs.Determined.{OneAnswer, adds-determined, finishes-determined}
 use Rattle.expand_form.specs.Plans.{settled, finished}
 use Rattle.expand_form.specs.declared.Unused.{Unused}
 use Rattle.expand_form.specs.declared.Used.{Used}
@@ -33,6 +33,7 @@ module _ (units : ℕ) (on : Onward) (area area′ : Text) (r s : Expanded) wher
 pub finish-determined : (u : Used) (varsRoom units : ℕ) (params : Text) (x : Param) (m : Mark) (given : Row × Pairs × Bool) (next : ℕ)
     (area vars area′ vars′ : Text) (r s : Expanded)
     → ((homes : Text) → Finishes varsRoom units (placed units (finished u (lentOf varsRoom homes params) x m given)) next area vars r)
-    → ((homes : Text) → Finishes varsRoom units (placed units (finished u (lentOf varsRoom homes params) x m given)) next area′ vars′ s) → r ≡ s
+    → ((homes : Text) → Finishes varsRoom units (placed units (finished u (lentOf varsRoom homes params) x m given)) next area′ vars′ s)
+    → OneAnswer area r area′ s
 finish-determined u varsRoom units params x m given next area vars area′ vars′ r s h k =
     finishes-determined varsRoom units (placed units (finished u (lentOf varsRoom [] params) x m given)) area vars area′ vars′ next r s (h []) (k [])

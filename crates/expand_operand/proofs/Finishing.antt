@@ -10,11 +10,12 @@ use lib.ListN.{length, take, drop, take-append-drop}
 use lib.Seq.{length-take-le}
 use Rattle.stages.specs.Numbers.{rowLimit}
 use Rattle.stages.specs.Bytes.{Text}
-use Rattle.stages.specs.Outcome.{done}
-use Rattle.stages.specs.Images.{held, heldTexts, orEmpty}
+use Rattle.stages.specs.Outcome.{demands, done}
+use Rattle.stages.specs.Images.{Pairs, held, heldTexts, orEmpty}
 use Rattle.stages.specs.Syntax.{Param}
-use Rattle.stages.specs.Units.{Mark, Row, marked, expandedMark}
+use Rattle.stages.specs.Units.{Mark, Row, marked, bytes, expandedMark}
 use Rattle.stages.specs.Params.{Lent, value}
+use Rattle.stages.specs.Expand.{demand}
 use Rattle.stages.proofs.Bools.{either}
 use Rattle.text.specs.Cases.{sideOf, reachOf}
 use Rattle.text.specs.Rows.{rowBytes}
@@ -27,13 +28,14 @@ use Rattle.expand_add.specs.declared.answers.Onward.{Onward}
 use Rattle.expand_add.specs.declared.answers.Expanded.{Expanded}
 use Rattle.expand_add.specs.declared.answers.Expanded.the-variants as answer
 use Rattle.expand_add.proofs.Fitting.{measured-full, adds-text}
+use Rattle.expand_add.proofs.Steps.{placed-demands}
 use Rattle.expand_add.proofs.Holding.{adds-finishes, finishes-same}
 use Rattle.expand_param.specs.Holding.{holdingIn}
 use Rattle.expand_param.proofs.Holding.{value-held}
 use Rattle.expand_form.specs.Plans.{settled, finished}
 use Rattle.expand_form.specs.declared.Unused.the-variants.{Value}
 use Rattle.expand_form.specs.declared.Used.the-variants as used
-use Rattle.expand_operand.specs.Operands.{Storable, rowAt, cutOf}
+use Rattle.expand_operand.specs.Operands.{Storable, rowAt, cutOf, Demands}
 use Rattle.expand_operand.proofs.Removing.{cut-beside}
 
 -- where the operand is not used: the value that is held is given, or nothing is
@@ -114,3 +116,12 @@ module _ (a : Lent) (units : ℕ) (on : Onward) (count : ℕ) (x : Param) (m : M
       (ap (λ (b : Bool). placed units (beside v b (cutOf (sideOf suffix) (reachOf long) own m (rowAt area count)))) f
       ∙ ap (placed units) (cut-beside a (sideOf suffix) (reachOf long) x m (rowAt area count) v g e))
       (adds-finishes (a .room) units on _ left vars r h w)
+
+-- the operand's bytes are the message
+pub finish-demanded : (a : Lent) (units : ℕ) (x : Param) (m : Mark) (p : Row × Pairs × Bool) (next : ℕ) (area vars : Text) (r : Expanded)
+    → Demands (bytes (p .0)) area r → Finishes (a .room) units (placed units (finished used.Demanded a x m p)) next area vars r
+unfolding finished demand
+finish-demanded a units x m p next area vars (answer.Row count after varsUsed ofNone) h = absurd h
+finish-demanded a units x m p next area vars (answer.Refused e) h = absurd h
+finish-demanded a units x m p next area vars (answer.Demanded at len) h =
+    record { message = bytes (p .0); is = placed-demands units (demands (bytes (p .0))) (bytes (p .0)) refl; waits = h }

@@ -10,6 +10,7 @@ use Rattle.stages.specs.Units.{bytes}
 use Rattle.text.specs.Rows.{rowOf}
 use Rattle.row.specs.Stands.{Stripped}
 use Rattle.pattern_row.specs.Kept.{kept, Dropped}
+use Rattle.expand_add.specs.Answers.{Waits}
 
 front-of : (b x rest left : Text) (n : ℕ) → left ≡ b ++ x → n ≡ length b → take n (left ++ rest) ≡ b
 front-of b x rest left n e c = ap (λ (l : Text). take n (l ++ rest)) e ∙ ap (take n) (append-assoc b x rest) ∙ take-at b (x ++ rest) n (sym c)
@@ -26,6 +27,9 @@ module _ {row left : Text} (rest : Text) {n : ℕ} (s : Stripped row left n) whe
 
   pub stripped-length : n ≡ length (take n (left ++ rest))
   stripped-length = sym (length-take-le n (left ++ rest) stripped-inside)
+
+  pub stripped-waits : Waits (bytes (rowOf row)) (left ++ rest) 0 n
+  stripped-waits = record { is = sym stripped-front; fits = omega (arith, stripped-inside) }
 
 module _ {row left : Text} (rest : Text) {n : ℕ} (s : Dropped row left n) where
   pub dropped-front : take n (left ++ rest) ≡ kept row

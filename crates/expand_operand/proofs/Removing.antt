@@ -4,7 +4,7 @@ use mathlib.Core.Bool.{Bool, true, false}
 use mathlib.Core.List.{List}
 use Rattle.stages.specs.Numbers.{bracketClass}
 use Rattle.stages.specs.Bytes.{Text}
-use Rattle.stages.specs.Outcome.{Outcome, refused, done, _>>=_}
+use Rattle.stages.specs.Outcome.{Outcome, refused, demands, done, _>>=_}
 use Rattle.stages.specs.Images.{Pairs, held, heldTexts, orEmpty}
 use Rattle.stages.specs.Syntax.{Side, Reach, Param}
 use Rattle.stages.specs.Units.{Mark, Row, marked, expandedMark}
@@ -60,4 +60,5 @@ cut-beside a side reach x m row v g e = rw e (go (pattern forRemoval row))
         → _≡_ {A = Made} (beside v false (o >>= λ es. done (marked (expandedMark m) (removed side reach es (value a v x)))))
         (_>>=_ {B = Row × Pairs × Bool} o (λ es. done (marked (expandedMark m) (removed side reach es (value a v x)), v, false)))
     go (refused e) = refl
+    go (demands t) = refl
     go (done es) = refl

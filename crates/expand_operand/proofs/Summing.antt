@@ -3,7 +3,7 @@ use Prim.Native.Nat.{ℕ}
 use mathlib.Core.Path.{_≡_, refl, sym, ap, _∙_}
 use lib.IntN.{ℤ}
 use Rattle.stages.specs.Bytes.{Text}
-use Rattle.stages.specs.Outcome.{Outcome, refused, done, _>>=_}
+use Rattle.stages.specs.Outcome.{Outcome, refused, demands, done, _>>=_}
 use Rattle.stages.specs.Images.{Pairs}
 use Rattle.stages.specs.Units.{Mark, Row, marked, bytes, expandedMark}
 use Rattle.stages.specs.Constants.{signed}
@@ -27,6 +27,7 @@ module _ (units : ℕ) (on : Onward) (m : Mark) (row : Row) (v : Pairs) {t : Tex
           → (_>>=_ {B = Row} (_>>=_ {B = Text × Pairs} o (λ p. done (signed (p .0), p .1))) (λ s. done (marked (expandedMark m) (s .0))))
           ≡ ((o >>= λ p. done (p .0)) >>= λ z. done (marked (expandedMark m) (signed z)))
       value-of (refused k) = refl
+      value-of (demands a) = refl
       value-of (done p) = refl
 
       go : (o : Outcome Tree)
@@ -34,6 +35,7 @@ module _ (units : ℕ) (on : Onward) (m : Mark) (row : Row) (v : Pairs) {t : Tex
           (λ s. done (marked (expandedMark m) (s .0))))
           ≡ ((o >>= λ l. evaluate v l >>= λ p. done (p .0)) >>= λ z. done (marked (expandedMark m) (signed z)))
       go (refused k) = refl
+      go (demands a) = refl
       go (done l) = value-of (evaluate v l)
 
   sum-known : {k : Number} → got ≡ k → sumOf m row v ≡ (numbered k >>= λ z. done (marked (expandedMark m) (signed z)))

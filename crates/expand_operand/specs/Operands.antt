@@ -17,8 +17,10 @@ use Rattle.stages.specs.Numbers.{rowLimit, imageLimit, variableRoom}
 use Rattle.table_store.specs.declared.Stored.{Stored}
 use Rattle.table_store.specs.declared.Stored.the-variants.{Used, Full}
 use Rattle.expand_add.specs.Added.{Adds}
-use Rattle.expand_add.specs.Answers.{Holds}
+use Rattle.expand_add.specs.Answers.{Holds, Waits}
 use Rattle.expand_add.specs.declared.answers.Onward.{Onward}
+use Rattle.expand_add.specs.declared.answers.Expanded.{Expanded}
+use Rattle.expand_add.specs.declared.answers.Expanded.the-variants as expanded
 use lib.Dec.{leb}
 use Rattle.text.specs.Rows.{rowBytes, rowOf}
 use Rattle.pattern_row.specs.Kept.{NoEmpty}
@@ -63,6 +65,12 @@ cutOf side reach own m row = pattern forRemoval row >>= λ es. done (marked (exp
 abbrev pub TriedSays : ℕ → Onward → Outcome Row → ℕ → Text → Text → ℕ → Tried → Type 0
 TriedSays units on o end area left words (Done r) = Adds units on o left r
 TriedSays units on o end area left words TooManySets = (left ≡ area) × (3 * (2 * words) < 4 * end)
+
+-- E7: the text is the message of a demand, and waits in the area
+abbrev pub Demands : Text → Text → Expanded → Type 0
+Demands t area (expanded.Row count next varsUsed ofNone) = ⊥
+Demands t area (expanded.Refused e) = ⊥
+Demands t area (expanded.Demanded at len) = Waits t area at len
 
 -- the number of an arithmetic text, as units
 unfoldable pub sumOf : Mark → Row → Pairs → Outcome Row

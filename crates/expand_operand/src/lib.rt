@@ -1,5 +1,5 @@
-// What is done with an operand's row, which stands at the front of the area: it is stored, it is the pattern of a removal, it is an arithmetic text, or
-// it is the expansion itself.
+// What is done with an operand's row, which stands at the front of the area: it is stored, it is the pattern of a removal, it is an arithmetic text, it is
+// the message of a refusal, or it is the expansion itself.
 ghost use mathlib.Core.Path.{_≡_};
 ghost use Prim.Native.Nat.{ℕ, _*_, _≤_};
 ghost use lib.ListN.{length, take};
@@ -18,7 +18,7 @@ ghost use Rattle.expand_param.specs.Holding.{holdingIn};
 ghost use Rattle.expand_add.specs.Added.{Adds, admitted};
 ghost use Rattle.expand_form.specs.Plans.{settled, finished};
 ghost use Rattle.expand_add.specs.Steps.{placed};
-ghost use Rattle.expand_operand.specs.Operands.{Storable, rowAt, storing, cutOf, sumOf, limitOf, StoresIn, Pattern, TriedSays};
+ghost use Rattle.expand_operand.specs.Operands.{Storable, rowAt, storing, cutOf, sumOf, limitOf, StoresIn, Pattern, TriedSays, Demands};
 ghost use Rattle.expand_add.specs.Answers.{Holds, Finishes};
 use arith_int::Number;
 use expand_add::answers::Expanded;
@@ -257,6 +257,16 @@ pub fn sum_up(units: usize, row: RowEnd, on: Onward, vars: &[u8], work: &mut [u8
     }
 }
 
+// The operand's bytes without marks are the message, where its row stood.
+fn demand(units: usize, work: &mut [u8]) -> Expanded
+    requires { ⌜ 2 * units ≤ length (now work) ⌝ }
+    ensures { λ r. ⌜ Demands (bytes (rowAt (now (work .entry)) units)) (now (work .exit)) r ⌝ }
+{
+    let end = 2 * units;
+    let n = row::strip_marks(&mut work[..end]);
+    Expanded::Demanded { at: 0, len: n }
+}
+
 // What is given where the operand is not used.
 pub fn settle<'a>(
     unused: Unused,
@@ -282,11 +292,10 @@ pub fn settle<'a>(
             vars_used: on.vars_used,
             of_none: on.of_none,
         },
-        Unused::Demand => Expanded::Refused(numbers::REFUSED_DEMAND),
     }
 }
 
-// What is given where the operand is used. A number is never stored: reading refuses that.
+// What is given where the operand is used, or demanded. A number is never stored: reading refuses that.
 pub fn finish(
     used: Used,
     text: &[u8],
@@ -345,5 +354,6 @@ pub fn finish(
                 work,
             )
         }
+        Used::Demanded => demand(operand.units, work),
     }
 }

@@ -11,7 +11,7 @@ use lib.ListN.{length, take, drop}
 use lib.Seq.{length-take-le}
 use Rattle.stages.specs.Numbers.{rowLimit, tooManyUnits}
 use Rattle.stages.specs.Bytes.{Text, all, notZero}
-use Rattle.stages.specs.Outcome.{Outcome, refused, done, _>>=_, pick}
+use Rattle.stages.specs.Outcome.{Outcome, refused, demands, done, _>>=_, pick}
 use Rattle.stages.specs.Images.{Pairs, texts, isName, flat, held, heldTexts}
 use Rattle.stages.specs.Syntax.{Param, Form, Parts, arith as sums}
 use Rattle.stages.specs.Read.{Taken, parts}
@@ -44,7 +44,7 @@ use Rattle.expand_form.specs.Plans.{planOf, operandMark, settled, finished}
 use Rattle.expand_add.specs.Steps.{beside, placed, quoted, summed, summing}
 use Rattle.expand_operand.specs.Operands.{IsNamed, Storable, sumOf}
 use Rattle.expand_text.specs.Items.{unitsInQuotes}
-use Rattle.expand_add.specs.Answers.{Holds, Ready, IsRow, Ends, Answers, Says, Finishes}
+use Rattle.expand_add.specs.Answers.{Holds, Ready, IsRow, IsDemand, Ends, Answers, Says, Finishes}
 use Rattle.expand_add.specs.declared.answers.Expanded.{Expanded}
 use Rattle.expand_add.specs.declared.answers.Expanded.the-variants as answer
 use Rattle.expand_form.specs.declared.Plan.{Plan}
@@ -52,9 +52,10 @@ use Rattle.expand_form.specs.declared.Plan.the-variants as plan
 use Rattle.expand_form.specs.declared.Unused.{Unused}
 use Rattle.expand_form.specs.declared.Used.{Used}
 use Rattle.expand_form.proofs.Forms.{unused-operand, used-operand}
-use Rattle.expand_add.proofs.Steps.{placed-refused}
+use Rattle.expand_add.proofs.Steps.{placed-refused, placed-demands}
 use Rattle.expand_add.proofs.Holding.{says-known, answers-known, adds-finishes, finishes-same, finishes-answers, vars-held}
 use Rattle.expand_add.proofs.Standing.{front, stands-inside}
+use Rattle.expand_add.proofs.Waiting.{waits-nest}
 
 -- the variables that stand in their bytes, as the stages varsUsed them
 kept-held : (varsRoom : ℕ) (vars : Text) (varsUsed : ℕ) → Holds varsRoom vars varsUsed → Kept varsRoom (held (take varsUsed vars))
@@ -180,6 +181,19 @@ module _ {lent : Lent} {text : Text} {at : ℕ} {mode : Mode} {d units size : �
       answers-known (lent .room) text at (units + 1) _ (x .ready .rest) ys us inside q in
       rw (x .ready .is) (quote-made (refused e) b)
 
+  module _ {from len : ℕ} (q : g ≡ answer.Demanded from len) where
+    demand-inside : IsDemand (expand lent (x .ready .tree) Q (units + 1) (held (take varsUsed vars₀))) ys from len
+    demand-inside = answers-known (lent .room) text at (units + 1) _ (x .ready .rest) ys us inside q
+
+    pub quote-waits : from + len ≤ length ys
+    quote-waits = demand-inside .waits .fits
+
+    pub quote-demanded : (a z : Text) → 2 ≤ length a → QuotedIn (take 2 a ++ (ys ++ z)) us (answer.Demanded (2 + from) len)
+    quote-demanded a z l =
+        let i = demand-inside in
+        rw (x .ready .is)
+        (record { message = i .message; is = quote-made (demands (i .message)) (i .is); waits = waits-nest (take 2 a) z (length-take-le 2 a l) (i .waits) })
+
   module _ {count next left : ℕ} {came : Bool} (q : g ≡ answer.Row count next left came) where
     row-inside : IsRow (lent .room) (units + 1) (expand lent (x .ready .tree) Q (units + 1) (held (take varsUsed vars₀))) ys us count left came
         × Ends text at next (x .ready .rest)
@@ -286,6 +300,14 @@ module _ {lent : Lent} {text : Text} {at : ℕ} {mode : Mode} {d size : ℕ} {va
       answers-known (lent .room) text at 0 _ (x .ready .rest) ys us operand-answer q in
       rw (x .ready .is) (withal (refused b) h ∙ placed-refused units (refused b) b refl)
 
+  -- an operand that demands a message has it where it stands
+  pub used-demanded : {from len : ℕ} → g ≡ answer.Demanded from len → GivenIn ys us (answer.Demanded from len)
+  used-demanded {from} {len} q =
+      let h : IsDemand (expand lent (x .ready .tree) (x .mark) 0 (held (take varsUsed vars₀))) ys from len =
+      answers-known (lent .room) text at 0 _ (x .ready .rest) ys us operand-answer q in
+      rw (x .ready .is)
+      (record { message = h .message; is = withal (demands (h .message)) (h .is) ∙ placed-demands units _ (h .message) refl; waits = h .waits })
+
   module _ {count next left : ℕ} {came : Bool} (q : g ≡ answer.Row count next left came) where
     operand-row : IsRow (lent .room) 0 (expand lent (x .ready .tree) (x .mark) 0 (held (take varsUsed vars₀))) ys us count left came
         × Ends text at next (x .ready .rest)
@@ -328,6 +350,7 @@ summed-beside m row v came = go (arithmeticOf v (bytes row)) (arithmetic-safe (�
         → _≡_ {A = Made} (_>>=_ {B = Row × Pairs × Bool} o (λ s. done (marked (expandedMark m) (s .0), s .1, false)))
         (beside v false (o >>= λ s. done (marked (expandedMark m) (s .0))))
     go (refused e) s = refl
+    go (demands t) s = refl
     go (done p) (gives s) = ap (λ (u : Pairs). done (marked (expandedMark m) (p .0), u, false)) (s .1)
 
 -- its text, expanded
@@ -351,6 +374,18 @@ module _ {lent : Lent} {text : Text} {at d size : ℕ} {vars₀ : Text} {varsUse
       let h : expand lent (x .ready .tree) Q 0 (held (take varsUsed vars₀)) ≡ refused b =
       answers-known (lent .room) text at 0 _ (x .ready .rest) ys us sum-answer q in
       rw (x .ready .is) (placed-refused units _ b (ap (λ (o : Made). o >>= λ u. summed m u) h))
+
+  pub sum-demanded : {from len : ℕ} → g ≡ answer.Demanded from len → Summed ys us (answer.Demanded from len)
+  unfolding summing
+  sum-demanded {from} {len} q =
+      let h : IsDemand (expand lent (x .ready .tree) Q 0 (held (take varsUsed vars₀))) ys from len =
+      answers-known (lent .room) text at 0 _ (x .ready .rest) ys us sum-answer q in
+      rw (x .ready .is)
+      (record {
+        message = h .message;
+        is = placed-demands units _ (h .message) (ap (λ (o : Made). o >>= λ u. summed m u) (h .is));
+        waits = h .waits;
+      })
 
   module _ {count next left : ℕ} {came : Bool} (q : g ≡ answer.Row count next left came) where
     sum-row : IsRow (lent .room) 0 (expand lent (x .ready .tree) Q 0 (held (take varsUsed vars₀))) ys us count left came

@@ -39,10 +39,11 @@ use Rattle.expand_add.specs.Steps.{beside, placed, quoted, summing, followed}
 use Rattle.read_item.specs.After.{modeAfter, isStop}
 use Rattle.expand_operand.specs.Operands.{IsNamed}
 use Rattle.expand_text.specs.Items.{ItemAnswers, ItemRead}
-use Rattle.expand_add.specs.Answers.{Ready, IsRow, Answers, Says, Finishes}
+use Rattle.expand_add.specs.Answers.{Ready, IsRow, IsDemand, Answers, Says, Finishes}
 use Rattle.expand_add.specs.declared.answers.Expanded.{Expanded}
 use Rattle.expand_add.specs.declared.answers.Expanded.the-variants as answer
-use Rattle.expand_add.proofs.Steps.{expand-lit, expand-par, expand-len, expand-lst, expand-quo, expand-ari, expand-til, followed-refused, followed-row}
+use Rattle.expand_add.proofs.Steps.{expand-lit, expand-par, expand-len, expand-lst, expand-quo, expand-ari, expand-til}
+use Rattle.expand_add.proofs.Steps.{followed-refused, followed-demands, followed-row}
 use Rattle.expand_add.proofs.Fitting.{adds-same, adds-text}
 use Rattle.expand_add.proofs.Holding.{says-known, adds-finishes}
 use Rattle.expand_param.specs.Holding.{holdingIn}
@@ -84,6 +85,12 @@ module _ {lent : Lent} {text : Text} {at : ℕ} {mode : Mode} {d : ℕ} (m : Mar
     own-refused : (after : Mode) (area vars : Text) {e : ℕ} → own ≡ refused e → Passed false after area vars (answer.Refused e)
     own-refused after area vars {e} h = so false after area vars (answer.Refused e) (is ∙ followed-refused lent p m units own e h)
 
+    own-demanded : (after : Mode) (area vars : Text) {from count : ℕ} → IsDemand own area from count
+        → Passed false after area vars (answer.Demanded from count)
+    own-demanded after area vars {from} {count} h =
+        so false after area vars (answer.Demanded from count)
+        (record { message = h .message; is = is ∙ followed-demands lent p m units own (h .message) (h .is); waits = h .waits })
+
     own-row : (after : Mode) (area vars : Text) (count next left : ℕ) (came : Bool) → IsRow (lent .room) units own area vars count left came
         → parts (modeOf after) d (drop next text) ≡ done (p, y .rest) → openIn after ≤ next → at < next → next ≤ length text
         → Passed false after area vars (answer.Row count next left came)
@@ -107,6 +114,7 @@ module _ {lent : Lent} {text : Text} {at : ℕ} {mode : Mode} {d : ℕ} (m : Mar
     own-finished : (next : ℕ) (after : Mode) → parts (modeOf after) d (drop next text) ≡ done (p, y .rest) → openIn after ≤ next → at < next
         → next ≤ length text → (area vars : Text) (g : Expanded) → Finishes (lent .room) units own next area vars g → Passed false after area vars g
     own-finished next after read o l k area vars (answer.Refused e) h = own-refused after area vars h
+    own-finished next after read o l k area vars (answer.Demanded from count) h = own-demanded after area vars h
     own-finished next after read o l k area vars (answer.Row count next′ left came) h =
         rw (h .0) (own-row after area vars count next left came (h .1) read o l k)
 
@@ -114,6 +122,7 @@ module _ {lent : Lent} {text : Text} {at : ℕ} {mode : Mode} {d : ℕ} (m : Mar
     own-text : (from : ℕ) (mid : Text) → parts (onward (modeOf mode)) d mid ≡ done (p, y .rest) → at < from → (area vars : Text) (g : Expanded)
         → Answers (lent .room) text from units own mid area vars g → Passed false (modeOnward mode) area vars g
     own-text from mid read l area vars (answer.Refused e) h = own-refused (modeOnward mode) area vars h
+    own-text from mid read l area vars (answer.Demanded from′ count) h = own-demanded (modeOnward mode) area vars h
     own-text from mid read l area vars (answer.Row count next left came) h =
         let k : at < next = omega (arith, h .1 .onward) in
         own-row (modeOnward mode) area vars count next left came (h .0) (going (drop next text) (ap (parts (onward (modeOf mode)) d) (h .1 .ends) ∙ read))

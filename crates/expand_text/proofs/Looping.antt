@@ -6,6 +6,7 @@ use mathlib.Core.Path.{_≡_, refl, sym, ap, _∙_, subst}
 use mathlib.Core.Bool.{Bool, true, false, _||_}
 use mathlib.Core.List.{[], _++_, append-nil}
 use lib.ListN.{length, take, drop, length-append}
+use lib.Seq.{length-take-le}
 use Rattle.stages.specs.Numbers.{rowLimit}
 use Rattle.stages.specs.Bytes.{Text, all, notZero}
 use Rattle.stages.specs.Outcome.{refused, done}
@@ -19,12 +20,13 @@ use Rattle.text.specs.Rows.{rowBytes}
 use Rattle.row.specs.Stands.{Stands}
 use Rattle.read_mode.specs.Modes.{modeOf, openIn}
 use Rattle.read_mode.specs.declared.Mode.{Mode}
-use Rattle.expand_add.specs.Answers.{Holds, Ready, Says}
+use Rattle.expand_add.specs.Answers.{Holds, Ready, IsDemand, Says}
 use Rattle.expand_text.specs.Items.{Moves, Closes, Passes, ItemAnswers, ItemRead}
 use Rattle.expand_add.specs.declared.answers.Expanded.{Expanded}
 use Rattle.expand_add.specs.declared.answers.Expanded.the-variants as answer
 use Rattle.expand_add.proofs.Steps.{onto-none, onto-onto}
 use Rattle.expand_add.proofs.Standing.{stands-inside, stands-nest, stands-kept}
+use Rattle.expand_add.proofs.Waiting.{waits-nest}
 
 -- a flag that was set before, or is set now
 
@@ -125,6 +127,25 @@ module _ {lent : Lent} {text : Text} {at : ℕ} {mode₀ : Mode} {d : ℕ} {k : 
         let h : expand lent (g .left) k (units + n) (held (take varsUsed vars)) ≡ refused e =
         read-known stops after lent text i d k (units + n) _ ys us (x .says) (g .read) q in
         rw (g .whole) (g .is ∙ ap (onto (g .row) ofNone) h)
+
+    module _ {from len : ℕ} (q : r ≡ answer.Demanded from len) where
+      asked : IsDemand (expand lent (g .left) k (units + n) (held (take varsUsed vars))) ys from len
+      asked = read-known stops after lent text i d k (units + n) _ ys us (x .says) (g .read) q
+
+      pub going-waits : from + len ≤ length ys
+      going-waits = asked .waits .fits
+
+      -- the message waits behind the row
+      pub going-demanded : (z : Text)
+          → Says (lent .room) text at units (λ p. expand lent p k units v) (parts (modeOf mode₀) d (drop at text)) (take (2 * n) area ++ (ys ++ z)) us
+          (answer.Demanded (2 * n + from) len)
+      going-demanded z =
+          rw (g .whole)
+          (record {
+            message = asked .message;
+            is = g .is ∙ ap (onto (g .row) ofNone) (asked .is);
+            waits = waits-nest (take (2 * n) area) z (length-take-le (2 * n) area (going-room g)) (asked .waits);
+          })
 
     module _ {count next left : ℕ} {came : Bool} (q : r ≡ answer.Row count next left came) where
       passed : Passes stops after lent text i d k (units + n) (expand lent (g .left) k (units + n) (held (take varsUsed vars))) (g .rest) ys us

@@ -7,7 +7,7 @@ use lib.Dec.{eqb}
 use lib.ListN.{length, take, drop}
 use Rattle.stages.specs.Numbers.{rowLimit}
 use Rattle.stages.specs.Bytes.{Text}
-use Rattle.stages.specs.Outcome.{refused, done, pick}
+use Rattle.stages.specs.Outcome.{refused, demands, done, pick}
 use Rattle.stages.specs.Images.{Pairs, held}
 use Rattle.stages.specs.Syntax.{Parts}
 use Rattle.stages.specs.Read.{Taken, parts}
@@ -22,7 +22,7 @@ use Rattle.read_mode.specs.declared.Mode.{Mode}
 use Rattle.read_mode.specs.declared.Cursor.{Cursor}
 use Rattle.read_brace.specs.declared.Item.{Item}
 use Rattle.read_item.specs.After.{modeAfter, isStop}
-use Rattle.expand_add.specs.Answers.{Holds, Ends}
+use Rattle.expand_add.specs.Answers.{Holds, IsDemand, Ends}
 use Rattle.expand_add.specs.declared.answers.Expanded.{Expanded}
 use Rattle.expand_add.specs.declared.answers.Expanded.the-variants as expanded
 
@@ -61,12 +61,14 @@ Passes false mode lent text at depth m units made rest area vars count next vars
 
 abbrev pub ItemAnswers : Bool → Mode → Lent → Text → ℕ → ℕ → Mark → ℕ → Made → Text → Text → Text → Expanded → Type 0
 ItemAnswers stops mode lent text at depth m units made rest area vars (expanded.Refused e) = made ≡ refused e
+ItemAnswers stops mode lent text at depth m units made rest area vars (expanded.Demanded from len) = IsDemand made area from len
 ItemAnswers stops mode lent text at depth m units made rest area vars (expanded.Row count next varsUsed ofNone) =
     Passes stops mode lent text at depth m units made rest area vars count next varsUsed ofNone
 
 -- the same by what the text is read as
 abbrev pub ItemRead : Bool → Mode → Lent → Text → ℕ → ℕ → Mark → ℕ → (Parts → Made) → Taken → Text → Text → Expanded → Type 0
 ItemRead stops mode lent text at depth m units own (refused e) area vars r = Unit {0}
+ItemRead stops mode lent text at depth m units own (demands t) area vars r = Unit {0}
 ItemRead stops mode lent text at depth m units own (done p) area vars r =
     ItemAnswers stops mode lent text at depth m units (own (p .0)) (p .1) area vars r
 

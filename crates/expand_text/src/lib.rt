@@ -59,7 +59,8 @@ fn units_in_quotes(count: usize, of_none: bool) -> usize
     count + 1
 }
 
-// The text of a quote that is open: an N, and after it its bytes as Q. An N that is taken back stands behind the row.
+// The text of a quote that is open: an N, and after it its bytes as Q. An N that is taken back stands behind the row. A message that the text demands
+// waits behind the N.
 fn expand_quote(
     text: &[u8],
     from: Cursor,
@@ -96,6 +97,10 @@ fn expand_quote(
     );
     match got {
         Expanded::Refused(e) => Expanded::Refused(e),
+        Expanded::Demanded { at, len } => Expanded::Demanded {
+            at: 2 + at,
+            len: len,
+        },
         Expanded::Row {
             units: count,
             next,
@@ -120,7 +125,7 @@ struct Named {
     form: Form,
 }
 
-// A parameter with a form, whose operand is the text.
+// A parameter with a form, whose operand is the text. A message that the operand itself demands comes before what the form asks for.
 fn expand_inner(
     text: &[u8],
     named: Named,
@@ -170,6 +175,7 @@ fn expand_inner(
             let got = expand_text(text, from, operand, vars, extent, homes, params, work);
             match got {
                 Expanded::Refused(e) => Expanded::Refused(e),
+                Expanded::Demanded { at, len } => Expanded::Demanded { at: at, len: len },
                 Expanded::Row {
                     units,
                     next,
@@ -223,6 +229,10 @@ fn expand_sum(
     let got = expand_text(text, from, inside, vars, extent, homes, params, work);
     match got {
         Expanded::Refused(e) => Expanded::Refused(e),
+        Expanded::Demanded { at: message, len } => Expanded::Demanded {
+            at: message,
+            len: len,
+        },
         Expanded::Row {
             units,
             next,
@@ -369,7 +379,8 @@ fn expand_item(
     }
 }
 
-// A text that has been read, from its place on, as a row at the front of work, where the row's units before it end.
+// A text that has been read, from its place on, as a row at the front of work, where the row's units before it end. A message that an item demands waits
+// behind the units that were given before it.
 pub fn expand_text(
     text: &[u8],
     from: Cursor,
@@ -423,6 +434,12 @@ pub fn expand_text(
         match got {
             Expanded::Refused(e) => {
                 return Expanded::Refused(e);
+            }
+            Expanded::Demanded { at, len } => {
+                return Expanded::Demanded {
+                    at: start + at,
+                    len: len,
+                };
             }
             Expanded::Row {
                 units,

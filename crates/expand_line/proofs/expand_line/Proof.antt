@@ -9,7 +9,17 @@ use Rattle.read_line.specs.Says.{NextAt}
 use Rattle.read_line.proofs.Lines.{next-shown}
 use Rattle.table.specs.Around.{among}
 use Rattle.expand_line.specs.Answers.{lineOutcome}
-use Rattle.expand_line.proofs.Standing.{State, state-start, state-same, state-end, word-ready, state-refused, state-further, state-next}
+use Rattle.expand_line.proofs.Standing.{
+  State,
+  state-start,
+  state-same,
+  state-end,
+  word-ready,
+  state-refused,
+  state-demanded,
+  state-further,
+  state-next,
+}
 use Rattle.expand_line.proofs.expand_line.Statement.{statement}
 use Rattle.expand_line.proofs.expand_line.Tie as tie
 
@@ -48,6 +58,9 @@ module _ (c : tie.After-put-word Inv-loop μ-loop) where
 
   work-same : length (c .put-word .last .1 .1 .1 .1 .1 .1 .1 .0) ≡ length (entry (turn (found c)) .args .work .now)
   work-same = c .put-word .kept .1 .1 .1 .1 .1 .1 .1 .0 ∙ turn (found c) .loop .inv .2
+
+  out-same : length (c .put-word .last .1 .1 .1 .1 .1 .1 .1 .1 .0) ≡ length (entry (turn (found c)) .args .out .now)
+  out-same = let t = turn (found c) in c .put-word .kept .1 .1 .1 .1 .1 .1 .1 .1 .0 ∙ state-same (entry t .pre) (t .loop .inv .0)
 
 slice-write-out : tie.Need-slice-write-out Inv-loop μ-loop
 slice-write-out c = begun c .pre .byte
@@ -93,10 +106,7 @@ same-length-5 : tie.Need-same-length-5 Inv-loop μ-loop
 same-length-5 c = work-same (c .before .before .before .before .before .before .before .before .before)
 
 same-length-6 : tie.Need-same-length-6 Inv-loop μ-loop
-same-length-6 c =
-    let p = c .before .before .before .before .before .before .before .before .before in
-    let t = turn (found p) in
-    p .put-word .kept .1 .1 .1 .1 .1 .1 .1 .1 .0 ∙ state-same (entry t .pre) (t .loop .inv .0)
+same-length-6 c = out-same (c .before .before .before .before .before .before .before .before .before)
 
 returns-2 : tie.Need-returns-2 Inv-loop μ-loop
 returns-2 c =
@@ -107,17 +117,35 @@ returns-2 c =
 enum-known-got-2 : tie.Need-enum-known-got-2 Inv-loop μ-loop
 enum-known-got-2 c = search needs
 
+same-length-7 : tie.Need-same-length-7 Inv-loop μ-loop
+same-length-7 c = vars-same (c .before .before .before .before .before .before .before .before .before)
+
+same-length-8 : tie.Need-same-length-8 Inv-loop μ-loop
+same-length-8 c = work-same (c .before .before .before .before .before .before .before .before .before)
+
+same-length-9 : tie.Need-same-length-9 Inv-loop μ-loop
+same-length-9 c = out-same (c .before .before .before .before .before .before .before .before .before)
+
+returns-3 : tie.Need-returns-3 Inv-loop μ-loop
+returns-3 c =
+    let p = c .before .before .before .before .before .before .before .before .before in
+    let t = turn (found p) in
+    state-demanded (entry t .pre) (t .loop .inv .0) (word (found p)) (p .put-word .ensures) (c .before .got2 .given .1)
+
+enum-known-got-3 : tie.Need-enum-known-got-3 Inv-loop μ-loop
+enum-known-got-3 c = search needs
+
 loop-less : tie.Need-loop-less Inv-loop μ-loop
 loop-less c =
     let p = c .before .before .before .before .before .before .before .before .before in
     let t = turn (found p) in
-    omega (arith, state-further (entry t .pre) (t .loop .inv .0) (word (found p)) (p .put-word .ensures) (c .before .got2 .given .1))
+    omega (arith, state-further (entry t .pre) (t .loop .inv .0) (word (found p)) (p .put-word .ensures) (c .before .got3 .given .1))
 
 loop-again : tie.Need-loop-again Inv-loop μ-loop
 loop-again c =
     let p = c .before .before .before .before .before .before .before .before .before in
     let t = turn (found p) in (
-      state-next (entry t .pre) (t .loop .inv .0) (word (found p)) (p .put-word .ensures) (c .before .got2 .given .1)
+      state-next (entry t .pre) (t .loop .inv .0) (word (found p)) (p .put-word .ensures) (c .before .got3 .given .1)
           (p .put-word .kept .1 .1 .1 .1 .1 .1 .1 .0) (p .put-word .kept .1 .1 .1 .1 .1 .1 .1 .1 .0),
       vars-same p,
       work-same p,
@@ -145,5 +173,10 @@ expand-line-spec =
     same-length-6
     returns-2
     enum-known-got-2
+    same-length-7
+    same-length-8
+    same-length-9
+    returns-3
+    enum-known-got-3
     loop-less
     loop-again)

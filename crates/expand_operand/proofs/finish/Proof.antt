@@ -22,7 +22,7 @@ use Rattle.expand_form.specs.Plans.{finished}
 use Rattle.expand_form.specs.declared.Used.{Used}
 use Rattle.expand_operand.specs.Operands.{rowAt}
 use Rattle.expand_operand.proofs.Storing.{storable-name, finish-stored, finish-number}
-use Rattle.expand_operand.proofs.Finishing.{finish-given, finish-cut}
+use Rattle.expand_operand.proofs.Finishing.{finish-given, finish-cut, finish-demanded}
 use Rattle.expand_operand.proofs.finish.Statement.{statement}
 use Rattle.expand_operand.proofs.finish.Tie as tie
 
@@ -101,6 +101,12 @@ cut-requires c κs =
       p .5,
     )
 
+enum-told-3 : tie.Need-enum-told-3
+enum-told-3 c = search needs
+
+demand-requires : tie.Need-demand-requires
+demand-requires c κs = search needs
+
 returns-2 : tie.Need-returns-2
 returns-2 c =
     let s = c .before .before .before .before .before .before .before in
@@ -147,6 +153,21 @@ returns-4 c =
     (markOf (a .row .mark)) (a .work .now) (a .vars .now) (s .pre .3) refl _ _ (a .operand .«of_none») left (g .result)
     (sym (value-held (lentOf (a .extent .«vars_room») homes (a .params .now)) (heldTexts (a .params .now)) refl v x)) (g .ensures))
 
+same-length-5 : tie.Need-same-length-5
+same-length-5 c = search needs
+
+returns-5 : tie.Need-returns-5
+returns-5 c =
+    let g = c .before .before .demand in
+    let told = c .before .before .before .before in
+    let s = told .before .before .before .before .before .before in
+    let a = s .args in
+    known s (told .enum-told3 .given .1) (g .last .1 .0) (a .vars .now) (g .result)
+    (λ homes. finish-demanded (lentOf (a .extent .«vars_room») homes (a .params .now)) (a .row .units) (paramOf (a .text .now) (a .param))
+    (markOf (a .row .mark))
+    (rowAt (a .work .now) (a .operand .units), held (take (a .extent .«vars_used») (a .vars .now)), a .operand .«of_none») (a .operand .next)
+    (g .last .1 .0) (a .vars .now) (g .result) (g .ensures))
+
 pub finish-spec : {M : Type 1} → statement M
 finish-spec =
     tie.close
@@ -164,10 +185,14 @@ finish-spec =
     slice-reshare-prefix-cut
     slice-aggregate-cut
     cut-requires
+    enum-told-3
+    demand-requires
     returns-2
     same-length
     same-length-2
     returns-3
     same-length-3
     same-length-4
-    returns-4)
+    returns-4
+    same-length-5
+    returns-5)

@@ -2,13 +2,12 @@
 use Prim.Native.Nat.{ℕ}
 use mathlib.Core.Path.{_≡_, refl, sym, subst}
 use borrow.Author.Needs.{needs}
-use Rattle.stages.specs.Numbers.{demanded}
 use Rattle.stages.specs.Bytes.{Text}
 use Rattle.stages.specs.Images.{held}
 use Rattle.table.specs.Around.{lentOf}
 use Rattle.read_brace.specs.Shows.{paramOf}
 use Rattle.row.specs.Marks.{markOf}
-use Rattle.expand_add.specs.Added.{Adds, measured}
+use Rattle.expand_add.specs.Added.{Adds}
 use Rattle.expand_add.specs.declared.answers.Expanded.{Expanded}
 use Rattle.expand_add.specs.declared.answers.Expanded.the-variants as answer
 use Rattle.expand_form.specs.Plans.{settled}
@@ -37,9 +36,6 @@ give-value-requires c κs = search needs
 enum-told-2 : tie.Need-enum-told-2
 enum-told-2 c = search needs
 
-enum-told-3 : tie.Need-enum-told-3
-enum-told-3 c = search needs
-
 same-length : tie.Need-same-length
 same-length c = search needs
 
@@ -61,12 +57,6 @@ returns-2 c =
     known s (c .enum-told2 .given .1) (a .work .now) (answer.Row 0 (a .on .next) (a .on .«vars_used») (a .on .«of_none»))
     (λ room homes. adds-none (a .row .units) (a .on) (a .work .now) (s .pre .3))
 
-returns-3 : tie.Need-returns-3
-unfolding settled measured
-returns-3 c =
-    let s = c .before .before .before .before .before .before in
-    known s (c .enum-told3 .given .1) (s .args .work .now) (answer.Refused demanded) (λ room homes. refl)
-
 pub settle-spec : {M : Type 1} → statement M
 settle-spec =
     tie.close
@@ -74,8 +64,6 @@ settle-spec =
     enum-told
     give-value-requires
     enum-told-2
-    enum-told-3
     same-length
     returns
-    returns-2
-    returns-3)
+    returns-2)

@@ -15,6 +15,7 @@ use Rattle.expand_text.proofs.Inside.{
   unused-given,
   OperandExpanded,
   used-refused,
+  used-demanded,
   used-holds,
   used-ready,
   used-given,
@@ -68,18 +69,22 @@ module _ (t : ℕ) where
       → lts.After-plan-of (callees t) (expand-inner-at t) expand-inner.Post
   used c = c .before .before .before .before .before .before .before
 
-  -- the operand was expanded, where it is refused and where it has a row
+  -- the operand was expanded, where it is refused, where it demands a message itself and where it has a row
   abbrev refused : lts.After-known-told5 (callees t) (expand-inner-at t) expand-inner.Post
       → lts.After-expand-text (callees t) (expand-inner-at t) expand-inner.Post
   refused c = c .before .before .before .before .before .before .before
 
-  abbrev given : lts.After-known-told6 (callees t) (expand-inner-at t) expand-inner.Post
+  abbrev demanded : lts.After-known-told6 (callees t) (expand-inner-at t) expand-inner.Post
+      → lts.After-expand-text (callees t) (expand-inner-at t) expand-inner.Post
+  demanded c = c .before .before .before .before .before .before .before
+
+  abbrev given : lts.After-known-told7 (callees t) (expand-inner-at t) expand-inner.Post
       → lts.After-expand-text (callees t) (expand-inner-at t) expand-inner.Post
   given c = c .before .before .before .before .before .before .before
 
   -- the row that is finished
   abbrev finished : lts.After-finish (callees t) (expand-inner-at t) expand-inner.Post
-      → lts.After-known-told6 (callees t) (expand-inner-at t) expand-inner.Post
+      → lts.After-known-told7 (callees t) (expand-inner-at t) expand-inner.Post
   finished c = c .before .before .before
 
   inside : (c : lts.After-expand-text (callees t) (expand-inner-at t) expand-inner.Post) →
@@ -161,12 +166,15 @@ module _ (t : ℕ) where
   pub enum-known-got-4 : lts.Need-enum-known-got-4 (callees t) (expand-inner-at t) expand-inner.Post
   enum-known-got-4 c = search needs
 
+  pub enum-known-got-5 : lts.Need-enum-known-got-5 (callees t) (expand-inner-at t) expand-inner.Post
+  enum-known-got-5 c = search needs
+
   pub finish-requires : lts.Need-finish-requires (callees t) (expand-inner-at t) expand-inner.Post
   finish-requires c κs =
       let g = c .before .before in
       let e = given g in
       let s = began (used e) in
-      let q = g .before .got4 .given .1 in (
+      let q = g .before .got5 .given .1 in (
         s .pre .1 .5,
         s .pre .1 .3,
         used-ready (inside e) q (s .pre .1 .6),
@@ -218,17 +226,26 @@ module _ (t : ℕ) where
   returns-3 c = used-refused (inside (refused c)) _ (c .before .got3 .given .1)
 
   pub same-length-6 : lts.Need-same-length-6 (callees t) (expand-inner-at t) expand-inner.Post
-  same-length-6 c =
+  same-length-6 c = omega (arith, demanded c .expand-text .kept .1 .1 .1 .0)
+
+  pub same-length-7 : lts.Need-same-length-7 (callees t) (expand-inner-at t) expand-inner.Post
+  same-length-7 c = omega (arith, demanded c .expand-text .kept .1 .1 .1 .1 .1 .1 .1 .0)
+
+  pub returns-4 : lts.Need-returns-4 (callees t) (expand-inner-at t) expand-inner.Post
+  returns-4 c = used-demanded (inside (demanded c)) (c .before .got4 .given .1)
+
+  pub same-length-8 : lts.Need-same-length-8 (callees t) (expand-inner-at t) expand-inner.Post
+  same-length-8 c =
       let f = c .before .before .before .before in
       omega (arith, given (finished f) .expand-text .kept .1 .1 .1 .0, f .finish .kept .1 .1 .1 .1 .1 .0)
 
-  pub same-length-7 : lts.Need-same-length-7 (callees t) (expand-inner-at t) expand-inner.Post
-  same-length-7 c =
+  pub same-length-9 : lts.Need-same-length-9 (callees t) (expand-inner-at t) expand-inner.Post
+  same-length-9 c =
       let f = c .before .before .before .before in
       omega (arith, given (finished f) .expand-text .kept .1 .1 .1 .1 .1 .1 .1 .0, f .finish .kept .1 .1 .1 .1 .1 .1 .1 .1 .0)
 
-  pub returns-4 : lts.Need-returns-4 (callees t) (expand-inner-at t) expand-inner.Post
-  returns-4 c =
+  pub returns-5 : lts.Need-returns-5 (callees t) (expand-inner-at t) expand-inner.Post
+  returns-5 c =
       let f = c .before .before .before .before in
       let e = given (finished f) in
-      used-given (inside e) (finished f .before .got4 .given .1) _ _ (f .finish .result) (f .finish .ensures (began (used e) .args .homes .now))
+      used-given (inside e) (finished f .before .got5 .given .1) _ _ (f .finish .result) (f .finish .ensures (began (used e) .args .homes .now))

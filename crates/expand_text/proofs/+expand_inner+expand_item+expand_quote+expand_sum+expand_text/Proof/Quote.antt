@@ -6,7 +6,17 @@ use borrow.Rule.Slice.PartMut.{putMid, same-len-mid, mid-len}
 use Rattle.stages.specs.Numbers.{rowLimit}
 use Rattle.table.specs.Around.{lentOf}
 use Rattle.expand_add.proofs.Standing.{empty-front}
-use Rattle.expand_text.proofs.Inside.{lending, QuoteExpanded, quote-full, quote-inner, quote-refused, quote-fits, quote-row}
+use Rattle.expand_text.proofs.Inside.{
+  lending,
+  QuoteExpanded,
+  quote-full,
+  quote-inner,
+  quote-refused,
+  quote-waits,
+  quote-demanded,
+  quote-fits,
+  quote-row,
+}
 use borrow.Author.Needs.{needs}
 use native.Mathlib.Omega.{arith}
 use Rattle.expand_text.proofs.+expand_inner+expand_item+expand_quote+expand_sum+expand_text.Lts-expand_quote as lts
@@ -39,12 +49,16 @@ module _ (t : ℕ) where
       → lts.After-put-empty (callees t) (expand-quote-at t) expand-quote.Post
   emptied c = c .before .before .before .before .before
 
-  -- the quote's text was expanded, where it is refused and where it has a row
+  -- the quote's text was expanded, where it is refused, where it demands a message and where it has a row
   abbrev refused : lts.After-known-told (callees t) (expand-quote-at t) expand-quote.Post
       → lts.After-expand-text (callees t) (expand-quote-at t) expand-quote.Post
   refused c = c .before .before .before .before .before .before .before
 
-  abbrev given : lts.After-known-told2 (callees t) (expand-quote-at t) expand-quote.Post
+  abbrev demanded : lts.After-known-told2 (callees t) (expand-quote-at t) expand-quote.Post
+      → lts.After-expand-text (callees t) (expand-quote-at t) expand-quote.Post
+  demanded c = c .before .before .before .before .before .before .before
+
+  abbrev given : lts.After-known-told3 (callees t) (expand-quote-at t) expand-quote.Post
       → lts.After-expand-text (callees t) (expand-quote-at t) expand-quote.Post
   given c = c .before .before .before .before .before .before .before
 
@@ -121,8 +135,26 @@ module _ (t : ℕ) where
   pub enum-known-got-2 : lts.Need-enum-known-got-2 (callees t) (expand-quote-at t) expand-quote.Post
   enum-known-got-2 c = search needs
 
+  pub add-t31 : lts.Need-add-t31 (callees t) (expand-quote-at t) expand-quote.Post
+  add-t31 c =
+      let e = demanded c in
+      let p = emptied e in
+      let w = p .put-empty .last .0 in
+      omega (
+        arith,
+        quote-waits (inside e) (c .before .got2 .given .1),
+        e .expand-text .kept .1 .1 .1 .1 .1 .1 .1 .0,
+        mid-len 2 (length w) w (omega arith),
+        p .put-empty .kept .0,
+        long p,
+        began p .good .1 .1 .1 .1 .1 .1 .1 .0,
+      )
+
+  pub enum-known-got-3 : lts.Need-enum-known-got-3 (callees t) (expand-quote-at t) expand-quote.Post
+  enum-known-got-3 c = search needs
+
   pub units-in-quotes-requires : lts.Need-units-in-quotes-requires (callees t) (expand-quote-at t) expand-quote.Post
-  units-in-quotes-requires c κs = omega (arith, quote-fits (inside (given c)) (c .before .got2 .given .1))
+  units-in-quotes-requires c κs = omega (arith, quote-fits (inside (given c)) (c .before .got3 .given .1))
 
   pub same-length : lts.Need-same-length (callees t) (expand-quote-at t) expand-quote.Post
   same-length c = omega (arith, refused c .expand-text .kept .1 .1 .1 .0)
@@ -134,14 +166,23 @@ module _ (t : ℕ) where
   returns-2 c = quote-refused (inside (refused c)) _ (c .before .got .given .1)
 
   pub same-length-3 : lts.Need-same-length-3 (callees t) (expand-quote-at t) expand-quote.Post
-  same-length-3 c = omega (arith, given (c .before) .expand-text .kept .1 .1 .1 .0)
+  same-length-3 c = omega (arith, demanded c .expand-text .kept .1 .1 .1 .0)
 
   pub same-length-4 : lts.Need-same-length-4 (callees t) (expand-quote-at t) expand-quote.Post
-  same-length-4 c = same-work (given (c .before))
+  same-length-4 c = same-work (demanded c)
 
   pub returns-3 : lts.Need-returns-3 (callees t) (expand-quote-at t) expand-quote.Post
-  returns-3 c =
+  returns-3 c = let e = demanded c in quote-demanded (inside e) (c .before .got2 .given .1) (emptied e .put-empty .last .0) _ (long (emptied e))
+
+  pub same-length-5 : lts.Need-same-length-5 (callees t) (expand-quote-at t) expand-quote.Post
+  same-length-5 c = omega (arith, given (c .before) .expand-text .kept .1 .1 .1 .0)
+
+  pub same-length-6 : lts.Need-same-length-6 (callees t) (expand-quote-at t) expand-quote.Post
+  same-length-6 c = same-work (given (c .before))
+
+  pub returns-4 : lts.Need-returns-4 (callees t) (expand-quote-at t) expand-quote.Post
+  returns-4 c =
       let g = c .before in
       let p = emptied (given g) in
-      quote-row (inside (given g)) (g .before .got2 .given .1) (c .units-in-quotes .ensures) _ _ _
+      quote-row (inside (given g)) (g .before .got3 .given .1) (c .units-in-quotes .ensures) _ _ _
       (empty-front (began p .args .work .now) (p .put-empty .last .0) (p .put-empty .ensures))

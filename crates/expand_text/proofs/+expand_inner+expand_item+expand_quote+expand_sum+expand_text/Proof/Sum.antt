@@ -6,7 +6,7 @@ use lib.Seq.{length-take-le}
 use Rattle.row.specs.Marks.{markOf}
 use Rattle.table.specs.Around.{lentOf}
 use Rattle.expand_add.proofs.Holding.{table-held}
-use Rattle.expand_text.proofs.Inside.{SumExpanded, sum-refused, sum-holds, sum-inside, sum-given}
+use Rattle.expand_text.proofs.Inside.{SumExpanded, sum-refused, sum-demanded, sum-holds, sum-inside, sum-given}
 use borrow.Author.Needs.{needs}
 use native.Mathlib.Omega.{arith}
 use Rattle.expand_text.proofs.+expand_inner+expand_item+expand_quote+expand_sum+expand_text.Lts-expand_sum as lts
@@ -31,18 +31,22 @@ module _ (t : ℕ) where
       → lts.Start (callees t) (expand-sum-at t) expand-sum.Post
   began c = c .before .before .before .before .before .before .before .before
 
-  -- the text was expanded, where it is refused and where it has a row
+  -- the text was expanded, where it is refused, where it demands a message and where it has a row
   abbrev refused : lts.After-known-told (callees t) (expand-sum-at t) expand-sum.Post
       → lts.After-expand-text (callees t) (expand-sum-at t) expand-sum.Post
   refused c = c .before .before .before .before .before .before .before
 
-  abbrev given : lts.After-known-told2 (callees t) (expand-sum-at t) expand-sum.Post
+  abbrev demanded : lts.After-known-told2 (callees t) (expand-sum-at t) expand-sum.Post
+      → lts.After-expand-text (callees t) (expand-sum-at t) expand-sum.Post
+  demanded c = c .before .before .before .before .before .before .before
+
+  abbrev given : lts.After-known-told3 (callees t) (expand-sum-at t) expand-sum.Post
       → lts.After-expand-text (callees t) (expand-sum-at t) expand-sum.Post
   given c = c .before .before .before .before .before .before .before
 
   -- the row that is summed up
   abbrev summed : lts.After-sum-up (callees t) (expand-sum-at t) expand-sum.Post
-      → lts.After-known-told2 (callees t) (expand-sum-at t) expand-sum.Post
+      → lts.After-known-told3 (callees t) (expand-sum-at t) expand-sum.Post
   summed c = c .before .before .before
 
   inside : (c : lts.After-expand-text (callees t) (expand-sum-at t) expand-sum.Post) →
@@ -62,19 +66,22 @@ module _ (t : ℕ) where
   pub enum-known-got-2 : lts.Need-enum-known-got-2 (callees t) (expand-sum-at t) expand-sum.Post
   enum-known-got-2 c = search needs
 
+  pub enum-known-got-3 : lts.Need-enum-known-got-3 (callees t) (expand-sum-at t) expand-sum.Post
+  enum-known-got-3 c = search needs
+
   pub slice-reshare-prefix-sum-up : lts.Need-slice-reshare-prefix-sum-up (callees t) (expand-sum-at t) expand-sum.Post
-  slice-reshare-prefix-sum-up c = sum-holds (inside (given c)) (c .before .got2 .given .1) .inside
+  slice-reshare-prefix-sum-up c = sum-holds (inside (given c)) (c .before .got3 .given .1) .inside
 
   pub slice-aggregate-sum-up : lts.Need-slice-aggregate-sum-up (callees t) (expand-sum-at t) expand-sum.Post
   slice-aggregate-sum-up c =
       let g = c .before in
-      sym (length-take-le _ (given g .expand-text .last .1 .1 .1 .0) (sum-holds (inside (given g)) (g .before .got2 .given .1) .inside))
+      sym (length-take-le _ (given g .expand-text .last .1 .1 .1 .0) (sum-holds (inside (given g)) (g .before .got3 .given .1) .inside))
 
   pub sum-up-requires : lts.Need-sum-up-requires (callees t) (expand-sum-at t) expand-sum.Post
   sum-up-requires c κs =
       let g = c .before .before in
       let e = given g in
-      let q = g .before .got2 .given .1 in (
+      let q = g .before .got3 .given .1 in (
         table-held _ _ _ (sum-holds (inside e) q),
         sum-inside (inside e) q,
         began e .pre .1 .4,
@@ -91,14 +98,23 @@ module _ (t : ℕ) where
   returns c = sum-refused (inside (refused c)) _ (c .before .got .given .1)
 
   pub same-length-3 : lts.Need-same-length-3 (callees t) (expand-sum-at t) expand-sum.Post
-  same-length-3 c = omega (arith, given (summed (c .before .before)) .expand-text .kept .1 .1 .1 .0)
+  same-length-3 c = omega (arith, demanded c .expand-text .kept .1 .1 .1 .0)
 
   pub same-length-4 : lts.Need-same-length-4 (callees t) (expand-sum-at t) expand-sum.Post
-  same-length-4 c =
+  same-length-4 c = omega (arith, demanded c .expand-text .kept .1 .1 .1 .1 .1 .1 .1 .0)
+
+  pub returns-2 : lts.Need-returns-2 (callees t) (expand-sum-at t) expand-sum.Post
+  returns-2 c = sum-demanded (inside (demanded c)) (c .before .got2 .given .1)
+
+  pub same-length-5 : lts.Need-same-length-5 (callees t) (expand-sum-at t) expand-sum.Post
+  same-length-5 c = omega (arith, given (summed (c .before .before)) .expand-text .kept .1 .1 .1 .0)
+
+  pub same-length-6 : lts.Need-same-length-6 (callees t) (expand-sum-at t) expand-sum.Post
+  same-length-6 c =
       let u = c .before .before in
       omega (arith, given (summed u) .expand-text .kept .1 .1 .1 .1 .1 .1 .1 .0, u .sum-up .kept .1 .1 .1 .1 .0)
 
-  pub returns-2 : lts.Need-returns-2 (callees t) (expand-sum-at t) expand-sum.Post
-  returns-2 c =
+  pub returns-3 : lts.Need-returns-3 (callees t) (expand-sum-at t) expand-sum.Post
+  returns-3 c =
       let u = c .before .before in
-      sum-given (inside (given (summed u))) (summed u .before .got2 .given .1) _ (u .sum-up .result) (u .sum-up .ensures)
+      sum-given (inside (given (summed u))) (summed u .before .got3 .given .1) _ (u .sum-up .result) (u .sum-up .ensures)

@@ -16,6 +16,8 @@ use Rattle.expand_text.proofs.Looping.{
   going-room,
   going-ready,
   going-refused,
+  going-waits,
+  going-demanded,
   going-fits,
   going-end,
   moved,
@@ -66,12 +68,16 @@ module _ (t : ℕ) where
       → lts.Start (callees t) (expand-text-at t) expand-text.Post Inv-loop μ-loop
   began c = looped c .before .before .before .before .before .before
 
-  -- an item that was expanded, where it refuses the text and where it has a row
+  -- an item that was expanded, where it refuses the text, where it demands a message and where it has a row
   abbrev refused : lts.After-known-told (callees t) (expand-text-at t) expand-text.Post Inv-loop μ-loop
       → lts.After-expand-item (callees t) (expand-text-at t) expand-text.Post Inv-loop μ-loop
   refused c = c .before .before .before .before .before .before .before
 
-  abbrev given : lts.After-known-told2 (callees t) (expand-text-at t) expand-text.Post Inv-loop μ-loop
+  abbrev demanded : lts.After-known-told2 (callees t) (expand-text-at t) expand-text.Post Inv-loop μ-loop
+      → lts.After-expand-item (callees t) (expand-text-at t) expand-text.Post Inv-loop μ-loop
+  demanded c = c .before .before .before .before .before .before .before
+
+  abbrev given : lts.After-known-told3 (callees t) (expand-text-at t) expand-text.Post Inv-loop μ-loop
       → lts.After-expand-item (callees t) (expand-text-at t) expand-text.Post Inv-loop μ-loop
   given c = c .before .before .before .before .before .before .before
 
@@ -102,7 +108,7 @@ module _ (t : ℕ) where
   -- `$@` of no parameters came before the item or in it
   flagged : (c : lts.Joined1 (callees t) (expand-text-at t) expand-text.Post Inv-loop μ-loop) →
       let g = c .before in
-      c .if1 .of-none ≡ (looped (given g) .loop .of-none || g .before .got2 .given .0 .1 .1 .1 .0)
+      c .if1 .of-none ≡ (looped (given g) .loop .of-none || g .before .got3 .given .0 .1 .1 .1 .0)
   flagged c =
       let g = c .before in
       let before = looped (given g) .loop .of-none in
@@ -162,22 +168,48 @@ module _ (t : ℕ) where
   pub enum-known-got-2 : lts.Need-enum-known-got-2 (callees t) (expand-text-at t) expand-text.Post Inv-loop μ-loop
   enum-known-got-2 c = search needs
 
+  pub add-t34 : lts.Need-add-t34 (callees t) (expand-text-at t) expand-text.Post Inv-loop μ-loop
+  add-t34 c =
+      let e = demanded c in
+      let l = looped e .loop in
+      omega (
+        arith,
+        going-waits (expanding e) (c .before .got2 .given .1),
+        e .expand-item .kept .1 .1 .1 .1 .1 .1 .1 .1 .0,
+        mid-len (2 * l .n) (length (l .work)) (l .work) (omega arith),
+        going-room (l .inv),
+        l .inv .long,
+        began e .good .1 .1 .1 .1 .1 .1 .1 .0,
+      )
+
+  pub same-length-3 : lts.Need-same-length-3 (callees t) (expand-text-at t) expand-text.Post Inv-loop μ-loop
+  same-length-3 c = same-vars (demanded c) ∙ looped (demanded c) .loop .inv .same
+
+  pub same-length-4 : lts.Need-same-length-4 (callees t) (expand-text-at t) expand-text.Post Inv-loop μ-loop
+  same-length-4 c = same-work (demanded c) ∙ looped (demanded c) .loop .inv .long
+
+  pub returns-2 : lts.Need-returns-2 (callees t) (expand-text-at t) expand-text.Post Inv-loop μ-loop
+  returns-2 c = going-demanded (expanding (demanded c)) (c .before .got2 .given .1) _
+
+  pub enum-known-got-3 : lts.Need-enum-known-got-3 (callees t) (expand-text-at t) expand-text.Post Inv-loop μ-loop
+  enum-known-got-3 c = search needs
+
   pub add-n : lts.Need-add-n (callees t) (expand-text-at t) expand-text.Post Inv-loop μ-loop
-  add-n c = omega (arith, going-fits (expanding (given c)) (c .before .got2 .given .1))
+  add-n c = omega (arith, going-fits (expanding (given c)) (c .before .got3 .given .1))
 
   pub is-stop-requires : lts.Need-is-stop-requires (callees t) (expand-text-at t) expand-text.Post Inv-loop μ-loop
   is-stop-requires c κs = search needs
 
-  pub same-length-3 : lts.Need-same-length-3 (callees t) (expand-text-at t) expand-text.Post Inv-loop μ-loop
-  same-length-3 c = let e = given (c .before .before .before) in same-vars e ∙ looped e .loop .inv .same
+  pub same-length-5 : lts.Need-same-length-5 (callees t) (expand-text-at t) expand-text.Post Inv-loop μ-loop
+  same-length-5 c = let e = given (c .before .before .before) in same-vars e ∙ looped e .loop .inv .same
 
-  pub same-length-4 : lts.Need-same-length-4 (callees t) (expand-text-at t) expand-text.Post Inv-loop μ-loop
-  same-length-4 c = let e = given (c .before .before .before) in same-work e ∙ looped e .loop .inv .long
+  pub same-length-6 : lts.Need-same-length-6 (callees t) (expand-text-at t) expand-text.Post Inv-loop μ-loop
+  same-length-6 c = let e = given (c .before .before .before) in same-work e ∙ looped e .loop .inv .long
 
-  pub returns-2 : lts.Need-returns-2 (callees t) (expand-text-at t) expand-text.Post Inv-loop μ-loop
-  returns-2 c =
+  pub returns-3 : lts.Need-returns-3 (callees t) (expand-text-at t) expand-text.Post Inv-loop μ-loop
+  returns-3 c =
       let g = c .before .before .before in
-      going-end (expanding (given g)) (g .before .got2 .given .1) (flagged (c .before .before)) (sym (c .before .is-stop .ensures) ∙ c .if2 .taken) _
+      going-end (expanding (given g)) (g .before .got3 .given .1) (flagged (c .before .before)) (sym (c .before .is-stop .ensures) ∙ c .if2 .taken) _
 
   pub mode-after-requires : lts.Need-mode-after-requires (callees t) (expand-text-at t) expand-text.Post Inv-loop μ-loop
   mode-after-requires c κs = search needs
@@ -185,11 +217,11 @@ module _ (t : ℕ) where
   pub loop-less : lts.Need-loop-less (callees t) (expand-text-at t) expand-text.Post Inv-loop μ-loop
   loop-less c =
       let g = c .before .before .before .before in
-      let m = moved (expanding (given g)) (g .before .got2 .given .1) (sym (c .before .before .is-stop .ensures) ∙ c .before .if2 .left) in
+      let m = moved (expanding (given g)) (g .before .got3 .given .1) (sym (c .before .before .is-stop .ensures) ∙ c .before .if2 .left) in
       omega (arith, m .onward, m .within)
 
   pub loop-again : lts.Need-loop-again (callees t) (expand-text-at t) expand-text.Post Inv-loop μ-loop
   loop-again c =
       let g = c .before .before .before .before in
-      going-row (expanding (given g)) (g .before .got2 .given .1) (sym (c .before .before .is-stop .ensures) ∙ c .before .if2 .left)
+      going-row (expanding (given g)) (g .before .got3 .given .1) (sym (c .before .before .is-stop .ensures) ∙ c .before .if2 .left)
       (flagged (c .before .before .before)) (c .mode-after .ensures) _ (same-work (given g)) (same-vars (given g))
