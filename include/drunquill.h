@@ -7,9 +7,9 @@
  * Link target/staticlib/libdrunquill_c.a, which `rt staticlib drunquill_c` builds (x86-64 Linux).
  *
  * BUFFERS. Each is a pointer and a length in bytes.
- *  - No pointer may be NULL, also where the length is 0. Each must have that many bytes, readable; `vars`, `work` and `out` writable too.
- *  - `vars`, `work` and `out` may overlap neither each other nor any other buffer of the call. `line`, `homes`, `params` and `paths` are only
- *    read.
+ *  - No pointer may be NULL, also where the length is 0. Each must have that many bytes, readable; `vars`, `work`, `out` and `message` writable too.
+ *  - `vars`, `work`, `out` and `message` may overlap neither each other nor any other buffer of the call. `line`, `homes`, `params` and `paths` are
+ *    only read.
  *  - Nothing else may read or write the buffers during the call.
  * The functions reach no byte outside the buffers and the stack. Bytes of a text are never changed by a locale: letters and digits are the ASCII ones.
  *
@@ -39,6 +39,7 @@ extern "C" {
 #define DRUNQUILL_PATHS_MAX 32768  /* the longest image of paths */
 #define DRUNQUILL_UNITS_MAX 2048   /* units of a word, an operand or an arithmetic text: its bytes, a mark for each opening quote, and between two
                                       parameters of $@ or $* a mark, in quotes $@ has two */
+#define DRUNQUILL_MESSAGE_MAX 2048 /* no message is longer: it has at most a byte for each unit of an operand */
 #define DRUNQUILL_DEPTH_MAX 8      /* expansions open at once, "${" and "$((" together */
 #define DRUNQUILL_OPEN_MAX 32      /* parentheses and unary signs, + - ! ~, open at once in arithmetic, together */
 
@@ -62,7 +63,8 @@ enum {
                                          arithmetic, or with an operator */
     DRUNQUILL_BAD_SYNTAX = 11,        /* other bad syntax */
     DRUNQUILL_TOO_DEEP = 12,          /* more than DRUNQUILL_DEPTH_MAX expansions, or DRUNQUILL_OPEN_MAX parentheses and signs */
-    DRUNQUILL_DEMANDED = 13,          /* ${name?} or ${name:?} on a missing value */
+    DRUNQUILL_DEMANDED = 13,          /* ${name?word} or ${name:?word} on a missing value: `message` begins with what the word expands to. A fault of the
+                                         word comes in place of 13 */
     DRUNQUILL_TOO_MANY_UNITS = 14,    /* a word, an operand or an arithmetic text above DRUNQUILL_UNITS_MAX units */
     DRUNQUILL_NOT_NUMBER = 15,        /* arithmetic: a constant or a variable's value that is not a number */
     DRUNQUILL_ARITHMETIC_SYNTAX = 16, /* arithmetic: bad syntax, or an empty text */
@@ -77,11 +79,12 @@ enum {
 
 /* What the expander and the normaliser answer. */
 struct drunquill_answer {
-    uint8_t number;   /* one of the numbers above */
-    size_t place;     /* where in the line: the offset of the first byte of the word at fault, or of the operator itself if no word is open.
-                         0 on acceptance, for numbers 1 to 6 and 23, and for 21 from the normaliser's quoting */
-    size_t out_len;   /* bytes written to the front of `out`; 0 on a refusal */
-    size_t vars_used; /* the variables' used length now: that of the new image, or on a refusal `vars_used` as it was given */
+    uint8_t number;     /* one of the numbers above */
+    size_t place;       /* where in the line: the offset of the first byte of the word at fault, or of the operator itself if no word is open.
+                           0 on acceptance, for numbers 1 to 6 and 23, and for 21 from the normaliser's quoting */
+    size_t out_len;     /* bytes written to the front of `out`; 0 on a refusal */
+    size_t vars_used;   /* the variables' used length now: that of the new image, or on a refusal `vars_used` as it was given */
+    size_t message_len; /* bytes written to the front of `message`; 0 for every number but 13, and where message or buffer is empty */
 };
 
 /* What the quoter answers. Its place is always 0. */
@@ -101,20 +104,24 @@ struct drunquill_quote_answer {
  *  paths        what patterns are matched against: the function looks at no file
  *  work         at least DRUNQUILL_WORK_LEAST bytes, whatever they hold. After every call, whatever the number, all `work_len` bytes are zero.
  *  out          the fields' image. One of DRUNQUILL_IMAGE_MAX bytes is always long enough for what can be accepted. One byte is needed for no fields.
+ *  message      any bytes, of any length, also 0. After DRUNQUILL_DEMANDED it begins with the message, what the word of ${name?word} expands to, as
+ *               bytes without quotes and without a zero byte behind them: its first `message_len` bytes. A message that is longer than the buffer is
+ *               cut to it; one of DRUNQUILL_MESSAGE_MAX bytes takes every message whole.
  *
- * On acceptance the bytes of `vars` and `out` after the new images are unchanged. On a refusal every byte of both is. Faults are met in this order:
- * numbers 1 to 4, 23, 5 and 6; then the whole line is read; then its words are expanded from left to right; the first fault is answered.
+ * On acceptance the bytes of `vars` and `out` after the new images are unchanged. On a refusal every byte of both is. The bytes of `message` after the
+ * message are unchanged, and on every number but DRUNQUILL_DEMANDED every byte of it is. Faults are met in this order: numbers 1 to 4, 23, 5 and 6; then
+ * the whole line is read; then its words are expanded from left to right; the first fault is answered.
  */
 struct drunquill_answer drunquill_expand(const uint8_t *line, size_t line_len, uint8_t *vars, size_t vars_len, size_t vars_used, const uint8_t *homes,
                                          size_t homes_len, const uint8_t *params, size_t params_len, const uint8_t *paths, size_t paths_len, uint8_t *work,
-                                         size_t work_len, uint8_t *out, size_t out_len);
+                                         size_t work_len, uint8_t *out, size_t out_len, uint8_t *message, size_t message_len);
 
 /* The normaliser: as the expander, but the fields go to `out` as a quoted line (see the quoter), of at most DRUNQUILL_LINE_MAX bytes. If the quoted line
  * has no room the number is 21 at place 0 and the variables are as before, too. A line without fields needs no byte of `out`.
  */
 struct drunquill_answer drunquill_normalise(const uint8_t *line, size_t line_len, uint8_t *vars, size_t vars_len, size_t vars_used, const uint8_t *homes,
                                             size_t homes_len, const uint8_t *params, size_t params_len, const uint8_t *paths, size_t paths_len,
-                                            uint8_t *work, size_t work_len, uint8_t *out, size_t out_len);
+                                            uint8_t *work, size_t work_len, uint8_t *out, size_t out_len, uint8_t *message, size_t message_len);
 
 /* The quoter: an image of fields as a line to `out`. A field that is not empty and holds only letters, digits, `.`, `_`, `-` and `/` stands there bare; any
  * other in single quotes, each ' in it written '\''. One blank between fields; no fields, no bytes. No zero byte is put after the line. Above

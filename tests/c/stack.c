@@ -10,7 +10,7 @@
 enum { STACK = 1 << 23, PATTERN = 0xA7 };
 
 static struct bytes line, vars_image, homes_image, params_image, paths_image;
-static struct buffer vars, work, out;
+static struct buffer vars, work, out, message;
 static int normalising;
 static struct drunquill_answer answer;
 static uint8_t *caller;
@@ -19,7 +19,7 @@ static void *run(void *unused) {
     caller = __builtin_frame_address(0);
     answer = (normalising ? drunquill_normalise : drunquill_expand)(line.at, line.len, lent(&vars), vars.len, vars_image.len, homes_image.at, homes_image.len,
                                                                    params_image.at, params_image.len, paths_image.at, paths_image.len, lent(&work),
-                                                                   work.len, lent(&out), out.len);
+                                                                   work.len, lent(&out), out.len, lent(&message), message.len);
     return unused;
 }
 
@@ -31,6 +31,7 @@ static size_t used_by_call(void) {
     lend(&vars, DRUNQUILL_IMAGE_MAX, &vars_image, 1);
     lend(&work, DRUNQUILL_WORK_LEAST, NULL, 2);
     lend(&out, DRUNQUILL_IMAGE_MAX, NULL, 3);
+    lend(&message, DRUNQUILL_MESSAGE_MAX, NULL, 4);
     pthread_attr_t attr;
     pthread_t thread;
     if (pthread_attr_init(&attr) || pthread_attr_setstack(&attr, stack, STACK)) abort();
@@ -107,6 +108,8 @@ int main(void) {
     measure("eight nested ${u-", 0);
     within(8, "${u=", "x", "}");
     measure("eight nested ${u=", 0);
+    within(8, "${u?", "x", "}");
+    measure("eight nested ${u?", DRUNQUILL_DEMANDED);
     line.len = 0;
     add_string(&line, "\"");
     repeat(&line, "${u-", 8);

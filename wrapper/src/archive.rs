@@ -9,6 +9,7 @@ pub struct Answer {
     pub place: usize,
     pub out_len: usize,
     pub vars_used: usize,
+    pub message_len: usize,
 }
 
 /// `struct drunquill_quote_answer`
@@ -39,11 +40,20 @@ macro_rules! jobs {
                 work_len: usize,
                 out: *mut u8,
                 out_len: usize,
+                message: *mut u8,
+                message_len: usize,
             ) -> Answer;)*
         }
-        $(pub fn $name(line: &[u8], vars: &mut Variables, tables: Tables, work: &mut [u8], out: &mut [u8]) -> Answer {
+        $(pub fn $name(
+            line: &[u8],
+            vars: &mut Variables,
+            tables: Tables,
+            work: &mut [u8],
+            out: &mut [u8],
+            message: &mut [u8],
+        ) -> Answer {
             let Tables { homes, params, paths } = tables;
-            // SAFETY: a slice's pointer is never null and has as many bytes as its length; the three that are written are lent for this call alone, so
+            // SAFETY: a slice's pointer is never null and has as many bytes as its length; the four that are written are lent for this call alone, so
             // that they overlap nothing and nobody else looks at them. The function keeps no pointer, and is proved to reach nothing but these bytes and
             // the stack, whatever the bytes and lengths are.
             unsafe {
@@ -63,6 +73,8 @@ macro_rules! jobs {
                     work.len(),
                     out.as_mut_ptr(),
                     out.len(),
+                    message.as_mut_ptr(),
+                    message.len(),
                 )
             }
         })*

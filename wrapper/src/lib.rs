@@ -1,6 +1,7 @@
 //! Drunquill for Rust: a POSIX shell line expanded into fields, fields quoted as a line, and both in one call.
 //!
-//! The functions are the proved ones of include/drunquill.h, for x86-64 Linux; this crate turns slices into pointers and numbers into names, and nothing else.
+//! The functions are the proved ones of include/drunquill.h, for x86-64 Linux; this crate turns slices into pointers, numbers into names and a refusal with
+//! its message into an error, and nothing else.
 //! What the header asks of its callers holds of any slices: none is null, and what is lent for writing overlaps nothing. What is left to the caller is the
 //! stack: a call may need [`STACK`] bytes of it.
 //!
@@ -22,6 +23,10 @@
 //! let refusal = normalise(b"cp 'a", &mut variables, Tables::NONE, &mut work, &mut out).unwrap_err();
 //! assert_eq!((refusal.number, refusal.place), (Number::Unended, 3));
 //!
+//! let refusal = normalise(b"load ${base:?no base for $job}", &mut variables, Tables::NONE, &mut work, &mut out).unwrap_err();
+//! assert_eq!((refusal.number, refusal.place), (Number::Demanded, 5));
+//! assert_eq!(refusal.message, b"no base for a b");
+//!
 //! let tables = Tables { params: b"\x01\0\x03a b\0\0", ..Tables::NONE };
 //! let line = normalise(b"cp \"$@\"", &mut variables, tables, &mut work, &mut out);
 //! assert_eq!(line, Ok(b"cp 'a b' ''".as_slice()));
@@ -42,6 +47,8 @@ pub const IMAGE_MAX: usize = 8_192;
 pub const PATHS_MAX: usize = 32_768;
 /// Units of a word, an operand or an arithmetic text: its bytes, a mark for each opening quote, and one or two between parameters of `$@` or `$*`.
 pub const UNITS_MAX: usize = 2_048;
+/// No message is longer: it has at most a byte for each unit of an operand.
+pub const MESSAGE_MAX: usize = 2_048;
 /// Expansions open at once.
 pub const DEPTH_MAX: usize = 8;
 /// Parentheses and unary signs, `+ - ! ~`, open at once in arithmetic, together.
@@ -72,7 +79,7 @@ impl Tables<'static> {
 }
 
 /// The expander: the fields of the line's words, as an image, to the front of `out`, which is given back. The work area has at least [`WORK_LEAST`] bytes,
-/// whatever they are; after the call all of them are zero. On a refusal `out` is as before.
+/// whatever they are; after the call all of them are zero. On a refusal `out` is as before. A [`Number::Demanded`] comes with its message, whole.
 pub fn expand<'o>(
     line: &[u8],
     variables: &mut Variables,
@@ -80,8 +87,9 @@ pub fn expand<'o>(
     work: &mut [u8],
     out: &'o mut [u8],
 ) -> Result<&'o [u8], Refusal> {
-    let answer = archive::expand(line, variables, tables, work, out);
-    given(answer, variables, out)
+    let mut message = [0; MESSAGE_MAX];
+    let answer = archive::expand(line, variables, tables, work, out, &mut message);
+    given(answer, &message, variables, out)
 }
 
 /// The normaliser: as the expander, but the fields go to `out` as a quoted line of at most [`LINE_MAX`] bytes.
@@ -92,20 +100,26 @@ pub fn normalise<'o>(
     work: &mut [u8],
     out: &'o mut [u8],
 ) -> Result<&'o [u8], Refusal> {
-    let answer = archive::normalise(line, variables, tables, work, out);
-    given(answer, variables, out)
+    let mut message = [0; MESSAGE_MAX];
+    let answer = archive::normalise(line, variables, tables, work, out, &mut message);
+    given(answer, &message, variables, out)
 }
 
 /// The quoter: an image of fields as a line of at most [`LINE_MAX`] bytes to the front of `out`, which is given back. A field that is not empty and holds only
 /// letters, digits, `.`, `_`, `-` and `/` stands there bare, any other in single quotes. On a refusal `out` is as before.
 pub fn quote<'o>(fields: &[u8], out: &'o mut [u8]) -> Result<&'o [u8], Refusal> {
     let answer = archive::quote(fields, out);
-    Refusal::unless_accepted(answer.number, answer.place)?;
+    Refusal::unless_accepted(answer.number, answer.place, &[])?;
     Ok(&out[..answer.out_len])
 }
 
-fn given<'o>(answer: archive::Answer, variables: &mut Variables, out: &'o [u8]) -> Result<&'o [u8], Refusal> {
-    Refusal::unless_accepted(answer.number, answer.place)?;
+fn given<'o>(
+    answer: archive::Answer,
+    message: &[u8],
+    variables: &mut Variables,
+    out: &'o [u8],
+) -> Result<&'o [u8], Refusal> {
+    Refusal::unless_accepted(answer.number, answer.place, &message[..answer.message_len])?;
     variables.used = answer.vars_used;
     Ok(&out[..answer.out_len])
 }

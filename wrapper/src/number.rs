@@ -1,4 +1,4 @@
-//! The refusals' numbers under their names, and the refusal that pairs one with a place.
+//! The refusals' numbers under their names, and the refusal: a number with its place and, of a value that is demanded, the message.
 
 use std::error::Error;
 use std::fmt;
@@ -97,29 +97,49 @@ impl Number {
 }
 
 /// A number, and the place: the offset in the line of the first byte of the word at fault, or of the operator itself if no word is open; 0 for numbers 1 to 6,
-/// 22 and 23, and for 21 from quoting.
-#[derive(Clone, Copy, Debug, PartialEq, Eq, Hash)]
+/// 22 and 23, and for 21 from quoting. `{}` and `{:?}` show the message as text.
+#[derive(Clone, PartialEq, Eq, Hash)]
 pub struct Refusal {
     pub number: Number,
     pub place: usize,
+    /// What the word of `${name?word}` expands to, of [`Number::Demanded`] alone: any bytes but zero, of which there may be none.
+    pub message: Vec<u8>,
 }
 
 impl Refusal {
-    /// What a call's number and place say.
+    /// What a call's number, place and message say.
     ///
     /// # Panics
     /// On a number above 23: the functions are proved to give none.
-    pub(crate) fn unless_accepted(number: u8, place: usize) -> Result<(), Refusal> {
+    pub(crate) fn unless_accepted(number: u8, place: usize, message: &[u8]) -> Result<(), Refusal> {
         match number {
             0 => Ok(()),
-            _ => Err(Refusal { number: Number::of(number).expect("a number of document 01"), place }),
+            _ => {
+                let number = Number::of(number).expect("a number of the documents");
+                Err(Refusal { number, place, message: message.to_vec() })
+            }
         }
     }
 }
 
 impl fmt::Display for Refusal {
     fn fmt(&self, out: &mut fmt::Formatter) -> fmt::Result {
-        write!(out, "refused with {} at byte {}: {}", self.number as u8, self.place, self.number.words())
+        write!(out, "refused with {} at byte {}: {}", self.number as u8, self.place, self.number.words())?;
+        match self.message.as_slice() {
+            [] => Ok(()),
+            message => write!(out, ": {}", String::from_utf8_lossy(message)),
+        }
+    }
+}
+
+impl fmt::Debug for Refusal {
+    fn fmt(&self, out: &mut fmt::Formatter) -> fmt::Result {
+        let message = format!("b\"{}\"", self.message.escape_ascii());
+        out.debug_struct("Refusal")
+            .field("number", &self.number)
+            .field("place", &self.place)
+            .field("message", &format_args!("{message}"))
+            .finish()
     }
 }
 

@@ -10,7 +10,7 @@ use borrow.Author.Tests.{le-leb, lt-leb, leb-true, leb-false}
 use Rattle.stages.specs.Numbers.{workTooSmall, badVariables, badHomes, badPaths, badParameters, lineTooLong, zeroByte, outputRoom}
 use Rattle.stages.specs.Numbers.{workLeast, lineLimit, imageLimit}
 use Rattle.stages.specs.Bytes.{Text, isIn, all, notZero}
-use Rattle.stages.specs.Outcome.{Outcome, refused, done, Placed, refusedAt, doneAt, placedAt, _then_, require, pick}
+use Rattle.stages.specs.Outcome.{Outcome, refused, demands, done, Placed, refusedAt, doneAt, placedAt, _then_, require, pick}
 use Rattle.stages.specs.Images.{Pairs, isSome, held, variablesOf, homesOf, pathsOf, fieldsOf, recordBytes}
 use Rattle.stages.specs.Syntax.{Word}
 use Rattle.stages.specs.Read.{readLine}
@@ -192,6 +192,7 @@ module _ (g : Given) (out : ℕ) where
       → (o : Outcome (Fields × Pairs))
       → (placedAt (w .place) o then behind w ws n (around g out)) ≡ (placedAt (w .place) o then behind w ws n (around g (capped out)))
   behind-capped w ws n ih (refused k) = refl
+  behind-capped w ws n ih (demands t) = refl
   behind-capped w ws n ih (done r) =
       ap (joined (w .place) (r .0) (expandWords (around g out) ws (n + recordBytes (r .0)) (r .1))) (fits-capped (n + recordBytes (r .0)))
       ∙ ap (λ (o : Placed (Fields × Pairs)). joined (w .place) (r .0) o (outFits (around g (capped out)) (n + recordBytes (r .0))))

@@ -1,6 +1,8 @@
 -- The contracts determine every answer. For `check`: a call passes the checks or is stopped by one of them, never both.
 use Prim.Native.Nat.{ℕ}
 use mathlib.Core.Path.{_≡_, refl}
+use mathlib.Core.List.{[]}
+use Rattle.stages.specs.Bytes.{Text}
 use Rattle.stages.specs.Call.{Given}
 use Rattle.text.proofs.Determined.{one-answer}
 use Rattle.call_check.specs.Checks.{roomIn, Checks}
@@ -11,11 +13,15 @@ use Rattle.call_check.specs.declared.Checked.the-variants.{Fine, Refused
 pub room-determined : (job : Job) (out r s : ℕ) → r ≡ roomIn job out → s ≡ roomIn job out → r ≡ s
 room-determined job out r s = one-answer
 
-pub check-determined : (job : Job) (g : Given) (r s : Checked) → Checks job g r → Checks job g s → r ≡ s
-check-determined job g Fine Fine p q = refl
-check-determined job g Fine (Refused n place) p q = absurd (q .early p)
-check-determined job g (Refused n place) Fine p q = absurd (p .early q)
-check-determined job g (Refused n place) (Refused k at) p q =
+checks-once : (job : Job) (g : Given) (r s : Checked) → Checks job g r → Checks job g s → r ≡ s
+checks-once job g Fine Fine p q = refl
+checks-once job g Fine (Refused n place) p q = absurd (q .early p)
+checks-once job g (Refused n place) Fine p q = absurd (p .early q)
+checks-once job g (Refused n place) (Refused k at) p q =
     let a = p .is in
     let b = q .is in
     cc
+
+pub check-determined : (job : Job) (g : Text → Given) (r s : Checked) → ((message : Text) → Checks job (g message) r)
+    → ((message : Text) → Checks job (g message) s) → r ≡ s
+check-determined job g r s p q = checks-once job (g []) r s (p []) (q [])

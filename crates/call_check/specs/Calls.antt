@@ -10,8 +10,8 @@ use Rattle.stages.specs.Call as stage
 use Rattle.call_check.specs.declared.Job.{Job}
 use Rattle.call_check.specs.declared.Job.the-variants.{Expander, Normaliser}
 
-abbrev pub given : Text → Text → ℕ → Text → Text → Text → Text → Text → stage.Given
-given line vars used homes params paths work out = record {
+abbrev pub given : Text → Text → ℕ → Text → Text → Text → Text → Text → Text → stage.Given
+given line vars used homes params paths work out message = record {
   work = work;
   vars = vars;
   varsUsed = used;
@@ -20,6 +20,7 @@ given line vars used homes params paths work out = record {
   params = params;
   line = line;
   out = out;
+  message = message;
 }
 
 -- the stage of each job

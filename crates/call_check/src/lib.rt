@@ -5,6 +5,7 @@ use table::Kind;
 use text::numbers;
 ghost use mathlib.Core.Path.{_≡_};
 ghost use lib.ListN.{length};
+ghost use Rattle.stages.specs.Bytes.{Text};
 ghost use Rattle.call_check.specs.Calls.{given};
 ghost use Rattle.call_check.specs.Checks.{roomIn, Tabled, Checks};
 
@@ -46,7 +47,7 @@ fn refuse(number: u8) -> Checked
     }
 }
 
-// The line is read, and the empty fields image has its byte.
+// The line is read, and the empty fields image has its byte. No message is looked at: what holds here and in `check` holds whatever buffer is lent for it.
 fn check_line(
     job: Job,
     line: &[u8],
@@ -58,10 +59,11 @@ fn check_line(
     work: &[u8],
     out: &[u8],
 ) -> Checked
-    requires { ⌜ Tabled (given (now line) (now vars) «vars_used» (now homes) (now params) (now paths) (now work) (now out)) ⌝ }
-    ensures { λ r. ⌜ Checks job
+    requires { ⌜ ((message : Text) → Tabled
+        (given (now line) (now vars) «vars_used» (now homes) (now params) (now paths) (now work) (now out) message)) ⌝ }
+    ensures { λ r. ⌜ ((message : Text) → Checks job
         (given (now (line .entry)) (now (vars .entry)) «vars_used» (now (homes .entry)) (now (params .entry)) (now (paths .entry)) (now (work .entry))
-        (now (out .entry))) r ⌝ }
+        (now (out .entry)) message) r) ⌝ }
 {
     if numbers::LINE_LIMIT < line.len() {
         return refuse(numbers::REFUSED_LENGTH);
@@ -96,9 +98,9 @@ pub fn check(
     work: &[u8],
     out: &[u8],
 ) -> Checked
-    ensures { λ r. ⌜ Checks job
+    ensures { λ r. ⌜ ((message : Text) → Checks job
         (given (now (line .entry)) (now (vars .entry)) «vars_used» (now (homes .entry)) (now (params .entry)) (now (paths .entry)) (now (work .entry))
-        (now (out .entry))) r ⌝ }
+        (now (out .entry)) message) r) ⌝ }
 {
     if work.len() < numbers::WORK_LEAST {
         return refuse(numbers::REFUSED_WORK);

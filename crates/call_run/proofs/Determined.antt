@@ -9,18 +9,21 @@ use Rattle.call_deliver.specs.Hands.{Gives}
 use Rattle.call_deliver.specs.declared.Answer.{Answer}
 use Rattle.call_deliver.proofs.Determined.{answer-same}
 
-pub gives-determined : (a : stage.Answer) (r s : Answer) (vars vars' work work' out out' : Text) → Gives a r vars work out → Gives a s vars' work' out'
-    → (r ≡ s) × (vars ≡ vars') × (work ≡ work') × (out ≡ out')
-gives-determined a r s vars vars' work work' out out' g h =
-    let i = g .hands in
-    let j = h .hands in (
-      answer-same r s (i .number ∙ sym (j .number)) (i .place ∙ sym (j .place)) (i .outLength ∙ sym (j .outLength))
-          (i .varsUsed ∙ sym (j .varsUsed)),
-      i .variables ∙ sym (j .variables),
-      g .clears ∙ sym (h .clears),
-      i .output ∙ sym (j .output),
-    )
+module _ (a : stage.Answer) (r s : Answer) (vars vars' work work' out out' message message' : Text) where
+  pub gives-determined : Gives a r vars work out message → Gives a s vars' work' out' message'
+      → (r ≡ s) × (vars ≡ vars') × (work ≡ work') × (out ≡ out') × (message ≡ message')
+  gives-determined g h =
+      let i = g .hands in
+      let j = h .hands in (
+        answer-same r s (i .number ∙ sym (j .number)) (i .place ∙ sym (j .place)) (i .outLength ∙ sym (j .outLength))
+            (i .varsUsed ∙ sym (j .varsUsed)) (i .messageLength ∙ sym (j .messageLength)),
+        i .variables ∙ sym (j .variables),
+        g .clears ∙ sym (h .clears),
+        i .output ∙ sym (j .output),
+        i .message ∙ sym (j .message),
+      )
 
-pub answer-call-determined : (job : Job) (g : stage.Given) (r s : Answer) (vars vars' work work' out out' : Text) → Gives (answerOf job g) r vars work out
-    → Gives (answerOf job g) s vars' work' out' → (r ≡ s) × (vars ≡ vars') × (work ≡ work') × (out ≡ out')
-answer-call-determined job g r s vars vars' work work' out out' = gives-determined (answerOf job g) r s vars vars' work work' out out'
+pub answer-call-determined : (job : Job) (g : stage.Given) (r s : Answer) (vars vars' work work' out out' message message' : Text)
+    → Gives (answerOf job g) r vars work out message → Gives (answerOf job g) s vars' work' out' message'
+    → (r ≡ s) × (vars ≡ vars') × (work ≡ work') × (out ≡ out') × (message ≡ message')
+answer-call-determined job g = gives-determined (answerOf job g)

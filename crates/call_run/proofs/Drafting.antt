@@ -68,9 +68,9 @@ deliveredAs NoRoom left = delivered.Refused outputRoom 0
 deliveredAs Malformed left = delivered.Refused badFields 0
 
 -- what is written, by the stage's numbers: 0 and 21 alone can come
-module _ {room left : ℕ} {copy : Text} (w : Holds room copy left) (old out : Text) where
+module _ {room left : ℕ} {copy : Text} (w : Holds room copy left) (work old out : Text) where
   by-written : (o : Placed Text) → Written o → (q : Quoted) → quotingOf q out ≡ quoting old o
-      → DraftOf room (o then λ t. doneAt (t, held (take left copy))) copy old out (deliveredAs q left)
+      → DraftOf room (o then λ t. doneAt (t, held (take left copy))) copy work old out (deliveredAs q left)
   unfolding quoting
   by-written (refusedAt n p) full (Len m) e = absurd (omega (arith, ap (λ (x : Quoting). x .number) e))
   by-written (refusedAt n p) full NoRoom e = (refl, ap (λ (x : Quoting). x .out) e)
@@ -122,13 +122,20 @@ module _ {job : Job} {room used : ℕ} {text copy houses params paths work : Tex
   both : outside ≡ inside
   both = ap (λ (n : ℕ). lineOutcome (among room houses params paths n) text (held (take used copy))) (sym (lent-long ∙ e))
 
-  module _ (copy₂ image₁ : Text) (got : LineExpanded) (same : length image₁ ≡ length lent) (h : LineSays room inside copy₂ lent image₁ got) where
-    line-of : {x : LineExpanded} → got ≡ x → LineSays room inside copy₂ lent image₁ x
-    line-of k = subst (λ (x : LineExpanded). LineSays room inside copy₂ lent image₁ x) k h
+  module _ (copy₂ work₁ image₁ : Text) (got : LineExpanded) (same : length image₁ ≡ length lent)
+      (h : LineSays room inside copy₂ lent image₁ work₁ got) where
+    line-of : {x : LineExpanded} → got ≡ x → LineSays room inside copy₂ lent image₁ work₁ x
+    line-of k = subst (λ (x : LineExpanded). LineSays room inside copy₂ lent image₁ work₁ x) k h
 
-    pub line-refused : {n place : ℕ} → got ≡ line.Refused n place → DraftOf room (draft job (length out) outside) copy₂ out out
+    pub line-refused : {n place : ℕ} → got ≡ line.Refused n place → DraftOf room (draft job (length out) outside) copy₂ work₁ out out
         (delivered.Refused n place)
     line-refused k = (ap (draft job (length out)) (both ∙ line-of k), refl)
+
+    pub line-demands : {at len place : ℕ} → got ≡ line.Demanded at len place → DraftOf room (draft job (length out) outside) copy₂ work₁ out out
+        (delivered.Demanded at len place)
+    line-demands k =
+        let d = line-of k in
+        record { message = d .message; is = ap (draft job (length out)) (both ∙ d .is); waits = d .waits; kept = refl }
 
     module _ {len left : ℕ} (k : got ≡ line.Done len left) where
       made : IsLine room inside copy₂ lent image₁ len left
@@ -157,11 +164,11 @@ module _ {job : Job} {room used : ℕ} {text copy houses params paths work : Tex
       outside-done = both ∙ made .is
 
       pub line-delivered : (out₁ : Text) {q s : Quoted} → quotingOf q out₁ ≡ writingOf job (take len whole) out → q ≡ s
-          → DraftOf room (draft job (length out) outside) copy₂ out out₁ (deliveredAs s left)
+          → DraftOf room (draft job (length out) outside) copy₂ work₁ out out₁ (deliveredAs s left)
       line-delivered out₁ {s = s} w c =
-          subst (λ (o : Placed (Text × Pairs)). DraftOf room o copy₂ out out₁ (deliveredAs s left))
+          subst (λ (o : Placed (Text × Pairs)). DraftOf room o copy₂ work₁ out out₁ (deliveredAs s left))
           (sym (ap (draft job (length out)) outside-done))
-          (by-written (made .holds) out out₁ (outputOf job (length out) (made .fields)) (output-written job (length out) (made .fields)) s
+          (by-written (made .holds) work₁ out out₁ (outputOf job (length out) (made .fields)) (output-written job (length out) (made .fields)) s
           (ap (λ (x : Quoted). quotingOf x out₁) (sym c)
           ∙ w
           ∙ ap (λ (t : Text). writingOf job t out) image-there

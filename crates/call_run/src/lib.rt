@@ -1,5 +1,6 @@
 // A job that takes a line, on copies: the variables' image is copied, the line is expanded with the copy and into an image of the fields, and what came of
-// it is handed over at the end. Each copy is an array that one function holds and lends to the next.
+// it is handed over at the end. Each copy is an array that one function holds and lends to the next. A demanded message waits in the work area until all else
+// is answered; only then it is handed over, and the area is cleared.
 use call_check::Checked;
 use call_check::Job;
 use call_deliver::Answer;
@@ -10,10 +11,11 @@ use text::numbers;
 ghost use mathlib.Core.Path.{_≡_};
 ghost use lib.ListN.{length};
 ghost use Rattle.stages.specs.Numbers.{imageLimit};
+ghost use Rattle.stages.specs.Bytes.{Text};
 ghost use Rattle.call_check.specs.Calls.{given, answerOf};
 ghost use Rattle.call_check.specs.Checks.{Passed};
-ghost use Rattle.call_deliver.specs.Hands.{Hands, Gives};
-ghost use Rattle.call_run.specs.Drafts.{worded, draft, Drafting, DraftOf};
+ghost use Rattle.call_deliver.specs.Hands.{Gives};
+ghost use Rattle.call_run.specs.Drafts.{worded, draft, refusedWith, Drafting, DraftOf, Awaits};
 
 // What holds for a whole call.
 struct Call {
@@ -22,10 +24,30 @@ struct Call {
 }
 
 // What came of a line: so many bytes of the output are written, and so many of the variables' copy are their new image; or the number and the place that
-// refuse the call.
+// refuse the call; or the place of 13, whose message is the work area's `len` bytes from `at` on.
 enum Delivered {
     Done { out_len: usize, vars_used: usize },
     Refused { number: u8, place: usize },
+    Demanded { at: usize, len: usize, place: usize },
+}
+
+// What a call comes to before its message is handed over: the message is the work area's `len` bytes from `at` on, none of them if nothing is demanded.
+struct Draft {
+    answer: Answer,
+    at: usize,
+    len: usize,
+}
+
+// A refusal with a message: the work area's `len` bytes from `at` on.
+fn refuse_with(number: u8, place: usize, vars_used: usize, at: usize, len: usize) -> Draft
+    ensures { λ r. ⌜ r ≡ refusedWith number place «vars_used» at len ⌝ }
+{
+    let answer = call_deliver::refuse(number, place, vars_used);
+    Draft {
+        answer: answer,
+        at: at,
+        len: len,
+    }
 }
 
 // The line, once the variables are copied: its fields' image stands in `image`, and what the job gives of it in the output, if the call is accepted.
@@ -46,7 +68,8 @@ fn on_image(
     ensures { λ r. ⌜ DraftOf (call .extent .«vars_room»)
         (draft (call .job) (length (now (out .entry)))
         (worded (call .job) (call .extent .«vars_room») (call .extent .«vars_used») (now (line .entry)) (now (copy .entry)) (now (homes .entry))
-        (now (params .entry)) (now (paths .entry)) (length (now (out .entry))))) (now (copy .exit)) (now (out .entry)) (now (out .exit)) r ⌝ }
+        (now (params .entry)) (now (paths .entry)) (length (now (out .entry))))) (now (copy .exit)) (now (work .exit)) (now (out .entry))
+        (now (out .exit)) r ⌝ }
 {
     let job = call.job;
     let extent = call.extent;
@@ -64,6 +87,11 @@ fn on_image(
     match got {
         LineExpanded::Refused { number, place } => Delivered::Refused {
             number: number,
+            place: place,
+        },
+        LineExpanded::Demanded { at, len, place } => Delivered::Demanded {
+            at: at,
+            len: len,
             place: place,
         },
         LineExpanded::Done { used, vars_used } => {
@@ -102,7 +130,8 @@ fn with_image(
     ensures { λ r. ⌜ DraftOf (call .extent .«vars_room»)
         (draft (call .job) (length (now (out .entry)))
         (worded (call .job) (call .extent .«vars_room») (call .extent .«vars_used») (now (line .entry)) (now (copy .entry)) (now (homes .entry))
-        (now (params .entry)) (now (paths .entry)) (length (now (out .entry))))) (now (copy .exit)) (now (out .entry)) (now (out .exit)) r ⌝ }
+        (now (params .entry)) (now (paths .entry)) (length (now (out .entry))))) (now (copy .exit)) (now (work .exit)) (now (out .entry))
+        (now (out .exit)) r ⌝ }
 {
     let mut image = [0u8; numbers::IMAGE_LIMIT];
     on_image(
@@ -129,24 +158,35 @@ fn on_copy(
     work: &mut [u8],
     out: &mut [u8],
     copy: &mut [u8],
-) -> Answer
-    requires { ⌜ Passed (call .job) (given (now line) (now vars) (call .extent .«vars_used») (now homes) (now params) (now paths) (now work)
-        (now out)) ⌝ }
+) -> Draft
+    requires { ⌜ ((message : Text) → Passed (call .job)
+        (given (now line) (now vars) (call .extent .«vars_used») (now homes) (now params) (now paths) (now work) (now out) message)) ⌝ }
     requires { ⌜ (call .extent .«vars_room» ≡ length (now vars)) × (length (now copy) ≡ imageLimit) ⌝ }
-    ensures { λ r. ⌜ Hands
-        (answerOf (call .job) (given (now (line .entry)) (now (vars .entry)) (call .extent .«vars_used») (now (homes .entry)) (now (params .entry))
-        (now (paths .entry)) (now (work .entry)) (now (out .entry)))) r (now (vars .exit)) (now (out .exit)) ⌝ }
+    ensures { λ r. ⌜ Awaits
+        (λ message. answerOf (call .job) (given (now (line .entry)) (now (vars .entry)) (call .extent .«vars_used») (now (homes .entry))
+        (now (params .entry)) (now (paths .entry)) (now (work .entry)) (now (out .entry)) message)) r (now (vars .exit)) (now (work .exit))
+        (now (out .exit)) ⌝ }
 {
     let extent = call.extent;
     let vars_used = extent.vars_used;
     text_copy::copy_in(&vars[..vars_used], copy);
     let got = with_image(call, line, copy, homes, params, paths, work, out);
     match got {
-        Delivered::Refused { number, place } => call_deliver::refuse(number, place, vars_used),
+        Delivered::Refused { number, place } => refuse_with(number, place, vars_used, 0, 0),
+        Delivered::Demanded { at, len, place } => {
+            refuse_with(numbers::REFUSED_DEMAND, place, vars_used, at, len)
+        }
         Delivered::Done {
             out_len,
             vars_used: left,
-        } => call_deliver::accept(out_len, &copy[..left], vars),
+        } => {
+            let answer = call_deliver::accept(out_len, &copy[..left], vars);
+            Draft {
+                answer: answer,
+                at: 0,
+                len: 0,
+            }
+        }
     }
 }
 
@@ -160,19 +200,20 @@ fn with_copy(
     paths: &[u8],
     work: &mut [u8],
     out: &mut [u8],
-) -> Answer
-    requires { ⌜ Passed (call .job) (given (now line) (now vars) (call .extent .«vars_used») (now homes) (now params) (now paths) (now work)
-        (now out)) ⌝ }
+) -> Draft
+    requires { ⌜ ((message : Text) → Passed (call .job)
+        (given (now line) (now vars) (call .extent .«vars_used») (now homes) (now params) (now paths) (now work) (now out) message)) ⌝ }
     requires { ⌜ call .extent .«vars_room» ≡ length (now vars) ⌝ }
-    ensures { λ r. ⌜ Hands
-        (answerOf (call .job) (given (now (line .entry)) (now (vars .entry)) (call .extent .«vars_used») (now (homes .entry)) (now (params .entry))
-        (now (paths .entry)) (now (work .entry)) (now (out .entry)))) r (now (vars .exit)) (now (out .exit)) ⌝ }
+    ensures { λ r. ⌜ Awaits
+        (λ message. answerOf (call .job) (given (now (line .entry)) (now (vars .entry)) (call .extent .«vars_used») (now (homes .entry))
+        (now (params .entry)) (now (paths .entry)) (now (work .entry)) (now (out .entry)) message)) r (now (vars .exit)) (now (work .exit))
+        (now (out .exit)) ⌝ }
 {
     let mut copy = [0u8; numbers::IMAGE_LIMIT];
     on_copy(call, line, vars, homes, params, paths, work, out, &mut copy)
 }
 
-// The job from its checks on; the work area is left to be cleared.
+// The job from its checks on; the message is left to be handed over, and the work area to be cleared.
 fn from_checks(
     job: Job,
     line: &[u8],
@@ -183,14 +224,14 @@ fn from_checks(
     paths: &[u8],
     work: &mut [u8],
     out: &mut [u8],
-) -> Answer
-    ensures { λ r. ⌜ Hands
-        (answerOf job (given (now (line .entry)) (now (vars .entry)) «vars_used» (now (homes .entry)) (now (params .entry)) (now (paths .entry))
-        (now (work .entry)) (now (out .entry)))) r (now (vars .exit)) (now (out .exit)) ⌝ }
+) -> Draft
+    ensures { λ r. ⌜ Awaits
+        (λ message. answerOf job (given (now (line .entry)) (now (vars .entry)) «vars_used» (now (homes .entry)) (now (params .entry))
+        (now (paths .entry)) (now (work .entry)) (now (out .entry)) message)) r (now (vars .exit)) (now (work .exit)) (now (out .exit)) ⌝ }
 {
     let checked = call_check::check(job, line, vars, vars_used, homes, params, paths, work, out);
     match checked {
-        Checked::Refused { number, place } => call_deliver::refuse(number, place, vars_used),
+        Checked::Refused { number, place } => refuse_with(number, place, vars_used, 0, 0),
         Checked::Fine => {
             let extent = Extent {
                 vars_used: vars_used,
@@ -205,7 +246,8 @@ fn from_checks(
     }
 }
 
-// The job whole: "The work area is zero throughout after every call of expander or normaliser, number 1 included."
+// The job whole: "The work area is zero throughout after every call of expander or normaliser, number 1 included." E7: the message is copied from the area
+// before that.
 pub fn answer_call(
     job: Job,
     line: &[u8],
@@ -216,12 +258,23 @@ pub fn answer_call(
     paths: &[u8],
     work: &mut [u8],
     out: &mut [u8],
+    message: &mut [u8],
 ) -> Answer
     ensures { λ r. ⌜ Gives
         (answerOf job (given (now (line .entry)) (now (vars .entry)) «vars_used» (now (homes .entry)) (now (params .entry)) (now (paths .entry))
-        (now (work .entry)) (now (out .entry)))) r (now (vars .exit)) (now (work .exit)) (now (out .exit)) ⌝ }
+        (now (work .entry)) (now (out .entry)) (now (message .entry)))) r (now (vars .exit)) (now (work .exit)) (now (out .exit)) (now (message .exit)) ⌝ }
 {
-    let answer = from_checks(job, line, vars, vars_used, homes, params, paths, work, out);
+    let draft = from_checks(job, line, vars, vars_used, homes, params, paths, work, out);
+    let at = draft.at;
+    let end = at + draft.len;
+    let told = call_deliver::tell(&work[at..end], message);
     text_copy::fill_zero(work);
-    answer
+    let answer = draft.answer;
+    Answer {
+        number: answer.number,
+        place: answer.place,
+        out_len: answer.out_len,
+        vars_used: answer.vars_used,
+        message_len: told,
+    }
 }

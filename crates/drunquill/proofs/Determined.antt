@@ -10,14 +10,14 @@ use Rattle.call_run.proofs.Determined.{gives-determined}
 use Rattle.drunquill.specs.Hands.{Quotes}
 use Rattle.drunquill.specs.declared.QuoteAnswer.{QuoteAnswer}
 
-module _ (g : stage.Given) (r s : Answer) (vars vars' work work' out out' : Text) where
-  pub expand-determined : Gives (stage.expander g) r vars work out → Gives (stage.expander g) s vars' work' out'
-      → (r ≡ s) × (vars ≡ vars') × (work ≡ work') × (out ≡ out')
-  expand-determined = gives-determined (stage.expander g) r s vars vars' work work' out out'
+module _ (g : stage.Given) (r s : Answer) (vars vars' work work' out out' message message' : Text) where
+  pub expand-determined : Gives (stage.expander g) r vars work out message → Gives (stage.expander g) s vars' work' out' message'
+      → (r ≡ s) × (vars ≡ vars') × (work ≡ work') × (out ≡ out') × (message ≡ message')
+  expand-determined = gives-determined (stage.expander g) r s vars vars' work work' out out' message message'
 
-  pub normalise-determined : Gives (stage.normaliser g) r vars work out → Gives (stage.normaliser g) s vars' work' out'
-      → (r ≡ s) × (vars ≡ vars') × (work ≡ work') × (out ≡ out')
-  normalise-determined = gives-determined (stage.normaliser g) r s vars vars' work work' out out'
+  pub normalise-determined : Gives (stage.normaliser g) r vars work out message → Gives (stage.normaliser g) s vars' work' out' message'
+      → (r ≡ s) × (vars ≡ vars') × (work ≡ work') × (out ≡ out') × (message ≡ message')
+  normalise-determined = gives-determined (stage.normaliser g) r s vars vars' work work' out out' message message'
 
 pub quote-determined : (fields old : Text) (r s : QuoteAnswer) (out out' : Text) → Quotes (stage.quoter fields old) r out → Quotes
     (stage.quoter fields old) s out'

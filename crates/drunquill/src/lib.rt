@@ -18,7 +18,8 @@ pub struct QuoteAnswer {
 }
 
 // The expander: the line's fields, an image, to `out`. The variables are an image in the first `vars_used` bytes of their buffer, and may change. On refusal
-// the variables and the output hold their old bytes; the work area is zero throughout after every call.
+// the variables and the output hold their old bytes; the work area is zero throughout after every call. On 13 the message that the line demands comes to the
+// front of `message`, cut to it; every other byte of that buffer stays, as all of them do on every other answer.
 pub fn expand(
     line: &[u8],
     vars: &mut [u8],
@@ -28,10 +29,11 @@ pub fn expand(
     paths: &[u8],
     work: &mut [u8],
     out: &mut [u8],
+    message: &mut [u8],
 ) -> Answer
     ensures { λ r. ⌜ Gives
         (expander (given (now (line .entry)) (now (vars .entry)) «vars_used» (now (homes .entry)) (now (params .entry)) (now (paths .entry))
-        (now (work .entry)) (now (out .entry)))) r (now (vars .exit)) (now (work .exit)) (now (out .exit)) ⌝ }
+        (now (work .entry)) (now (out .entry)) (now (message .entry)))) r (now (vars .exit)) (now (work .exit)) (now (out .exit)) (now (message .exit)) ⌝ }
 {
     let expander = Job::Expander;
     call_run::answer_call(
@@ -44,6 +46,7 @@ pub fn expand(
         paths,
         work,
         out,
+        message,
     )
 }
 
@@ -57,10 +60,11 @@ pub fn normalise(
     paths: &[u8],
     work: &mut [u8],
     out: &mut [u8],
+    message: &mut [u8],
 ) -> Answer
     ensures { λ r. ⌜ Gives
         (normaliser (given (now (line .entry)) (now (vars .entry)) «vars_used» (now (homes .entry)) (now (params .entry)) (now (paths .entry))
-        (now (work .entry)) (now (out .entry)))) r (now (vars .exit)) (now (work .exit)) (now (out .exit)) ⌝ }
+        (now (work .entry)) (now (out .entry)) (now (message .entry)))) r (now (vars .exit)) (now (work .exit)) (now (out .exit)) (now (message .exit)) ⌝ }
 {
     let normaliser = Job::Normaliser;
     call_run::answer_call(
@@ -73,6 +77,7 @@ pub fn normalise(
         paths,
         work,
         out,
+        message,
     )
 }
 

@@ -8,7 +8,8 @@ use call_deliver::Answer;
 use drunquill::QuoteAnswer;
 
 // The expander: the line's fields, an image, to `out`. The variables are an image in the first `vars_used` bytes of their buffer, and may change. On refusal
-// the variables and the output hold their old bytes; the work area is zero throughout after every call.
+// the variables and the output hold their old bytes; the work area is zero throughout after every call. On 13 the message that the line demands comes to the
+// front of `message`, cut to it; every other byte of that buffer stays, as all of them do on every other answer.
 #[no_mangle]
 pub extern "C" fn drunquill_expand(
     line: &[u8],
@@ -19,12 +20,23 @@ pub extern "C" fn drunquill_expand(
     paths: &[u8],
     work: &mut [u8],
     out: &mut [u8],
+    message: &mut [u8],
 ) -> Answer
     ensures { λ r. ⌜ Gives
         (expander (given (now (line .entry)) (now (vars .entry)) «vars_used» (now (homes .entry)) (now (params .entry)) (now (paths .entry))
-        (now (work .entry)) (now (out .entry)))) r (now (vars .exit)) (now (work .exit)) (now (out .exit)) ⌝ }
+        (now (work .entry)) (now (out .entry)) (now (message .entry)))) r (now (vars .exit)) (now (work .exit)) (now (out .exit)) (now (message .exit)) ⌝ }
 {
-    drunquill::expand(line, vars, vars_used, homes, params, paths, work, out)
+    drunquill::expand(
+        line,
+        vars,
+        vars_used,
+        homes,
+        params,
+        paths,
+        work,
+        out,
+        message,
+    )
 }
 
 // The normaliser: the line's fields as a quoted line to `out`, all else as in the expander.
@@ -38,12 +50,23 @@ pub extern "C" fn drunquill_normalise(
     paths: &[u8],
     work: &mut [u8],
     out: &mut [u8],
+    message: &mut [u8],
 ) -> Answer
     ensures { λ r. ⌜ Gives
         (normaliser (given (now (line .entry)) (now (vars .entry)) «vars_used» (now (homes .entry)) (now (params .entry)) (now (paths .entry))
-        (now (work .entry)) (now (out .entry)))) r (now (vars .exit)) (now (work .exit)) (now (out .exit)) ⌝ }
+        (now (work .entry)) (now (out .entry)) (now (message .entry)))) r (now (vars .exit)) (now (work .exit)) (now (out .exit)) (now (message .exit)) ⌝ }
 {
-    drunquill::normalise(line, vars, vars_used, homes, params, paths, work, out)
+    drunquill::normalise(
+        line,
+        vars,
+        vars_used,
+        homes,
+        params,
+        paths,
+        work,
+        out,
+        message,
+    )
 }
 
 // The quoter: an image of fields as a quoted line to `out`, whose bytes after the line stay; on refusal all of them do.

@@ -47,12 +47,22 @@ pub struct Given {
     pub paths: Vec<u8>,
     pub work_len: usize,
     pub out_len: usize,
+    /// So many bytes of a message are compared.
+    pub message_len: usize,
     /// What stands in variables and output where nothing is given.
     pub fill: [fn(usize) -> u8; 2],
 }
 
 /// What it must give back: output and variables' image, or the refusal.
 pub type Wanted = Result<(Vec<u8>, Vec<u8>), Refusal>;
+
+/// The result as far as a message is compared.
+fn cut(result: Result<&[u8], Refusal>, message_len: usize) -> Result<Vec<u8>, Refusal> {
+    result.map(<[u8]>::to_vec).map_err(|mut refusal| {
+        refusal.message.truncate(message_len);
+        refusal
+    })
+}
 
 /// Calls the job and compares result, lengths and every byte of every buffer, the guards too; says what differs.
 pub fn differs(job: Job, given: &Given, wanted: &Wanted) -> Option<String> {
@@ -66,7 +76,7 @@ pub fn differs(job: Job, given: &Given, wanted: &Wanted) -> Option<String> {
         Job::Expand => expand,
         Job::Normalise => normalise,
     };
-    let result = job(&given.line, &mut variables, tables, work.lent(), out.lent()).map(<[u8]>::to_vec);
+    let result = cut(job(&given.line, &mut variables, tables, work.lent(), out.lent()), given.message_len);
     let used = variables.used;
     let (front, image) = wanted.clone().unwrap_or_default();
     let checks = [

@@ -3,7 +3,7 @@
 
 use std::thread;
 
-use drunquill::{quote, Number, Refusal, IMAGE_MAX, LINE_MAX, WORK_LEAST};
+use drunquill::{quote, Number, Refusal, IMAGE_MAX, LINE_MAX, MESSAGE_MAX, WORK_LEAST};
 
 use crate::buffers::{differs, image, quote_differs, Given, Job};
 
@@ -22,6 +22,7 @@ fn given(line: &[u8]) -> Given {
         paths: image(&[b".hid.raw", b"a b.raw", b"n/p1.raw", b"p1.raw", b"p2.raw"]),
         work_len: WORK_LEAST,
         out_len: 200,
+        message_len: MESSAGE_MAX + 1,
         fill: [|at| (at * 31 % 251 + 5) as u8, |at| (at * 17 % 241 + 9) as u8],
     }
 }
@@ -35,13 +36,18 @@ fn accepted(job: Job, given: &Given, out: &[u8], vars: &[u8]) {
     );
 }
 
+fn refused_as(job: Job, given: &Given, refusal: Refusal) {
+    assert_eq!(differs(job, given, &Err(refusal)), None, "{:?}", given.line.escape_ascii().to_string());
+}
+
 fn refused_by(job: Job, given: &Given, number: Number, place: usize) {
-    assert_eq!(
-        differs(job, given, &Err(Refusal { number, place })),
-        None,
-        "{:?}",
-        given.line.escape_ascii().to_string()
-    );
+    refused_as(job, given, Refusal { number, place, message: Vec::new() });
+}
+
+fn demands(given: &Given, place: usize, message: &[u8]) {
+    let refusal = Refusal { number: Number::Demanded, place, message: message.to_vec() };
+    refused_as(Job::Expand, given, refusal.clone());
+    refused_as(Job::Normalise, given, refusal);
 }
 
 fn refused(given: &Given, number: Number, place: usize) {
@@ -140,6 +146,30 @@ fn lines_are_refused() {
 }
 
 #[test]
+fn messages_are_given() {
+    let lines: [(&[u8], usize, &[u8]); 8] = [
+        (b"load ${base:?no base file chosen}", 5, b"no base file chosen"),
+        (b"${note:?}", 0, b""),
+        (b"${base?'a' \"$job\" $((1+2))}", 0, b"a north field 3"),
+        (b"${base?~/b *}", 0, b"/home/crew/b *"),
+        (b"\"${base?~/b 'c'}\"", 0, b"~/b 'c'"),
+        (b"${base?a${rover?inner}}", 0, b"inner"),
+        (b"${tilt=x} ${base?${height=y}$tilt$height}", 10, b"yxy"),
+        (b"${base?\xc3\xbc\xff\n}", 0, b"\xc3\xbc\xff\n"),
+    ];
+    for (line, place, message) in lines {
+        demands(&given(line), place, message);
+    }
+    refused(&given(b"a ${base?$((1/0))}"), Number::ZeroDivisor, 2);
+    accepted(Job::Normalise, &given(b"${job?$((1/0))}"), b"north field", &image(&VARIABLES));
+    let longest = vec![b'x'; MESSAGE_MAX];
+    let vars = image(&[b"v", &longest]);
+    let edge = Given { used: vars.len(), vars, vars_len: IMAGE_MAX, ..given(b"a${u?$v}") };
+    demands(&edge, 0, &longest);
+    refused(&Given { line: b"${u?''$v}".to_vec(), ..edge }, Number::TooManyUnits, 0);
+}
+
+#[test]
 fn edges_are_kept() {
     for (bytes, good) in [(2_047, true), (2_048, false)] {
         let value = vec![b'x'; bytes];
@@ -168,7 +198,7 @@ fn fields_are_quoted() {
     let fill: fn(usize) -> u8 = |at| (at * 29 % 253 + 2) as u8;
     let fields = image(&[b"it's", b"", b"a b"]);
     let line = b"'it'\\''s' '' 'a b'".to_vec();
-    let refusal = |number| Err(Refusal { number, place: 0 });
+    let refusal = |number| Err(Refusal { number, place: 0, message: Vec::new() });
     assert_eq!(quote_differs(&fields, 60, fill, &Ok(line.clone())), None);
     assert_eq!(quote_differs(&fields, line.len(), fill, &Ok(line.clone())), None);
     assert_eq!(quote_differs(&fields, line.len() - 1, fill, &refusal(Number::OutputRoom)), None);
@@ -194,6 +224,12 @@ fn threads_call_at_once() {
 fn a_refusal_says_itself() {
     let refusal = quote(&[], &mut []).unwrap_err();
     assert_eq!(refusal.to_string(), "refused with 22 at byte 0: fields image malformed or too long");
+    assert_eq!(format!("{refusal:?}"), "Refusal { number: BadFields, place: 0, message: b\"\" }");
+    let message = b"no \"b\xc3\xa4se\"\n".to_vec();
+    let refusal = Refusal { number: Number::Demanded, place: 5, message };
+    assert_eq!(refusal.to_string(), "refused with 13 at byte 5: `?` form on a missing value: no \"b\u{e4}se\"\n");
+    let shown = r#"Refusal { number: Demanded, place: 5, message: b"no \"b\xc3\xa4se\"\n" }"#;
+    assert_eq!(format!("{refusal:?}"), shown);
     assert_eq!(Number::of(0), None);
     assert_eq!(Number::of(24), None);
 }

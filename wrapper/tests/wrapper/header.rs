@@ -40,6 +40,7 @@ fn limits_are_those_of_the_header() {
         ("IMAGE_MAX", drunquill::IMAGE_MAX),
         ("PATHS_MAX", drunquill::PATHS_MAX),
         ("UNITS_MAX", drunquill::UNITS_MAX),
+        ("MESSAGE_MAX", drunquill::MESSAGE_MAX),
         ("DEPTH_MAX", drunquill::DEPTH_MAX),
         ("OPEN_MAX", drunquill::OPEN_MAX),
         ("STACK", drunquill::STACK),

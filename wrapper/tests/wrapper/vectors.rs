@@ -16,15 +16,21 @@ fn count(word: &str) -> usize {
     word.parse().expect("a length")
 }
 
-/// What stands behind the `=`: number, place, then the output, which has the length that is said.
+/// Bytes behind their length.
+fn sized(words: &[&str]) -> Vec<u8> {
+    let found = bytes(words[1]);
+    assert_eq!(found.len(), count(words[0]));
+    found
+}
+
+/// What stands behind the `=`: number, place, then the output behind its length; of a line the message behind its length comes last.
 fn outcome(words: &[&str]) -> Result<Vec<u8>, Refusal> {
-    let out = bytes(words[3]);
-    assert_eq!(out.len(), count(words[2]));
+    let (out, message) = (sized(&words[2..]), if words.len() > 4 { sized(&words[6..]) } else { Vec::new() });
     match words[0] {
         "0" => Ok(out),
         number => {
             let number = Number::of(number.parse().expect("a number")).expect("a refusal");
-            Err(Refusal { number, place: count(words[1]) })
+            Err(Refusal { number, place: count(words[1]), message })
         }
     }
 }
@@ -49,6 +55,7 @@ fn case(line: &str) -> Option<String> {
         work_len: count(call[7]),
         out_len: count(call[8]),
         params: bytes(call[9]),
+        message_len: count(call[10]),
         fill: [|_| 0x5a, |_| 0xa5],
     };
     let wanted: Wanted = outcome(&answer).map(|out| (out, bytes(answer[5])));
@@ -64,5 +71,5 @@ fn vectors_hold() {
         assert_eq!(case(line), None, "line {number}");
         cases += 1;
     }
-    assert!(cases > 1_100);
+    assert!(cases > 1_200);
 }

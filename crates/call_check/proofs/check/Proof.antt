@@ -11,13 +11,13 @@ refuse-requires : tie.Need-refuse-requires
 refuse-requires c κs = search needs
 
 returns : tie.Need-returns
-returns c = refuses _ _ (c .refuse .ensures) (work-small _ _ (c .before .if1 .taken))
+returns c m = refuses _ _ (c .refuse .ensures) (work-small _ _ (c .before .if1 .taken))
 
 refuse-requires-2 : tie.Need-refuse-requires-2
 refuse-requires-2 c κs = search needs
 
 returns-2 : tie.Need-returns-2
-returns-2 c = refuses _ _ (c .refuse2 .ensures) (used-beyond _ _ (c .before .before .if1 .left) (c .before .if2 .taken))
+returns-2 c m = refuses _ _ (c .refuse2 .ensures) (used-beyond _ _ (c .before .before .if1 .left) (c .before .if2 .taken))
 
 slice-aggregate-well-formed : tie.Need-slice-aggregate-well-formed
 slice-aggregate-well-formed c = sym (length-take-le _ _ (c .before .if2 .left))
@@ -29,7 +29,7 @@ refuse-requires-3 : tie.Need-refuse-requires-3
 refuse-requires-3 c κs = search needs
 
 returns-3 : tie.Need-returns-3
-returns-3 c = refuses _ _ (c .refuse3 .ensures)
+returns-3 c m = refuses _ _ (c .refuse3 .ensures)
     (variables-bad _ _ (c .before .before .before .before .before .if1 .left) (c .before .before .before .before .if2 .left)
     (sym (c .before .before .well-formed .ensures) ∙ not-true _ (c .before .if3 .taken)))
 
@@ -40,7 +40,7 @@ refuse-requires-4 : tie.Need-refuse-requires-4
 refuse-requires-4 c κs = search needs
 
 returns-4 : tie.Need-returns-4
-returns-4 c =
+returns-4 c m =
     refuses _ _ (c .refuse4 .ensures)
     (homes-bad _ _ (c .before .before .before .before .before .before .before .if1 .left)
     (c .before .before .before .before .before .before .if2 .left)
@@ -54,7 +54,7 @@ refuse-requires-5 : tie.Need-refuse-requires-5
 refuse-requires-5 c κs = search needs
 
 returns-5 : tie.Need-returns-5
-returns-5 c =
+returns-5 c m =
     refuses _ _ (c .refuse5 .ensures)
     (paths-bad _ _ (c .before .before .before .before .before .before .before .before .before .if1 .left)
     (c .before .before .before .before .before .before .before .before .if2 .left)
@@ -70,7 +70,7 @@ refuse-requires-6 : tie.Need-refuse-requires-6
 refuse-requires-6 c κs = search needs
 
 returns-6 : tie.Need-returns-6
-returns-6 c =
+returns-6 c m =
     refuses _ _ (c .refuse6 .ensures)
     (parameters-bad _ _ (c .before .before .before .before .before .before .before .before .before .before .before .if1 .left)
     (c .before .before .before .before .before .before .before .before .before .before .if2 .left)
@@ -81,7 +81,7 @@ returns-6 c =
     (sym (c .before .before .well-formed4 .ensures) ∙ not-true _ (c .before .if6 .taken)))
 
 check-line-requires : tie.Need-check-line-requires
-check-line-requires c κs =
+check-line-requires c κs m =
     record {
       area = c .before .before .before .before .before .before .before .before .before .before .if1 .left;
       inside = c .before .before .before .before .before .before .before .before .before .if2 .left;

@@ -1,7 +1,7 @@
 -- A call is refused by its checks, or worked out on copies.
 use mathlib.Core.Path.{refl}
 use Rattle.call_check.proofs.Checking.{check-passed, check-refused}
-use Rattle.call_run.proofs.Answering.{answer-refused}
+use Rattle.call_run.proofs.Answering.{answer-refused, untold-awaits, awaits-as}
 use borrow.Author.Needs.{needs}
 use Rattle.call_run.proofs.from_checks.Statement.{statement}
 use Rattle.call_run.proofs.from_checks.Tie as tie
@@ -16,8 +16,8 @@ check-requires c κs = search needs
 enum-known-checked : tie.Need-enum-known-checked
 enum-known-checked c = search needs
 
-refuse-requires : tie.Need-refuse-requires
-refuse-requires c κs = search needs
+refuse-with-requires : tie.Need-refuse-with-requires
+refuse-with-requires c κs = search needs
 
 enum-told : tie.Need-enum-told
 enum-told c = search needs
@@ -25,7 +25,7 @@ enum-told c = search needs
 with-copy-requires : tie.Need-with-copy-requires
 with-copy-requires c κs =
     let t = c .before .before .before in
-    (check-passed _ _ (t .before .before .check .ensures) (t .enum-told .given .1), refl)
+    (λ m. check-passed _ _ (t .before .before .check .ensures m) (t .enum-told .given .1), refl)
 
 same-length : tie.Need-same-length
 same-length c = search needs
@@ -39,8 +39,9 @@ same-length-3 c = search needs
 returns : tie.Need-returns
 returns c =
     let k = c .before .before .before .before in
-    let job = entry k .args .job in
-    answer-refused job _ (check-refused job _ (k .check .ensures) (c .before .before .checked .given .1)) (c .refuse .ensures)
+    let s = entry k in
+    awaits-as _ (c .refuse-with .ensures) (untold-awaits refl (s .args .work .now) _ λ m.
+    answer-refused (s .args .job) _ (check-refused (s .args .job) _ (k .check .ensures m) (c .before .before .checked .given .1)) refl)
 
 same-length-4 : tie.Need-same-length-4
 same-length-4 c = search needs
@@ -60,7 +61,7 @@ from-checks-spec =
     (tie.spec
     check-requires
     enum-known-checked
-    refuse-requires
+    refuse-with-requires
     enum-told
     with-copy-requires
     same-length
