@@ -2,6 +2,7 @@
 import os
 import select
 import subprocess
+import tempfile
 import time
 
 ROOT = os.path.abspath(os.path.join(os.path.dirname(__file__), "..", ".."))
@@ -31,7 +32,8 @@ class Program:
     """The program in a folder. Neither its start nor other work on the machine is in the seconds that it gives."""
 
     def __init__(self, command, folder):
-        self.process = subprocess.Popen(command, cwd=folder, stdin=subprocess.PIPE, stdout=subprocess.PIPE, bufsize=0)
+        self.said = tempfile.TemporaryFile()
+        self.process = subprocess.Popen(command, cwd=folder, stdin=subprocess.PIPE, stdout=subprocess.PIPE, stderr=self.said, bufsize=0)
         self.clock = (~self.process.pid << 3) | 2  # the clock of its processor time: clock_getcpuclockid(3)
         self.unread = b""
 
@@ -43,9 +45,14 @@ class Program:
         self.process.stdout.close()
         self.process.kill()
         self.process.wait()
+        self.said.close()
 
     def seconds(self):
         return time.clock_gettime(self.clock)
+
+    def messages(self):
+        """What it has written to standard error: the messages of all lines but perhaps the last that was answered."""
+        return os.pread(self.said.fileno(), os.fstat(self.said.fileno()).st_size, 0)
 
     def answer(self, end):
         """The next answer, a line; TooLong where the program's clock passes `end` first."""
@@ -54,7 +61,7 @@ class Program:
             if select.select([self.process.stdout], [], [], 0.05)[0]:
                 got = os.read(self.process.stdout.fileno(), 65536)
                 if not got:
-                    raise EOFError("the program ended")
+                    raise EOFError(f"the program ended: {self.messages()[:200]!r}")
                 self.unread += got
             elif self.seconds() > end or time.monotonic() > given_up:
                 raise TooLong

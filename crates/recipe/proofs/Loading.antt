@@ -10,12 +10,12 @@ use Rattle.stages.specs.Numbers.{imageLimit}
 use Rattle.stages.specs.Bytes.{Text}
 use Rattle.stages.specs.Images.{fieldsOf, image}
 use Rattle.stages.specs.Call.{over}
-use Rattle.stages.specs.Program.{tableOr, buffered, Variables, saidOf, firstVariables, program}
+use Rattle.stages.specs.Program.{tableOr, buffered, Variables, linesOf, saidOf, toldOf, firstVariables, program, demandsOf}
 use Rattle.stages.proofs.Files.{buffered-over}
 use Rattle.stages.proofs.Rooms.{over-front}
 use Rattle.recipe_load.specs.Loads.{Held}
 use Rattle.recipe_arguments.specs.Packs.{Gathers}
-use Rattle.recipe_arguments.proofs.Lists.{packs-fields, said-params, after-lines-params}
+use Rattle.recipe_arguments.proofs.Lists.{packs-fields, said-params, told-params, after-lines-params}
 use Rattle.recipe_answer.specs.Says.{variables}
 use Rattle.recipe_answer.specs.Turns.{Ran}
 use Rattle.recipe.specs.Runs.{Answers, Runs}
@@ -37,23 +37,28 @@ held-variables {room} {n} {left} h e =
 ran-packed : {homes paths params params′ : Text} {first now : Variables} {input : Text} → fieldsOf params ≡ fieldsOf params′
     → Ran homes paths params first input now → Ran homes paths params′ first input now
 ran-packed {homes} {paths} {params} {params′} {first} e r = record {
-  told = r .told;
+  wrote = r .wrote;
   lines = r .lines;
   others = r .others;
   all = r .all;
   words = r .words ∙ said-params homes paths params params′ e first (r .lines);
+  messages = r .messages ∙ told-params homes paths params params′ e first 1 (r .lines);
   after = r .after ∙ after-lines-params homes paths params params′ e first (r .lines);
 }
 
--- where all lines are answered, what is said is what the stage's program writes
-ran-whole : (vars homes paths : Option Text) (arguments : List Text) {input : Text} {now : Variables}
-    (r : Ran (tableOr homes) (tableOr paths) (image arguments) (firstVariables vars) input now) → r .others ≡ []
-    → r .told ≡ program vars homes paths arguments input
-unfolding program
-ran-whole vars homes paths arguments r e =
-    r .words
-    ∙ ap (saidOf (tableOr homes) (tableOr paths) (image arguments) (firstVariables vars))
-    (sym (r .all ∙ ap (λ (x : List Text). r .lines ++ x) e ∙ append-nil (r .lines)))
+-- where all lines are answered, what is said and told is what the stage's program writes
+module _ (vars homes paths : Option Text) (arguments : List Text) {input : Text} {now : Variables}
+    (r : Ran (tableOr homes) (tableOr paths) (image arguments) (firstVariables vars) input now) (e : r .others ≡ []) where
+  all-answered : r .lines ≡ linesOf input
+  all-answered = sym (r .all ∙ ap (λ (x : List Text). r .lines ++ x) e ∙ append-nil (r .lines))
+
+  ran-whole : r .wrote .words ≡ program vars homes paths arguments input
+  unfolding program
+  ran-whole = r .words ∙ ap (saidOf (tableOr homes) (tableOr paths) (image arguments) (firstVariables vars)) all-answered
+
+  ran-demands : r .wrote .messages ≡ demandsOf vars homes paths arguments input
+  unfolding demandsOf
+  ran-demands = r .messages ∙ ap (toldOf (tableOr homes) (tableOr paths) (image arguments) (firstVariables vars) 1) all-answered
 
 -- the three tables are loaded, the arguments are packed, and the lines answered among them
 module _ {vars homes paths params vars′ : Text} {room roomHomes roomPaths n h p packed used : ℕ} (v : Held room n vars) (e : room ≡ imageLimit + 1)
@@ -75,6 +80,7 @@ module _ {vars homes paths params vars′ : Text} {room roomHomes roomPaths n h 
         now = variables vars′ used;
         ran = r;
         whole = ran-whole (v .file) (o .file) (t .file) (q .arguments) r;
+        demands = ran-demands (v .file) (o .file) (t .file) (q .arguments) r;
         varsAre = take-at vars′ (drop imageLimit vars) imageLimit l;
         homesAre = o .leaves ∙ ap (λ (m : ℕ). over (tableOr (o .file)) (replicate m 0)) (sym f);
         pathsAre = t .leaves ∙ ap (λ (m : ℕ). over (tableOr (t .file)) (replicate m 0)) (sym g);

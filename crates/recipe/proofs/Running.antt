@@ -6,27 +6,35 @@ use mathlib.Core.Bool.{Bool, true, false}
 use mathlib.Core.List.{[], _∷_, _++_, append-nil}
 use lib.IntN.{ℤ, pos, negsuc}
 use lib.Signed.{ltZ}
-use lib.ListN.{length, take}
-use lib.Seq.{take-all}
+use lib.ListN.{length, take, drop}
+use lib.Seq.{take-all, take-at, drop-at, length-take-le}
 use borrow.Author.Tests.{ltb-true}
-use Rattle.stages.specs.Numbers.{imageLimit}
 use Rattle.stages.specs.Bytes.{Text}
 use Rattle.stages.specs.Call.{normaliser}
-use Rattle.stages.specs.Program.{Variables, givenLine, said, saidOf}
+use Rattle.stages.specs.Program.{Variables, givenLine, said, told, nextNumber, saidOf, toldOf}
 use Rattle.stages.proofs.Bools.{no, apart, either}
 use Rattle.io.specs.Counts.{Counts, clamped}
 use Rattle.io.proofs.Counting.{counts}
-use Rattle.text.proofs.Filling.{puts-front}
 use Rattle.recipe_cut.specs.Lines.{lineKept, hasLine, lastLine}
-use Rattle.recipe_cut.specs.Said.{answerRoom}
+use Rattle.recipe_cut.specs.Said.{writtenRoom}
 use Rattle.recipe_cut.proofs.Callers.{next-turn, kept-most}
 use Rattle.recipe_answer.specs.Says.{variables, Says}
-use Rattle.recipe_answer.specs.Turns.{Ready, Buffers, buffers, Stays, Tells, Turned, stays, tells, Reaches, Ran}
+use Rattle.recipe_answer.specs.Turns.{Ready, Buffers, buffers, Stays, Tells, Turned, stays, tells, Wrote, Reaches, Ran}
 use Rattle.recipe_answer.specs.declared.Said.{Said}
 use Rattle.recipe_answer.specs.declared.Carried.{Carried}
 use Rattle.recipe_answer.specs.declared.Turn.{Turn}
 use Rattle.recipe_answer.specs.declared.Turn.the-variants.{Open, Answered}
-use Rattle.recipe_answer.proofs.Turns.{reaches-none, reaches-open, reaches-line, reaches-stopped, reaches-ran, run-ran}
+use Rattle.recipe_answer.proofs.Turns.{
+  says-all,
+  nothing,
+  wroteMore,
+  reaches-none,
+  reaches-open,
+  reaches-line,
+  reaches-stopped,
+  reaches-ran,
+  run-ran,
+}
 use Rattle.recipe.specs.Runs.{
   blockOf,
   inputOf,
@@ -49,20 +57,26 @@ use Rattle.recipe.specs.declared.answering.Run.{Run}
 
 -- WORDS
 
--- what is said of a line is an answer
-module _ {homes paths params : Text} {v : Variables} {old left vars : Text} {r : Said} where
-  pub one-spoken : (l : Text) → Says homes paths params v (l ∷ []) old left vars r → Spoken (take (r .len) left)
-  unfolding saidOf
+-- what is said of a line is an answer, and what is told is told of it
+module _ {homes paths params : Text} {v : Variables} {n : ℕ} {old left vars : Text} {r : Said} where
+  pub one-spoken : (l : Text) → Says homes paths params v n (l ∷ []) old left vars r → Spoken (take (r .len + r .told) left) (r .len)
+  unfolding saidOf toldOf
   one-spoken l s = record {
+    within = counts (r .len) (take (r .len + r .told) left) (omega (arith, length-take-le (r .len + r .told) left (s .inside)));
     answer = normaliser (givenLine homes paths params l v);
-    is = puts-front (s .words) ∙ append-nil (said (normaliser (givenLine homes paths params l v)));
+    number = n;
+    says = ap (take (r .len)) (says-all s)
+        ∙ take-at (saidOf homes paths params v (l ∷ [])) _ (r .len) (sym (s .words))
+        ∙ append-nil (said (normaliser (givenLine homes paths params l v)));
+    tells = ap (drop (r .len)) (says-all s)
+        ∙ drop-at (saidOf homes paths params v (l ∷ [])) _ (r .len) (sym (s .words))
+        ∙ append-nil (told n (normaliser (givenLine homes paths params l v)));
   }
 
   -- where something is said, it is said of a line
-  pub last-spoken : (t : Text) → Says homes paths params v (lastLine t) old left vars r → 0 < r .len → Spoken (take (r .len) left)
+  pub last-spoken : (t : Text) → Says homes paths params v n (lastLine t) old left vars r → 0 < r .len → Spoken (take (r .len + r .told) left) (r .len)
   unfolding lastLine saidOf
-  last-spoken t s h =
-      either (hasLine t) (λ e. one-spoken t (rw e at s)) (λ e. absurd (omega (arith, (rw e at s) .words .counts)))
+  last-spoken t s h = either (hasLine t) (λ e. one-spoken t (rw e at s)) (λ e. absurd (omega (arith, (rw e at s) .words)))
 
 -- A TURN, by its answer
 
@@ -73,10 +87,10 @@ module _ {homes paths params block : Text} {k : Carried} {at : ℕ} {b c : Buffe
       go : Turned homes paths params k block at b c (Open n) → Stays (k .kept) block at b c n
       go (stays s) = s
 
-  pub turned-told : {len used next : ℕ} → r ≡ Answered len used next → Tells homes paths params k block at b c len used next
-  turned-told {len} {used} {next} e = go (subst (Turned homes paths params k block at b c) e t)
+  pub turned-told : {len told used next : ℕ} → r ≡ Answered len told used next → Tells homes paths params k block at b c len told used next
+  turned-told {len} {told} {used} {next} e = go (subst (Turned homes paths params k block at b c) e t)
     where
-      go : Turned homes paths params k block at b c (Answered len used next) → Tells homes paths params k block at b c len used next
+      go : Turned homes paths params k block at b c (Answered len told used next) → Tells homes paths params k block at b c len told used next
       go (tells s) = s
 
 -- THE LINES OF A BLOCK
@@ -88,8 +102,9 @@ pub record Goes (homes paths params block line₀ vars₀ said₀ : Text) (k : R
   pub sameLine : length line ≡ length line₀
   pub sameVars : length vars ≡ length vars₀
   pub sameSaid : length said ≡ length said₀
-  pub reached : (first : Variables) (read told : Text) → Reaches homes paths params first read told line₀ (k .kept) (variables vars₀ (k .«vars_used»))
-      → Reached homes paths params first (read ++ take at block) line (r .kept) (variables vars (r .«vars_used»))
+  pub reached : (first : Variables) (read : Text) (w : Wrote)
+      → Reaches homes paths params first read w line₀ (k .kept) (k .line) (variables vars₀ (k .«vars_used»))
+      → Reached homes paths params first (read ++ take at block) line (r .kept) (r .line) (variables vars (r .«vars_used»))
 
 pub goes-starts : (homes paths params block line vars said : Text) (k : Run) → Ready line said (k .kept)
     → Goes homes paths params block line vars said k line vars said k 0
@@ -99,9 +114,10 @@ goes-starts homes paths params block line vars said k h = record {
   sameLine = refl;
   sameVars = refl;
   sameSaid = refl;
-  reached = λ first read told r. record {
-    told = told;
-    reaches = subst (λ (x : Text). Reaches homes paths params first x told line (k .kept) (variables vars (k .«vars_used»))) (sym (append-nil read)) r;
+  reached = λ first read w r. record {
+    wrote = w;
+    reaches = subst (λ (x : Text). Reaches homes paths params first x w line (k .kept) (k .line) (variables vars (k .«vars_used»)))
+        (sym (append-nil read)) r;
   };
 }
 
@@ -109,44 +125,49 @@ module _ {homes paths params block line₀ vars₀ said₀ : Text} {k : Run} {li
     (g : Goes homes paths params block line₀ vars₀ said₀ k line vars said r at) where
   -- what is carried into a turn
   abbrev pub carried : Carried
-  carried = record { kept = r .kept; «vars_used» = r .«vars_used» }
+  carried = record { kept = r .kept; line = r .line; «vars_used» = r .«vars_used» }
 
-  -- a line ended, and was written or not
-  pub goes-line : {c : Buffers} {len used next : ℕ} (s : Bool) → Tells homes paths params carried block at (buffers line vars said) c len used next
+  -- a line ended, is counted, and was written or not
+  pub goes-line : {c : Buffers} {len told used next number : ℕ} (s : Bool)
+      → Tells homes paths params carried block at (buffers line vars said) c len told used next → number ≡ nextNumber (r .line)
       → length (c .line) ≡ length line → length (c .vars) ≡ length vars → length (c .said) ≡ length said
-      → Goes homes paths params block line₀ vars₀ said₀ k (c .line) (c .vars) (c .said) (record { kept = 0; «vars_used» = used; «goes_on» = s }) next
-  goes-line {c = c} {len = len} {next = next} s t l v w = record {
+      → Goes homes paths params block line₀ vars₀ said₀ k (c .line) (c .vars) (c .said)
+      (record { kept = 0; line = number; «vars_used» = used; «goes_on» = s }) next
+  goes-line {c = c} {len = len} {told = told} {used = used} {next = next} s t e l v w = record {
     ready = record { most = omega arith; room = omega (arith, g .ready .room); words = omega (arith, g .ready .words) };
     inside = next-turn block at next (t .ends) (g .inside) .1;
     sameLine = l ∙ g .sameLine;
     sameVars = v ∙ g .sameVars;
     sameSaid = w ∙ g .sameSaid;
-    reached = λ first read told h.
-        let q = g .reached first read told h in
-        record { told = q .told ++ take len (c .said); reaches = reaches-line homes paths params read block (q .told) at (q .reaches) t };
+    reached = λ first read u h.
+        let q = g .reached first read u h in
+        record {
+          wrote = wroteMore (q .wrote) (record { len = len; told = told; «vars_used» = used }) (c .said);
+          reaches = reaches-line homes paths params read block (q .wrote) at (q .reaches) t e;
+        };
   }
 
   -- the block ran out within a line
   pub passes-open : {c : Buffers} {n : ℕ} → Stays (r .kept) block at (buffers line vars said) c n
-      → Passes homes paths params block line₀ vars₀ k (c .line) (c .vars) (record { kept = n; «vars_used» = r .«vars_used»; «goes_on» = true })
+      → Passes homes paths params block line₀ vars₀ k (c .line) (c .vars) (record { kept = n; line = r .line; «vars_used» = r .«vars_used»; «goes_on» = true })
   passes-open s = record {
-    goes = λ e first read told h.
-        let q = g .reached first read told h in
-        record { told = q .told; reaches = reaches-open homes paths params read block (q .told) at {k = carried} (q .reaches) s };
+    goes = λ e first read w h.
+        let q = g .reached first read w h in
+        record { wrote = q .wrote; reaches = reaches-open homes paths params read block (q .wrote) at {k = carried} (q .reaches) s };
     stops = λ e. absurd (no (sym e));
   }
 
   -- the block is passed, or the output failed
   pub passes-left : (r .«goes_on» ≡ true → length block ≤ at) → Passes homes paths params block line₀ vars₀ k line vars r
   passes-left f = record {
-    goes = λ e first read told h.
-        let q = g .reached first read told h in
+    goes = λ e first read w h.
+        let q = g .reached first read w h in
         record {
-          told = q .told;
-          reaches = subst (λ (x : Text). Reaches homes paths params first (read ++ x) (q .told) line (r .kept) (variables vars (r .«vars_used»)))
+          wrote = q .wrote;
+          reaches = subst (λ (x : Text). Reaches homes paths params first (read ++ x) (q .wrote) line (r .kept) (r .line) (variables vars (r .«vars_used»)))
               (take-all at block (f e)) (q .reaches);
         };
-    stops = λ e first read told h. reaches-stopped homes paths params read block at (g .reached first read told h .reaches);
+    stops = λ e first read w h. reaches-stopped homes paths params read block at (g .reached first read w h .reaches);
   }
 
 -- WHAT A READ GAVE
@@ -199,16 +220,16 @@ module _ {homes paths params block line vars said : Text} {k : Run} {line′ var
 -- a run stands where all that was read is answered, or has stopped
 pub record Stands (homes paths params vars₀ : Text) (used₀ : ℕ) (line vars said : Text) (k : Run) : Type 0 where
   pub room : lineKept ≤ length line
-  pub words : imageLimit + answerRoom ≤ length said
-  pub goes : k .«goes_on» ≡ true → Going homes paths params (variables vars₀ used₀) line (k .kept) (variables vars (k .«vars_used»))
+  pub words : writtenRoom ≤ length said
+  pub goes : k .«goes_on» ≡ true → Going homes paths params (variables vars₀ used₀) line (k .kept) (k .line) (variables vars (k .«vars_used»))
   pub stops : k .«goes_on» ≡ false → Answers homes paths params vars₀ used₀ vars (k .«vars_used»)
 
 pub stands-starts : (homes paths params vars : Text) (used : ℕ) (line said : Text) → Ready line said 0
-    → Stands homes paths params vars used line vars said (record { kept = 0; «vars_used» = used; «goes_on» = true })
+    → Stands homes paths params vars used line vars said (record { kept = 0; line = 1; «vars_used» = used; «goes_on» = true })
 stands-starts homes paths params vars used line said h = record {
   room = h .room;
   words = h .words;
-  goes = λ e. record { read = []; reached = record { told = []; reaches = reaches-none homes paths params (variables vars used) line } };
+  goes = λ e. record { read = []; reached = record { wrote = nothing; reaches = reaches-none homes paths params (variables vars used) line } };
   stops = λ e. absurd (no (sym e));
 }
 
@@ -233,18 +254,18 @@ module _ {homes paths params vars₀ : Text} {used₀ : ℕ} {line vars said : T
     stops = stopped f;
   }
     where
-      g : Going homes paths params (variables vars₀ used₀) line (k .kept) (variables vars (k .«vars_used»))
+      g : Going homes paths params (variables vars₀ used₀) line (k .kept) (k .line) (variables vars (k .«vars_used»))
       g = s .goes q
 
       goes-on : {block : Text} {i : Input} → Follows homes paths params block line vars said k line′ vars′ said′ r i → r .«goes_on» ≡ true
-          → Going homes paths params (variables vars₀ used₀) line′ (r .kept) (variables vars′ (r .«vars_used»))
-      goes-on (passes p) e = record { read = _; reached = p .goes e (variables vars₀ used₀) (g .read) (g .reached .told) (g .reached .reaches) }
+          → Going homes paths params (variables vars₀ used₀) line′ (r .kept) (r .line) (variables vars′ (r .«vars_used»))
+      goes-on (passes p) e = record { read = _; reached = p .goes e (variables vars₀ used₀) (g .read) (g .reached .wrote) (g .reached .reaches) }
       goes-on (finishes p) e = absurd (apart (p .stops) e)
       goes-on (fails p) e = absurd (apart (p .stops) e)
 
       stopped : {block : Text} {i : Input} → Follows homes paths params block line vars said k line′ vars′ said′ r i → r .«goes_on» ≡ false
           → Answers homes paths params vars₀ used₀ vars′ (r .«vars_used»)
-      stopped (passes p) e = record { read = _; ran = p .stops e (variables vars₀ used₀) (g .read) (g .reached .told) (g .reached .reaches) }
+      stopped (passes p) e = record { read = _; ran = p .stops e (variables vars₀ used₀) (g .read) (g .reached .wrote) (g .reached .reaches) }
       stopped (finishes p) e = record { read = g .read; ran = run-ran homes paths params (g .reached .reaches) (p .says) }
       stopped (fails p) e = record {
         read = g .read;

@@ -1,5 +1,6 @@
 // Lines to answers: what the program reads and writes around the turns of `recipe_answer`, which do all that lies between. Each answer is written before
-// the next line is worked out.
+// the next line is worked out, and right behind it, to standard error, the message that its line demands.
+use libc::STDERR_FILENO;
 use libc::STDIN_FILENO;
 use libc::STDOUT_FILENO;
 use recipe_answer::Carried;
@@ -19,9 +20,10 @@ enum Input {
     Failed,
 }
 
-// Where a run stands: the bytes kept of a line that has not ended, the variables' used length, and whether there is more to answer.
+// Where a run stands: the bytes kept of a line that has not ended, the line's number, the variables' used length, and whether there is more to answer.
 struct Run {
     kept: usize,
+    line: usize,
     vars_used: usize,
     goes_on: bool,
 }
@@ -49,12 +51,15 @@ fn read_block(block: &mut [u8]) -> Input
     input_of(got, block)
 }
 
-// Writes the words of an answer, and tells whether they could be written.
-fn write_words(words: &[u8]) -> bool
-    requires { ⌜ Spoken (now words) ⌝ }
+// Writes the words of an answer, the first `len` bytes, to standard output, and what is told of its line, the bytes behind them, to standard error; answers
+// whether the words could be written. A message that cannot be written ends nothing.
+fn write_answer(written: &[u8], len: usize) -> bool
+    requires { ⌜ Spoken (now written) len ⌝ }
 {
-    let is_written = io::write_all(STDOUT_FILENO, words);
-    if !is_written {
+    let is_written = io::write_all(STDOUT_FILENO, &written[..len]);
+    if is_written {
+        io::write_all(STDERR_FILENO, &written[len..]);
+    } else {
         os::fail(b"standard output");
     }
     is_written
@@ -80,6 +85,7 @@ fn answer_block(
     while so_far.goes_on && at < block.len() {
         let carried = Carried {
             kept: so_far.kept,
+            line: so_far.line,
             vars_used: so_far.vars_used,
         };
         let turn = recipe_answer::answer_next(
@@ -97,18 +103,22 @@ fn answer_block(
             Turn::Open(kept) => {
                 return Run {
                     kept: kept,
+                    line: so_far.line,
                     vars_used: so_far.vars_used,
                     goes_on: true,
                 };
             }
             Turn::Answered {
                 len,
+                told,
                 vars_used,
                 next,
             } => {
-                let is_written = write_words(&said[..len]);
+                let end = len + told;
+                let is_written = write_answer(&said[..end], len);
                 so_far = Run {
                     kept: 0,
+                    line: recipe_cut::next_number(so_far.line),
                     vars_used: vars_used,
                     goes_on: is_written,
                 };
@@ -135,16 +145,19 @@ fn answer_end(
 {
     let carried = Carried {
         kept: run.kept,
+        line: run.line,
         vars_used: run.vars_used,
     };
-    let told = recipe_answer::answer_last(carried, line, vars, homes, params, paths, said);
-    let len = told.len;
+    let spoken = recipe_answer::answer_last(carried, line, vars, homes, params, paths, said);
+    let len = spoken.len;
     if len > 0 {
-        write_words(&said[..len]);
+        let end = len + spoken.told;
+        write_answer(&said[..end], len);
     }
     Run {
         kept: 0,
-        vars_used: told.vars_used,
+        line: run.line,
+        vars_used: spoken.vars_used,
         goes_on: false,
     }
 }
@@ -170,6 +183,7 @@ fn answer_input(
         Input::Ended => answer_end(run, line, vars, homes, params, paths, said),
         Input::Failed => Run {
             kept: 0,
+            line: run.line,
             vars_used: run.vars_used,
             goes_on: false,
         },
@@ -193,6 +207,7 @@ pub fn answer_all(
 {
     let mut so_far = Run {
         kept: 0,
+        line: 1,
         vars_used: vars_used,
         goes_on: true,
     };

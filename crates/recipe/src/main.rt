@@ -7,7 +7,7 @@ ghost use mathlib.Core.Bool.{true};
 ghost use Prim.Native.Nat.{_+_};
 ghost use lib.ListN.{length};
 ghost use Rattle.stages.specs.Numbers.{imageLimit, pathsLimit, lineLimit};
-ghost use Rattle.recipe_cut.specs.Said.{answerRoom};
+ghost use Rattle.recipe_cut.specs.Said.{writtenRoom};
 ghost use Rattle.recipe.specs.Runs.{Answers, Runs};
 use recipe_load::Loaded;
 use text::numbers;
@@ -33,11 +33,11 @@ fn line_room() -> [u8; numbers::LINE_KEPT]
     [0; numbers::LINE_KEPT]
 }
 
-// Room for what is said of a line.
-fn said_room() -> [u8; numbers::SAID_ROOM]
-    ensures { λ r. ⌜ imageLimit + answerRoom ≡ length r ⌝ }
+// Room for what is said and told of a line.
+fn said_room() -> [u8; recipe_cut::WRITTEN_ROOM]
+    ensures { λ r. ⌜ writtenRoom ≡ length r ⌝ }
 {
-    [0; numbers::SAID_ROOM]
+    [0; recipe_cut::WRITTEN_ROOM]
 }
 
 // Answers all lines with the tables that were read and the parameters, and gives the variables' used length after them.

@@ -16,14 +16,17 @@ use Rattle.recipe_answer.specs.declared.Turn.{Turn}
 use Rattle.recipe_answer.specs.declared.Turn.the-variants.{Open, Answered}
 
 -- `say` and `answer_last`
-pub says-determined : (homes paths params : Text) (v : Variables) (lines : List Text) (old left left′ vars vars′ : Text) (r s : Said)
-    → Says homes paths params v lines old left vars r → Says homes paths params v lines old left′ vars′ s → (r ≡ s) × (left ≡ left′) × (vars ≡ vars′)
-says-determined homes paths params v lines old left left′ vars vars′ r s g h =
+pub says-determined : (homes paths params : Text) (v : Variables) (n : ℕ) (lines : List Text) (old left left′ vars vars′ : Text) (r s : Said)
+    → Says homes paths params v n lines old left vars r → Says homes paths params v n lines old left′ vars′ s → (r ≡ s) × (left ≡ left′) × (vars ≡ vars′)
+says-determined homes paths params v n lines old left left′ vars vars′ r s g h =
     let e : variables vars (r .«vars_used») ≡ variables vars′ (s .«vars_used») = one-answer (g .after) (h .after) in
-    let p : (r .len ≡ s .len) × (left ≡ left′) = puts-once (g .words) (h .words) in
+    let l : r .len ≡ s .len = one-answer (g .words) (h .words) in
+    let t : r .told ≡ s .told = one-answer (g .messages) (h .messages) in
     let u : r .«vars_used» ≡ s .«vars_used» = ap (λ (w : Variables). w .varsUsed) e in (
-      ap (λ (n : ℕ). record { len = n; «vars_used» = r .«vars_used» }) (p .0) ∙ ap (λ (n : ℕ). record { len = s .len; «vars_used» = n }) u,
-      p .1,
+      ap (λ (k : ℕ). record { len = k; told = r .told; «vars_used» = r .«vars_used» }) l
+          ∙ ap (λ (k : ℕ). record { len = s .len; told = k; «vars_used» = r .«vars_used» }) t
+          ∙ ap (λ (k : ℕ). record { len = s .len; told = s .told; «vars_used» = k }) u,
+      one-answer (g .leaves) (h .leaves),
       ap (λ (w : Variables). w .buffer) e,
     )
 
@@ -34,12 +37,12 @@ module _ (homes paths params : Text) (k : Carried) (block : Text) (at : ℕ) (b 
   turned-determined c d (Open n) (Open m) (stays g) (stays h) =
       let p : (n ≡ m) × (c .line ≡ d .line) = puts-once (g .keeps) (h .keeps) in
       (ap Open (p .0), rw (p .1, one-answer (g .sameVars) (h .sameVars), one-answer (g .sameSaid) (h .sameSaid)))
-  turned-determined c d (Open n) (Answered len used next) (stays g) (tells h) = absurd (clash (sym (g .runsOut) ∙ h .ends))
-  turned-determined c d (Answered len used next) (Open n) (tells g) (stays h) = absurd (clash (sym (h .runsOut) ∙ g .ends))
-  turned-determined c d (Answered len used next) (Answered len′ used′ next′) (tells g) (tells h) =
+  turned-determined c d (Open n) (Answered len told used next) (stays g) (tells h) = absurd (clash (sym (g .runsOut) ∙ h .ends))
+  turned-determined c d (Answered len told used next) (Open n) (tells g) (stays h) = absurd (clash (sym (h .runsOut) ∙ g .ends))
+  turned-determined c d (Answered len told used next) (Answered len′ told′ used′ next′) (tells g) (tells h) =
       let n : next ≡ next′ = some-same (sym (g .ends) ∙ h .ends) in
       let v : Variables = variables (b .vars) (k .«vars_used») in
-      let p = says-determined homes paths params v _ (b .said) (c .said) (d .said) (c .vars) (d .vars) _ _ (g .says) (h .says) in (
-        ap (λ (s : Said). Answered (s .len) (s .«vars_used») next) (p .0) ∙ ap (Answered len′ used′) n,
+      let p = says-determined homes paths params v (k .line) _ (b .said) (c .said) (d .said) (c .vars) (d .vars) _ _ (g .says) (h .says) in (
+        ap (λ (s : Said). Answered (s .len) (s .told) (s .«vars_used») next) (p .0) ∙ ap (Answered len′ told′ used′) n,
         rw (one-answer (g .keeps) (h .keeps), p .2, p .1),
       )

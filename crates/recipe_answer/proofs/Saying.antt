@@ -1,43 +1,60 @@
--- What is said of a line depends on no byte that stood in the work area or in the output before, only on their lengths.
-use Prim.Native.Nat.{ℕ, _≤_, _+_}
+-- What is said and told of a line depends on no byte that stood in the work area, in the output or in the message's buffer before, only on their lengths.
+use Prim.Native.Nat.{ℕ, _+_, _-_, _≤_}
 use native.Mathlib.Omega.{arith}
 use mathlib.Core.Path.{_≡_, refl, sym, ap, subst, _∙_}
-use mathlib.Core.List.{[], _∷_, _++_, append-nil}
+use mathlib.Core.List.{List, [], _∷_, _++_, append-nil}
 use lib.Dec.{eqb}
 use lib.ListN.{length, take, drop, replicate, length-append, length-replicate}
 use lib.Seq.{length-take-le}
 use borrow.Author.Tests.{eqb-true, eqb-false}
-use Rattle.stages.specs.Numbers.{workLeast, imageLimit}
+use borrow.Rule.Slice.PartMut.{putMid, midOf}
+use Rattle.stages.specs.Numbers.{workLeast, imageLimit, rowLimit}
 use Rattle.stages.specs.Bytes.{Text, text}
 use Rattle.stages.specs.Images.{Pairs, flat, image}
-use Rattle.stages.specs.Outcome.{Placed, refusedAt, doneAt, _then_}
-use Rattle.stages.specs.Call.{Given, over, expanded, answered, quotedIn, normaliser}
+use Rattle.stages.specs.Outcome.{Placed, refusedAt, demandsAt, doneAt, _then_}
+use Rattle.stages.specs.Units.{decimal}
+use Rattle.stages.specs.Call.{Given, over, shown, expanded, answered, quotedIn, normaliser}
 use Rattle.stages.specs.Call as stage
-use Rattle.stages.specs.Program.{givenLine, said, saidOf, afterLine, afterLines}
+use Rattle.stages.specs.Program.{Variables, givenLine, said, told, saidOf, toldOf, afterLine, afterLines}
 use Rattle.stages.proofs.Bools.{either}
 use Rattle.stages.proofs.Answers.{normaliser-fits}
 use Rattle.stages.proofs.Rooms.{over-front}
 use Rattle.io.proofs.Counting.{counts}
-use Rattle.io.specs.Counts.{Counts}
 use Rattle.text.specs.Putting.{Puts}
-use Rattle.recipe_cut.specs.Said.{saidBy, answerRoom}
-use Rattle.recipe_cut.proofs.Saying.{said-is}
+use Rattle.text.proofs.Filling.{Filling, fill-room, fill-free-length, fill-length, fill-piece, fill-ends}
+use Rattle.recipe_cut.specs.Said.{saidBy, answerRoom, toldBy, toldRoom, writtenRoom}
+use Rattle.recipe_cut.proofs.Saying.{said-is, said-small}
+use Rattle.recipe_cut.proofs.Telling.{told-is, told-small}
 use Rattle.call_check.specs.Calls.{given}
 use Rattle.call_deliver.specs.Hands.{Gives}
 use Rattle.call_deliver.specs.declared.Answer.{Answer}
-use Rattle.recipe_answer.specs.Says.{variables, Says}
+use Rattle.recipe_answer.specs.Says.{variables, Lent, Says}
 
--- answers to the same outcome that differ in the output's old bytes and in the work area are said alike and leave the same variables
+-- answers to the same outcome that differ in the old bytes of the output and the message's buffer, and in the work area, are said and told alike and leave
+-- the same variables
 pub record Alike (a b : stage.Answer) : Type 0 where
   pub words : said a ≡ said b
+  pub messages : (n : ℕ) → told n a ≡ told n b
   pub variables : a .vars ≡ b .vars
   pub varsUsed : a .varsUsed ≡ b .varsUsed
 
-answered-alike : (g h : Given) (o : Placed (Text × Pairs)) → g .vars ≡ h .vars → g .varsUsed ≡ h .varsUsed → Alike (answered g o) (answered h o)
-unfolding answered said
-answered-alike g h (refusedAt n place) v u = record { words = refl; variables = v; varsUsed = u }
-answered-alike g h (doneAt r) v u = record {
+answered-alike : (g h : Given) (o : Placed (Text × Pairs)) → g .vars ≡ h .vars → g .varsUsed ≡ h .varsUsed → length (g .message) ≡ length (h .message)
+    → Alike (answered g o) (answered h o)
+unfolding answered said told
+answered-alike g h (refusedAt n place) v u m = record { words = refl; messages = λ k. refl; variables = v; varsUsed = u }
+answered-alike g h (demandsAt t place) v u m = record {
+  words = refl;
+  messages = λ k. ap (λ (x : Text). text "line " ++ (decimal k ++ (text ": " ++ (x ++ text "\n"))))
+      (over-front (shown g t) (g .message) ∙ same ∙ sym (over-front (shown h t) (h .message)));
+  variables = v;
+  varsUsed = u;
+}
+  where
+    same : shown g t ≡ shown h t
+    same = unfold shown in ap (λ (n : ℕ). take n t) m
+answered-alike g h (doneAt r) v u m = record {
   words = ap (λ (x : Text). text "ok " ++ (x ++ text "\n")) (over-front (r .0) (g .out) ∙ sym (over-front (r .0) (h .out)));
+  messages = λ k. refl;
   variables = ap (λ (x : Text). over (image (flat (r .1))) x) v;
   varsUsed = refl;
 }
@@ -47,28 +64,34 @@ unfoldable outcome : Given → Placed (Text × Pairs)
 unfolding expanded quotedIn
 outcome g = expanded g imageLimit then λ r. quotedIn (length (g .out)) (r .0) then λ t. doneAt (t, r .1)
 
-module _ (line vars : Text) (used : ℕ) (homes params paths work out work' out' : Text) (w : length work ≡ length work') (o : length out ≡ length out') where
-  same-outcome : outcome (given line vars used homes params paths work out) ≡ outcome (given line vars used homes params paths work' out')
+module _ (line vars : Text) (used : ℕ) (homes params paths work out message work' out' message' : Text) (w : length work ≡ length work')
+    (o : length out ≡ length out') (m : length message ≡ length message') where
+  abbrev these : Given
+  these = given line vars used homes params paths work out message
+
+  abbrev those : Given
+  those = given line vars used homes params paths work' out' message'
+
+  same-outcome : outcome these ≡ outcome those
   unfolding outcome expanded
   same-outcome = rw (w, o)
 
-  same-lengths : Alike (normaliser (given line vars used homes params paths work out)) (normaliser (given line vars used homes params paths work' out'))
+  same-lengths : Alike (normaliser these) (normaliser those)
   unfolding normaliser outcome
   same-lengths =
-      subst
-      (λ (x : Placed (Text × Pairs)). Alike (normaliser (given line vars used homes params paths work out))
-      (answered (given line vars used homes params paths work' out') x)) same-outcome
-      (answered-alike (given line vars used homes params paths work out) (given line vars used homes params paths work' out')
-      (outcome (given line vars used homes params paths work out)) refl refl)
+      subst (λ (x : Placed (Text × Pairs)). Alike (normaliser these) (answered those x)) same-outcome
+      (answered-alike these those (outcome these) refl refl m)
 
--- the code's answer, said
+-- the code's answer, said and told
 
-module _ (line vars : Text) (used : ℕ) (homes params paths work out : Text) (w : workLeast ≡ length work) (o : imageLimit ≡ length out) where
-  to-stage : Alike (normaliser (given line vars used homes params paths work out)) (normaliser (givenLine homes paths params line (variables vars used)))
+module _ (line vars : Text) (used : ℕ) (homes params paths work out message : Text) (l : Lent work out message) where
+  to-stage : Alike (normaliser (given line vars used homes params paths work out message))
+      (normaliser (givenLine homes paths params line (variables vars used)))
   unfolding givenLine
   to-stage =
-      same-lengths line vars used homes params paths work out (replicate workLeast 0) (replicate imageLimit 0)
-      (sym w ∙ sym (length-replicate {A = ℕ} workLeast 0)) (sym o ∙ sym (length-replicate {A = ℕ} imageLimit 0))
+      same-lengths line vars used homes params paths work out message (replicate workLeast 0) (replicate imageLimit 0) (replicate rowLimit 0)
+      (sym (l .area) ∙ sym (length-replicate {A = ℕ} workLeast 0)) (sym (l .output) ∙ sym (length-replicate {A = ℕ} imageLimit 0))
+      (sym (l .row) ∙ sym (length-replicate {A = ℕ} rowLimit 0))
 
 -- the output's length is within the output
 out-fits : (g : Given) → normaliser g .outLength ≤ length (g .out)
@@ -77,30 +100,97 @@ out-fits g =
     (λ e. normaliser-fits g .accepts (eqb-true (normaliser g .number) 0 e) .outFits)
     (λ e. omega (arith, normaliser-fits g .refuses (eqb-false (normaliser g .number) 0 e) .nothing))
 
-puts-counts : (t old left : Text) (n : ℕ) → Puts t old left n → Counts n left
-unfolding over
-puts-counts t old left n p = counts n left (omega (arith, p .counts, ap length (p .leaves) ∙ length-append t (drop (length t) old)))
-
 -- what the code is told by the normaliser
-module _ (g : Given) {r : Answer} {vars work out : Text} (h : Gives (normaliser g) r vars work out) where
+module _ (g : Given) {r : Answer} {vars work out message : Text} (h : Gives (normaliser g) r vars work out message) where
   same-out : length out ≡ length (g .out)
   same-out = ap length (h .hands .output) ∙ normaliser-fits g .outKept
+
+  same-message : length message ≡ length (g .message)
+  same-message = ap length (h .hands .message) ∙ normaliser-fits g .tells .kept
 
   pub out-inside : (r .«out_len») ≤ length out
   out-inside = omega (arith, h .hands .outLength, out-fits g, same-out)
 
-  pub room-fits : (room : ℕ) → length (g .out) + answerRoom ≤ room → length (take (r .«out_len») out) + answerRoom ≤ room
-  room-fits room e = omega (arith, length-take-le (r .«out_len») out out-inside, out-inside, same-out)
+  pub message-inside : (r .«message_len») ≤ length message
+  message-inside = omega (arith, h .hands .messageLength, normaliser-fits g .tells .fits, same-message)
 
-  words-are : saidBy (r .number) (r .place) (take (r .«out_len») out) ≡ said (normaliser g)
+  -- the quoted line and the message as they stand in their buffers
+  abbrev pub quoted : Text
+  quoted = take (r .«out_len») out
+
+  abbrev pub demanded : Text
+  demanded = take (r .«message_len») message
+
+  quoted-most : length quoted ≤ length (g .out)
+  quoted-most = omega (arith, length-take-le (r .«out_len») out out-inside, out-inside, same-out)
+
+  demanded-most : length demanded ≤ length (g .message)
+  demanded-most = omega (arith, length-take-le (r .«message_len») message message-inside, message-inside, same-message)
+
+  pub room-fits : (room : ℕ) → length (g .out) + answerRoom ≤ room → length quoted + answerRoom ≤ room
+  room-fits room e = omega (arith, quoted-most)
+
+  words-are : saidBy (r .number) (r .place) quoted ≡ said (normaliser g)
   words-are =
-      ap (λ (n : ℕ). saidBy n (r .place) (take (r .«out_len») out)) (h .hands .number)
-      ∙ ap (λ (n : ℕ). saidBy (normaliser g .number) n (take (r .«out_len») out)) (h .hands .place)
+      ap (λ (n : ℕ). saidBy n (r .place) quoted) (h .hands .number)
+      ∙ ap (λ (n : ℕ). saidBy (normaliser g .number) n quoted) (h .hands .place)
       ∙ ap (λ (n : ℕ). saidBy (normaliser g .number) (normaliser g .place) (take n out)) (h .hands .outLength)
       ∙ ap (λ (x : Text). saidBy (normaliser g .number) (normaliser g .place) (take (normaliser g .outLength) x)) (h .hands .output)
       ∙ sym (said-is (normaliser g))
 
--- what is said of a line is the stage's
+  messages-are : (n : ℕ) → toldBy (r .number) n demanded ≡ told n (normaliser g)
+  messages-are n =
+      ap (λ (k : ℕ). toldBy k n demanded) (h .hands .number)
+      ∙ ap (λ (k : ℕ). toldBy (normaliser g .number) n (take k message)) (h .hands .messageLength)
+      ∙ ap (λ (x : Text). toldBy (normaliser g .number) n (take (normaliser g .messageLength) x)) (h .hands .message)
+      ∙ sym (told-is n (normaliser g))
+
+  -- the words are written, and what is told is to come; then both stand behind each other
+  module _ (n : ℕ) {old left : Text} {len : ℕ} (f : length (g .out) + answerRoom + (length (g .message) + toldRoom) ≤ length old)
+      (p : Puts (saidBy (r .number) (r .place) quoted) old left len) where
+    abbrev words : Text
+    words = saidBy (r .number) (r .place) quoted
+
+    abbrev messages : Text
+    messages = toldBy (r .number) n demanded
+
+    said-first : Filling (words ++ messages) messages old left len
+    said-first = record {
+      front = words;
+      splits = refl;
+      long = p .counts;
+      is = p .leaves;
+      fits = omega (
+        arith,
+        length-append words messages,
+        said-small (r .number) (r .place) quoted,
+        told-small (r .number) n demanded,
+        quoted-most,
+        demanded-most,
+      );
+    }
+
+    pub said-inside : len ≤ length left
+    said-inside = omega (arith, fill-room said-first, fill-length said-first)
+
+    pub told-fits : length demanded + toldRoom ≤ length (midOf len (length left - len) left)
+    told-fits =
+        omega (arith, fill-free-length said-first, p .counts, said-small (r .number) (r .place) quoted, quoted-most, demanded-most)
+
+    module _ {ys : Text} {k : ℕ} (q : Puts messages (midOf len (length left - len) left) ys k) where
+      both-filled : Filling (words ++ messages) [] old (putMid len (length left - len) left ys) (len + k)
+      both-filled = fill-piece said-first messages [] ys k (len + k) (sym (append-nil messages)) q refl
+
+      pub both-put : Puts (words ++ messages) old (putMid len (length left - len) left ys) (len + k)
+      both-put = fill-ends both-filled refl
+
+      pub both-same : length (putMid len (length left - len) left ys) ≡ length old
+      both-same = fill-length both-filled
+
+      pub both-inside : len + k ≤ length (putMid len (length left - len) left ys)
+      both-inside = omega (arith, fill-room both-filled, both-same)
+
+-- what is said and told of a line is the stage's
 module _ (homes paths params line vars : Text) (used : ℕ) where
   abbrev answer : stage.Answer
   answer = normaliser (givenLine homes paths params line (variables vars used))
@@ -109,22 +199,46 @@ module _ (homes paths params line vars : Text) (used : ℕ) where
   unfolding saidOf
   one-said = sym (append-nil (said answer))
 
+  one-told : (n : ℕ) → told n answer ≡ toldOf homes paths params (variables vars used) n (line ∷ [])
+  unfolding toldOf
+  one-told n = sym (append-nil (told n answer))
+
   one-after : (buffer : Text) (n : ℕ) → buffer ≡ answer .vars → n ≡ answer .varsUsed
       → variables buffer n ≡ afterLines homes paths params (variables vars used) (line ∷ [])
   unfolding afterLines afterLine
   one-after buffer n e f = ap (λ (b : Text). variables b n) e ∙ ap (λ (k : ℕ). variables (answer .vars) k) f
 
-module _ (line vars : Text) (used : ℕ) (homes params paths work out : Text) {r : Answer} {vars' work' out' : Text} where
-  pub said-so : {old left : Text} {len : ℕ} → workLeast ≡ length work → imageLimit ≡ length out
-      → Gives (normaliser (given line vars used homes params paths work out)) r vars' work' out'
-      → Puts (saidBy (r .number) (r .place) (take (r .«out_len») out')) old left len
-      → Says homes paths params (variables vars used) (line ∷ []) old left vars' (record { len = len; «vars_used» = r .«vars_used» })
-  said-so {old} {left} {len} w o h p =
-      let a : Alike (normaliser (given line vars used homes params paths work out)) (answer homes paths params line vars used) =
-      to-stage line vars used homes params paths work out w o in
-      record {
-        words = subst (λ (t : Text). Puts t old left len)
-            (words-are (given line vars used homes params paths work out) h ∙ a .words ∙ one-said homes paths params line vars used) p;
-        after = one-after homes paths params line vars used vars' (r .«vars_used») (h .hands .variables ∙ a .variables) (h .hands .varsUsed ∙ a .varsUsed);
-        within = puts-counts (saidBy (r .number) (r .place) (take (r .«out_len») out')) old left len p;
-      }
+-- texts that stand behind each other at the front of a buffer, where they are what is said and told
+module _ (homes paths params : Text) (v : Variables) (n : ℕ) (lines : List Text) {words messages : Text} (e : words ≡ saidOf homes paths params v lines)
+    (f : messages ≡ toldOf homes paths params v n lines) where
+  says-both : {old left vars : Text} {len k used : ℕ} → len ≡ length words → k ≡ length messages → Puts (words ++ messages) old left (len + k)
+      → len + k ≤ length left → variables vars used ≡ afterLines homes paths params v lines
+      → Says homes paths params v n lines old left vars (record { len = len; told = k; «vars_used» = used })
+  says-both {old} {left} {len = len} i j p h a = record {
+    words = i ∙ ap length e;
+    messages = j ∙ ap length f;
+    leaves = p .leaves
+        ∙ ap (λ (x : Text). over (x ++ messages) old) e
+        ∙ ap (λ (x : Text). over (saidOf homes paths params v lines ++ x) old) f;
+    after = a;
+    within = counts len left (omega (arith, h));
+    inside = h;
+  }
+
+module _ (line vars : Text) (used : ℕ) (homes params paths work out message : Text) where
+  abbrev asked : Given
+  asked = given line vars used homes params paths work out message
+
+  pub said-so : (n : ℕ) {r : Answer} {vars' work' out' message' old left ys : Text} {len k : ℕ} → Lent work out message → writtenRoom ≤ length old
+      → (h : Gives (normaliser asked) r vars' work' out' message')
+      → Puts (saidBy (r .number) (r .place) (quoted asked h)) old left len
+      → Puts (toldBy (r .number) n (demanded asked h)) (midOf len (length left - len) left) ys k
+      → Says homes paths params (variables vars used) n (line ∷ []) old (putMid len (length left - len) left ys) vars'
+      (record { len = len; told = k; «vars_used» = r .«vars_used» })
+  said-so n {r} {vars'} {old = old} l f h p q =
+      let a : Alike (normaliser asked) (answer homes paths params line vars used) = to-stage line vars used homes params paths work out message l in
+      let b : length out + answerRoom + (length message + toldRoom) ≤ length old = omega (arith, l .output, l .row) in
+      says-both homes paths params (variables vars used) n (line ∷ []) (words-are asked h ∙ a .words ∙ one-said homes paths params line vars used)
+      (messages-are asked h n ∙ a .messages n ∙ one-told homes paths params line vars used n) (p .counts) (q .counts) (both-put asked h n b p q)
+      (both-inside asked h n b p q)
+      (one-after homes paths params line vars used vars' (r .«vars_used») (h .hands .variables ∙ a .variables) (h .hands .varsUsed ∙ a .varsUsed))

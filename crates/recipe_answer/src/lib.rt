@@ -1,26 +1,28 @@
 // The program's turns: what lies between what it reads and what it writes, on lent bytes alone. A turn takes the next line from a block and, where it ends
-// there, works out its answer in words, by document 01's stages.
-ghost use Prim.Native.Nat.{_+_, _≤_};
+// there, works out its answer in words and the message that it demands, by the stages.
+ghost use Prim.Native.Nat.{_≤_};
 ghost use mathlib.Core.Path.{_≡_};
 ghost use mathlib.Core.List.{[], _∷_};
 ghost use lib.ListN.{length, take};
-ghost use Rattle.stages.specs.Numbers.{workLeast, imageLimit};
+ghost use Rattle.stages.specs.Numbers.{workLeast, imageLimit, rowLimit};
 ghost use Rattle.recipe_cut.specs.Lines.{lastLine};
-ghost use Rattle.recipe_cut.specs.Said.{answerRoom};
-ghost use Rattle.recipe_answer.specs.Says.{variables, Says};
+ghost use Rattle.recipe_cut.specs.Said.{writtenRoom};
+ghost use Rattle.recipe_answer.specs.Says.{variables, Lent, Says};
 ghost use Rattle.recipe_answer.specs.Turns.{Ready, buffers, Turned};
 use recipe_cut::Taken;
 use text::numbers;
 
-// An answer in words: its length, and the variables' used length after it.
+// An answer in words: its length, that of what is told right behind it, and the variables' used length after it.
 pub struct Said {
     pub len: usize,
+    pub told: usize,
     pub vars_used: usize,
 }
 
-// What is carried from turn to turn: the bytes kept of a line that has not ended, and the variables' used length.
+// What is carried from turn to turn: the bytes kept of a line that has not ended, the line's number, and the variables' used length.
 pub struct Carried {
     pub kept: usize,
+    pub line: usize,
     pub vars_used: usize,
 }
 
@@ -28,9 +30,10 @@ pub struct Carried {
 pub enum Turn {
     // The block ran out within a line: how many bytes of it are kept.
     Open(usize),
-    // A line ended: the length of its answer in words, the variables' used length after it, and the place behind its newline.
+    // A line ended: the length of its answer in words, that of what is told of it, the variables' used length after it, and the place behind its newline.
     Answered {
         len: usize,
+        told: usize,
         vars_used: usize,
         next: usize,
     },
@@ -43,56 +46,70 @@ fn out_room() -> [u8; numbers::IMAGE_LIMIT]
     [0; numbers::IMAGE_LIMIT]
 }
 
-// Works out what is said of a line, in a lent work area and output.
+// A row's bytes, so that no message is cut.
+fn message_room() -> [u8; numbers::ROW_LIMIT]
+    ensures { λ r. ⌜ rowLimit ≡ length r ⌝ }
+{
+    [0; numbers::ROW_LIMIT]
+}
+
+// Works out what is said and told of a line, in a lent work area, output and message buffer.
 fn say_in(
+    carried: Carried,
     line: &[u8],
     vars: &mut [u8],
-    vars_used: usize,
     homes: &[u8],
     params: &[u8],
     paths: &[u8],
     work: &mut [u8],
     out: &mut [u8],
+    message: &mut [u8],
     said: &mut [u8],
 ) -> Said
-    requires { ⌜ (workLeast ≡ length (now work)) × (imageLimit ≡ length (now out)) × (imageLimit + answerRoom ≤ length (now said)) ⌝ }
-    ensures { λ r. ⌜ Says (now (homes .entry)) (now (paths .entry)) (now (params .entry)) (variables (now (vars .entry)) «vars_used»)
-        (now (line .entry) ∷ []) (now (said .entry)) (now (said .exit)) (now (vars .exit)) r ⌝ }
+    requires { ⌜ Lent (now work) (now out) (now message) × (writtenRoom ≤ length (now said)) ⌝ }
+    ensures { λ r. ⌜ Says (now (homes .entry)) (now (paths .entry)) (now (params .entry)) (variables (now (vars .entry)) (carried .«vars_used»))
+        (carried .line) (now (line .entry) ∷ []) (now (said .entry)) (now (said .exit)) (now (vars .exit)) r ⌝ }
 {
-    let answer = drunquill::normalise(line, vars, vars_used, homes, params, paths, work, out);
+    let used = carried.vars_used;
+    let answer = drunquill::normalise(line, vars, used, homes, params, paths, work, out, message);
     let n = answer.out_len;
     let len = recipe_cut::put_answer(answer.number, answer.place, &out[..n], said);
+    let m = answer.message_len;
+    let told = recipe_cut::put_told(answer.number, carried.line, &message[..m], &mut said[len..]);
     Said {
         len: len,
+        told: told,
         vars_used: answer.vars_used,
     }
 }
 
-// Works out what is said of a line.
+// Works out what is said and told of a line.
 fn say(
+    carried: Carried,
     line: &[u8],
     vars: &mut [u8],
-    vars_used: usize,
     homes: &[u8],
     params: &[u8],
     paths: &[u8],
     said: &mut [u8],
 ) -> Said
-    requires { ⌜ imageLimit + answerRoom ≤ length (now said) ⌝ }
-    ensures { λ r. ⌜ Says (now (homes .entry)) (now (paths .entry)) (now (params .entry)) (variables (now (vars .entry)) «vars_used»)
-        (now (line .entry) ∷ []) (now (said .entry)) (now (said .exit)) (now (vars .exit)) r ⌝ }
+    requires { ⌜ writtenRoom ≤ length (now said) ⌝ }
+    ensures { λ r. ⌜ Says (now (homes .entry)) (now (paths .entry)) (now (params .entry)) (variables (now (vars .entry)) (carried .«vars_used»))
+        (carried .line) (now (line .entry) ∷ []) (now (said .entry)) (now (said .exit)) (now (vars .exit)) r ⌝ }
 {
     let mut work = io::large_buffer();
     let mut out = out_room();
+    let mut message = message_room();
     say_in(
+        carried,
         line,
         vars,
-        vars_used,
         homes,
         params,
         paths,
         &mut work,
         &mut out,
+        &mut message,
         said,
     )
 }
@@ -117,18 +134,11 @@ pub fn answer_next(
     match taken {
         Taken::Open(kept) => Turn::Open(kept),
         Taken::Ended { kept, next } => {
-            let told = say(
-                &line[..kept],
-                vars,
-                carried.vars_used,
-                homes,
-                params,
-                paths,
-                said,
-            );
+            let spoken = say(carried, &line[..kept], vars, homes, params, paths, said);
             Turn::Answered {
-                len: told.len,
-                vars_used: told.vars_used,
+                len: spoken.len,
+                told: spoken.told,
+                vars_used: spoken.vars_used,
                 next: next,
             }
         }
@@ -147,22 +157,15 @@ pub fn answer_last(
 ) -> Said
     requires { ⌜ Ready (now line) (now said) (carried .kept) ⌝ }
     ensures { λ r. ⌜ Says (now (homes .entry)) (now (paths .entry)) (now (params .entry)) (variables (now (vars .entry)) (carried .«vars_used»))
-        (lastLine (take (carried .kept) (now (line .entry)))) (now (said .entry)) (now (said .exit)) (now (vars .exit)) r ⌝ }
+        (carried .line) (lastLine (take (carried .kept) (now (line .entry)))) (now (said .entry)) (now (said .exit)) (now (vars .exit)) r ⌝ }
 {
     let kept = carried.kept;
     if recipe_cut::is_last_line(&line[..kept]) {
-        return say(
-            &line[..kept],
-            vars,
-            carried.vars_used,
-            homes,
-            params,
-            paths,
-            said,
-        );
+        return say(carried, &line[..kept], vars, homes, params, paths, said);
     }
     Said {
         len: 0,
+        told: 0,
         vars_used: carried.vars_used,
     }
 }

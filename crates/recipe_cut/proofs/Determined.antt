@@ -3,12 +3,13 @@ use Prim.Native.Nat.{ℕ}
 use mathlib.Core.Path.{_≡_, sym, ap}
 use mathlib.Core.Bool.{Bool}
 use Rattle.stages.specs.Bytes.{Text}
+use Rattle.stages.specs.Program.{nextNumber}
 use Rattle.stages.proofs.Bools.{clash, some-same}
 use Rattle.text.proofs.Determined.{one-answer}
 use Rattle.text.specs.Putting.{Puts}
 use Rattle.text.proofs.Filling.{puts-once}
 use Rattle.recipe_cut.specs.Lines.{keptIn, nextIn, Takes, hasLine}
-use Rattle.recipe_cut.specs.Said.{saidBy}
+use Rattle.recipe_cut.specs.Said.{saidBy, toldBy}
 use Rattle.recipe_cut.specs.declared.Taken.{Taken}
 use Rattle.recipe_cut.specs.declared.Taken.the-variants.{Ended, Open}
 
@@ -31,3 +32,10 @@ is-last-line-determined line r s = one-answer
 pub put-answer-determined : (number place : ℕ) (line out left left′ : Text) (r s : ℕ) → Puts (saidBy number place line) out left r
     → Puts (saidBy number place line) out left′ s → (r ≡ s) × (left ≡ left′)
 put-answer-determined number place line out left left′ r s = puts-once
+
+pub next-number-determined : (n r s : ℕ) → r ≡ nextNumber n → s ≡ nextNumber n → r ≡ s
+next-number-determined n r s = one-answer
+
+pub put-told-determined : (number line : ℕ) (message out left left′ : Text) (r s : ℕ) → Puts (toldBy number line message) out left r
+    → Puts (toldBy number line message) out left′ s → (r ≡ s) × (left ≡ left′)
+put-told-determined number line message out left left′ r s = puts-once

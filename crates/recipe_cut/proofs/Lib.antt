@@ -1,4 +1,5 @@
 pub mod Taking
 pub mod Saying
+pub mod Telling
 pub mod Callers
 pub mod Determined

@@ -7,7 +7,7 @@ use lib.Dec.{eqb, ltb}
 use lib.ListN.{length, take, drop, set, length-append}
 use lib.Seq.{take-length}
 use borrow.Rule.Slice.PartMut.{putMid, midOf}
-use borrow.Author.Tests.{eq-eqb, ne-eqb, ltb-true, ltb-false}
+use borrow.Author.Tests.{eq-eqb, ne-eqb, eqb-true, eqb-false, ltb-true, ltb-false}
 use Rattle.stages.specs.Bytes.{Text, text}
 use Rattle.stages.specs.Units.{digits, decimal}
 use Rattle.stages.specs.Call.{over, Answer}
@@ -49,11 +49,11 @@ unfolding decimal
 decimal-most n = digits-most 20 n
 
 -- a text that is copied to the front is the first piece
-begun : (t rest old out : Text) → length (t ++ rest) ≤ length old → out ≡ t ++ drop (length t) old → Filling (t ++ rest) rest old out (length t)
+pub begun : (t rest old out : Text) → length (t ++ rest) ≤ length old → out ≡ t ++ drop (length t) old → Filling (t ++ rest) rest old out (length t)
 unfolding over
 begun t rest old out h e = record { front = t; splits = refl; long = refl; is = e; fits = h }
 
-copied : (t old left : Text) → left ≡ t ++ drop (length t) old → Puts t old left (length t)
+pub copied : (t old left : Text) → left ≡ t ++ drop (length t) old → Puts t old left (length t)
 unfolding over
 copied t old left e = record { counts = refl; leaves = e }
 
@@ -72,6 +72,13 @@ module _ (line out first : Text) (h : length line + 4 ≤ length out) (e : first
 -- `put_no`
 no-small : (number place : ℕ) → length (noText number place) ≤ answerRoom
 no-small number place = simp length-append (omega (arith, decimal-most number, decimal-most place))
+
+-- all words of an answer
+pub said-small : (number place : ℕ) (line : Text) → length (saidBy number place line) ≤ length line + answerRoom
+said-small number place line =
+    either (eqb number 0)
+    (λ e. rw (said-ok number place line (eqb-true number 0 e)) (simp length-append (omega arith)))
+    (λ e. rw (said-no number place line (eqb-false number 0 e)) (omega (arith, no-small number place)))
 
 module _ (number place : ℕ) (out first : Text) (h : answerRoom ≤ length out) (e : first ≡ text "no " ++ drop 3 out) where
   pub no-begun : Filling (noText number place) (decimal number ++ (text " " ++ (decimal place ++ text "\n"))) out first 3

@@ -1,13 +1,14 @@
 // The program's lines. What it reads comes in blocks and is cut at each newline into a lent line buffer, of which only as many bytes are kept as can
-// matter; what it writes for a line is its answer in words.
+// matter; lines are counted; what it writes for a line is its answer in words, and the message that the line demands.
 ghost use mathlib.Core.Path.{_≡_};
 ghost use mathlib.Core.List.{_++_};
 ghost use mathlib.Core.Logic.{_⊎_};
 ghost use Prim.Native.Nat.{_+_, _≤_};
 ghost use lib.ListN.{length, take};
+ghost use Rattle.stages.specs.Program.{nextNumber};
 ghost use Rattle.text.specs.Putting.{Puts};
 ghost use Rattle.recipe_cut.specs.Lines.{lineKept, keptOf, hasLine, LineEnd, Takes};
-ghost use Rattle.recipe_cut.specs.Said.{saidBy, okText, noText, answerRoom};
+ghost use Rattle.recipe_cut.specs.Said.{saidBy, okText, noText, answerRoom, toldBy, demandText, toldRoom};
 use text::numbers;
 
 // What came of a line.
@@ -17,6 +18,12 @@ pub enum Taken {
     // The block ran out first: how many bytes of it are kept so far.
     Open(usize),
 }
+
+// The lines that are numbered; those behind them have the last one's number.
+const COUNT_LIMIT: usize = 999999999;
+
+// The most bytes that are written for a line: its answer in words, and what is told of it, `line `, a number, `: `, a message and a newline.
+pub const WRITTEN_ROOM: usize = numbers::SAID_ROOM + numbers::ROW_LIMIT + numbers::MOST_DIGITS + 8;
 
 const NEWLINE: u8 = b'\n';
 
@@ -78,6 +85,13 @@ pub fn is_last_line(line: &[u8]) -> bool
     line.len() != 0
 }
 
+// The number of the line behind line n.
+pub fn next_number(n: usize) -> usize
+    ensures { λ r. ⌜ r ≡ nextNumber n ⌝ }
+{
+    if n < COUNT_LIMIT { n + 1 } else { n }
+}
+
 // Writes `ok `, the quoted line and a newline.
 fn put_ok(line: &[u8], out: &mut [u8]) -> usize
     requires { ⌜ length (now line) + 4 ≤ length (now out) ⌝ }
@@ -115,5 +129,34 @@ pub fn put_answer(number: u8, place: usize, line: &[u8], out: &mut [u8]) -> usiz
         put_ok(line, out)
     } else {
         put_no(number, place, out)
+    }
+}
+
+// Writes `line `, the line's number, `: `, the message and a newline.
+fn put_demand(line: usize, message: &[u8], out: &mut [u8]) -> usize
+    requires { ⌜ length (now message) + toldRoom ≤ length (now out) ⌝ }
+    ensures { λ r. ⌜ Puts (demandText line (now (message .entry))) (now (out .entry)) (now (out .exit)) r ⌝ }
+{
+    text_copy::copy_in(b"line ", out);
+    let a = arith_decimal::put_decimal(&mut out[5..], line as u64);
+    let colon = a + 5;
+    text_copy::copy_in(b": ", &mut out[colon..]);
+    let start = colon + 2;
+    text_copy::copy_in(message, &mut out[start..]);
+    let end = start + message.len();
+    out[end] = NEWLINE;
+    end + 1
+}
+
+// Writes what the program tells of the answer to a line: the message that is demanded, and nothing for any other answer; returns its length. The bytes
+// behind it stay.
+pub fn put_told(number: u8, line: usize, message: &[u8], out: &mut [u8]) -> usize
+    requires { ⌜ length (now message) + toldRoom ≤ length (now out) ⌝ }
+    ensures { λ r. ⌜ Puts (toldBy number line (now (message .entry))) (now (out .entry)) (now (out .exit)) r ⌝ }
+{
+    if number == numbers::REFUSED_DEMAND {
+        put_demand(line, message, out)
+    } else {
+        0
     }
 }

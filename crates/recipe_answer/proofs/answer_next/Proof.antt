@@ -57,7 +57,7 @@ returns-2 c =
     let s = c .before .before .before .before in
     let t = s .before .before .before .before .before .before .before .before .before in
     let a = t .before .before .before .before .before .before .before .before .before .args in
-    tells (turn-ended (a .carried) (t .take-in .ensures) (a .homes .now) (a .paths .now) (a .params .now) (a .vars .now) (s .say .last .1 .0) (a .said .now)
+    tells (turn-ended (a .carried) (t .take-in .ensures) (a .homes .now) (a .paths .now) (a .params .now) (a .vars .now) (s .say .last .1 .1 .0) (a .said .now)
     (s .say .last .1 .1 .1 .1 .1 .1 .0) (s .say .result) (s .before .before .before .before .before .taken2 .given .1) (s .say .ensures))
 
 pub answer-next-spec : {M : Type 1} → statement M

@@ -1,7 +1,9 @@
--- Each turn goes on in the block where the last one ended.
+-- Each turn goes on in the block where the last one ended, with the next number.
 use Prim.Native.Nat.{_-_}
 use native.Mathlib.Omega.{arith}
+use mathlib.Core.Path.{sym}
 use lib.ListN.{length}
+use lib.Seq.{length-take-le}
 use borrow.Author.Needs.{needs}
 use borrow.Author.Tests.{ltb-false}
 use Rattle.stages.proofs.Bools.{apart}
@@ -17,9 +19,12 @@ Inv-loop block line₀ vars₀ homes params paths said₀ so-far₀ at₀ line v
 abbrev μ-loop : tie.MeasureT-loop
 μ-loop block line₀ vars₀ homes params paths said₀ so-far₀ at₀ line vars said so-far at = length block - at
 
--- a turn in the loop, and the one in which a line ended
+-- a turn in the loop, the call's entry, and the turn in which a line ended
 abbrev turn : tie.After-answer-next Inv-loop μ-loop → tie.At-loop Inv-loop μ-loop
 turn c = c .before .before .before .before .before .before
+
+abbrev start : tie.At-loop Inv-loop μ-loop → tie.Start Inv-loop μ-loop
+start c = c .before .before .before .before .before .before .before .before
 
 abbrev answered : tie.After-turn2 Inv-loop μ-loop → tie.After-answer-next Inv-loop μ-loop
 answered c = c .before .before .before .before .before .before .before .before
@@ -53,27 +58,37 @@ returns c =
 enum-known-turn-2 : tie.Need-enum-known-turn-2 Inv-loop μ-loop
 enum-known-turn-2 c = search needs
 
-slice-reshare-prefix-write-words : tie.Need-slice-reshare-prefix-write-words Inv-loop μ-loop
-slice-reshare-prefix-write-words c =
+add-end : tie.Need-add-end Inv-loop μ-loop
+add-end c =
+    let e = c .before in
+    let n = answered e .answer-next in
+    let t = turned-told (n .ensures) (e .turn2 .given .1) in
+    omega (arith, t .says .inside, n .kept .1 .1 .1 .1 .1 .1 .1 .1 .0, turn (answered e) .loop .inv .sameSaid, start (turn (answered e)) .good)
+
+slice-reshare-prefix-write-answer : tie.Need-slice-reshare-prefix-write-answer Inv-loop μ-loop
+slice-reshare-prefix-write-answer c =
     let e = c .before in
     let t = turned-told (answered e .answer-next .ensures) (e .turn2 .given .1) in
-    t .says .within .0
+    t .says .inside
 
-slice-aggregate-write-words : tie.Need-slice-aggregate-write-words Inv-loop μ-loop
-slice-aggregate-write-words c =
+slice-aggregate-write-answer : tie.Need-slice-aggregate-write-answer Inv-loop μ-loop
+slice-aggregate-write-answer c =
     let e = c .before .before in
     let t = turned-told (answered e .answer-next .ensures) (e .turn2 .given .1) in
-    t .says .within .1
+    sym (length-take-le _ _ (t .says .inside))
 
-write-words-requires : tie.Need-write-words-requires Inv-loop μ-loop
-write-words-requires c κs =
+write-answer-requires : tie.Need-write-answer-requires Inv-loop μ-loop
+write-answer-requires c κs =
     let e = c .before .before in
     let t = turned-told (answered e .answer-next .ensures) (e .turn2 .given .1) in
     one-spoken _ (t .says)
 
+next-number-requires : tie.Need-next-number-requires Inv-loop μ-loop
+next-number-requires c κs = search needs
+
 loop-less : tie.Need-loop-less Inv-loop μ-loop
 loop-less c =
-    let e = c .before .before .before in
+    let e = c .before .before .before .before in
     let i = turn (answered e) .loop .inv in
     let t = turned-told (answered e .answer-next .ensures) (e .turn2 .given .1) in
     let n = next-turn _ _ _ (t .ends) (i .inside) in
@@ -81,10 +96,12 @@ loop-less c =
 
 loop-again : tie.Need-loop-again Inv-loop μ-loop
 loop-again c =
-    let e = c .before .before .before in
+    let w = c .before in
+    let e = w .before .before .before in
     let n = answered e .answer-next in
     let t = turned-told (n .ensures) (e .turn2 .given .1) in
-    goes-line (turn (answered e) .loop .inv) (c .write-words .result) t (n .kept .1 .1 .1 .0) (n .kept .1 .1 .1 .1 .0) (n .kept .1 .1 .1 .1 .1 .1 .1 .1 .0)
+    goes-line (turn (answered e) .loop .inv) (w .write-answer .result) t (c .next-number .ensures) (n .kept .1 .1 .1 .0) (n .kept .1 .1 .1 .1 .0)
+    (n .kept .1 .1 .1 .1 .1 .1 .1 .1 .0)
 
 same-length-4 : tie.Need-same-length-4 Inv-loop μ-loop
 same-length-4 c = search needs
@@ -124,9 +141,11 @@ answer-block-spec =
     same-length-3
     returns
     enum-known-turn-2
-    slice-reshare-prefix-write-words
-    slice-aggregate-write-words
-    write-words-requires
+    add-end
+    slice-reshare-prefix-write-answer
+    slice-aggregate-write-answer
+    write-answer-requires
+    next-number-requires
     loop-less
     loop-again
     same-length-4

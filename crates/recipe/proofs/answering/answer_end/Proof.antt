@@ -1,7 +1,9 @@
 -- What is said of the last line is written where there is one.
 use borrow.Author.Needs.{needs}
-use mathlib.Core.Path.{refl}
+use native.Mathlib.Omega.{arith}
+use mathlib.Core.Path.{refl, sym}
 use lib.ListN.{take}
+use lib.Seq.{length-take-le}
 use Rattle.recipe.proofs.Running.{last-spoken}
 use Rattle.recipe.proofs.answering.answer_end.Statement.{statement}
 use Rattle.recipe.proofs.answering.answer_end.Tie as tie
@@ -9,16 +11,21 @@ use Rattle.recipe.proofs.answering.answer_end.Tie as tie
 answer-last-requires : tie.Need-answer-last-requires
 answer-last-requires c κs = search needs
 
-slice-reshare-prefix-write-words : tie.Need-slice-reshare-prefix-write-words
-slice-reshare-prefix-write-words c = search needs
+add-end : tie.Need-add-end
+add-end c = omega (arith, c .before .before .before .before .before .before .answer-last .ensures .inside)
 
-slice-aggregate-write-words : tie.Need-slice-aggregate-write-words
-slice-aggregate-write-words c = search needs
+slice-reshare-prefix-write-answer : tie.Need-slice-reshare-prefix-write-answer
+slice-reshare-prefix-write-answer c = c .before .before .before .before .before .before .answer-last .ensures .inside
 
-write-words-requires : tie.Need-write-words-requires
-write-words-requires c κs =
-    let a = c .before .before .before .before .before .before .before .before .before .before .before .before .before .before .before .args in
-    last-spoken (take (a .run .kept) (a .line .now)) (c .before .before .before .before .before .before .answer-last .ensures) (c .before .if1 .taken)
+slice-aggregate-write-answer : tie.Need-slice-aggregate-write-answer
+slice-aggregate-write-answer c =
+    sym (length-take-le _ _ (c .before .before .before .before .before .before .before .answer-last .ensures .inside))
+
+write-answer-requires : tie.Need-write-answer-requires
+write-answer-requires c κs =
+    let l = c .before .before .before .before .before .before .before in
+    let a = l .before .before .before .before .before .before .before .before .before .args in
+    last-spoken (take (a .run .kept) (a .line .now)) (l .answer-last .ensures) (c .before .before .if1 .taken)
 
 same-length : tie.Need-same-length
 same-length c = search needs
@@ -28,8 +35,8 @@ same-length-2 c = search needs
 
 returns : tie.Need-returns
 returns c =
-    let a = c .before .before .before .before .before .before .before .answer-last in
-    record { stops = refl; len = a .result .len; says = a .ensures }
+    let a = c .before .before .before .before .before .before .before .before .answer-last in
+    record { stops = refl; len = a .result .len; told = a .result .told; says = a .ensures }
 
 same-length-3 : tie.Need-same-length-3
 same-length-3 c = search needs
@@ -40,16 +47,17 @@ same-length-4 c = search needs
 returns-2 : tie.Need-returns-2
 returns-2 c =
     let a = c .before .before .before .before .before .answer-last in
-    record { stops = refl; len = a .result .len; says = a .ensures }
+    record { stops = refl; len = a .result .len; told = a .result .told; says = a .ensures }
 
 pub answer-end-spec : {M : Type 1} → statement M
 answer-end-spec =
     tie.close
     (tie.spec
     answer-last-requires
-    slice-reshare-prefix-write-words
-    slice-aggregate-write-words
-    write-words-requires
+    add-end
+    slice-reshare-prefix-write-answer
+    slice-aggregate-write-answer
+    write-answer-requires
     same-length
     same-length-2
     returns
