@@ -14,13 +14,15 @@ use crate::split::split;
 use crate::tree::Word;
 use crate::variables::Variables;
 
-/// What a call gives back; the quoter's used length is always 0, as it has no variables.
+/// What a call gives back. `message` is the length of the message that was written, 0 on every number but 13. The quoter's used length and message
+/// length are always 0, as it has neither variables nor a message buffer.
 #[derive(Clone, Copy, Debug, PartialEq, Eq)]
 pub struct Answer {
     pub number: u8,
     pub place: usize,
     pub length: usize,
     pub used: usize,
+    pub message: usize,
 }
 
 /// The images that a call reads and leaves as they are.
@@ -54,11 +56,12 @@ pub fn expand(
     tables: Tables,
     work: &mut [u8],
     out: &mut [u8],
+    message: &mut [u8],
 ) -> Answer {
     work.fill(0);
     let lent = Lent { line, variables, used, tables, work: work.len() };
     let written = lent.expand(out.len());
-    answer(written, variables, used, out)
+    answer(written, variables, used, out, message)
 }
 
 /// The normaliser: a line into a quoted line.
@@ -69,6 +72,7 @@ pub fn normalise(
     tables: Tables,
     work: &mut [u8],
     out: &mut [u8],
+    message: &mut [u8],
 ) -> Answer {
     work.fill(0);
     let lent = Lent { line, variables, used, tables, work: work.len() };
@@ -76,24 +80,35 @@ pub fn normalise(
         let out = quoted(&written.out, out.len())?;
         Ok(Written { out, ..written })
     });
-    answer(written, variables, used, out)
+    answer(written, variables, used, out, message)
 }
 
 /// The quoter: an image of fields into a quoted line.
 pub fn quote(fields: &[u8], out: &mut [u8]) -> Answer {
     let written = quoted(fields, out.len()).map(|line| Written { out: line, variables: Vec::new() });
-    answer(written, &mut [], 0, out)
+    answer(written, &mut [], 0, out, &mut [])
 }
 
-/// Writes what was accepted over the beginnings of the buffers, or leaves them as they are.
-fn answer(written: Result<Written, Refusal>, variables: &mut [u8], used: usize, out: &mut [u8]) -> Answer {
+/// Writes what was accepted over the beginnings of the output and the variables, or, if it was refused, as much of the message as there is room for.
+fn answer(
+    written: Result<Written, Refusal>,
+    variables: &mut [u8],
+    used: usize,
+    out: &mut [u8],
+    message: &mut [u8],
+) -> Answer {
     match written {
         Ok(written) => {
             out[..written.out.len()].copy_from_slice(&written.out);
             variables[..written.variables.len()].copy_from_slice(&written.variables);
-            Answer { number: ACCEPTED, place: 0, length: written.out.len(), used: written.variables.len() }
+            let (length, used) = (written.out.len(), written.variables.len());
+            Answer { number: ACCEPTED, place: 0, length, used, message: 0 }
         }
-        Err(refusal) => Answer { number: refusal.number as u8, place: refusal.place, length: 0, used },
+        Err(Refusal { number, place, message: demanded }) => {
+            let shown = demanded.len().min(message.len());
+            message[..shown].copy_from_slice(&demanded[..shown]);
+            Answer { number: number as u8, place, length: 0, used, message: shown }
+        }
     }
 }
 
@@ -119,6 +134,7 @@ impl Lent<'_> {
             variables: Variables::new(variables, self.variables.len().min(limits::IMAGE)),
             homes: &homes,
             parameters: &parameters,
+            message: Vec::new(),
             seen: Seen::default(),
         };
         let out = expand_words(&words, &mut expander, &paths, out_length)?;
@@ -141,7 +157,7 @@ fn expand_words(
     }
     for word in words {
         let fields = expand_word(word, expander, paths);
-        for field in fields.map_err(|number| number.at(word.place))? {
+        for field in fields.map_err(|number| expander.refusal(number, word.place))? {
             image::add_text(&mut out, &field);
         }
         if out.len() > room {

@@ -2,12 +2,12 @@
 
 use crate::calls::{expand, normalise, quote, Answer, Tables};
 use crate::hex;
-use crate::image;
 use crate::number::ACCEPTED;
 
 /// What stands in the buffers where the case says nothing.
 const OUT_FILL: u8 = 0xa5;
 const VARIABLES_FILL: u8 = 0x5a;
+const MESSAGE_FILL: u8 = 0xc3;
 const WORK_FILL: u8 = 0xc3;
 
 #[derive(Clone, Copy, Debug, PartialEq, Eq)]
@@ -28,6 +28,7 @@ pub struct Lent {
     pub work: usize,
     pub out: usize,
     pub parameters: Vec<u8>,
+    pub message: usize,
 }
 
 impl Lent {
@@ -61,6 +62,7 @@ impl Call {
                     lent.work.to_string(),
                     lent.out.to_string(),
                     hex::write(&lent.parameters),
+                    lent.message.to_string(),
                 ];
                 format!("{job} {}", words.join(" "))
             }
@@ -119,15 +121,10 @@ pub fn replay(text: &str) -> Result<(), String> {
     Err(format!("{words}\n  wanted {wanted}\n  given  {given}"))
 }
 
-/// What the words lend. The last one is the parameters' image; without it there are no parameters.
+/// What the words lend.
 fn lent(words: &[&str]) -> Option<Lent> {
-    let [line, variables, used, variables_buffer, homes, paths, work, out, parameters @ ..] = words else {
+    let [line, variables, used, variables_buffer, homes, paths, work, out, parameters, message] = words else {
         return None;
-    };
-    let parameters = match parameters {
-        [] => image::empty(),
-        [parameters] => hex::read(parameters)?,
-        _ => return None,
     };
     Some(Lent {
         line: hex::read(line)?,
@@ -138,7 +135,8 @@ fn lent(words: &[&str]) -> Option<Lent> {
         paths: hex::read(paths)?,
         work: work.parse().ok()?,
         out: out.parse().ok()?,
-        parameters,
+        parameters: hex::read(parameters)?,
+        message: message.parse().ok()?,
     })
 }
 
@@ -148,11 +146,12 @@ fn lines_answer(job: Job, lent: &Lent) -> Result<(Answer, String), String> {
     let given = variables.clone();
     let mut out = vec![OUT_FILL; lent.out];
     let mut work = vec![WORK_FILL; lent.work];
+    let mut message = vec![MESSAGE_FILL; lent.message];
     let call = match job {
         Job::Expand => expand,
         Job::Normalise => normalise,
     };
-    let answer = call(&lent.line, &mut variables, lent.used, lent.tables(), &mut work, &mut out);
+    let answer = call(&lent.line, &mut variables, lent.used, lent.tables(), &mut work, &mut out, &mut message);
     if work.iter().any(|&byte| byte != 0) {
         return Err("the work area is not zero".to_string());
     }
@@ -160,10 +159,12 @@ fn lines_answer(job: Job, lent: &Lent) -> Result<(Answer, String), String> {
     let refused = answer.number != ACCEPTED;
     let changed = if refused { 0 } else { answer.used };
     check_behind(&variables, changed, &given)?;
+    check_behind(&message, answer.message, &vec![MESSAGE_FILL; lent.message])?;
     let out = hex::write(&out[..answer.length]);
     let variables = hex::write(&variables[..changed]);
+    let message = hex::write(&message[..answer.message]);
     let head = head(&answer, &out);
-    Ok((answer, format!("{head} {} {variables}", answer.used)))
+    Ok((answer, format!("{head} {} {variables} {} {message}", answer.used, answer.message)))
 }
 
 fn head(answer: &Answer, out: &str) -> String {

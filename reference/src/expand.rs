@@ -1,19 +1,22 @@
 //! Expanding: the parts of a word, an operand or an arithmetic text become a row, each worked out before it is added.
 
+use std::mem;
+
 use crate::arithmetic;
 use crate::image::Pair;
 use crate::matching::remaining;
-use crate::number::Number;
+use crate::number::{Number, Refusal};
 use crate::pattern::{self, Purpose};
 use crate::row::{bytes, marked, Given, Mark, Row, Unit};
 use crate::tree::{Choice, End, Form, List, Parameter, Part};
 use crate::variables::Variables;
 
-/// What expanding reads and, for the variables, changes.
+/// What expanding reads and, for the variables, changes; and the message of a `?` once one has refused.
 pub struct Expander<'a> {
     pub variables: Variables,
     pub homes: &'a [Pair],
     pub parameters: &'a [Vec<u8>],
+    pub message: Vec<u8>,
     pub seen: Seen,
 }
 
@@ -28,6 +31,16 @@ pub struct Seen {
     pub sums: Vec<SeenSum>,
     /// The quotes that gave back their empty mark.
     pub given_back: usize,
+    /// Each `?` on a missing value, the innermost first.
+    pub demands: Vec<SeenDemand>,
+}
+
+/// A `?` on a missing value: the units of its operand or why that was refused, whether it began with a tilde, and whether it had stored anything by then.
+#[derive(Debug)]
+pub struct SeenDemand {
+    pub operand: Result<Vec<Unit>, Number>,
+    pub tilde: bool,
+    pub stored: bool,
 }
 
 /// An arithmetic text, and the variables it was worked out with.
@@ -212,7 +225,7 @@ impl Expander<'_> {
                 Ok(given)
             }
             (Choice::Alternative, true) => Ok(Given::default()),
-            (Choice::Demand, true) => Err(Number::Missing),
+            (Choice::Demand, true) => Err(self.demanded(operand)),
             (Choice::Store, true) => {
                 let value = bytes(self.row(operand)?.units());
                 self.store(parameter, value)?;
@@ -220,6 +233,28 @@ impl Expander<'_> {
             }
             (_, false) => Ok(marked(self.value_or_nothing(parameter), mark).into()),
         }
+    }
+
+    /// Why a `?` on a missing value refuses: its operand is expanded first, and what refuses that comes in place of 13. An inner `?` does too, with
+    /// its own message.
+    fn demanded(&mut self, operand: &[Part]) -> Number {
+        let before = self.variables.clone();
+        let row = self.row(operand);
+        let tilde = matches!(operand.first(), Some(Part::Tilde(_)));
+        let units = row.map(|row| row.units().to_vec());
+        self.seen.demands.push(SeenDemand { operand: units.clone(), tilde, stored: self.variables != before });
+        match units {
+            Ok(units) => {
+                self.message = bytes(&units);
+                Number::Missing
+            }
+            Err(number) => number,
+        }
+    }
+
+    /// The refusal that this number is at a word's place, with the message if a `?` gave it.
+    pub fn refusal(&mut self, number: Number, place: usize) -> Refusal {
+        Refusal { message: mem::take(&mut self.message), ..number.at(place) }
     }
 
     /// Sets a variable; reading has left no store under a number.

@@ -33,16 +33,17 @@ pub enum Number {
 pub const ACCEPTED: u8 = 0;
 pub const LAST_NUMBER: u8 = Number::Parameters as u8;
 
-/// A number and the place it was met at.
-#[derive(Clone, Copy, Debug, PartialEq, Eq)]
+/// A number, the place it was met at, and the message that was demanded, which only 13 has.
+#[derive(Clone, Debug, PartialEq, Eq)]
 pub struct Refusal {
     pub number: Number,
     pub place: usize,
+    pub message: Vec<u8>,
 }
 
 impl Number {
-    /// The refusal of this number at a word's place.
+    /// The refusal of this number at a word's place, without a message.
     pub fn at(self, place: usize) -> Refusal {
-        Refusal { number: self, place }
+        Refusal { number: self, place, message: Vec::new() }
     }
 }

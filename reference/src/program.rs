@@ -48,6 +48,7 @@ impl Program {
             Tables { homes: &self.homes, paths: &self.paths, parameters: &self.parameters },
             &mut vec![0; limits::WORK_AREA],
             &mut out,
+            &mut [],
         );
         self.used = answer.used;
         out.truncate(answer.length);

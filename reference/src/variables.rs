@@ -5,7 +5,7 @@ use std::collections::BTreeMap;
 use crate::image::{self, Pair};
 use crate::number::Number;
 
-#[derive(Clone, Debug)]
+#[derive(Clone, Debug, PartialEq, Eq)]
 pub struct Variables {
     values: BTreeMap<Vec<u8>, Vec<u8>>,
     room: usize,

@@ -29,12 +29,19 @@ fn hold_numbers(told: Told, case: &[u8], answer: Answer) -> Told {
         case,
         words::OUT_LENGTH,
     );
-    hold_word(
+    let told = hold_word(
         told,
         b"used length",
         answer.vars_used,
         case,
         words::USED_LENGTH,
+    );
+    hold_word(
+        told,
+        b"message length",
+        answer.message_len,
+        case,
+        words::MESSAGE_LENGTH,
     )
 }
 
@@ -48,13 +55,32 @@ fn call(
     paths: &[u8],
     work: &mut [u8],
     out: &mut [u8],
+    message: &mut [u8],
 ) -> Answer {
     let used = number(word(case, words::USED));
     if is_normaliser(case) {
-        drunquill::normalise(line, vars, used, homes, params, paths, work, out)
+        drunquill::normalise(line, vars, used, homes, params, paths, work, out, message)
     } else {
-        drunquill::expand(line, vars, used, homes, params, paths, work, out)
+        drunquill::expand(line, vars, used, homes, params, paths, work, out, message)
     }
+}
+
+// Calls the expander or the normaliser in buffers that are filled, and holds what it gave against the case.
+fn hold_call(
+    told: Told,
+    case: &[u8],
+    line: &[u8],
+    vars: &mut [u8],
+    homes: &[u8],
+    params: &[u8],
+    paths: &[u8],
+    work: &mut [u8],
+    out: &mut [u8],
+    message: &mut [u8],
+) -> Told {
+    let answer = call(case, line, vars, homes, params, paths, work, out, message);
+    let told = hold_numbers(told, case, answer);
+    hold_buffers(told, case, vars, work, out, message)
 }
 
 // Fills the buffers that the expander or the normaliser writes, calls it and holds what it gave against the case.
@@ -68,11 +94,21 @@ fn run_laid(
     paths: &[u8],
     work: &mut [u8],
     out: &mut [u8],
+    message: &mut [u8],
 ) -> Told {
-    lay_buffers(case, vars, work, out);
-    let answer = call(case, line, vars, homes, params, paths, work, out);
-    let told = hold_numbers(told, case, answer);
-    hold_buffers(told, case, vars, work, out)
+    lay_buffers(case, vars, work, out, message);
+    hold_call(
+        told,
+        case,
+        line,
+        vars,
+        homes,
+        params,
+        paths,
+        work,
+        out,
+        message,
+    )
 }
 
 // Runs a case of the expander or the normaliser in buffers of its sizes.
@@ -86,9 +122,21 @@ fn run_line(
     paths: &mut [u8],
     work: &mut [u8],
     out: &mut [u8],
+    message: &mut [u8],
 ) -> Told {
     lay_given(case, line, homes, params, paths);
-    run_laid(told, case, line, vars, homes, params, paths, work, out)
+    run_laid(
+        told,
+        case,
+        line,
+        vars,
+        homes,
+        params,
+        paths,
+        work,
+        out,
+        message,
+    )
 }
 
 // Cuts the areas of the buffers that a job writes, and runs the case.
@@ -102,10 +150,12 @@ fn cut_buffers(
     paths: &mut [u8],
     work: &mut [u8],
     out: &mut [u8],
+    message: &mut [u8],
 ) -> Told {
     let b = cut_to_size(case, words::VARS_BUFFER, vars);
     let e = cut_to_size(case, words::WORK, work);
     let f = cut_to_size(case, words::OUT, out);
+    let g = cut_to_size(case, words::MESSAGE, message);
     run_line(
         told,
         case,
@@ -116,6 +166,7 @@ fn cut_buffers(
         paths,
         &mut work[..e],
         &mut out[..f],
+        &mut message[..g],
     )
 }
 
@@ -130,6 +181,7 @@ pub(crate) fn try_line(
     paths: &mut [u8],
     work: &mut [u8],
     out: &mut [u8],
+    message: &mut [u8],
 ) -> Told {
     let a = cut_to_bytes(case, words::LINE, line);
     let b = cut_to_bytes(case, words::HOMES, homes);
@@ -145,6 +197,7 @@ pub(crate) fn try_line(
         &mut paths[..d],
         work,
         out,
+        message,
     )
 }
 

@@ -10,11 +10,12 @@ pub enum Job {
 }
 
 // Is the case one of the expander or the normaliser: words of the right kinds, variables that their buffer holds, bytes as many as told? On a refusal
-// there are none.
+// there are none of the output or of variables.
 fn is_line_case(case: &[u8]) -> bool {
-    if !words::has_shape(case, b"jhhdshhssh=dddhdh")
+    if !words::has_shape(case, b"jhhdshhsshs=dddhdhdh")
         || !words::fits(case, words::VARS, words::VARS_BUFFER)
         || !words::agrees(case, words::OUT_LENGTH, words::OUT_BYTES)
+        || !words::agrees(case, words::MESSAGE_LENGTH, words::MESSAGE_BYTES)
     {
         return false;
     }

@@ -15,6 +15,9 @@ pub const OUT_FILL: u8 = 0xa5;
 
 const VARS_FILL: u8 = 0x5a;
 
+// What stands in the message's buffer before a call.
+const MESSAGE_FILL: u8 = 0xc3;
+
 // What stands in the work area before a call, behind the bytes of the line, and after it.
 const WORK_JUNK: u8 = 0xc3;
 
@@ -61,7 +64,14 @@ pub(crate) fn hold_word(told: Told, what: &[u8], given: usize, case: &[u8], n: u
 }
 
 // Holds what a job left in the buffers against the case.
-pub(crate) fn hold_buffers(told: Told, case: &[u8], vars: &[u8], work: &[u8], out: &[u8]) -> Told {
+pub(crate) fn hold_buffers(
+    told: Told,
+    case: &[u8],
+    vars: &[u8],
+    work: &[u8],
+    out: &[u8],
+    message: &[u8],
+) -> Told {
     let told = hold_bytes(
         told,
         b"output",
@@ -78,7 +88,15 @@ pub(crate) fn hold_buffers(told: Told, case: &[u8], vars: &[u8], work: &[u8], ou
         word(case, words::VARS),
         VARS_FILL,
     );
-    hold_bytes(told, b"work area", work, b"-", b"-", WORK_ZERO)
+    let told = hold_bytes(told, b"work area", work, b"-", b"-", WORK_ZERO);
+    hold_bytes(
+        told,
+        b"message",
+        message,
+        word(case, words::MESSAGE_BYTES),
+        b"-",
+        MESSAGE_FILL,
+    )
 }
 
 // Writes a case's line, homes, parameters and paths.
@@ -96,8 +114,15 @@ pub(crate) fn lay_given(
 }
 
 // Fills the buffers that a job writes.
-pub(crate) fn lay_buffers(case: &[u8], vars: &mut [u8], work: &mut [u8], out: &mut [u8]) {
+pub(crate) fn lay_buffers(
+    case: &[u8],
+    vars: &mut [u8],
+    work: &mut [u8],
+    out: &mut [u8],
+    message: &mut [u8],
+) {
     lay_word(vars, case, words::VARS, VARS_FILL);
     lay_word(work, case, words::LINE, WORK_JUNK);
     lay(out, b"-", OUT_FILL);
+    lay(message, b"-", MESSAGE_FILL);
 }

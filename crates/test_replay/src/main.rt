@@ -42,10 +42,22 @@ fn try_case(
     paths: &mut [u8],
     work: &mut [u8],
     out: &mut [u8],
+    message: &mut [u8],
 ) -> Told {
     let job = kinds::job_of(case);
     match job {
-        Job::Line => calls::try_line(told, case, line, vars, homes, params, paths, work, out),
+        Job::Line => calls::try_line(
+            told,
+            case,
+            line,
+            vars,
+            homes,
+            params,
+            paths,
+            work,
+            out,
+            message,
+        ),
         Job::Quoter => calls::try_quote(told, case, line, out),
         Job::None => telling::tell(told, b"not a case, or too large for its buffers here"),
     }
@@ -60,6 +72,7 @@ fn try_in_areas(told: Told, case: &[u8]) -> Told {
     let mut paths = area();
     let mut work = area();
     let mut out = area();
+    let mut message = area();
     try_case(
         told,
         case,
@@ -70,6 +83,7 @@ fn try_in_areas(told: Told, case: &[u8]) -> Told {
         &mut paths,
         &mut work,
         &mut out,
+        &mut message,
     )
 }
 

@@ -3,13 +3,13 @@ ghost use Prim.Native.Nat.{_≤_, _<_};
 ghost use lib.ListN.{length};
 use text::numbers;
 
-// How many bytes a line, a table, the variables' buffer, the work area and the output may each have here.
+// How many bytes a line, a table, the variables' buffer, the work area, the output and the message's buffer may each have here.
 pub const ROOM: usize = 131072;
 
 // The places of a case's words. Its job comes first.
 pub const JOB: usize = 0;
 
-// Those of the expander and the normaliser; `=` stands at 10.
+// Those of the expander and the normaliser; `=` stands at 11.
 pub const LINE: usize = 1;
 
 pub const VARS: usize = 2;
@@ -28,17 +28,23 @@ pub const OUT: usize = 8;
 
 pub const PARAMS: usize = 9;
 
-pub const NUMBER: usize = 11;
+pub const MESSAGE: usize = 10;
 
-pub const PLACE: usize = 12;
+pub const NUMBER: usize = 12;
 
-pub const OUT_LENGTH: usize = 13;
+pub const PLACE: usize = 13;
 
-pub const OUT_BYTES: usize = 14;
+pub const OUT_LENGTH: usize = 14;
 
-pub const USED_LENGTH: usize = 15;
+pub const OUT_BYTES: usize = 15;
 
-pub const VARS_BYTES: usize = 16;
+pub const USED_LENGTH: usize = 16;
+
+pub const VARS_BYTES: usize = 17;
+
+pub const MESSAGE_LENGTH: usize = 18;
+
+pub const MESSAGE_BYTES: usize = 19;
 
 // Those of the quoter; `=` stands at 3.
 pub const FIELDS: usize = 1;

@@ -1,18 +1,18 @@
-//! Prints cases made from a seed with the reference's answers, or hostile ones, or how often each number and each edge comes up in the cases of
-//! one seed or more.
+//! Prints cases made from a seed with the reference's answers, or hostile ones, or those about `?` and its message alone, or how often each number and each
+//! edge comes up in the cases of one seed or more.
 
 use std::io::{stdout, BufWriter, Write};
 use std::ops::RangeInclusive;
 use std::process::ExitCode;
 
 use reference::case::{case, Call};
-use reference::generate::{call, hostile, tally::Tally};
+use reference::generate::{call, demands, hostile, tally::Tally};
 
 fn main() -> ExitCode {
     let words: Vec<String> = std::env::args().skip(1).collect();
     let words: Vec<&str> = words.iter().map(String::as_str).collect();
     let (seeds, count) = match words[..] {
-        ["--tally" | "--hostile", seeds, count] | [seeds, count] => (range(seeds), count.parse()),
+        ["--tally" | "--hostile" | "--messages", seeds, count] | [seeds, count] => (range(seeds), count.parse()),
         _ => return usage(),
     };
     let (Some(seeds), Ok(count)) = (seeds, count) else {
@@ -24,6 +24,7 @@ fn main() -> ExitCode {
             Ok(())
         }
         "--hostile" => print_cases(hostile::call, seeds, count),
+        "--messages" => print_cases(demands::call, seeds, count),
         _ => print_cases(call, seeds, count),
     };
     match printed {
@@ -36,7 +37,7 @@ fn main() -> ExitCode {
 }
 
 fn usage() -> ExitCode {
-    eprintln!("usage: cases [--hostile|--tally] SEED[-SEED] COUNT");
+    eprintln!("usage: cases [--hostile|--messages|--tally] SEED[-SEED] COUNT");
     ExitCode::FAILURE
 }
 

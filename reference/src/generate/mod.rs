@@ -4,11 +4,13 @@ pub mod brackets;
 pub mod classes;
 mod crowds;
 mod damage;
+pub mod demands;
 mod expression;
 mod focus;
 pub mod grammar;
 pub mod hostile;
 pub mod lists;
+pub mod messages;
 pub mod operands;
 pub mod operators;
 pub mod patterns;
@@ -32,6 +34,7 @@ use crate::calls::Answer;
 use crate::case::{Call, Job, Lent};
 use crate::image::of_texts;
 use crate::limits;
+use crate::number::ACCEPTED;
 
 /// The most steps of a case's patterns; `hostile` has those without a bound.
 pub const MOST_STEPS: usize = 5_000_000;
@@ -39,26 +42,33 @@ pub const MOST_STEPS: usize = 5_000_000;
 /// The call of this case; the same for the same seed and case.
 pub fn call(seed: u64, case: u64) -> Call {
     let random = &mut Random::new(seed, case);
-    let call = match random.below(200) {
-        0..=8 => sizes::call(random),
-        9..=14 => quoting::call(random),
-        15..=20 => malformed(random),
-        21..=26 => storing(random),
-        27..=35 => focused(random, focus::patterns),
-        36..=41 => focused(random, focus::splitting),
-        42..=57 => focused(random, tildes::case),
-        58..=60 => lone(random, quoting::fed_again),
-        61..=86 => focused(random, classes::case),
-        87..=98 => focused(random, stars::case),
-        99..=105 => focused(random, crowds::case),
-        106..=163 => lone(random, lists::case),
-        164..=179 => focused(random, operators::case),
+    let call = match random.below(326) {
+        0..=11 => sizes::call(random),
+        12..=18 => quoting::call(random),
+        19..=25 => malformed(random),
+        26..=32 => storing(random),
+        33..=43 => focused(random, focus::patterns),
+        44..=50 => focused(random, focus::splitting),
+        51..=70 => focused(random, tildes::case),
+        71..=73 => lone(random, quoting::fed_again),
+        74..=107 => focused(random, classes::case),
+        108..=125 => focused(random, stars::case),
+        126..=135 => focused(random, crowds::case),
+        136..=195 => lone(random, lists::case),
+        196..=221 => focused(random, operators::case),
+        222..=305 => focused(random, demands::case),
         _ => lines(random),
     };
+    finished(random, call)
+}
+
+/// The call with patterns that are not too dear, now and then with just the room it needs, and with a message buffer.
+fn finished(random: &mut Random, call: Call) -> Call {
     match call {
         Call::Lines(job, mut lent) => {
             steps::thin(&mut lent, MOST_STEPS);
             tighten(random, job, &mut lent);
+            demands::lend_room(random, job, &mut lent);
             Call::Lines(job, lent)
         }
         quote => quote,
@@ -78,6 +88,7 @@ pub fn ordinary(random: &mut Random) -> Lent {
         work: limits::WORK_AREA,
         out: limits::IMAGE,
         parameters: of_texts(&lists::parameters(random)),
+        message: 64,
     }
 }
 
@@ -96,11 +107,11 @@ fn lines(random: &mut Random) -> Call {
     if random.below(5) < 2 {
         lists::join(random, &mut lent);
     }
-    if random.once_in(60) && !lent.line.is_empty() {
+    if random.once_in(40) && !lent.line.is_empty() {
         let at = random.below(lent.line.len());
         lent.line[at] = 0;
     }
-    if random.once_in(80) {
+    if random.once_in(35) {
         lent.work = *random.pick(&[0, 1, 8_192, 65_535, 65_535]);
     } else if random.once_in(40) {
         lent.work = *random.pick(&[65_537, 70_000]);
@@ -169,13 +180,14 @@ fn wrong_used(random: &mut Random, lent: &Lent) -> usize {
     }
 }
 
-/// Sometimes gives just the room the call needs, one byte less or more, or hardly any.
+/// Sometimes gives just the room the call needs, one byte less or more, or hardly any; to one that is refused seldom, as no output at all would be 21.
 fn tighten(random: &mut Random, job: Job, lent: &mut Lent) {
     if random.once_in(5) {
-        lent.out = match random.below(3) {
-            0 => random.below(12),
-            _ => about(random, answered(job, lent).length),
-        };
+        let answer = answered(job, lent);
+        let hardly_any = random.once_in(3);
+        if answer.number == ACCEPTED || random.once_in(5) {
+            lent.out = if hardly_any { random.below(12) } else { about(random, answer.length) };
+        }
     }
     if random.once_in(8) && lent.used <= lent.variables_buffer {
         let needed = about(random, answered(job, lent).used);

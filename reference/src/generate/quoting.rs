@@ -80,7 +80,7 @@ impl Quoting {
         variables.resize(lent.variables_buffer, 0);
         let mut out = vec![0; limits::IMAGE];
         let mut work = vec![0; lent.work];
-        let answer = expand(&lent.line, &mut variables, lent.used, lent.tables(), &mut work, &mut out);
+        let answer = expand(&lent.line, &mut variables, lent.used, lent.tables(), &mut work, &mut out, &mut []);
         if answer.number == ACCEPTED {
             self.add_image(&out[..answer.length]);
         }

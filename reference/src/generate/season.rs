@@ -43,7 +43,7 @@ fn carry_over(lent: &mut Lent) {
     variables.resize(limits::IMAGE, 0);
     let mut work = vec![0; limits::WORK_AREA];
     let mut out = vec![0; limits::IMAGE];
-    let answer = normalise(&lent.line, &mut variables, lent.used, lent.tables(), &mut work, &mut out);
+    let answer = normalise(&lent.line, &mut variables, lent.used, lent.tables(), &mut work, &mut out, &mut []);
     lent.used = answer.used;
     variables.truncate(answer.used);
     lent.variables = variables;

@@ -9,9 +9,9 @@ use crate::limits;
 
 pub fn call(random: &mut Random) -> Call {
     let mut lent = ordinary(random);
-    match random.below(54) {
+    match random.below(58) {
         0..=5 => lent.line = line(random),
-        6..=13 => row(random, &mut lent),
+        54..=57 | 6..=13 => row(random, &mut lent),
         14..=15 => variables(random, &mut lent),
         16..=17 => lent.homes = filled(Kind::Pairs, about(random, limits::IMAGE)),
         18..=19 => output(random, &mut lent),
@@ -67,7 +67,8 @@ fn row(random: &mut Random, lent: &mut Lent) {
     lent.line = random.text(&[
         "$v", "\"$v\"", "a$v", "$v$e", "$v''", "$v\"\"", "$v\\a", "a ${u-$v}", "${u-\"$v\"}", "${u=$v}$u",
         "${u=${v}a}", "${v%x}$e", "$v${v%%x*}", "x$v${v##*}", "$(( 1$v ))", "$((0$v))", "$v$((1/0))", "$v${u?}",
-        "${#v}$v", "${v+a$v}", "\"${u:-$v}\"a", "${e:=a}$v", "${v#${v}}a", "${v%%\"$v\"}a",
+        "${#v}$v", "${v+a$v}", "\"${u:-$v}\"a", "${e:=a}$v", "${v#${v}}a", "${v%%\"$v\"}a", "${u?$v}", "${u?\"$v\"}",
+        "\"${e:?$v}\"", "${u?$v''}", "a$v${u?$v}", "$((${u?$v\\a}))", "${u?${w?$v}a}",
     ]);
     given(lent, image(&table));
 }
@@ -79,7 +80,7 @@ fn directory(random: &mut Random, lent: &mut Lent) {
     let mut line = random.text(&[
         "~", "~/", "a ~", "~ b", "${u-~}", "${u:-~}a", "a ${u-~/}", "${u-~}$e", "${e+~}", "${e+~/}", "a${e+~}",
         "${u=~}", "b${u=~}", "${u=~/}", "${u-${w-~}''}", "${v#~}", "\"${v##~}\"", "${v%~}a", "${v%%~}", "${v%%~/}",
-        "${v#~/}", "${e?~}", "\"${u-~}\"", "$((1${v#~}))",
+        "${v#~/}", "${e?~}", "\"${u-~}\"", "$((1${v#~}))", "${u?~}", "${e:?~/}", "a ${u?~}", "\"${u?~}\"",
     ]);
     let mut table = Table::from([(b"e".to_vec(), vec![]), (b"v".to_vec(), directory.clone())]);
     if random.once_in(4) {

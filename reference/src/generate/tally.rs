@@ -6,12 +6,14 @@ use std::ops::RangeInclusive;
 
 use super::brackets::Brackets;
 use super::call;
+use super::messages::Messages;
 use super::operands::Tildes;
 use super::patterns::Patterns;
 use super::positional::Positional;
 use super::quoting::Quoting;
 use super::sums::Sums;
 use super::walk::walk;
+use crate::calls::Answer;
 use crate::case::{Call, Job, Lent};
 use crate::expand::SeenRow;
 use crate::image;
@@ -39,6 +41,7 @@ pub struct Tally {
     pub brackets: Brackets,
     pub patterns: Patterns,
     pub positional: Positional,
+    pub messages: Messages,
 }
 
 impl Tally {
@@ -65,7 +68,7 @@ impl Tally {
         if let Call::Lines(_, lent) = call {
             self.positional.add(lent, answer.number);
             if is_walked(answer.number) {
-                self.add_seen(lent);
+                self.add_seen(lent, &answer);
             }
         }
         match call {
@@ -75,8 +78,9 @@ impl Tally {
         }
     }
 
-    fn add_seen(&mut self, lent: &Lent) {
+    fn add_seen(&mut self, lent: &Lent, answer: &Answer) {
         let seen = walk(lent);
+        self.messages.add(lent, answer, &seen);
         self.full_lines += usize::from(lent.line.len() == limits::LINE);
         self.tildes.add(lent);
         self.positional.add_seen(lent, &seen);
@@ -106,12 +110,12 @@ impl fmt::Display for Tally {
             writeln!(out, "{number:2} {count}")?;
         }
         let Tally { expand, normalise, quote, bytes, sums, different_sums, full_lines, rows, .. } = self;
-        let Tally { tildes, quoting, brackets, patterns, positional, kinds_of_sums, .. } = self;
+        let Tally { tildes, quoting, brackets, patterns, positional, kinds_of_sums, messages, .. } = self;
         writeln!(out, "expand {expand}, normalise {normalise}, quote {quote}")?;
         writeln!(out, "{bytes} bytes")?;
         writeln!(out, "arithmetic texts {sums}, different ones {}", different_sums.len())?;
         writeln!(out, "lines of 2048 bytes {full_lines}")?;
         writeln!(out, "rows of 2047 units {}, of 2048 {}, refused at 2049 {}", rows[0], rows[1], rows[2])?;
-        write!(out, "{tildes}{quoting}{brackets}{patterns}{positional}{kinds_of_sums}")
+        write!(out, "{tildes}{quoting}{brackets}{patterns}{positional}{kinds_of_sums}{messages}")
     }
 }

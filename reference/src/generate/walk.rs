@@ -19,6 +19,7 @@ pub fn walk(lent: &Lent) -> Seen {
         variables: Variables::new(variables, lent.variables_buffer.min(limits::IMAGE)),
         homes: &homes,
         parameters: &parameters,
+        message: Vec::new(),
         seen: Seen::default(),
     };
     for word in read(&lent.line).unwrap_or_default() {

@@ -159,6 +159,7 @@ pub fn reference(line: &[u8], given: &Given) -> Result<Outcome, u8> {
         Tables { homes: &image::empty(), paths: &of_texts(&PATHS), parameters: &of_texts(&given.parameters) },
         &mut vec![0; limits::WORK_AREA],
         &mut out,
+        &mut [],
     );
     if answer.number != ACCEPTED {
         return Err(answer.number);

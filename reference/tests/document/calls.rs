@@ -28,9 +28,11 @@ fn faulty(faults: &[Number]) -> u8 {
     line[2] = if bad(Number::Operator) { b'|' } else { b'a' };
     let tables =
         Tables { homes: image(Number::Homes), paths: image(Number::Paths), parameters: image(Number::Parameters) };
-    let answer = reference::expand(&line, &mut variables, used, tables, &mut work, &mut []);
+    let mut message = *b"message";
+    let answer = reference::expand(&line, &mut variables, used, tables, &mut work, &mut [], &mut message);
     assert!(work.iter().all(|&byte| byte == 0));
     assert_eq!((answer.place, answer.length, answer.used), (0, 0, used));
+    assert_eq!((answer.message, &message), (0, b"message"));
     answer.number
 }
 
@@ -49,7 +51,7 @@ fn used_length() {
         let mut variables = vec![b'x'; buffer];
         variables[0] = 1;
         let (work, out) = (&mut vec![0; limits::WORK_AREA], &mut [0; 9]);
-        reference::expand(b"", &mut variables, used, NO_TABLES, work, out).number
+        reference::expand(b"", &mut variables, used, NO_TABLES, work, out, &mut []).number
     };
     assert_eq!(call(9_000, 1), ACCEPTED);
     assert_eq!(call(1, 1), ACCEPTED);
@@ -88,7 +90,7 @@ fn storing(line: &[u8], out: usize) -> (Answer, Vec<u8>) {
     let used = variables.len();
     variables.resize(40, 0x5a);
     let (work, out) = (&mut vec![0; limits::WORK_AREA], &mut vec![0xa5; out]);
-    let answer = reference::normalise(line, &mut variables, used, NO_TABLES, work, out);
+    let answer = reference::normalise(line, &mut variables, used, NO_TABLES, work, out, &mut []);
     (answer, variables)
 }
 
@@ -151,7 +153,7 @@ fn the_normalisers_expander_refuses_at_the_word() {
     let mut variables = of_texts(&["v".to_string(), "x".repeat(2_045)]);
     let used = variables.len();
     let (work, out) = (&mut vec![0; limits::WORK_AREA], &mut vec![0; 9_000]);
-    let mut call = |line: &[u8]| reference::normalise(line, &mut variables, used, NO_TABLES, work, out);
+    let mut call = |line: &[u8]| reference::normalise(line, &mut variables, used, NO_TABLES, work, out, &mut []);
     let room = Number::NoRoomForOutput as u8;
     let answer = call(b"$v $v $v $v ab");
     assert_eq!((answer.number, answer.place), (room, 12));

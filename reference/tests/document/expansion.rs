@@ -44,7 +44,7 @@ fn missing_values() {
     ] {
         gives(&world(), line, fields);
     }
-    refuses(&world(), "a ${u?$((1/0))}", Missing, 2);
+    refuses(&world(), "a ${u?x}", Missing, 2);
     refuses(&world(), "${e:?}", Missing, 0);
     gives(&world(), "${v-$((1/0))}${u+$((1/0))}${v=$((1/0))}", &["a", "ba", "b"]);
 }

@@ -6,8 +6,8 @@ use std::sync::OnceLock;
 use reference::case::{case, replay, Call, Job};
 use reference::generate::random::Random;
 use reference::generate::{
-    brackets::KINDS, call, classes::BORDERS, hostile, operands::SIGNS, ordinary, positional, quoting, season::Season,
-    steps::steps, sums, tally::Tally, MOST_STEPS,
+    brackets::KINDS, call, classes::BORDERS, demands, hostile, messages, operands::SIGNS, ordinary, positional,
+    quoting, season::Season, steps::steps, sums, tally::Tally, MOST_STEPS,
 };
 use reference::{image, limits};
 
@@ -105,6 +105,25 @@ fn operators_come_up() {
     for kind in sums::KINDS {
         assert!(found.kinds[kind] >= 5, "{kind}: {found}");
     }
+}
+
+/// Messages: about one case in five is answered with 13, with buffers of every length beside the message, and every refusal of an operand comes up in place
+/// of it.
+#[test]
+fn messages_come_up() {
+    let tally = tally();
+    let found = &tally.messages;
+    assert!((CASES as usize / 6..CASES as usize / 4).contains(&tally.numbers[13]), "{found}");
+    assert_eq!(found.demanded, tally.numbers[13]);
+    for room in messages::ROOMS {
+        assert!(found.rooms[room] >= 200, "{room}: {found}");
+    }
+    for kind in messages::KINDS {
+        assert!(found.kinds[kind] >= 20, "{kind}: {found}");
+    }
+    assert!(found.kept >= 5_000, "{found}");
+    let answers = (0..1_000).map(|case| demands::call(SEED, case).answer().expect("buffers kept as promised").0.number);
+    assert!(answers.filter(|number| *number == 13).count() >= 600);
 }
 
 /// Demand 3 on made fields: their quoted line gives them again and is its own quoted line, under tables that were not asked for.

@@ -7,6 +7,7 @@ mod class_names;
 mod classes;
 mod expansion;
 mod generator;
+mod messages;
 mod naive;
 mod numbers;
 mod operand_tilde;

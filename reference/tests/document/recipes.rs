@@ -45,6 +45,7 @@ fn c1_is_the_image_document_01_writes_out() {
         Tables { homes: &empty, paths: &empty, parameters: &empty },
         &mut vec![1; limits::WORK_AREA],
         &mut out,
+        &mut [],
     );
     assert_eq!((answer.number, answer.length), (ACCEPTED, 32));
     let mut wanted = b"\x01\x00\x02cp\x00\x0bnorth field\x00\x05north\x00\x05field".to_vec();

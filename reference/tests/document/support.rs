@@ -8,7 +8,7 @@ use reference::number::{Number, ACCEPTED};
 use reference::{Answer, Tables};
 
 /// The expander or the normaliser.
-type Job = fn(&[u8], &mut [u8], usize, Tables, &mut [u8], &mut [u8]) -> Answer;
+type Job = fn(&[u8], &mut [u8], usize, Tables, &mut [u8], &mut [u8], &mut [u8]) -> Answer;
 
 #[derive(Clone)]
 pub struct World {
@@ -18,11 +18,20 @@ pub struct World {
     parameters: Vec<Vec<u8>>,
     variables_buffer: usize,
     out: usize,
+    message: Vec<u8>,
 }
 
 pub struct Outcome {
     pub fields: Vec<Vec<u8>>,
     pub variables: Vec<image::Pair>,
+}
+
+/// What a job answers, and how it leaves the output, the variables and the message buffer.
+pub struct Left {
+    pub answer: Answer,
+    pub out: Vec<u8>,
+    pub variables: Vec<u8>,
+    pub message: Vec<u8>,
 }
 
 impl World {
@@ -34,6 +43,7 @@ impl World {
             parameters: Vec::new(),
             variables_buffer: limits::IMAGE,
             out: limits::IMAGE,
+            message: vec![b'.'; 64],
         }
     }
 
@@ -75,19 +85,25 @@ impl World {
         self
     }
 
+    /// The message buffer, with what stands in it.
+    pub fn message(mut self, buffer: impl AsRef<[u8]>) -> World {
+        self.message = buffer.as_ref().to_vec();
+        self
+    }
+
     pub fn variables_image(&self) -> Vec<u8> {
         pairs(&self.variables)
     }
 
     /// The outcome of the expander, or the number and place of its refusal.
     pub fn expand(&self, line: impl AsRef<[u8]>) -> Result<Outcome, (u8, usize)> {
-        let (answer, out, variables) = self.call(reference::expand, line.as_ref());
+        let Left { answer, out, variables, .. } = self.call(reference::expand, line.as_ref());
         if answer.number != ACCEPTED {
             return Err((answer.number, answer.place));
         }
         Ok(Outcome {
-            fields: image::fields(&out).expect("a fields image"),
-            variables: image::variables(&variables).expect("a variables image"),
+            fields: image::fields(&out[..answer.length]).expect("a fields image"),
+            variables: image::variables(&variables[..answer.used]).expect("a variables image"),
         })
     }
 
@@ -95,17 +111,17 @@ impl World {
     #[track_caller]
     pub fn normalise(&self, line: impl AsRef<[u8]>) -> String {
         let line = line.as_ref();
-        let (answer, out, _) = self.call(reference::normalise, line);
+        let Left { answer, out, .. } = self.call(reference::normalise, line);
         assert_eq!((answer.number, answer.place), (ACCEPTED, 0), "{}", shown(line));
-        shown(&out)
+        shown(&out[..answer.length])
     }
 
-    /// What a job answers, and how it leaves the used parts of the output and of the variables.
-    fn call(&self, job: Job, line: &[u8]) -> (Answer, Vec<u8>, Vec<u8>) {
+    pub fn call(&self, job: Job, line: &[u8]) -> Left {
         let mut variables = self.variables_image();
         let used = variables.len();
         variables.resize(self.variables_buffer, 0);
         let mut out = vec![0; self.out];
+        let mut message = self.message.clone();
         let (homes, paths) = (pairs(&self.homes), of_texts(&self.paths.iter().collect::<Vec<_>>()));
         let answer = job(
             line,
@@ -114,10 +130,9 @@ impl World {
             Tables { homes: &homes, paths: &paths, parameters: &of_texts(&self.parameters) },
             &mut vec![0; limits::WORK_AREA],
             &mut out,
+            &mut message,
         );
-        out.truncate(answer.length);
-        variables.truncate(answer.used);
-        (answer, out, variables)
+        Left { answer, out, variables, message }
     }
 }
 
@@ -149,6 +164,15 @@ pub fn refuses(world: &World, line: impl AsRef<[u8]>, number: Number, place: usi
     let line = line.as_ref();
     let given = world.expand(line).map(|outcome| outcome.fields);
     assert_eq!(given, Err((number as u8, place)), "{}", shown(line));
+}
+
+/// The line is refused with 13 at this place, with this message.
+#[track_caller]
+pub fn demands(world: &World, line: impl AsRef<[u8]>, place: usize, message: &str) {
+    let line = line.as_ref();
+    let left = world.call(reference::expand, line);
+    assert_eq!((left.answer.number, left.answer.place), (Number::Missing as u8, place), "{}", shown(line));
+    assert_eq!(shown(&left.message[..left.answer.message]), message, "{}", shown(line));
 }
 
 /// The line is accepted and leaves the variable with this value.

@@ -112,7 +112,8 @@ fn lists_that_are_refused() {
     let number = |parameters: &[u8]| {
         let tables = Tables { homes: &[1], paths: &[1], parameters };
         let mut out = vec![7; 100];
-        let answer = reference::expand(b"$#", &mut [1, 9], 1, tables, &mut vec![3; limits::WORK_AREA], &mut out);
+        let work = &mut vec![3; limits::WORK_AREA];
+        let answer = reference::expand(b"$#", &mut [1, 9], 1, tables, work, &mut out, &mut []);
         assert!(answer.number == ACCEPTED || out == vec![7; 100]);
         assert_eq!((answer.place, answer.used), (0, 1));
         answer.number

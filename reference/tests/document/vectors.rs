@@ -19,7 +19,7 @@ fn lines(file: &str) -> Vec<String> {
 fn calls() {
     let cases = lines("calls.txt");
     let differ: Vec<String> = cases.iter().filter_map(|case| replay(case).err()).collect();
-    assert!(cases.len() > 1_100);
+    assert!(cases.len() > 1_250);
     assert!(differ.is_empty(), "{} differ, first:\n{}", differ.len(), differ[0]);
 }
 
@@ -31,7 +31,7 @@ fn named() {
         assert_eq!(replay(case), Ok(()), "{name}");
         cases += 1;
     }
-    assert!(cases >= 29);
+    assert!(cases >= 53);
 }
 
 /// The arguments of a folder, one to a line, `\\n` in one being a newline; none if it has no such file.
