@@ -6,7 +6,7 @@ a field to its pattern or to the paths, a line to how many of a thing it has."""
 from collections import namedtuple
 
 FULL = 4
-LINE, IMAGE, PATHS = 2048, 8192, 32768  # the limits of document 01
+LINE, ROW, IMAGE, PATHS = 2048, 2048, 8192, 32768  # the limits of document 01
 
 # what a case grows where a doubled size may take four times as long
 BOTH = "pattern and value"
@@ -242,6 +242,24 @@ def parameters():
     yield "counts", "their number", lambda n: Given(b"$#" * n(500), params=params_of(most)), 500
 
 
+def messages():
+    """What a `?` demands: its operand is expanded, its marks are taken off and it is handed over, at most a row of it."""
+    far, long = filled(b"z", b"1"), lambda n: {b"v": b"a" * n(ROW)}
+    yield "a message", "its text", lambda n: Given(b"${u?" + b"a" * n(2040) + b"}"), 1
+    yield "a message in quotes", "its text", lambda n: Given(b'"${u?' + b"a" * n(2040) + b'}"'), 1
+    yield "a message of empty quotes", "their number", lambda n: Given(b"${u?" + b"''" * n(1000) + b"}"), 1
+    yield "a message of quotes", "their number", lambda n: Given(b"${u?" + b"'a'\"b\"" * n(340) + b"}"), 1
+    yield "a message of names", "their number", lambda n: Given(b"${u?" + b"$z" * n(1000) + b"}", far), 1
+    yield "a message of a long value", "the value", lambda n: Given(b"${u?$v}", long(n)), 1
+    yield "a message of too many units", "the value", lambda n: Given(b"${u?a$v}", {b"v": b"a" * n(8000)}), 1
+    yield "messages in a message", "their text", lambda n: Given(b"${u?" * 8 + b"a" * n(2000) + b"}" * 8), 1
+    yield "messages in a message, in quotes", "their text", lambda n: Given(b'"' + b"${u?" * 8 + b"$v" + b"}" * 8 + b'"', long(n)), 1
+    yield "a message in sums", "its text", lambda n: Given(b"$((" * 7 + b"${u?" + b"a" * n(1990) + b"}" + b"))" * 7), 1
+    yield "a message in a pattern", "its text", lambda n: Given(b"${v%" * 7 + b"${u?$v}" + b"}" * 7, long(n)), 1
+    yield "messages that are not demanded", "their number", lambda n: Given(b"${z?$((1/0))}" * n(150), far), 150
+    yield "a message behind words", "their number", lambda n: Given(b"$z " * n(660) + b"${u?$z}", far), 660
+
+
 def one_of_each():
     """A removal, a field over paths and an arithmetic text, each dear."""
     def make(n):
@@ -257,7 +275,8 @@ def scaled(make):
 
 def cases():
     """All cases, in order."""
-    groups = {"removal": removals, "field": fields, "arithmetic": arithmetic, "parameter": parameters, "other": others, "line": one_of_each, UNBOUND: dearest}
+    groups = {"removal": removals, "field": fields, "arithmetic": arithmetic, "parameter": parameters, "message": messages, "other": others,
+              "line": one_of_each, UNBOUND: dearest}
     for kind, group in groups.items():
         for name, grows, make, parts in group():
             yield Case(name, kind, grows, scaled(make), parts)

@@ -7,7 +7,7 @@
 #include <string.h>
 #include <time.h>
 
-static unsigned char vars[8192], work[65536], out[8192], line[2048];
+static unsigned char vars[8192], work[65536], out[8192], line[2048], message[2048];
 static const unsigned char none[1] = {1};
 
 static double now(void) {
@@ -25,7 +25,9 @@ static double call(const char *piece, size_t n, double seconds, unsigned *number
   while (spent < seconds) {
     double a = now();
     for (int i = 0; i < 20; i++)
-      *number = drunquill_expand(line, used, vars, sizeof vars, 1, none, 1, none, 1, none, 1, work, sizeof work, out, sizeof out).number;
+      *number = drunquill_expand(line, used, vars, sizeof vars, 1, none, 1, none, 1, none, 1, work, sizeof work, out, sizeof out, message,
+                                 sizeof message)
+                    .number;
     spent += now() - a, rounds += 20;
   }
   return spent / (double)rounds;

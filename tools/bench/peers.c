@@ -37,7 +37,7 @@ static const struct {
 };
 enum { KINDS = sizeof kinds / sizeof *kinds, VARIABLES = sizeof variables / sizeof *variables };
 
-static uint8_t vars[DRUNQUILL_IMAGE_MAX], work[DRUNQUILL_WORK_LEAST], out[DRUNQUILL_IMAGE_MAX];
+static uint8_t vars[DRUNQUILL_IMAGE_MAX], work[DRUNQUILL_WORK_LEAST], out[DRUNQUILL_IMAGE_MAX], message[DRUNQUILL_MESSAGE_MAX];
 static uint8_t card[DRUNQUILL_PATHS_MAX], few[DRUNQUILL_PATHS_MAX], full_homes[DRUNQUILL_IMAGE_MAX], full_vars[DRUNQUILL_IMAGE_MAX];
 static const uint8_t none[1] = {1};
 static size_t vars_len, card_len, few_len;
@@ -95,7 +95,8 @@ static void make_tables(void) {
 
 static struct drunquill_answer expand(int kind) {
   return drunquill_expand((const uint8_t *)kinds[kind].line, strlen(kinds[kind].line), vars, sizeof vars, vars_len, none, 1, none, 1,
-                          kinds[kind].paths ? card : few, kinds[kind].paths ? card_len : few_len, work, sizeof work, out, sizeof out);
+                          kinds[kind].paths ? card : few, kinds[kind].paths ? card_len : few_len, work, sizeof work, out, sizeof out, message,
+                          sizeof message);
 }
 
 static double ours(int kind, int n) {
@@ -194,7 +195,7 @@ static double one_call(const char *line, int full, int tables, size_t work_len, 
     double a = now();
     for (int i = 0; i < 200; i++)
       sink += drunquill_expand((const uint8_t *)line, n, v, DRUNQUILL_IMAGE_MAX, used, homes, homes_len, none, 1, paths, paths_len, work, work_len, out,
-                               sizeof out)
+                               sizeof out, message, sizeof message)
                   .number;
     double b = now() - a;
     spent += b;
