@@ -38,3 +38,11 @@ pub mod Storeys  -- E6: the grammar in two storeys
 pub mod Turns  -- E6: reading as a loop
 pub mod Sums  -- E6: sums that compute, and sides that are not needed
 pub mod Messages  -- E7: demanded messages
+pub mod ButIFS  -- E8: variables that differ in IFS alone
+pub mod Alike  -- E8: one thing worked out twice
+pub mod AlikeRows  -- E8: parts expanded twice
+pub mod Begun  -- a word of a line has a part
+pub mod OneField  -- E8: the one field of a word that stays together
+pub mod AlikeLine  -- E8: a line expanded twice
+pub mod Together  -- E8: the law over the calls
+pub mod TogetherLines  -- E8: words that stay together, and others

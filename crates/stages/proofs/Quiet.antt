@@ -1,32 +1,61 @@
--- Quiet rows: only quoted bytes, empty marks, and literal bytes that have no rule of their own. There is nothing in them to split at, and nothing active, so
+-- Quiet rows: only quoted bytes, empty marks, and literal bytes that are no `*`, `?` or `[`. There is nothing in them to split at, and nothing active, so
 -- that a quiet row with units is the one field of its bytes.
 use Prim.Native.Nat.{ℕ}
+use Prim.Native.Char.{code}
 use mathlib.Core.Path.{_≡_, refl, ap, _∙_}
 use mathlib.Core.Bool.{true, false}
-use mathlib.Core.List.{List, [], _∷_}
-use Rattle.stages.specs.Bytes.{Text, all, isBareByte}
+use mathlib.Core.List.{List, [], _∷_, _++_}
+use lib.Dec.{eqb}
+use Rattle.stages.specs.Bytes.{Text, text, isIn, all, isBareByte}
 use Rattle.stages.specs.Outcome.{done}
 use Rattle.stages.specs.Images.{Pairs}
 use Rattle.stages.specs.Units.{Mark, L, Q, Cell, cell, N, Row, marked, bytes}
 use Rattle.stages.specs.Split.{dropWhite, dropHard, otherRun, fieldsStep, fieldsFrom, split, ifsNow, longerPart, broken, splitParts, fieldsOfRow}
 use Rattle.stages.specs.Pattern.{signs, elements, hasClass, pattern}
 use Rattle.stages.specs.Paths.{active, pathsFor, textsOfFields}
-use Rattle.stages.proofs.Bools.{and-left, and-right}
+use Rattle.stages.proofs.Bools.{and-left, and-right, or-neither}
 use Rattle.stages.proofs.Split.{fields-from}
 use Rattle.stages.proofs.Plain.{Plain, bare-plain}
+
+-- a byte that begins nothing in a pattern
+pub record Dull (b : ℕ) : Type 0 where
+  pub star : eqb b (code "*") ≡ false
+  pub one : eqb b (code "?") ≡ false
+  pub bracket : eqb b (code "[") ≡ false
+
+plain-dull : (b : ℕ) → Plain b → Dull b
+plain-dull b p = record { star = p .star; one = p .one; bracket = p .bracket }
+
+pub dull-byte : (b : ℕ) → isIn b (text "*?[") ≡ false → Dull b
+dull-byte b e =
+    let p = or-neither (eqb b (code "*")) (isIn b (text "?[")) e in
+    let q = or-neither (eqb b (code "?")) (isIn b (text "[")) (p .1) in
+    record { star = p .0; one = q .0; bracket = or-neither (eqb b (code "[")) false (q .1) .0 }
 
 pub data Quiet : Row → Type 0 where
   no-units : Quiet []
   a-mark : {r : Row} → Quiet r → Quiet (N ∷ r)
   a-byte : {b : ℕ} {r : Row} → Quiet r → Quiet (cell Q b ∷ r)
-  a-literal : {b : ℕ} {r : Row} → Plain b → Quiet r → Quiet (cell L b ∷ r)
+  a-literal : {b : ℕ} {r : Row} → Dull b → Quiet r → Quiet (cell L b ∷ r)
+
+pub quiet-append : {r s : Row} → Quiet r → Quiet s → Quiet (r ++ s)
+quiet-append no-units q = q
+quiet-append (a-mark p) q = a-mark (quiet-append p q)
+quiet-append (a-byte p) q = a-byte (quiet-append p q)
+quiet-append (a-literal h p) q = a-literal h (quiet-append p q)
+
+pub marked-quiet : (t : Text) → Quiet (marked Q t)
+unfolding marked
+marked-quiet [] = no-units
+marked-quiet (b ∷ t) = a-byte (marked-quiet t)
 
 -- the row of a bare field is quiet
 pub bare-quiet : (t : Text) → all isBareByte t ≡ true → Quiet (marked L t)
 unfolding marked
 bare-quiet [] e = no-units
 bare-quiet (b ∷ t) e =
-    a-literal (bare-plain b (and-left (isBareByte b) (all isBareByte t) e)) (bare-quiet t (and-right (isBareByte b) (all isBareByte t) e))
+    a-literal (plain-dull b (bare-plain b (and-left (isBareByte b) (all isBareByte t) e)))
+    (bare-quiet t (and-right (isBareByte b) (all isBareByte t) e))
 
 pub marked-bytes : (m : Mark) (t : Text) → bytes (marked m t) ≡ t
 unfolding marked bytes

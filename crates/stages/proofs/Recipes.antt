@@ -27,7 +27,7 @@ pub record Case : Type 0 where
   pub params : List String
   pub answer : Placed (List String × Settings)
 
-abbrev textsOf : List String → List Text
+abbrev pub textsOf : List String → List Text
 textsOf [] = []
 textsOf (s ∷ l) = text s ∷ textsOf l
 

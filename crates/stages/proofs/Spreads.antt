@@ -1,6 +1,6 @@
 -- Document 02, E5: what `"$@"` gives, with text before it and behind it. Its row is quiet between its break marks, and each part has an empty mark, so that
 -- each is one field of its bytes.
-use Prim.Native.Nat.{ℕ, suc, _+_, _≤_}
+use Prim.Native.Nat.{suc, _+_, _≤_}
 use native.Mathlib.Omega.{arith}
 use mathlib.Core.Path.{_≡_, refl, sym, ap, _∙_}
 use mathlib.Core.Bool.{false}
@@ -20,21 +20,11 @@ use Rattle.stages.specs.Pattern.{pattern}
 use Rattle.stages.specs.Paths.{pathsFor, textsOfFields}
 use Rattle.stages.specs.Line.{Around, wordFields}
 use Rattle.stages.proofs.Rooms.{fit-ok}
-use Rattle.stages.proofs.Quiet.{Quiet, no-units, a-mark, a-byte, a-literal, marked-bytes, quiet-broken, quiet-split, quiet-class, quiet-active}
+use Rattle.stages.proofs.Quiet.{Quiet, no-units, a-mark, a-byte, a-literal, quiet-append, marked-quiet, marked-bytes}
+use Rattle.stages.proofs.Quiet.{quiet-broken, quiet-split, quiet-class, quiet-active}
 use Rattle.stages.proofs.RoundTrip.{word-steps}
 
 -- ROWS
-
-quiet-append : {r s : Row} → Quiet r → Quiet s → Quiet (r ++ s)
-quiet-append no-units q = q
-quiet-append (a-mark p) q = a-mark (quiet-append p q)
-quiet-append (a-byte p) q = a-byte (quiet-append p q)
-quiet-append (a-literal h p) q = a-literal h (quiet-append p q)
-
-marked-quiet : (t : Text) → Quiet (marked Q t)
-unfolding marked
-marked-quiet [] = no-units
-marked-quiet (b ∷ t) = a-byte (marked-quiet t)
 
 bytes-append : (r s : Row) → bytes (r ++ s) ≡ bytes r ++ bytes s
 unfolding bytes

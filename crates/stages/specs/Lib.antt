@@ -20,4 +20,5 @@ pub mod Paths  -- "Patterns", for paths: the rows of fields to texts
 pub mod Quote  -- "The quoted line"
 pub mod Line  -- a line to its fields, from its length on
 pub mod Call  -- "What a call gives back": the three jobs
+pub mod Together  -- E8: what stands in quotes stays together, its premise
 pub mod Program  -- "The program": what it writes for what it reads
