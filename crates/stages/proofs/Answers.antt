@@ -22,6 +22,7 @@ use Rattle.stages.specs.Numbers.{
   tooDeep,
   demanded,
   tooManyUnits,
+  variableRoom,
   outputRoom,
   badFields,
   badParameters,
@@ -67,7 +68,7 @@ use Rattle.stages.proofs.Tables.{
   fields-image,
   fields-are,
 }
-use Rattle.stages.proofs.Outcomes.{isFault, isEarly, SafeAt, early, refusesAt, asksAt, givesAt, safe-then, safe-require}
+use Rattle.stages.proofs.Outcomes.{isFault, isEarly, isLate, SafeBy, SafeAt, early, refusesAt, asksAt, givesAt, safe-then, safe-require}
 use Rattle.stages.proofs.SafeRows.{Kept}
 use Rattle.stages.proofs.SafeLines.{Ready, line-safe}
 
@@ -120,10 +121,10 @@ pub record Fits (P : Text → Type 0) (g : Given) (a : Answer) : Type 0 where
   pub accepts : a .number ≡ accepted → Accepts P g a
 
 -- what may be written: a text that P holds of, no longer than the output, and variables that fit
-record Writes (P : Text → Type 0) (g : Given) (r : Text × Pairs) : Type 0 where
-  output : P (r .0)
-  fits : length (r .0) ≤ length (g .out)
-  kept : Kept (length (g .vars)) (r .1)
+pub record Writes (P : Text → Type 0) (g : Given) (r : Text × Pairs) : Type 0 where
+  pub output : P (r .0)
+  pub fits : length (r .0) ≤ length (g .out)
+  pub kept : Kept (length (g .vars)) (r .1)
 
 early-bounds : (n : ℕ) → isEarly n ≡ true → (1 ≤ n) × (n ≤ badParameters)
 early-bounds n e = go (or-cases (between workTooSmall n zeroByte) (eqb n badParameters) e)
@@ -145,11 +146,18 @@ late n l m e = go (or-cases (between workTooSmall n zeroByte) (eqb n badParamete
 
 -- and is no message's
 fault-bounds : (n : ℕ) → isFault n ≡ true → (unended ≤ n) × (n ≤ outputRoom) × (n ≡ demanded → ⊥)
-fault-bounds n e = go (or-cases (between unended n tooDeep) (between tooManyUnits n outputRoom) e)
+fault-bounds n e = go (or-cases (between unended n tooDeep) (between tooManyUnits n variableRoom) e)
   where
-    go : (between unended n tooDeep ≡ true) ⊎ (between tooManyUnits n outputRoom ≡ true) → (unended ≤ n) × (n ≤ outputRoom) × (n ≡ demanded → ⊥)
+    go : (between unended n tooDeep ≡ true) ⊎ (between tooManyUnits n variableRoom ≡ true) → (unended ≤ n) × (n ≤ outputRoom) × (n ≡ demanded → ⊥)
     go (inl h) = let b = between-bounds unended n tooDeep h in (b .0, omega (arith, b .1), λ k. omega (arith, b .1))
-    go (inr h) = let b = between-bounds tooManyUnits n outputRoom h in (omega (arith, b .0), b .1, λ k. omega (arith, b .0))
+    go (inr h) = let b = between-bounds tooManyUnits n variableRoom h in (omega (arith, b .0), omega (arith, b .1), λ k. omega (arith, b .0))
+
+late-bounds : (n : ℕ) → isLate n ≡ true → (unended ≤ n) × (n ≤ outputRoom) × (n ≡ demanded → ⊥)
+late-bounds n e = go (or-cases (isFault n) (eqb n outputRoom) e)
+  where
+    go : (isFault n ≡ true) ⊎ (eqb n outputRoom ≡ true) → (unended ≤ n) × (n ≤ outputRoom) × (n ≡ demanded → ⊥)
+    go (inl h) = fault-bounds n h
+    go (inr h) = let k = eqb-true n outputRoom h in (omega arith, omega arith, λ d. omega arith)
 
 -- a message is cut to the buffer
 take-short : (n : ℕ) (t : Text) → length (take n t) ≤ n
@@ -158,7 +166,7 @@ take-short (suc n) [] = omega arith
 take-short (suc n) (b ∷ t) = omega (arith, take-short n t)
 
 module _ (g : Given) where
-  cleared-length : length (cleared (g .work)) ≡ length (g .work)
+  pub cleared-length : length (cleared (g .work)) ≡ length (g .work)
   unfolding cleared
   cleared-length = length-replicate (length (g .work)) 0
 
@@ -212,7 +220,7 @@ module _ (g : Given) where
     }
 
   module _ (v : Pairs) (k : Kept (length (g .vars)) v) where
-    kept-fits : length (image (flat v)) ≤ length (g .vars)
+    pub kept-fits : length (image (flat v)) ≤ length (g .vars)
     kept-fits = rw (length-image (flat v)) (k .fits)
 
     kept-stored : variablesOf (take (length (image (flat v))) (over (image (flat v)) (g .vars))) ≡ some v
@@ -248,24 +256,24 @@ module _ (g : Given) where
     };
   }
 
-  answered-fits : (P : Text → Type 0) {o : Placed (Text × Pairs)} → SafeAt (length (g .line)) (Writes P g) o → Fits P g (answered g o)
+  pub answered-fits : (P : Text → Type 0) {o : Placed (Text × Pairs)} → SafeAt (length (g .line)) (Writes P g) o → Fits P g (answered g o)
   answered-fits P (early {n = n} e) =
       let b : (1 ≤ n) × (n ≤ badParameters) = early-bounds n e in
       refuses-fits P n 0 (b .0) (b .1) (early-not-demanded n e) (omega arith) (λ _. refl)
   answered-fits P (refusesAt {n = n} {place = place} e l) =
-      let b : (unended ≤ n) × (n ≤ outputRoom) × (n ≡ demanded → ⊥) = fault-bounds n e in
+      let b : (unended ≤ n) × (n ≤ outputRoom) × (n ≡ demanded → ⊥) = late-bounds n e in
       refuses-fits P n place (omega (arith, b .0)) (omega (arith, b .1)) (b .2) l (λ h. absurd (late n (b .0) (b .1) h))
   answered-fits P (asksAt {t = t} {place = place} z l) = demand-fits t place z l P
   answered-fits P (givesAt {a = r} w) = accepts-fits P r w
 
 -- the tables that are given
 
-some-safe : {A : Type 0} (size n : ℕ) (o : Option A) → isEarly n ≡ true → SafeAt size (λ a. o ≡ some a) (orRefused n o)
+pub some-safe : {A : Type 0} {first other : ℕ → Bool} (size n : ℕ) (o : Option A) → first n ≡ true → SafeBy first other size (λ a. o ≡ some a) (orRefused n o)
 unfolding orRefused
 some-safe size n none e = early e
 some-safe size n (some a) e = givesAt refl
 
-vars-kept : (vars : Text) (used : ℕ) (v : Pairs) → used ≤ length vars → variablesOf (take used vars) ≡ some v → Kept (length vars) v
+pub vars-kept : (vars : Text) (used : ℕ) (v : Pairs) → used ≤ length vars → variablesOf (take used vars) ≡ some v → Kept (length vars) v
 unfolding variablesOf
 vars-kept vars used v l e =
     let b : (held (take used vars) ≡ v) × Table isName (take used vars) = table-of isName (take used vars) v e in
@@ -279,7 +287,7 @@ vars-kept vars used v l e =
       small = omega (arith, b .1 .small);
     })
 
-homes-fine : (t : Text) (h : Pairs) → homesOf t ≡ some h → Fine (flat h)
+pub homes-fine : (t : Text) (h : Pairs) → homesOf t ≡ some h → Fine (flat h)
 unfolding homesOf
 homes-fine t h e = let b : (held t ≡ h) × Table isLogin t = table-of isLogin t h e in rw (← b .0) (table-fine isLogin t (b .1))
 

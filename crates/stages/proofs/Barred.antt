@@ -14,13 +14,13 @@ use Rattle.stages.specs.Bytes.{Text, text, isIn, isNameStart, isLoginByt
 use Rattle.stages.specs.Outcome.{refused, done, pick}
 use Rattle.stages.specs.Syntax.{Param, Counted, Spread, Lists, served, barred, Escape, unescaped, Colon, withColon, noColon}
 use Rattle.stages.specs.Syntax.{Side, suffix, prefix, Form, plain, minus, equals, query, plus, removal, shortest, longest, fresh}
-use Rattle.stages.specs.Syntax.{Parts, end, lit, quo, par, len, lst, ari, til, Mode, word, bare, single, double, quotedOperand, arith}
+use Rattle.stages.specs.Syntax.{Parts, end, lit, quo, par, len, lst, ari, til, Mode, word, value, bare, single, double, quotedOperand, arith}
 use Rattle.stages.specs.Items.{Item, fault, stop, byte, paren, quote, valueOf, count, spread, inner, sum, homeOf, item, ended, itemOf, sort, Sort}
 use Rattle.stages.specs.Items.{backquote, closes, operator, quotes, quotes2, backslash, dollar, bad, opening, closing, tilde, literal}
 use Rattle.stages.specs.Items.{wrong, quotable, notServed, behindBackslash, listsIn, both, letBy, operandMode, signForm, isNumbered, behindSign}
 use Rattle.stages.specs.Items.{behindColon}
 use Rattle.stages.specs.Items.{behindRemoval, behindName, behindLength, isFirstDigit, nameThen, behindHash, spreadAt, behindListColon, behindList}
-use Rattle.stages.specs.Items.{bracedList, braced, parenthesis, expansion, outer, opened, closed, endsLogin, behindTilde, onward}
+use Rattle.stages.specs.Items.{bracedList, braced, parenthesis, expansion, outer, opened, closed, endsLogin, behindTilde, onward, behindByte}
 use Rattle.stages.specs.Read.{Taken, put, nest, readItem, Ask, askSize, askStep, parts}
 use Rattle.stages.proofs.Bools.{no}
 
@@ -102,6 +102,7 @@ pick-law false h k = k
 operand-lists : (m : Mode) (k : Lists) → listsIn (operandMode m k) ≡ served → (listsIn m ≡ served) × (k ≡ served)
 unfolding listsIn operandMode
 operand-lists (word s) k e = (refl, e)
+operand-lists (value s) k e = clash e
 operand-lists (bare s l) k e = both-served l k e
 operand-lists single k e = clash e
 operand-lists (double l) k e = both-served l k e
@@ -234,6 +235,7 @@ module _ (m : Mode) where
 opened-law : (m : Mode) (b : ℕ) → Lawful m (opened m b)
 unfolding opened
 opened-law (word s) b = a-byte
+opened-law (value s) b = a-byte
 opened-law (bare s l) b = a-byte
 opened-law single b = a-byte
 opened-law (double l) b = a-byte
@@ -243,6 +245,7 @@ opened-law (arith n) b = a-paren
 closed-law : (m : Mode) (b : ℕ) (t : Text) → Lawful m (closed m b t)
 unfolding closed
 closed-law (word s) b t = a-byte
+closed-law (value s) b t = a-byte
 closed-law (bare s l) b t = a-byte
 closed-law single b t = a-byte
 closed-law (double l) b t = a-byte
@@ -253,6 +256,7 @@ closed-law (arith (suc n)) b t = a-paren
 ended-law : (m : Mode) → Lawful m (ended m)
 unfolding ended
 ended-law (word s) = a-stop
+ended-law (value s) = a-stop
 ended-law (bare s l) = a-fault
 ended-law single = a-fault
 ended-law (double l) = a-fault
@@ -311,11 +315,22 @@ nest-reads l k f more h (gives {p = p} a) r = put-reads k k (f (p .0)) (λ q b. 
 onward-lists : (m : Mode) → listsIn (onward m) ≡ listsIn m
 unfolding listsIn onward
 onward-lists (word s) = refl
+onward-lists (value s) = refl
 onward-lists (bare s l) = refl
 onward-lists single = refl
 onward-lists (double l) = refl
 onward-lists (quotedOperand l) = refl
 onward-lists (arith n) = refl
+
+byte-lists : (m : Mode) (q : Escape) (b : ℕ) → listsIn (behindByte m q b) ≡ listsIn m
+unfolding listsIn behindByte
+byte-lists (word s) q b = refl
+byte-lists (value s) q b = refl
+byte-lists (bare s l) q b = refl
+byte-lists single q b = refl
+byte-lists (double l) q b = refl
+byte-lists (quotedOperand l) q b = refl
+byte-lists (arith n) q b = refl
 
 module _ (rec : Ask → Taken) (ih : (b : Ask) → Reads (listsIn (b .0)) (rec b)) where
   on-reads : (m : Mode) (d : ℕ) (t : Text) → Reads (listsIn m) (rec (onward m, d, t))
@@ -325,7 +340,8 @@ module _ (rec : Ask → Taken) (ih : (b : Ask) → Reads (listsIn (b .0)) (rec b
   unfolding readItem
   reads-item m d t a-fault = refuses
   reads-item m d t (a-stop {k = k}) = gives {p = (end, drop k t)} tt
-  reads-item m d t (a-byte {q = q} {b = b} {k = k}) = put-reads (listsIn m) (listsIn m) (lit q b) (λ p a. a) (on-reads m d (drop (suc k) t))
+  reads-item m d t (a-byte {q = q} {b = b} {k = k}) =
+      put-reads (listsIn m) (listsIn m) (lit q b) (λ p a. a) (rw (byte-lists m q b) at (ih (behindByte m q b, d, drop (suc k) t)))
   reads-item m d t (a-paren {b = b} {n = n}) =
       put-reads (listsIn (arith n)) (listsIn m) (lit unescaped b) (λ p a. allowed-in (listsIn (arith n)) (listsIn m) (λ e. unfold listsIn in clash e) p a)
       (ih (arith n, d, drop 1 t))

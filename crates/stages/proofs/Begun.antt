@@ -12,8 +12,8 @@ use Rattle.stages.specs.Numbers.{depthLimit}
 use Rattle.stages.specs.Bytes.{Text, isBlank, isOperator}
 use Rattle.stages.specs.Outcome.{refused, demands, done, refusedAt, doneAt, placedAt, _then_}
 use Rattle.stages.specs.Syntax.{Parts, end, lit, quo, par, len, lst, ari, til, Word, plain, unescaped, fresh, begun, word, arith as sums}
-use Rattle.stages.specs.Items.{Item, onward}
-use Rattle.stages.specs.Read.{Taken, parts, put, nest, readItem, Words, wordAt, wordsSize, words, readLine}
+use Rattle.stages.specs.Items.{Item, onward, behindByte}
+use Rattle.stages.specs.Read.{Taken, parts, put, nest, readItem, Words, pieceAt, piecesSize, words, readLine}
 use Rattle.stages.proofs.Items.{AnyByte, Fair, faults, a-byte, a-paren, a-quote, a-value, a-count, a-spread, an-inner, a-sum, a-home, word-goes}
 use Rattle.stages.proofs.Read.{Good, stays, leaves, parts-item, word-good}
 use Rattle.stages.proofs.Words.{words-end, words-blank, words-operator, words-word}
@@ -47,7 +47,7 @@ nest-begins f h (demands t) more = asks
 nest-begins f h (done p) more = put-begins (f (p .0)) (h (p .0)) (more (p .1))
 
 item-begins : (d : ℕ) (t : Text) {i : Item} → Fair AnyByte false i → Begins (readItem parts (word fresh) d t i)
-unfolding readItem onward
+unfolding readItem onward behindByte
 item-begins d t (faults e) = refuses
 item-begins d t (a-byte {q = q} {b = b} {k = k} _) = put-begins (lit q b) (λ p. tt) (parts (word begun) d (drop (suc k) t))
 item-begins d t (a-paren {b = b} {n = n} _) = put-begins (lit unescaped b) (λ p. tt) (parts (sums n) d (drop 1 t))
@@ -83,15 +83,15 @@ module _ (place b : ℕ) (t : Text) (ih : (q : ℕ × Text) → length (q .1) < 
       more-begin (record { place = place; parts = p .0 }) h (ih (place + (suc (length t) - length (p .1)), p .1) (omega arith))
 
   cons-begin : (x : Bool) → isBlank b ≡ x → (y : Bool) → (isOperator b || eqb b (code "#")) ≡ y → AllBegin (words (place, b ∷ t))
-  unfolding wordAt
+  unfolding pieceAt
   cons-begin true e y d = rw (words-blank place b t e) (ih (suc place, t) (omega arith))
   cons-begin false e true d = rw (words-operator place b t e d) refuse
   cons-begin false e false d = rw (words-word place b t e d) (rest-begin (word-good fresh depthLimit b t e) (word-begins depthLimit b t e))
 
 words-begin : (q : ℕ × Text) → AllBegin (words q)
-words-begin q = by-size wordsSize (λ q. AllBegin (words q)) one q
+words-begin q = by-size piecesSize (λ q. AllBegin (words q)) one q
   where
-    one : (q : ℕ × Text) → ((r : ℕ × Text) → wordsSize r < wordsSize q → AllBegin (words r)) → AllBegin (words q)
+    one : (q : ℕ × Text) → ((r : ℕ × Text) → piecesSize r < piecesSize q → AllBegin (words r)) → AllBegin (words q)
     one (place, []) ih = rw (words-end place) (all-begin tt)
     one (place, b ∷ t) ih = cons-begin place b t ih (isBlank b) refl (isOperator b || eqb b (code "#")) refl
 

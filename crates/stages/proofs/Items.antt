@@ -13,7 +13,7 @@ use Rattle.stages.specs.Bytes.{Text, text, between, isIn, isBlank, isOpe
 use Rattle.stages.specs.Outcome.{pick}
 use Rattle.stages.specs.Images.{isName}
 use Rattle.stages.specs.Syntax.{Param, var, nth, Counted, bytesOf, parameters, Spread, Lists, served, barred}
-use Rattle.stages.specs.Syntax.{Colon, withColon, noColon, Escape, Side, suffix, prefix, Form, Start, Mode, word, bare, single, double}
+use Rattle.stages.specs.Syntax.{Colon, withColon, noColon, Escape, Side, suffix, prefix, Form, Start, Mode, word, value, bare, single, double}
 use Rattle.stages.specs.Syntax.{quotedOperand, arith}
 use Rattle.stages.specs.Items.{Item, fault, stop, byte, paren, quote, valueOf, count, spread, inner, sum, homeOf, item, ended, itemOf, sort, Sort}
 use Rattle.stages.specs.Items.{backquote, closes, operator, quotes, quotes2, backslash, dollar, bad, opening, closing, tilde, literal}
@@ -175,6 +175,7 @@ module _ (P : ℕ → Type 0) (s : Bool) where
   opened-fair : (m : Mode) (b : ℕ) → P b → Fair P s (opened m b)
   unfolding opened
   opened-fair (word s) b p = a-byte p
+  opened-fair (value s) b p = a-byte p
   opened-fair (bare s l) b p = a-byte p
   opened-fair single b p = a-byte p
   opened-fair (double l) b p = a-byte p
@@ -189,6 +190,7 @@ outer-fair P (b ∷ t) = pick-fair (eqb b (code ")")) stops (pick-fair (eqb b (c
 closed-fair : (P : ℕ → Type 0) (m : Mode) (b : ℕ) (t : Text) → P b → Fair P true (closed m b t)
 unfolding closed
 closed-fair P (word s) b t p = a-byte p
+closed-fair P (value s) b t p = a-byte p
 closed-fair P (bare s l) b t p = a-byte p
 closed-fair P single b t p = a-byte p
 closed-fair P (double l) b t p = a-byte p
@@ -306,6 +308,7 @@ fair-named (a-home h) = tt
 ended-named : (m : Mode) → Named (ended m)
 unfolding ended
 ended-named (word s) = tt
+ended-named (value s) = tt
 ended-named (bare s l) = tt
 ended-named single = tt
 ended-named (double l) = tt

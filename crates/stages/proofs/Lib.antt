@@ -9,6 +9,7 @@ pub mod Tables
 pub mod Stores
 pub mod Items
 pub mod Read
+pub mod Pieces
 pub mod Words
 pub mod Arith
 pub mod Outcomes
@@ -17,6 +18,7 @@ pub mod Split
 pub mod Safe
 pub mod SafeSums
 pub mod SafeRows
+pub mod SafePieces
 pub mod SafeLines
 pub mod Answers
 pub mod Program
@@ -46,3 +48,6 @@ pub mod OneField  -- E8: the one field of a word that stays together
 pub mod AlikeLine  -- E8: a line expanded twice
 pub mod Together  -- E8: the law over the calls
 pub mod TogetherLines  -- E8: words that stay together, and others
+pub mod Assignments  -- E9: the assignments of a line
+pub mod Assigns  -- E9: the assigner's answer is well formed
+pub mod AssignLines  -- E9: lines of assignments

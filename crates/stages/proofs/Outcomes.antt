@@ -5,7 +5,7 @@ use mathlib.Core.Path.{_≡_, refl}
 use mathlib.Core.Bool.{Bool, true, false, _||_}
 use mathlib.Core.List.{List, [], _∷_, _++_}
 use lib.Dec.{eqb}
-use Rattle.stages.specs.Numbers.{workTooSmall, zeroByte, unended, tooDeep, tooManyUnits, outputRoom, badParameters}
+use Rattle.stages.specs.Numbers.{workTooSmall, zeroByte, unended, tooDeep, tooManyUnits, variableRoom, outputRoom, badParameters}
 use Rattle.stages.specs.Bytes.{Text, all, notZero, between}
 use Rattle.stages.specs.Recur.{below, below-ok, fix, fix-eq, by-size}
 use Rattle.stages.specs.Outcome.{
@@ -23,6 +23,7 @@ use Rattle.stages.specs.Outcome.{
   require,
   choose,
 }
+use Rattle.stages.proofs.Bools.{or-left}
 
 -- what holds of every element of a list
 abbrev pub Each : {A : Type 0} → (A → Type 0) → List A → Type 0
@@ -54,10 +55,10 @@ module _ {A R : Type 0} (size : A → ℕ) (stuck : R) (step : (A → R) → A �
           rw (fix-eq size stuck step a)
           (h a (below size stuck (size a) (fix size stuck step)) (λ b l. rw (below-ok size stuck (size a) (fix size stuck step) b l) (ih b l)))
 
--- the numbers from 7 on, with which reading and expanding refuse; 0, the answer of a recursion that is stuck, is none of them, nor is 13, which comes
+-- the numbers from 7 to 20, with which reading and expanding refuse; 0, the answer of a recursion that is stuck, is none of them, nor is 13, which comes
 -- with its message alone
 abbrev pub isFault : ℕ → Bool
-isFault n = between unended n tooDeep || between tooManyUnits n outputRoom
+isFault n = between unended n tooDeep || between tooManyUnits n variableRoom
 
 -- refused with one of these numbers, or with a message that has no zero byte, or done with what P holds of
 pub data Safe {A : Type 0} (P : A → Type 0) : Outcome A → Type 0 where
@@ -124,35 +125,47 @@ safe-choose x f g p q = safe-where x f g (λ e. p) q
 abbrev pub isEarly : ℕ → Bool
 isEarly n = between workTooSmall n zeroByte || eqb n badParameters
 
--- the same for a line of so many bytes: 1 to 6 or 23 at place 0, or one of the other numbers, or a message, at the place of a byte of the line, or at 0
-pub data SafeAt {A : Type 0} (size : ℕ) (P : A → Type 0) : Placed A → Type 0 where
-  early : {n : ℕ} → isEarly n ≡ true → SafeAt size P (refusedAt n 0)
-  refusesAt : {n place : ℕ} → isFault n ≡ true → place ≤ size - 1 → SafeAt size P (refusedAt n place)
-  asksAt : {t : Text} {place : ℕ} → all notZero t ≡ true → place ≤ size - 1 → SafeAt size P (demandsAt t place)
-  givesAt : {a : A} → P a → SafeAt size P (doneAt a)
+-- the numbers of a line that is read and expanded: 21 too
+abbrev pub isLate : ℕ → Bool
+isLate n = isFault n || eqb n outputRoom
 
-module _ {A B : Type 0} {size : ℕ} {P : A → Type 0} {Q : B → Type 0} where
-  pub safe-then : {o : Placed A} (f : A → Placed B) → SafeAt size P o → ((a : A) → P a → SafeAt size Q (f a)) → SafeAt size Q (o then f)
+pub fault-late : (n : ℕ) → isFault n ≡ true → isLate n ≡ true
+fault-late n e = or-left (eqb n outputRoom) e
+
+-- the same for a line of so many bytes, by two tests of numbers: one that passes the first at place 0, or one that passes the other, or a message, at the
+-- place of a byte of the line, or at 0
+pub data SafeBy {A : Type 0} (first other : ℕ → Bool) (size : ℕ) (P : A → Type 0) : Placed A → Type 0 where
+  early : {n : ℕ} → first n ≡ true → SafeBy first other size P (refusedAt n 0)
+  refusesAt : {n place : ℕ} → other n ≡ true → place ≤ size - 1 → SafeBy first other size P (refusedAt n place)
+  asksAt : {t : Text} {place : ℕ} → all notZero t ≡ true → place ≤ size - 1 → SafeBy first other size P (demandsAt t place)
+  givesAt : {a : A} → P a → SafeBy first other size P (doneAt a)
+
+abbrev pub SafeAt : {A : Type 0} → ℕ → (A → Type 0) → Placed A → Type 0
+SafeAt size P o = SafeBy isEarly isLate size P o
+
+module _ {A : Type 0} {first other : ℕ → Bool} {size : ℕ} {P : A → Type 0} where
+  pub safe-then : {B : Type 0} {Q : B → Type 0} {o : Placed A} (f : A → Placed B) → SafeBy first other size P o
+      → ((a : A) → P a → SafeBy first other size Q (f a)) → SafeBy first other size Q (o then f)
   safe-then f (early e) h = early e
   safe-then f (refusesAt e l) h = refusesAt e l
   safe-then f (asksAt e l) h = asksAt e l
   safe-then f (givesAt {a = a} p) h = h a p
 
-pub safe-weakerAt : {A : Type 0} {size : ℕ} {P Q : A → Type 0} {o : Placed A} → ((a : A) → P a → Q a) → SafeAt size P o → SafeAt size Q o
-safe-weakerAt f (early e) = early e
-safe-weakerAt f (refusesAt e l) = refusesAt e l
-safe-weakerAt f (asksAt e l) = asksAt e l
-safe-weakerAt f (givesAt {a = a} p) = givesAt (f a p)
+  pub safe-weakerAt : {Q : A → Type 0} {o : Placed A} → ((a : A) → P a → Q a) → SafeBy first other size P o → SafeBy first other size Q o
+  safe-weakerAt f (early e) = early e
+  safe-weakerAt f (refusesAt e l) = refusesAt e l
+  safe-weakerAt f (asksAt e l) = asksAt e l
+  safe-weakerAt f (givesAt {a = a} p) = givesAt (f a p)
 
-pub safe-at : {A : Type 0} {size : ℕ} {P : A → Type 0} {o : Outcome A} (place : ℕ) → place ≤ size - 1 → Safe P o
-    → SafeAt size P (placedAt place o)
-safe-at place l (refuses e) = refusesAt e l
-safe-at place l (asks e) = asksAt e l
-safe-at place l (gives p) = givesAt p
+  pub safe-at : {o : Outcome A} → ((n : ℕ) → isFault n ≡ true → other n ≡ true) → (place : ℕ) → place ≤ size - 1 → Safe P o
+      → SafeBy first other size P (placedAt place o)
+  safe-at h place l (refuses {n = n} e) = refusesAt (h n e) l
+  safe-at h place l (asks e) = asksAt e l
+  safe-at h place l (gives p) = givesAt p
 
 -- a test that passes or refuses
-pub safe-require : {size : ℕ} (x : Bool) (n place : ℕ) → SafeAt size (λ (u : Unit {0}). Unit {0}) (refusedAt n place) → SafeAt size
-    (λ u. x ≡ true) (require x n place)
+pub safe-require : {first other : ℕ → Bool} {size : ℕ} (x : Bool) (n place : ℕ) → SafeBy first other size (λ (u : Unit {0}). Unit {0}) (refusedAt n place)
+    → SafeBy first other size (λ u. x ≡ true) (require x n place)
 safe-require true n place h = givesAt refl
 safe-require false n place (early e) = early e
 safe-require false n place (refusesAt e l) = refusesAt e l

@@ -13,7 +13,7 @@ use Rattle.stages.specs.Bytes.{Text, text, all, isBareByte, isBlank, isO
 use Rattle.stages.specs.Outcome.{done, doneAt, pick}
 use Rattle.stages.specs.Syntax.{escaped, unescaped, Parts, Word, end, lit, quo, par, len, lst, ari, til, Start, fresh, begun, word, single}
 use Rattle.stages.specs.Items.{item, itemOf, sort, beginsTilde, byte}
-use Rattle.stages.specs.Read.{parts, put, nest, readItem, words, wordAt, readLine}
+use Rattle.stages.specs.Read.{parts, put, nest, readItem, pieceAt, aWord, wordOf, words, readLine}
 use Rattle.stages.specs.Quote.{Way, bare, singled, isBare, wayOf, quotedBytes, written, quotedField, quotedLine, blanked}
 use Rattle.stages.proofs.Bools.{apart, either, and-left, and-right}
 use Rattle.stages.proofs.Read.{parts-item}
@@ -225,12 +225,12 @@ field-word t = one-word (allowed t)
 word-words : {t w : Text} {p : Parts} → OneWord t w p → (place : ℕ) (rest : Text) (ws : List Word) → EndsField rest → words
     (place + length w, rest) ≡ doneAt ws
     → words (place, w ++ rest) ≡ doneAt (record { place = place; parts = p } ∷ ws)
-unfolding wordAt
+unfolding pieceAt
 word-words {w = w} o place rest ws ends e =
     let k : length (w ++ rest) - length rest ≡ length w = simp length-append (omega arith) in
-    let h : words (place, w ++ rest) ≡ wordAt words place (w ++ rest) =
+    let h : words (place, w ++ rest) ≡ pieceAt aWord wordOf words place (w ++ rest) =
     ap (λ u. words (place, u ++ rest)) (o .whole) ∙ words-word place (o .first) (o .others ++ rest) (o .blank) (o .operator)
-    ∙ ap (λ u. wordAt words place (u ++ rest)) (sym (o .whole)) in
+    ∙ ap (λ u. pieceAt aWord wordOf words place (u ++ rest)) (sym (o .whole)) in
     h ∙ rw (o .reads rest depthLimit ends, k, e)
 
 blanked-ends : (l : List Text) → EndsField (blanked l)

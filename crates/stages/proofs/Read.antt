@@ -10,11 +10,11 @@ use lib.ListN.{length, drop}
 use lib.Seq.{drop-drop}
 use Rattle.stages.specs.Recur.{below, below-ok, fix-eq, by-size}
 use Rattle.stages.specs.Bytes.{Text, between, isBlank}
-use Rattle.stages.specs.Outcome.{refused, done, demands}
+use Rattle.stages.specs.Outcome.{Outcome, refused, done, demands}
 use Rattle.stages.specs.Syntax.{Form, plain, Escape, unescaped, Parts, end, lit, quo, par, len, lst, ari, til}
 use Rattle.stages.specs.Syntax.{Param, Counted, Spread}
-use Rattle.stages.specs.Syntax.{Start, Mode, word, bare, single, double, quotedOperand, arith as sums}
-use Rattle.stages.specs.Items.{Item, fault, stop, byte, paren, quote, valueOf, count, spread, inner, sum, homeOf, item, ended, onward}
+use Rattle.stages.specs.Syntax.{Start, Mode, word, value, bare, single, double, quotedOperand, arith as sums}
+use Rattle.stages.specs.Items.{Item, fault, stop, byte, paren, quote, valueOf, count, spread, inner, sum, homeOf, item, ended, onward, behindByte}
 use Rattle.stages.specs.Read.{Taken, Reader, put, nest, readItem, Ask, askSize, askStep, parts}
 use Rattle.stages.proofs.Texts.{drop-short}
 use Rattle.stages.proofs.Items.{
@@ -40,9 +40,9 @@ use Rattle.stages.proofs.Items.{
 
 -- What is left is no longer than the text, and a number is from 7 to 12.
 
-pub data Good (n : ℕ) : Taken → Type 0 where
+pub data Good {A : Type 0} (n : ℕ) : Outcome (A × Text) → Type 0 where
   stays : {k : ℕ} → between 7 k 12 ≡ true → Good n (refused k)
-  leaves : {p : Parts × Text} → length (p .1) ≤ n → Good n (done p)
+  leaves : {p : A × Text} → length (p .1) ≤ n → Good n (done p)
 
 wider : {n i : ℕ} {r : Taken} → Good n r → n ≤ i → Good i r
 wider (stays g) h = stays g
@@ -60,7 +60,7 @@ module _ (k : ℕ) (rec : Reader) (g : (m : Mode) (d : ℕ) (t : Text) → lengt
   going-good : (m : Mode) (d b : ℕ) (t : Text) {i : Item} → Fair AnyByte false i → length t < k → Good (length t) (readItem rec m d (b ∷ t) i)
   unfolding readItem
   going-good m d b t (faults w) h = stays w
-  going-good m d b t (a-byte {k = n} _) h = let e = drop-short n t in put-good _ (g (onward m) d (drop n t) (omega arith)) e
+  going-good m d b t (a-byte {q = q} {b = c} {k = n} _) h = let e = drop-short n t in put-good (lit q c) (g (behindByte m q c) d (drop n t) (omega arith)) e
   going-good m d b t (a-paren {n = n} _) h = put-good _ (g (sums n) d t h) (omega arith)
   going-good m d b t (a-quote {m = n}) h = nest-good quo (onward m) d (length t) (length t) (g n d t h) h (omega arith)
   going-good m d b t (a-value {k = n} _) h = let e = drop-short n t in put-good _ (g (onward m) d (drop n t) (omega arith)) e
@@ -80,6 +80,7 @@ module _ (k : ℕ) (rec : Reader) (g : (m : Mode) (d : ℕ) (t : Text) → lengt
   item-good : (m : Mode) (d : ℕ) (t : Text) → length t ≤ k → Good (length t) (readItem rec m d t (item m d t))
   unfolding readItem item ended
   item-good (word s) d [] h = leaves {p = (end, [])} (omega arith)
+  item-good (value s) d [] h = leaves {p = (end, [])} (omega arith)
   item-good (bare s l) d [] h = stays refl
   item-good single d [] h = stays refl
   item-good (double l) d [] h = stays refl
@@ -123,8 +124,8 @@ nest-ok k f m d i (stays g) h = refl
 nest-ok k f m d i (leaves {p = p} l) h = ap (put (f (p .0))) (shorter-ok k m d (p .1) (omega arith))
 
 module _ (m : Mode) (d b : ℕ) (t : Text) where
-  put-ok : (f : Parts → Parts) (j : ℕ) → put f (shorter (suc (length t)) (onward m) d (drop j t)) ≡ put f (parts (onward m) d (drop j t))
-  put-ok f j = let e = drop-short j t in ap (put f) (shorter-ok _ (onward m) d (drop j t) (omega arith))
+  put-ok : (f : Parts → Parts) (n : Mode) (j : ℕ) → put f (shorter (suc (length t)) n d (drop j t)) ≡ put f (parts n d (drop j t))
+  put-ok f n j = let e = drop-short j t in ap (put f) (shorter-ok _ n d (drop j t) (omega arith))
 
   nested-ok : (f : Parts → Parts → Parts) (n : Mode) (c j : ℕ)
       → nest f (shorter (suc (length t)) n c (drop j t)) (shorter (suc (length t)) (onward m) d) ≡ nest f (parts n c (drop j t)) (parts (onward m) d)
@@ -137,19 +138,20 @@ module _ (m : Mode) (d b : ℕ) (t : Text) where
   unfolding readItem
   by-item (fault n) = refl
   by-item (stop n) = refl
-  by-item (byte q c n) = put-ok (lit q c) n
+  by-item (byte q c n) = put-ok (lit q c) (behindByte m q c) n
   by-item (paren c n) = ap (put (lit unescaped c)) (shorter-ok _ (sums n) d t (omega arith))
   by-item (quote n) = nested-ok quo n d 0
-  by-item (valueOf x n) = put-ok (par x plain end) n
-  by-item (count x n) = put-ok (len x) n
-  by-item (spread s n) = put-ok (lst s) n
+  by-item (valueOf x n) = put-ok (par x plain end) (onward m) n
+  by-item (count x n) = put-ok (len x) (onward m) n
+  by-item (spread s n) = put-ok (lst s) (onward m) n
   by-item (inner x f n j) = nested-ok (par x f) n (d - 1) j
   by-item sum = nested-ok ari (sums 0) (d - 1) 2
-  by-item (homeOf x n) = put-ok (til x) n
+  by-item (homeOf x n) = put-ok (til x) (onward m) n
 
 by-ended : (m : Mode) (d : ℕ) → readItem (shorter 0) m d [] (item m d []) ≡ readItem parts m d [] (item m d [])
 unfolding readItem item ended
 by-ended (word s) d = refl
+by-ended (value s) d = refl
 by-ended (bare s l) d = refl
 by-ended single d = refl
 by-ended (double l) d = refl
@@ -185,9 +187,9 @@ module _ (text : Text) (at : ℕ) where
     at-stop next h l = parts-item m d (drop at text) h ∙ ap (λ (t : Text). done (end, t)) (stopped next l)
 
     pub at-byte : (q : Escape) (b next : ℕ) → item m d (drop at text) ≡ byte q b (next - suc at) → at < next → here
-        (put (lit q b) (parts (onward m) d (drop next text)))
+        (put (lit q b) (parts (behindByte m q b) d (drop next text)))
     unfolding readItem
-    at-byte q b next h l = parts-item m d (drop at text) h ∙ ap (λ (t : Text). put (lit q b) (parts (onward m) d t)) (place next l)
+    at-byte q b next h l = parts-item m d (drop at text) h ∙ ap (λ (t : Text). put (lit q b) (parts (behindByte m q b) d t)) (place next l)
 
     pub at-paren : (b n : ℕ) → item m d (drop at text) ≡ paren b n → here (put (lit unescaped b) (parts (sums n) d (drop (at + 1) text)))
     unfolding readItem

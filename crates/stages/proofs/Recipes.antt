@@ -47,7 +47,7 @@ eqPairs [] (t ∷ l) = false
 eqPairs (t ∷ l) [] = false
 eqPairs (t ∷ l) (u ∷ m) = eqText (t .0) (u .0) && (eqText (t .1) (u .1) && eqPairs l m)
 
-same : Placed (Fields × Pairs) → Placed (List String × Settings) → Bool
+unfoldable pub same : Placed (Fields × Pairs) → Placed (List String × Settings) → Bool
 same (refusedAt n o) (refusedAt m p) = eqb n m && eqb o p
 same (refusedAt n o) (demandsAt u p) = false
 same (refusedAt n o) (doneAt b) = false
@@ -58,7 +58,7 @@ same (doneAt a) (refusedAt m p) = false
 same (doneAt a) (demandsAt u p) = false
 same (doneAt a) (doneAt b) = eqTexts (a .0) (textsOf (b .0)) && eqPairs (a .1) (pairsOf (b .1))
 
-around : Case → Around
+unfoldable pub around : Case → Around
 around c = record {
   lent = record { room = 8192; homes = pairsOf (c .homes); params = textsOf (c .params) };
   out = 8192;

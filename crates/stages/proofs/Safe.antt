@@ -5,12 +5,12 @@ use mathlib.Core.Path.{_≡_, refl}
 use mathlib.Core.Bool.{true}
 use mathlib.Core.List.{[], _∷_}
 use lib.ListN.{length, drop}
-use Rattle.stages.specs.Numbers.{unended, tooDeep, tooManyUnits, outputRoom}
+use Rattle.stages.specs.Numbers.{unended, tooDeep, tooManyUnits, variableRoom}
 use Rattle.stages.specs.Bytes.{between, Text, all, notZero}
 use Rattle.stages.specs.Outcome.{refused, done}
 use Rattle.stages.specs.Syntax.{plain, unescaped, Parts, Mode, end, lit, quo, par}
-use Rattle.stages.specs.Syntax.{len, lst, ari, til, word, bare, single, double, quotedOperand, arith as sums}
-use Rattle.stages.specs.Items.{Item, item, ended, onward}
+use Rattle.stages.specs.Syntax.{len, lst, ari, til, word, value, bare, single, double, quotedOperand, arith as sums}
+use Rattle.stages.specs.Items.{Item, item, ended, onward, behindByte}
 use Rattle.stages.specs.Read.{Taken, Reader, put, nest, readItem, Ask, askSize, askStep, parts}
 use Rattle.stages.proofs.Bools.{and-left, and-right, and-both, or-left}
 use Rattle.stages.proofs.Texts.{drop-short, all-drop}
@@ -33,7 +33,7 @@ all-bytes [] h = refl
 all-bytes (b ∷ t) h = and-both (h .0) (all-bytes t (h .1))
 
 reading-fault : (n : ℕ) → between unended n tooDeep ≡ true → isFault n ≡ true
-reading-fault n e = or-left (between tooManyUnits n outputRoom) e
+reading-fault n e = or-left (between tooManyUnits n variableRoom) e
 
 -- parts whose bytes are not zero and whose parameters are parameters
 abbrev pub SafeParts : Parts → Type 0
@@ -80,7 +80,7 @@ module _ (b : ℕ) (u : Text) (rec : Ask → Taken)
   unfolding readItem
   read-safe m d y (faults {n = n} e) = refuses (reading-fault n e)
   read-safe m d y (stops {k = k}) = gives (record { clean = tt; behind = all-drop notZero k (b ∷ u) (and-both y z); short = drop-short k (b ∷ u) })
-  read-safe m d y (a-byte {q = q} {b = c} {k = k} e) = next-safe (lit q c) (onward m) d k (λ p s. (e, s))
+  read-safe m d y (a-byte {q = q} {b = c} {k = k} e) = next-safe (lit q c) (behindByte m q c) d k (λ p s. (e, s))
   read-safe m d y (a-paren {b = c} {n = n} e) = next-safe (lit unescaped c) (sums n) d 0 (λ p s. (e, s))
   read-safe m d y (a-quote {m = n}) = nest-safe quo n d 0 (onward m) d (λ q p r s. (r, s))
   read-safe m d y (a-value {x = x} {k = k} e) = next-safe (par x plain end) (onward m) d k (λ p s. (e, tt, s))
@@ -93,6 +93,7 @@ module _ (b : ℕ) (u : Text) (rec : Ask → Taken)
 ended-read : (rec : Reader) (m : Mode) (d : ℕ) → Safe (SafeTaken []) (readItem rec m d [] (ended m))
 unfolding readItem ended
 ended-read rec (word s) d = gives {a = (end, [])} (record { clean = tt; behind = refl; short = omega arith })
+ended-read rec (value s) d = gives {a = (end, [])} (record { clean = tt; behind = refl; short = omega arith })
 ended-read rec (bare s l) d = refuses refl
 ended-read rec single d = refuses refl
 ended-read rec (double l) d = refuses refl

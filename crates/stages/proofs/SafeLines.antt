@@ -1,43 +1,28 @@
 -- A line is read and expanded safely: its words stand within it, its fields fit the output, its variables their room.
-use Prim.Native.Nat.{ℕ, zero, suc, _+_, _-_, _≤_, _<_}
-use Prim.Native.Char.{code}
+use Prim.Native.Nat.{ℕ, zero, suc, _+_, _-_, _≤_}
 use native.Mathlib.Omega.{arith}
 use mathlib.Core.Path.{_≡_, refl}
-use mathlib.Core.Bool.{Bool, true, false, _||_, not}
+use mathlib.Core.Bool.{true, not}
 use mathlib.Core.List.{List, [], _∷_, _++_}
-use lib.Dec.{eqb, leb, eqb·zero-suc}
+use lib.Dec.{leb, eqb·zero-suc}
 use lib.ListN.{length}
 use borrow.Author.Tests.{leb-true, le-leb}
-use Rattle.stages.specs.Recur.{by-size}
 use Rattle.stages.specs.Numbers.{depthLimit, imageLimit, lineLimit, lineTooLong, zeroByte, outputRoom}
-use Rattle.stages.specs.Bytes.{Text, all, notZero, isIn, isBlank, isOperator}
+use Rattle.stages.specs.Bytes.{Text, isIn}
 use Rattle.stages.specs.Images.{Pairs, recordBytes, imageLength}
 use Rattle.stages.specs.Syntax.{Parts, Word, fresh, word}
-use Rattle.stages.specs.Read.{Taken, parts, wordAt, wordsSize, words, readLine}
+use Rattle.stages.specs.Read.{aWord, wordOf, words, readLine}
 use Rattle.stages.specs.Units.{L}
 use Rattle.stages.specs.Split.{fieldsOfRow}
 use Rattle.stages.specs.Line.{Around, Fields, wordFields, outFits, expandWords, expandLine}
 use Rattle.stages.proofs.Bools.{no, and-left, and-right, and-both}
 use Rattle.stages.proofs.Images.{Fine, fine-append, recordBytes-append}
-use Rattle.stages.proofs.Read.{Good, stays, leaves, word-good}
-use Rattle.stages.proofs.Words.{words-end, words-blank, words-operator, words-word}
-use Rattle.stages.proofs.Outcomes.{
-  Each,
-  Safe,
-  refuses,
-  gives,
-  safe-bind,
-  SafeAt,
-  early,
-  refusesAt,
-  givesAt,
-  safe-then,
-  safe-weakerAt,
-  safe-at,
-  safe-require,
-}
+use Rattle.stages.proofs.Words.{word-takes}
+use Rattle.stages.proofs.Outcomes.{Each, Safe, gives, safe-bind, safe-weaker, SafeAt, early, refusesAt, givesAt, safe-then, safe-weakerAt, safe-at}
+use Rattle.stages.proofs.Outcomes.{safe-require, isEarly, isLate, fault-late}
 use Rattle.stages.proofs.Split.{fields-each}
 use Rattle.stages.proofs.Safe.{NoZero, SafeParts, parts-safe}
+use Rattle.stages.proofs.SafePieces.{pieces-safe}
 use Rattle.stages.proofs.SafeRows.{SafeLent, SafeCell, Kept, expand-safe, named-safe}
 
 -- words
@@ -47,35 +32,13 @@ pub record WordIn (size : ℕ) (w : Word) : Type 0 where
   pub inside : w .place ≤ size - 1
   pub clean : SafeParts (w .parts)
 
-both-safe : {n : ℕ} {P : Parts × Text → Type 0} {r : Taken} → Good n r → Safe P r → Safe (λ p. P p × (length (p .1) ≤ n)) r
-both-safe (stays g) (refuses e) = refuses e
-both-safe (leaves l) (gives p) = gives (p, l)
-
 module _ (size : ℕ) where
-  abbrev Reads : ℕ × Text → Type 0
-  Reads q = NoZero (q .1) → q .0 + length (q .1) ≤ size → SafeAt size (Each (WordIn size)) (words q)
+  read-in : (t : Text) → NoZero t → Safe (λ p. SafeParts (p .0) × NoZero (p .1)) (aWord t)
+  read-in t z = safe-weaker (λ p s. (s .clean, s .behind)) (parts-safe (word fresh) depthLimit t z)
 
-  word-safe : (place b : ℕ) (t : Text) → isBlank b ≡ false → NoZero (b ∷ t) → place + suc (length t) ≤ size
-      → ((q : ℕ × Text) → length (q .1) < suc (length t) → Reads q) → SafeAt size (Each (WordIn size)) (wordAt words place (b ∷ t))
-  unfolding wordAt
-  word-safe place b t e z l ih =
-      safe-then _ (safe-at place (omega arith) (both-safe (word-good fresh depthLimit b t e) (parts-safe (word fresh) depthLimit (b ∷ t) z)))
-      (λ p s. safe-then _ (ih (place + (suc (length t) - length (p .1)), p .1) (omega (arith, s .1)) (s .0 .behind) (omega (arith, s .1)))
-      (λ ws h. givesAt (record { inside = omega arith; clean = s .0 .clean }, h)))
-
-  words-safe : (q : ℕ × Text) → Reads q
-  words-safe q = by-size wordsSize Reads one q
-    where
-      first : (place b : ℕ) (t : Text) (x : Bool) → isBlank b ≡ x → (y : Bool) → (isOperator b || eqb b (code "#")) ≡ y
-          → ((q : ℕ × Text) → length (q .1) < suc (length t) → Reads q) → Reads (place, b ∷ t)
-      first place b t true e y d ih z l =
-          rw (words-blank place b t e) (ih (suc place, t) (omega arith) (and-right (notZero b) (all notZero t) z) (omega arith))
-      first place b t false e true d ih z l = rw (words-operator place b t e d) (refusesAt {place = place} refl (omega arith))
-      first place b t false e false d ih z l = rw (words-word place b t e d) (word-safe place b t e z l ih)
-
-      one : (q : ℕ × Text) → ((r : ℕ × Text) → wordsSize r < wordsSize q → Reads r) → Reads q
-      one (place, []) ih z l = rw (words-end place) (givesAt tt)
-      one (place, b ∷ t) ih z l = first place b t (isBlank b) refl (isOperator b || eqb b (code "#")) refl ih z l
+  words-safe : (q : ℕ × Text) → NoZero (q .1) → q .0 + length (q .1) ≤ size → SafeAt size (Each (WordIn size)) (words q)
+  words-safe q =
+      pieces-safe aWord wordOf word-takes isEarly isLate fault-late size SafeParts (WordIn size) read-in (λ place p l s. record { inside = l; clean = s }) q
 
 -- a line that passes 6
 pub no-zero : (t : Text) → not (isIn 0 t) ≡ true → NoZero t
@@ -121,7 +84,7 @@ module _ (a : Around) (f : SafeLent (a .lent)) (g : Fine (a .paths)) where
   unfolding expandWords recordBytes
   words-fit size [] n v h l m k = givesAt {a = ([], v)} (record { fine = tt; kept = k; fits = omega arith; small = omega arith })
   words-fit size (w ∷ ws) n v h l m k =
-      safe-then _ (safe-at (w .place) (h .0 .inside) (fields-safe (w .parts) v (h .0 .clean) k))
+      safe-then _ (safe-at fault-late (w .place) (h .0 .inside) (fields-safe (w .parts) v (h .0 .clean) k))
       (λ r i. safe-then _ (safe-require (outFits a (n + recordBytes (r .0))) outputRoom (w .place) (refusesAt refl (h .0 .inside)))
       (λ _ e. safe-then _
       (words-fit size ws (n + recordBytes (r .0)) (r .1) (h .1) (out-fits (n + recordBytes (r .0)) e .0) (out-fits (n + recordBytes (r .0)) e .1) (i .1))

@@ -1,8 +1,8 @@
 -- Document 02, E5: a text that holds no list has a row without break marks, and no `$@` of none came in it. So no break mark comes to a removal's pattern, to a
--- store or to an arithmetic text.
+-- store or to an arithmetic text; nor, by E9, to an assignment's value.
 use Prim.Native.Nat.{ℕ, _+_}
 use Prim.Native.Char.{code}
-use mathlib.Core.Path.{_≡_, refl}
+use mathlib.Core.Path.{_≡_, refl, sym}
 use mathlib.Core.Bool.{Bool, true, false, _||_}
 use mathlib.Core.List.{[], _∷_, _++_}
 use mathlib.Core.Option.{Option, none, some}
@@ -11,8 +11,10 @@ use Rattle.stages.specs.Bytes.{Text}
 use Rattle.stages.specs.Outcome.{Outcome, refused, done, _>>=_, demands}
 use Rattle.stages.specs.Images.{Pairs}
 use Rattle.stages.specs.Syntax.{Param, Lists, served, barred, Form, plain, minus, equals, query, plus, removal}
-use Rattle.stages.specs.Syntax.{Parts, end, lit, quo, par, len, lst, ari, til}
-use Rattle.stages.specs.Items.{both}
+use Rattle.stages.specs.Syntax.{Parts, end, lit, quo, par, len, lst, ari, til, Start}
+use Rattle.stages.specs.Syntax.{value as aValue}
+use Rattle.stages.specs.Items.{both, listsIn}
+use Rattle.stages.specs.Read.{Taken, parts}
 use Rattle.stages.specs.Units.{Mark, L, Q, Cell, cell, N, B, Row, marked, bytes, expandedMark, litMark, fit, decimal}
 use Rattle.stages.specs.Arith.{arithmeticOf}
 use Rattle.stages.specs.Pattern.{pattern, forRemoval}
@@ -20,8 +22,8 @@ use Rattle.stages.specs.Removal.{removed}
 use Rattle.stages.specs.Params.{Lent, value, missing, storeIn}
 use Rattle.stages.specs.Expand.{Made, plainly, given, assigned, cutBy, parameter, inQuotes, directory, tildeRow, amount, onto, adding, expand, demand}
 use Rattle.stages.proofs.Bools.{either}
-use Rattle.stages.proofs.Outcomes.{Each, each-append}
-use Rattle.stages.proofs.Barred.{clash, both-served, lets, Allowed, allowed-in}
+use Rattle.stages.proofs.Outcomes.{Each, each-append, done-same, never}
+use Rattle.stages.proofs.Barred.{clash, both-served, lets, Allowed, allowed-in, Reads, refuses, gives, parts-allowed}
 
 -- a unit that is no break mark
 abbrev pub Unbroken : Cell → Type 0
@@ -133,3 +135,13 @@ module _ (a : Lent) where
 
   pub sum-whole : (l : Lists) (q p : Parts) → Allowed l (ari q p) → (m : Mark) (n : ℕ) (v : Pairs) → When Whole (expand a q m n v)
   sum-whole l q p k m n v = expand-whole q (k .0) m n v
+
+reads-done : {l : Lists} {r : Taken} {p : Parts × Text} → Reads l r → r ≡ done p → Allowed l (p .0)
+reads-done refuses e = absurd (never (sym e))
+reads-done {l = l} {p = p} (gives {p = q} k) e = let h : q ≡ p = done-same e in rw (← h) k
+
+-- E9: "`$@` and `$*` in values are 10": the row of a value has none, whatever is lent
+pub value-whole : (a : Lent) (s : Start) (d : ℕ) (t : Text) (p : Parts × Text) → parts (aValue s) d t ≡ done p → (m : Mark) (n : ℕ) (v : Pairs)
+    → When Whole (expand a (p .0) m n v)
+unfolding listsIn
+value-whole a s d t p e m n v = expand-whole a (p .0) (reads-done (parts-allowed (aValue s) d t) e) m n v

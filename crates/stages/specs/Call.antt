@@ -1,5 +1,5 @@
--- Document 01, "What a call gives back", and document 02, E7: the three jobs, from all that is given to all that comes back.
-use Prim.Native.Nat.{ℕ, _+_}
+-- Document 01, "What a call gives back", and document 02, E7 and E9: the four jobs, from all that is given to all that comes back.
+use Prim.Native.Nat.{ℕ, _+_, _-_}
 use mathlib.Core.Bool.{_&&_}
 use mathlib.Core.List.{_++_}
 use mathlib.Core.Option.{Option, none, some}
@@ -11,9 +11,10 @@ use Rattle.stages.specs.Bytes.{Text}
 use Rattle.stages.specs.Outcome.{Placed, refusedAt, demandsAt, doneAt, _then_, require}
 use Rattle.stages.specs.Images.{Pairs, flat, image, variablesOf, homesOf, pathsOf, fieldsOf}
 use Rattle.stages.specs.Line.{Fields, expandLine}
+use Rattle.stages.specs.Assign.{assignLine}
 use Rattle.stages.specs.Quote.{quotedLine}
 
--- what an expander or normaliser is handed: the buffers with the bytes in them, and the variables' used length
+-- what an expander, a normaliser or an assigner is handed: the buffers with the bytes in them, and the variables' used length
 pub record Given : Type 0 where
   pub work : Text
   pub vars : Text
@@ -118,6 +119,44 @@ quotedIn out l = require (leb (length (quotedLine l)) lineLimit && leb (length (
 unfoldable pub normaliser : Given → Answer
 unfolding expanded answered quotedIn
 normaliser g = answered g (expanded g imageLimit then λ r. quotedIn (length (g .out)) (r .0) then λ t. doneAt (t, r .1))
+
+-- E9: "The job takes neither paths nor output: 4 and 21 do not arise": what is given of them is not looked at. 1 to 3, 23, and 5 and 6 in the line
+unfoldable pub assigned : Given → Placed Pairs
+unfolding orRefused variablesOf homesOf fieldsOf assignLine
+assigned g =
+    require (leb workLeast (length (g .work))) workTooSmall 0 then λ _.
+    require (leb (g .varsUsed) (length (g .vars))) badVariables 0 then λ _.
+    orRefused badVariables (variablesOf (take (g .varsUsed) (g .vars))) then λ v.
+    orRefused badHomes (homesOf (g .homes)) then λ h.
+    orRefused badParameters (fieldsOf (g .params)) then λ ps.
+    assignLine (record { room = length (g .vars); homes = h; params = ps }) (g .line) v
+
+-- E9: "bytes behind the new image are zero up to the old used length (the one given)": an image and these zeros
+unfoldable pub padded : ℕ → Text → Text
+padded used t = t ++ replicate (used - length t) 0
+
+-- E9, the answer by the variables: "A refusal undoes all."; the output is as it was; "the used length then falls, and bytes behind the new image are zero up
+-- to the old used length (the one given), and kept beyond it"
+unfoldable pub settled : Given → Placed Pairs → Answer
+unfolding answered over padded image cleared
+settled g (refusedAt n place) = answered g (refusedAt n place)
+settled g (demandsAt t place) = answered g (demandsAt t place)
+settled g (doneAt v) = record {
+  number = accepted;
+  place = 0;
+  outLength = 0;
+  varsUsed = length (image (flat v));
+  out = g .out;
+  vars = over (padded (g .varsUsed) (image (flat v))) (g .vars);
+  work = cleared (g .work);
+  messageLength = 0;
+  message = g .message;
+}
+
+-- E9: "a job that reads a line whose every word is a name, a bare `=` and a value"
+unfoldable pub assigner : Given → Answer
+unfolding assigned settled
+assigner g = settled g (assigned g)
 
 -- "The quoter has neither variables nor work area."
 pub record Quoting : Type 0 where

@@ -1,4 +1,4 @@
--- Document 01, "Reading a line", and document 02, E1 and E5: what stands at the head of a text. Every rule of reading is here, and nothing here recurs.
+-- Document 01, "Reading a line", and document 02, E1, E5 and E9: what stands at the head of a text. Every rule of reading is here, and nothing here recurs.
 use Prim.Native.Nat.{ℕ, zero, suc, _+_, _-_, _*_}
 use Prim.Native.Char.{code}
 use mathlib.Core.Bool.{Bool, true, false, _&&_, _||_}
@@ -8,7 +8,7 @@ use lib.ListN.{length}
 use Rattle.stages.specs.Numbers.{unended, bareOperator, substitution, unserved, badSyntax, tooDeep}
 use Rattle.stages.specs.Bytes.{Text, text, isIn, between, span, isNameStart, isNameByte, isDigit, isLoginByte, isBlank, isOperator}
 use Rattle.stages.specs.Outcome.{pick}
-use Rattle.stages.specs.Syntax.{Start, fresh, begun, Mode, word, bare, single, double, quotedOperand, arith, Escape, escaped, unescaped}
+use Rattle.stages.specs.Syntax.{Start, fresh, begun, Mode, word, value, bare, single, double, quotedOperand, arith, Escape, escaped, unescaped}
 use Rattle.stages.specs.Syntax.{Colon, withColon, noColon, Side, suffix, prefix, shortest, longest}
 use Rattle.stages.specs.Syntax.{Form, minus, equals, query, plus, removal}
 use Rattle.stages.specs.Syntax.{Param, var, nth, Counted, bytesOf, parameters, Spread, apart, joint, Lists, served, barred}
@@ -17,19 +17,24 @@ use Rattle.stages.specs.Syntax.{Param, var, nth, Counted, bytesOf, param
 pub data Sort : Type 0 where
   backquote closes operator quotes quotes2 backslash dollar bad opening closing tilde literal : Sort
 
--- 01: "a bare `~` starting a word of the line"; 02: "a bare `~` that begins an operand read as bare text is looked at too"
+-- 01: "a bare `~` starting a word of the line"; 02: "a bare `~` that begins an operand read as bare text is looked at too"; E9: "after the `=` and after each
+-- bare literal `:`"
 unfoldable pub beginsTilde : Start → ℕ → Bool
 beginsTilde fresh b = eqb b (code "~")
 beginsTilde begun b = false
 
--- "Bare blank, tab, newline separate words." "A backquote outside single quotes .. is 9 before any other fault there." "`'` runs to the next
--- `'`." "The operand ends at the first `}` not quoted or in an inner expansion." "a plain `"` is 11"; "a quote or backslash anywhere in the
--- text outside operands, is 11". "All other bare bytes are literal."
-unfoldable pub sort : Mode → ℕ → Sort
-unfolding beginsTilde isBlank isOperator
-sort (word s) b =
+-- "Bare blank, tab, newline separate words.": in a word, of which a value is the end
+abbrev pub wordSort : Start → ℕ → Sort
+wordSort s b =
     pick (beginsTilde s b) tilde (pick (eqb b (code "`")) backquote (pick (isBlank b) closes (pick (isOperator b) operator (pick (eqb b (code "'")) quotes
     (pick (eqb b (code "\"")) quotes2 (pick (eqb b (code "\\")) backslash (pick (eqb b (code "$")) dollar literal)))))))
+
+-- "A backquote outside single quotes .. is 9 before any other fault there." "`'` runs to the next `'`." "The operand ends at the first `}` not quoted or in an
+-- inner expansion." "a plain `"` is 11"; "a quote or backslash anywhere in the text outside operands, is 11". "All other bare bytes are literal."
+unfoldable pub sort : Mode → ℕ → Sort
+unfolding beginsTilde isBlank isOperator
+sort (word s) b = wordSort s b
+sort (value s) b = wordSort s b
 sort (bare s l) b =
     pick (beginsTilde s b) tilde (pick (eqb b (code "`")) backquote (pick (eqb b (code "}")) closes (pick (eqb b (code "'")) quotes
     (pick (eqb b (code "\"")) quotes2 (pick (eqb b (code "\\")) backslash (pick (eqb b (code "$")) dollar literal))))))
@@ -67,6 +72,7 @@ wrong n (b ∷ t) = pick (eqb b (code "`")) (fault substitution) (fault n)
 -- where a backslash is literal, nor of arithmetic, where it is 11
 unfoldable pub quotable : Mode → ℕ → Bool
 quotable (word s) b = true
+quotable (value s) b = true
 quotable (bare s l) b = true
 quotable single b = false
 quotable (double l) b = isIn b (text "$`\"\\")
@@ -79,9 +85,10 @@ unfolding quotable
 behindBackslash m [] = fault unended
 behindBackslash m (b ∷ t) = pick (eqb b (code "\n")) (fault badSyntax) (pick (quotable m b) (byte escaped b 1) (byte unescaped (code "\\") 0))
 
--- E5: whether `$@` and `$*` may stand in a text
+-- E5: whether `$@` and `$*` may stand in a text; E9: "`$@` and `$*` in values are 10"
 unfoldable pub listsIn : Mode → Lists
 listsIn (word s) = served
+listsIn (value s) = barred
 listsIn (bare s l) = l
 listsIn single = barred
 listsIn (double l) = l
@@ -102,6 +109,7 @@ letBy b = pick (isIn b (text "-+")) served barred
 unfoldable pub operandMode : Mode → Lists → Mode
 unfolding both
 operandMode (word s) k = bare fresh k
+operandMode (value s) k = bare fresh barred
 operandMode (bare s l) k = bare fresh (both l k)
 operandMode single k = bare fresh barred
 operandMode (double l) k = quotedOperand (both l k)
@@ -226,6 +234,7 @@ parenthesis (suc d) (b ∷ t) = pick (eqb b (code "(")) sum (fault substitution)
 -- 01: "`$` before a digit or one of `@*#?-$!` is 10, and so is `$'` in bare text", but for what E5 serves. Never asked of '...', where a `$` is literal
 unfoldable pub notServed : Mode → ℕ → Bool
 notServed (word s) b = isIn b (text "0?-$!'")
+notServed (value s) b = isIn b (text "0?-$!'")
 notServed (bare s l) b = isIn b (text "0?-$!'")
 notServed single b = false
 notServed (double l) b = isIn b (text "0?-$!")
@@ -250,19 +259,21 @@ unfoldable pub outer : Text → Item
 outer [] = fault badSyntax
 outer (b ∷ t) = pick (eqb b (code ")")) (stop 2) (pick (eqb b (code "`")) (fault substitution) (fault badSyntax))
 
--- "Arithmetic text balances its parentheses". Never asked: the first five cases, since only arithmetic has the sort `opening`
+-- "Arithmetic text balances its parentheses". Never asked: the first six cases, since only arithmetic has the sort `opening`
 unfoldable pub opened : Mode → ℕ → Item
 opened (word s) b = byte unescaped b 0
+opened (value s) b = byte unescaped b 0
 opened (bare s l) b = byte unescaped b 0
 opened single b = byte unescaped b 0
 opened (double l) b = byte unescaped b 0
 opened (quotedOperand l) b = byte unescaped b 0
 opened (arith n) b = paren b (suc n)
 
--- The same for the sort `closing`. Never asked: the first five cases
+-- The same for the sort `closing`. Never asked: the first six cases
 unfoldable pub closed : Mode → ℕ → Text → Item
 unfolding outer
 closed (word s) b t = byte unescaped b 0
+closed (value s) b t = byte unescaped b 0
 closed (bare s l) b t = byte unescaped b 0
 closed single b t = byte unescaped b 0
 closed (double l) b t = byte unescaped b 0
@@ -273,6 +284,7 @@ closed (arith (suc n)) b t = paren b n
 -- how many bytes end a text: a word's blank is not part of it. Never asked of arithmetic, where no byte has the sort `closes`
 unfoldable pub closerLength : Mode → ℕ
 closerLength (word s) = 0
+closerLength (value s) = 0
 closerLength (bare s l) = 1
 closerLength single = 1
 closerLength (double l) = 1
@@ -282,15 +294,22 @@ closerLength (arith n) = 1
 -- "line ends inside a quote, brace or arithmetic"
 unfoldable pub ended : Mode → Item
 ended (word s) = stop 0
+ended (value s) = stop 0
 ended (bare s l) = fault unended
 ended single = fault unended
 ended (double l) = fault unended
 ended (quotedOperand l) = fault unended
 ended (arith n) = fault unended
 
--- the bytes of the text that end a login
-abbrev pub loginEnds : Mode → Text
-loginEnds m = text "/"
+-- the bytes of the text that end a login; E9: "(the login then also ends at a `:`)"
+unfoldable pub loginEnds : Mode → Text
+loginEnds (word s) = text "/"
+loginEnds (value s) = text "/:"
+loginEnds (bare s l) = text "/"
+loginEnds single = text "/"
+loginEnds (double l) = text "/"
+loginEnds (quotedOperand l) = text "/"
+loginEnds (arith n) = text "/"
 
 -- the text ends with a byte of this sort
 unfoldable pub isCloser : Sort → Bool
@@ -309,11 +328,11 @@ isCloser literal = false
 
 -- 01: "if the bytes up to the first `/` or the word's end are all login bytes"; 02: "its login ending at the first `/` or the operand's end"
 unfoldable pub endsLogin : Mode → Text → Bool
-unfolding isCloser sort
+unfolding loginEnds isCloser sort
 endsLogin m [] = true
 endsLogin m (b ∷ t) = isIn b (loginEnds m) || isCloser (sort m b)
 
--- behind a tilde b that begins a word or an operand: the longest run of login bytes is the login, if it ends there
+-- behind a tilde b that is looked at: the longest run of login bytes is the login, if it ends there
 unfoldable pub behindTilde : Mode → ℕ → Text → Item
 unfolding endsLogin span isLoginByte
 behindTilde m b t =
@@ -343,8 +362,25 @@ item m d (b ∷ t) = itemOf (sort m b) m d b t
 -- the mode in which a text goes on behind its first item
 unfoldable pub onward : Mode → Mode
 onward (word s) = word begun
+onward (value s) = value begun
 onward (bare s l) = bare begun l
 onward single = single
 onward (double l) = double l
 onward (quotedOperand l) = quotedOperand l
 onward (arith n) = arith n
+
+-- E9, "after each bare literal `:`": whether a tilde is looked at behind a byte of a value
+unfoldable pub startBehind : Escape → ℕ → Start
+startBehind escaped b = begun
+startBehind unescaped b = pick (eqb b (code ":")) fresh begun
+
+-- the mode in which a text goes on behind a byte that stands for itself
+unfoldable pub behindByte : Mode → Escape → ℕ → Mode
+unfolding startBehind onward
+behindByte (word s) q b = onward (word s)
+behindByte (value s) q b = value (startBehind q b)
+behindByte (bare s l) q b = onward (bare s l)
+behindByte single q b = onward single
+behindByte (double l) q b = onward (double l)
+behindByte (quotedOperand l) q b = onward (quotedOperand l)
+behindByte (arith n) q b = onward (arith n)

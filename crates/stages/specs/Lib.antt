@@ -19,6 +19,7 @@ pub mod Expand  -- "Units and expansion": parts to rows, the tilde, the forms
 pub mod Paths  -- "Patterns", for paths: the rows of fields to texts
 pub mod Quote  -- "The quoted line"
 pub mod Line  -- a line to its fields, from its length on
-pub mod Call  -- "What a call gives back": the three jobs
+pub mod Assign  -- E9: a line of assignments to the variables behind them, from its length on
+pub mod Call  -- "What a call gives back": the four jobs
 pub mod Together  -- E8: what stands in quotes stays together, its premise
 pub mod Program  -- "The program": what it writes for what it reads

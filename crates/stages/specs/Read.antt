@@ -1,4 +1,4 @@
--- Document 01, "Reading a line", and document 02, E1 and E5: a text's parts, item by item, and the words of a line.
+-- Document 01, "Reading a line", and document 02, E1, E5 and E9: a text's parts, item by item, and the words of a line.
 use Prim.Native.Nat.{ℕ, suc, _+_, _-_}
 use Prim.Native.Char.{code}
 use mathlib.Core.Bool.{_||_}
@@ -10,7 +10,7 @@ use Rattle.stages.specs.Numbers.{bareOperator, depthLimit}
 use Rattle.stages.specs.Bytes.{Text, isBlank, isOperator}
 use Rattle.stages.specs.Outcome.{Outcome, refused, done, _>>=_, Placed, refusedAt, doneAt, placedAt, _then_, cases}
 use Rattle.stages.specs.Syntax.{Parts, Mode, Word, plain, unescaped, fresh, word, arith, end, lit, quo, par, len, lst, ari, til}
-use Rattle.stages.specs.Items.{Item, item, fault, stop, byte, paren, quote, valueOf, count, spread, inner, sum, homeOf, onward}
+use Rattle.stages.specs.Items.{Item, item, fault, stop, byte, paren, quote, valueOf, count, spread, inner, sum, homeOf, onward, behindByte}
 
 -- a text's parts, and what is behind the text
 abbrev pub Taken : Type 0
@@ -30,10 +30,10 @@ nest f r more = r >>= λ p. put (f (p .0)) (more (p .1))
 
 -- a text with this item at its head, and the rest by `rec`
 unfoldable pub readItem : Reader → Mode → ℕ → Text → Item → Taken
-unfolding onward
+unfolding onward behindByte
 readItem rec m d t (fault n) = refused n
 readItem rec m d t (stop k) = done (end, drop k t)
-readItem rec m d t (byte q b k) = put (lit q b) (rec (onward m) d (drop (suc k) t))
+readItem rec m d t (byte q b k) = put (lit q b) (rec (behindByte m q b) d (drop (suc k) t))
 readItem rec m d t (paren b n) = put (lit unescaped b) (rec (arith n) d (drop 1 t))
 readItem rec m d t (quote n) = nest quo (rec n d (drop 1 t)) (rec (onward m) d)
 readItem rec m d t (valueOf x k) = put (par x plain end) (rec (onward m) d (drop (suc k) t))
@@ -59,37 +59,51 @@ unfoldable pub parts : Reader
 unfolding askStep fix
 parts m d t = fix askSize (refused 0) askStep (m, d, t)
 
-abbrev pub Words : Type 0
-Words = Placed (List Word)
+-- how one piece of a line is read, a word or by E9 an assignment: what it is read as, and what is behind it
+abbrev pub Piece : Type 0 → Type 0
+Piece A = Text → Outcome (A × Text)
 
--- a word whose first byte is at `place`, and the words behind it
-unfoldable pub wordAt : (ℕ × Text → Words) → ℕ → Text → Words
-unfolding parts
-wordAt rec place t =
-    placedAt place (parts (word fresh) depthLimit t) then λ p.
-    rec (place + (length t - length (p .1)), p .1) then λ ws.
-    doneAt (record { place = place; parts = p .0 } ∷ ws)
+-- A piece whose first byte is at `place`, read by `one` and kept with its place by `keep`, and the pieces behind it.
+unfoldable pub pieceAt : {A B : Type 0} → Piece A → (ℕ → A → B) → (ℕ × Text → Placed (List B)) → ℕ → Text → Placed (List B)
+pieceAt one keep rec place t =
+    placedAt place (one t) then λ p.
+    rec (place + (length t - length (p .1)), p .1) then λ l.
+    doneAt (keep place (p .0) ∷ l)
 
 -- "Bare blank, tab, newline separate words. Bare `|&;<>()` and `#` at a word's start are 8."; the place is that "of the operator itself if
 -- no word is open"
-unfoldable pub wordsStep : (ℕ × Text → Words) → ℕ × Text → Words
-unfolding wordAt isBlank isOperator
-wordsStep rec (place, []) = doneAt []
-wordsStep rec (place, b ∷ t) =
+unfoldable pub piecesStep : {A B : Type 0} → Piece A → (ℕ → A → B) → (ℕ × Text → Placed (List B)) → ℕ × Text → Placed (List B)
+unfolding pieceAt isBlank isOperator
+piecesStep one keep rec (place, []) = doneAt []
+piecesStep one keep rec (place, b ∷ t) =
     cases (
     (isBlank b, λ _. rec (suc place, t))
     ∷ (isOperator b || eqb b (code "#"), λ _. refusedAt bareOperator place)
-    ∷ []) λ _. wordAt rec place (b ∷ t)
+    ∷ []) λ _. pieceAt one keep rec place (b ∷ t)
 
-abbrev pub wordsSize : ℕ × Text → ℕ
-wordsSize p = length (p .1)
+abbrev pub piecesSize : ℕ × Text → ℕ
+piecesSize p = length (p .1)
 
--- the words of a text that begins at `place` of the line; never stuck by `words-sound` of proofs/Words
-unfoldable pub words : ℕ × Text → Words
-unfolding wordsStep fix
-words p = fix wordsSize (refusedAt 0 0) wordsStep p
+-- the pieces of a text that begins at `place` of the line; never stuck where each takes a byte at least, by `pieces-sound` of proofs/Pieces
+unfoldable pub pieces : {A B : Type 0} → Piece A → (ℕ → A → B) → ℕ × Text → Placed (List B)
+unfolding piecesStep fix
+pieces one keep p = fix piecesSize (refusedAt 0 0) (piecesStep one keep) p
+
+abbrev pub Words : Type 0
+Words = Placed (List Word)
+
+-- how a word is read, and kept
+abbrev pub aWord : Piece Parts
+aWord t = parts (word fresh) depthLimit t
+
+abbrev pub wordOf : ℕ → Parts → Word
+wordOf place p = record { place = place; parts = p }
+
+-- the words of a text that begins at `place` of the line
+abbrev pub words : ℕ × Text → Words
+words p = pieces aWord wordOf p
 
 -- "then the whole line is read"
 unfoldable pub readLine : Text → Words
-unfolding words
+unfolding pieces parts
 readLine t = words (0, t)

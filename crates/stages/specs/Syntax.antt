@@ -1,4 +1,4 @@
--- Document 01, "Reading a line", and document 02, E1 and E5: what a word is read as.
+-- Document 01, "Reading a line", and document 02, E1, E5 and E9: what a word is read as.
 use Prim.Native.Nat.{ℕ}
 use Rattle.stages.specs.Bytes.{Text}
 
@@ -49,7 +49,7 @@ pub data Parts : Type 0 where
   ari : Parts → Parts → Parts  -- $((...))
   til : Text → Parts → Parts  -- ~login
 
--- whether a text is read from its first byte on, where alone a tilde is looked at
+-- whether a tilde is looked at: where a text is read from its first byte on, and by E9 behind a `:` of a value
 pub data Start : Type 0 where
   fresh begun : Start
 
@@ -57,10 +57,10 @@ pub data Start : Type 0 where
 pub data Lists : Type 0 where
   served barred : Lists
 
--- where a text stands: a word of the line, an operand read as bare text, '...', "...", an operand read as double-quoted text,
--- arithmetic with so many open parentheses
+-- where a text stands: a word of the line, by E9 the value of an assignment, an operand read as bare text, '...', "...", an operand read as double-quoted
+-- text, arithmetic with so many open parentheses
 pub data Mode : Type 0 where
-  word : Start → Mode
+  word value : Start → Mode
   bare : Start → Lists → Mode
   single : Mode
   double quotedOperand : Lists → Mode
@@ -69,4 +69,10 @@ pub data Mode : Type 0 where
 -- a word of the line, and the offset of its first byte
 pub record Word : Type 0 where
   pub place : ℕ
+  pub parts : Parts
+
+-- E9: a word that is "a name, a bare `=` and a value", the value's parts, and the offset of its first byte
+pub record Assignment : Type 0 where
+  pub place : ℕ
+  pub name : Text
   pub parts : Parts
