@@ -11,11 +11,11 @@ use Rattle.read_brace.specs.declared.Item.{Item}
 use Rattle.read_brace.specs.declared.Item.the-variants.{Fault, Stop, Byte, Paren, Quote, Value, Count, Total, Spread, Inner, Sum, Home}
 use Rattle.read_item.specs.After.{modeAfter, isStop}
 
-pub mode-goes-on : (i : Item) (m : Mode) → OneOf (0 ∷ 1 ∷ 2 ∷ 4 ∷ 5 ∷ 6 ∷ 7 ∷ 8 ∷ 9 ∷ 10 ∷ 11 ∷ []) (tagOf item-type.the-type i) → modeOnward m ≡ modeAfter i m
+pub mode-goes-on : (i : Item) (m : Mode) → OneOf (0 ∷ 1 ∷ 4 ∷ 5 ∷ 6 ∷ 7 ∷ 8 ∷ 9 ∷ 10 ∷ 11 ∷ []) (tagOf item-type.the-type i) → modeOnward m ≡ modeAfter i m
 mode-goes-on (Fault e) m k = refl
 mode-goes-on (Stop next) m k = refl
-mode-goes-on (Byte q b next) m k = refl
-mode-goes-on (Paren b n) m k = absurd (miss (0 ∷ 1 ∷ 2 ∷ 4 ∷ 5 ∷ 6 ∷ 7 ∷ 8 ∷ 9 ∷ 10 ∷ 11 ∷ []) 3 tt k)
+mode-goes-on (Byte q b next) m k = absurd (miss (0 ∷ 1 ∷ 4 ∷ 5 ∷ 6 ∷ 7 ∷ 8 ∷ 9 ∷ 10 ∷ 11 ∷ []) 2 tt k)
+mode-goes-on (Paren b n) m k = absurd (miss (0 ∷ 1 ∷ 4 ∷ 5 ∷ 6 ∷ 7 ∷ 8 ∷ 9 ∷ 10 ∷ 11 ∷ []) 3 tt k)
 mode-goes-on (Quote inner) m k = refl
 mode-goes-on (Value p next) m k = refl
 mode-goes-on (Count p next) m k = refl

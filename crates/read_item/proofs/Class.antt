@@ -138,6 +138,7 @@ item-end s from l e = ap (item (modeOf (from .mode)) (from .depth)) (drop-of-len
 
 open-is : (m : code-mode.Mode) (n : ℕ) → modeOf m ≡ sums n → openIn m ≡ n
 open-is (mode.Word f) n e = absurd (let z : _≡_ {A = ℕ} 0 1 = cc in omega arith)
+open-is (mode.Value f) n e = absurd (let z : _≡_ {A = ℕ} 0 1 = cc in omega arith)
 open-is (mode.Bare f l) n e = absurd (let z : _≡_ {A = ℕ} 0 1 = cc in omega arith)
 open-is mode.Single n e = absurd (let z : _≡_ {A = ℕ} 0 1 = cc in omega arith)
 open-is (mode.Double l) n e = absurd (let z : _≡_ {A = ℕ} 0 1 = cc in omega arith)

@@ -11,7 +11,7 @@ use Rattle.stages.specs.Syntax.{unescaped, nth, parameters}
 use Rattle.stages.specs.Syntax as syntax
 use Rattle.stages.specs.Items.{item, fault, byte, valueOf, count, isFirstDigit, listsIn, spreadAt, notServed}
 use Rattle.stages.specs.Items as items
-use Rattle.read_mode.specs.Modes.{modeOf, modeOnward}
+use Rattle.read_mode.specs.Modes.{modeOf, modeOnward, modeBehind}
 use Rattle.read_mode.specs.declared.Cursor.{Cursor}
 use Rattle.read_mode.specs.declared.Mode.{Mode}
 use Rattle.read_mode.specs.declared.Mode.the-variants.{Arith}
@@ -32,11 +32,11 @@ special m b =
     (pick (isIn b (text "@*")) (spreadAt (listsIn m) b 1)
     (pick (notServed m b) (fault unserved) (byte unescaped (code "$") 0))))
 
--- the mode in which the text goes on: a parenthesis changes it, and behind its first item a text has begun
+-- the mode in which the text goes on: a parenthesis changes it, a byte may let a tilde begin, and behind its first item a text has begun
 abbrev pub modeAfter : Item → Mode → Mode
 modeAfter (Fault e) m = modeOnward m
 modeAfter (Stop next) m = modeOnward m
-modeAfter (Byte q b next) m = modeOnward m
+modeAfter (Byte q b next) m = modeBehind m q b
 modeAfter (Paren b n) m = Arith n
 modeAfter (Quote inner) m = modeOnward m
 modeAfter (Value p next) m = modeOnward m

@@ -232,11 +232,16 @@ pub fn item_at(text: &[u8], from: Cursor) -> Item
     }
 }
 
-// The mode in which a text goes on after an item: a parenthesis changes it, and behind its first item a text has begun.
+// The mode in which a text goes on after an item: a parenthesis changes it, a byte may let a tilde begin, and behind its first item a text has begun.
 pub fn mode_after(item: Item, mode: Mode) -> Mode
     ensures { λ r. ⌜ r ≡ modeAfter item mode ⌝ }
 {
     match item {
+        Item::Byte {
+            quoted,
+            byte,
+            next: _,
+        } => read_mode::behind_byte(mode, quoted, byte),
         Item::Paren { byte: _, parens } => Mode::Arith(parens),
         _ => read_mode::onward(mode),
     }

@@ -7,11 +7,16 @@ use Rattle.stages.specs.Bytes.{Text}
 use Rattle.stages.specs.Outcome.{Placed}
 use Rattle.stages.specs.Syntax.{Parts}
 use Rattle.stages.specs.Read.{Taken, readLine}
-use Rattle.read_line.specs.Says.{ReadTo, ReadSays, NextSays, verdict, verdictOf}
+use Rattle.stages.specs.Assign.{readAssignments}
+use Rattle.stages.proofs.Bools.{apart}
+use Rattle.text.proofs.Parts.{part-length}
+use Rattle.read_line.specs.Says.{ReadTo, ReadSays, NextSays, AssignmentTo, AssignmentSays, verdict, verdictOf}
 use Rattle.read_line.specs.declared.Reading.{Reading}
 use Rattle.read_line.specs.declared.Reading.the-variants.{End, Fault}
 use Rattle.read_line.specs.declared.NextWord.{NextWord}
 use Rattle.read_line.specs.declared.NextWord.the-variants.{At, Nothing}
+use Rattle.read_line.specs.declared.Assignment.{Assignment}
+use Rattle.read_line.specs.declared.Assignment.the-variants.{Named, Bad}
 use Rattle.read_line.specs.declared.LineRead.{LineRead}
 use Rattle.read_line.specs.declared.LineRead.the-variants.{Read, Refused}
 
@@ -35,6 +40,24 @@ next-word-determined line at Nothing Nothing p q = refl
 next-word-determined line at (At m) Nothing p q = absurd (omega (arith, p .is, p .within, q .is))
 next-word-determined line at Nothing (At n) p q = absurd (omega (arith, q .is, q .within, p .is))
 
+-- the name's bytes up to either `=` are the same, so their lengths are
+equals-determined : (line : Text) (place m n : ℕ) → AssignmentTo line place m → AssignmentTo line place n → m ≡ n
+equals-determined line place m n p q =
+    let a = p .onward in
+    let b = q .onward in
+    omega (
+      arith,
+      part-length line place m (omega arith) (omega (arith, p .within)),
+      part-length line place n (omega arith) (omega (arith, q .within)),
+      ap length (sym (p .name) ∙ q .name),
+    )
+
+pub assignment-at-determined : (line : Text) (place : ℕ) (r s : Assignment) → AssignmentSays line place r → AssignmentSays line place s → r ≡ s
+assignment-at-determined line place (Named m) (Named n) p q = ap Named (equals-determined line place m n p q)
+assignment-at-determined line place Bad Bad p q = refl
+assignment-at-determined line place (Named m) Bad p q = absurd (apart q (p .is))
+assignment-at-determined line place Bad (Named n) p q = absurd (apart p (q .is))
+
 verdict-determined : (w : Placed (Unit {0})) (r s : LineRead) → w ≡ verdictOf r → w ≡ verdictOf s → r ≡ s
 verdict-determined w Read Read p q = refl
 verdict-determined w (Refused n place) (Refused k at) p q = cc
@@ -43,3 +66,7 @@ verdict-determined w (Refused n place) Read p q = absurd (let z : _≡_ {A = ℕ
 
 pub read-line-determined : (line : Text) (r s : LineRead) → verdict (readLine line) ≡ verdictOf r → verdict (readLine line) ≡ verdictOf s → r ≡ s
 read-line-determined line r s p q = verdict-determined (verdict (readLine line)) r s p q
+
+pub read-assignments-determined : (line : Text) (r s : LineRead) → verdict (readAssignments line) ≡ verdictOf r → verdict (readAssignments line) ≡ verdictOf s
+    → r ≡ s
+read-assignments-determined line r s p q = verdict-determined (verdict (readAssignments line)) r s p q

@@ -8,16 +8,16 @@ use Rattle.stages.specs.Bytes.{Text, part}
 use Rattle.stages.specs.Outcome.{refused, demands, done}
 use Rattle.stages.specs.Syntax.{unescaped, Parts, plain, end, lit, quo, par, len, lst, ari, til, bytesOf, parameters, arith as sums}
 use Rattle.stages.specs.Syntax as syntax
-use Rattle.stages.specs.Items.{onward}
+use Rattle.stages.specs.Items.{onward, behindByte}
 use Rattle.stages.specs.Read.{Taken, put, nest, parts}
 use Rattle.text.specs.Cases.{escapeOf, spreadOf}
 use Rattle.stages.proofs.Read.{at-fault, at-stop, at-byte, at-paren, at-value, at-count, at-spread, at-quote, at-inner, at-sum, at-home}
 use Rattle.text.specs.Places.{Behind}
-use Rattle.read_mode.specs.Modes.{modeOf, openIn, modeOnward, formOf}
+use Rattle.read_mode.specs.Modes.{modeOf, openIn, modeOnward, modeBehind, formOf}
 use Rattle.read_mode.specs.declared.Cursor.{Cursor}
 use Rattle.read_mode.specs.declared.Mode.{Mode}
 use Rattle.read_mode.specs.declared.Form.{Form}
-use Rattle.read_mode.proofs.GoingOn.{onward-mode, onward-open}
+use Rattle.read_mode.proofs.GoingOn.{onward-mode, onward-open, behind-mode, behind-open}
 use Rattle.read_brace.specs.Shows.{paramOf}
 use Rattle.read_brace.specs.declared.Param.{Param}
 use Rattle.read_brace.specs.declared.Item.{Item}
@@ -38,17 +38,22 @@ read-shown i text from h e = subst (λ (x : Reading). ItemSays i text from x) e 
 -- An item, by its case.
 
 module _ (text : Text) (from : Cursor) (few : openIn (from .mode) ≤ from .at) where
-  -- the text goes on as it was read
-  on : (before : Parts → Parts) (next : ℕ) → readFrom text from ≡ put before (parts (onward (modeOf (from .mode))) (from .depth) (drop next text))
-      → Behind text (from .at) next → ReadMore text from next (modeOnward (from .mode))
-  on before next e b =
+  -- the text goes on in a mode with as many open parentheses
+  going : (before : Parts → Parts) (next : ℕ) (m : syntax.Mode) (n : Mode) → readFrom text from ≡ put before (parts m (from .depth) (drop next text))
+      → m ≡ modeOf n → openIn n ≡ openIn (from .mode) → Behind text (from .at) next → ReadMore text from next n
+  going before next m n e same parens b =
       let k = b .onward in
       record {
         before = before;
-        is = e ∙ ap (λ (m : syntax.Mode). put before (parts m (from .depth) (drop next text))) (onward-mode (from .mode));
+        is = e ∙ ap (λ (x : syntax.Mode). put before (parts x (from .depth) (drop next text))) same;
         place = b;
-        few = omega (arith, onward-open (from .mode));
+        few = omega (arith, parens);
       }
+
+  -- as it was read
+  on : (before : Parts → Parts) (next : ℕ) → readFrom text from ≡ put before (parts (onward (modeOf (from .mode))) (from .depth) (drop next text))
+      → Behind text (from .at) next → ReadMore text from next (modeOnward (from .mode))
+  on before next e b = going before next (onward (modeOf (from .mode))) (modeOnward (from .mode)) e (onward-mode (from .mode)) (onward-open (from .mode)) b
 
   -- after an inner text, which is read from `start` on
   inside : (s : Item) → isStop s ≡ false → modeAfter s (from .mode) ≡ modeOnward (from .mode) → (f : Parts → Parts → Parts) (start : ℕ) (r : Taken)
@@ -81,8 +86,9 @@ module _ {text : Text} {from : Cursor} {i : Item} (h : Here text from i) where
   item-byte {q = q} {b = b} {next = next} e =
       let s = known e in
       told e (reading.End next)
-      (on text from (h .few) (lit (escapeOf q) b) next
-      (at-byte text (from .at) (modeOf (from .mode)) (from .depth) (escapeOf q) b next (s .0) (s .1 .onward)) (s .1))
+      (going text from (h .few) (lit (escapeOf q) b) next (behindByte (modeOf (from .mode)) (escapeOf q) b) (modeBehind (from .mode) q b)
+      (at-byte text (from .at) (modeOf (from .mode)) (from .depth) (escapeOf q) b next (s .0) (s .1 .onward)) (behind-mode (from .mode) q b)
+      (behind-open (from .mode) q b) (s .1))
 
   pub item-paren : {b n : ℕ} → i ≡ Paren b n → ItemSays i text from (reading.End (from .at + 1))
   item-paren {b = b} {n = n} e =

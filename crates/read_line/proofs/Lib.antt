@@ -1,3 +1,4 @@
 pub mod Items
+pub mod Naming
 pub mod Lines
 pub mod Determined

@@ -2,12 +2,13 @@
 use Prim.Native.Nat.{ℕ, _+_, _≤_, _<_}
 use mathlib.Core.Path.{_≡_}
 use mathlib.Core.Bool.{Bool, true, false}
-use mathlib.Core.List.{[], _∷_}
+use mathlib.Core.List.{List}
 use lib.ListN.{length, drop, getD}
-use Rattle.stages.specs.Bytes.{Text, span, isBlank}
-use Rattle.stages.specs.Outcome.{refused, done, Placed, refusedAt, demandsAt, doneAt, _then_}
-use Rattle.stages.specs.Syntax.{Parts, Word}
-use Rattle.stages.specs.Read.{Taken, Words, put, parts, words}
+use Rattle.stages.specs.Bytes.{Text, part, span, isBlank}
+use Rattle.stages.specs.Outcome.{Outcome, refused, done, Placed, refusedAt, demandsAt, doneAt}
+use Rattle.stages.specs.Syntax.{Parts}
+use Rattle.stages.specs.Read.{Taken, put, parts, words}
+use Rattle.stages.specs.Assign.{nameAt, behindNameAt, isAssignment, assignments}
 use Rattle.text.specs.Places.{Behind}
 use Rattle.read_mode.specs.Modes.{modeOf, openIn}
 use Rattle.read_mode.specs.declared.Mode.{Mode}
@@ -18,17 +19,21 @@ use Rattle.read_line.specs.declared.Reading.{Reading}
 use Rattle.read_line.specs.declared.Reading.the-variants as reading
 use Rattle.read_line.specs.declared.NextWord.{NextWord}
 use Rattle.read_line.specs.declared.NextWord.the-variants as next-word
+use Rattle.read_line.specs.declared.Assignment.{Assignment}
+use Rattle.read_line.specs.declared.Assignment.the-variants as assignment
+use Rattle.read_line.specs.declared.Pieces.{Pieces}
+use Rattle.read_line.specs.declared.Pieces.the-variants as pieces
 use Rattle.read_line.specs.declared.LineRead.{LineRead}
 use Rattle.read_line.specs.declared.LineRead.the-variants as line-read
 
--- a text is read from `at` on: its parts, and the place behind it
-pub record ReadTo (text : Text) (at : ℕ) (o : Taken) (next : ℕ) : Type 0 where
-  pub tree : Parts
+-- a text is read from `at` on: what it is read as, and the place behind it
+pub record ReadTo {A : Type 0} (text : Text) (at : ℕ) (o : Outcome (A × Text)) (next : ℕ) : Type 0 where
+  pub tree : A
   pub is : o ≡ done (tree, drop next text)
   pub onward : at ≤ next
   pub within : next ≤ length text
 
-abbrev pub ReadSays : Text → ℕ → Taken → Reading → Type 0
+abbrev pub ReadSays : {A : Type 0} → Text → ℕ → Outcome (A × Text) → Reading → Type 0
 ReadSays text at o (reading.Fault e) = o ≡ refused e
 ReadSays text at o (reading.End next) = ReadTo text at o next
 
@@ -68,34 +73,48 @@ pub record NextAt (line : Text) (at place : ℕ) : Type 0 where
   pub onward : at ≤ place
   pub within : place < length line
   pub starts : isBlank (getD line place 0) ≡ false
-  pub same : words (at, drop at line) ≡ words (place, drop place line)
 
 -- there is no further word
 pub record NextNone (line : Text) (at : ℕ) : Type 0 where
   pub is : blanksEnd line at ≡ length line
-  pub none : words (at, drop at line) ≡ doneAt []
 
 abbrev pub NextSays : Text → ℕ → NextWord → Type 0
 NextSays line at (next-word.At place) = NextAt line at place
 NextSays line at next-word.Nothing = NextNone line at
 
--- the word at `place` is read, and the words behind it begin at `next`
-pub record WordTo (line : Text) (place next : ℕ) : Type 0 where
-  pub first : Word
-  pub is : words (place, drop place line) ≡ (words (next, drop next line) then λ ws. doneAt (first ∷ ws))
-  pub onward : place < next
-  pub within : next ≤ length line
+-- the word at `place` is an assignment: a name, and a `=` at `equals`
+pub record AssignmentTo (line : Text) (place equals : ℕ) : Type 0 where
+  pub is : isAssignment (drop place line) ≡ true
+  pub name : nameAt (drop place line) ≡ part line place equals
+  pub behind : behindNameAt (drop place line) ≡ drop equals line
+  pub onward : place < equals
+  pub within : equals < length line
 
-abbrev pub WordSays : Text → ℕ → Reading → Type 0
-WordSays line place (reading.Fault e) = words (place, drop place line) ≡ refusedAt e place
-WordSays line place (reading.End next) = WordTo line place next
+abbrev pub AssignmentSays : Text → ℕ → Assignment → Type 0
+AssignmentSays line place (assignment.Named equals) = AssignmentTo line place equals
+AssignmentSays line place assignment.Bad = isAssignment (drop place line) ≡ false
 
 -- whether a line is accepted, or its first fault's number and place
-abbrev pub verdict : Words → Placed (Unit {0})
+abbrev pub verdict : {B : Type 0} → Placed (List B) → Placed (Unit {0})
 verdict (refusedAt n place) = refusedAt n place
 verdict (demandsAt t place) = demandsAt t place
-verdict (doneAt ws) = doneAt tt
+verdict (doneAt l) = doneAt tt
+
+-- the same of the pieces from a place on, by what they are
+abbrev pub verdictFrom : Pieces → Text → ℕ → Placed (Unit {0})
+verdictFrom pieces.Words line from = verdict (words (from, drop from line))
+verdictFrom pieces.Assignments line from = verdict (assignments (from, drop from line))
 
 abbrev pub verdictOf : LineRead → Placed (Unit {0})
 verdictOf line-read.Read = doneAt tt
 verdictOf (line-read.Refused n place) = refusedAt n place
+
+-- the piece at `place` is read, and those behind it begin at `next`
+pub record PieceTo (kind : Pieces) (line : Text) (place next : ℕ) : Type 0 where
+  pub is : verdictFrom kind line place ≡ verdictFrom kind line next
+  pub onward : place < next
+  pub within : next ≤ length line
+
+abbrev pub PieceSays : Pieces → Text → ℕ → Reading → Type 0
+PieceSays kind line place (reading.Fault e) = verdictFrom kind line place ≡ refusedAt e place
+PieceSays kind line place (reading.End next) = PieceTo kind line place next

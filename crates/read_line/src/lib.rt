@@ -1,5 +1,5 @@
-// Reading: the end of a text, the words of a line. One reader finds a text's faults, skips an operand that is not used, and says where a text ends;
-// it builds nothing, and looks at each byte once for each expansion that it stands in.
+// Reading: the end of a text, the words or the assignments of a line. One reader finds a text's faults, skips an operand that is not used, and says where
+// a text ends; it builds nothing, and looks at each byte once for each expansion that it stands in.
 use read_brace::Item;
 use read_mode::Cursor;
 use read_mode::Mode;
@@ -9,10 +9,12 @@ ghost use mathlib.Core.Path.{_≡_};
 ghost use mathlib.Core.Bool.{Bool, true, false};
 ghost use Prim.Native.Nat.{ℕ, _≤_, _<_};
 ghost use lib.ListN.{length, drop, getD};
+ghost use Rattle.stages.specs.Numbers.{depthLimit};
 ghost use Rattle.stages.specs.Bytes.{isBlank};
 ghost use Rattle.stages.specs.Read.{parts, readLine};
+ghost use Rattle.stages.specs.Assign.{anAssignment, readAssignments};
 ghost use Rattle.read_mode.specs.Modes.{modeOf, openIn};
-ghost use Rattle.read_line.specs.Says.{ReadSays, Here, ItemSays, NextSays, WordSays, verdict, verdictOf};
+ghost use Rattle.read_line.specs.Says.{ReadSays, Here, ItemSays, NextSays, AssignmentSays, PieceSays, verdict, verdictFrom, verdictOf};
 
 // What a text is read as: the place behind it, or the number that refuses it.
 pub enum Reading {
@@ -24,6 +26,18 @@ pub enum Reading {
 pub enum NextWord {
     At(usize),
     Nothing,
+}
+
+// What a line is made of.
+enum Pieces {
+    Words,
+    Assignments,
+}
+
+// A word of a line of assignments: its `=` stands behind its name, or it is none.
+pub enum Assignment {
+    Named { equals: usize },
+    Bad,
 }
 
 // What a line is read as.
@@ -126,10 +140,55 @@ pub fn next_word(line: &[u8], at: usize) -> NextWord
     NextWord::Nothing
 }
 
-// Reads the word whose first byte is at `place`; an operator or a `#` there begins none.
-fn read_word(line: &[u8], place: usize) -> Reading
+// Reads a text to its end in which no expansion is open yet.
+fn read_from(line: &[u8], at: usize, mode: Mode) -> Reading
+    requires { ⌜ (at ≤ length (now line)) × (openIn mode ≤ at) ⌝ }
+    ensures { λ r. ⌜ ReadSays (now (line .entry)) at (parts (modeOf mode) depthLimit (drop at (now (line .entry)))) r ⌝ }
+{
+    read_text(
+        line,
+        Cursor {
+            at: at,
+            mode: mode,
+            depth: numbers::DEPTH_LIMIT,
+        },
+    )
+}
+
+// Is the word whose first byte is at `place` an assignment? A name, and then a `=`.
+pub fn assignment_at(line: &[u8], place: usize) -> Assignment
+    requires { ⌜ place < length (now line) ⌝ }
+    ensures { λ r. ⌜ AssignmentSays (now (line .entry)) place r ⌝ }
+{
+    if !text::in_class(Class::NameStart, line[place]) {
+        return Assignment::Bad;
+    }
+    let equals = text::run_end(line, place, Class::NameByte);
+    if equals >= line.len() {
+        return Assignment::Bad;
+    }
+    if line[equals] != b'=' {
+        return Assignment::Bad;
+    }
+    Assignment::Named { equals: equals }
+}
+
+// Reads the assignment whose first byte is at `place`: what does not fit before its value is met first.
+fn read_assignment(line: &[u8], place: usize) -> Reading
+    requires { ⌜ place < length (now line) ⌝ }
+    ensures { λ r. ⌜ ReadSays (now (line .entry)) place (anAssignment (drop place (now (line .entry)))) r ⌝ }
+{
+    let found = assignment_at(line, place);
+    match found {
+        Assignment::Bad => Reading::Fault(numbers::REFUSED_SYNTAX),
+        Assignment::Named { equals } => read_from(line, equals + 1, Mode::Value(true)),
+    }
+}
+
+// Reads the piece whose first byte is at `place`; an operator or a `#` there begins none.
+fn read_piece(pieces: Pieces, line: &[u8], place: usize) -> Reading
     requires { ⌜ (place < length (now line)) × (isBlank (getD (now line) place 0) ≡ false) ⌝ }
-    ensures { λ r. ⌜ WordSays (now (line .entry)) place r ⌝ }
+    ensures { λ r. ⌜ PieceSays pieces (now (line .entry)) place r ⌝ }
 {
     let b = line[place];
     if text::in_class(Class::Operator, b) {
@@ -138,19 +197,15 @@ fn read_word(line: &[u8], place: usize) -> Reading
     if b == b'#' {
         return Reading::Fault(numbers::REFUSED_OPERATOR);
     }
-    read_text(
-        line,
-        Cursor {
-            at: place,
-            mode: Mode::Word(true),
-            depth: numbers::DEPTH_LIMIT,
-        },
-    )
+    match pieces {
+        Pieces::Words => read_from(line, place, Mode::Word(true)),
+        Pieces::Assignments => read_assignment(line, place),
+    }
 }
 
-// Reads the whole line: the first fault's number and the place of its word, if there is a fault.
-pub fn read_line(line: &[u8]) -> LineRead
-    ensures { λ r. ⌜ verdict (readLine (now (line .entry))) ≡ verdictOf r ⌝ }
+// Reads the pieces of the whole line: the first fault's number and the place of its piece, if there is a fault.
+fn read_pieces(pieces: Pieces, line: &[u8]) -> LineRead
+    ensures { λ r. ⌜ verdictFrom pieces (now (line .entry)) 0 ≡ verdictOf r ⌝ }
 {
     let mut at: usize = 0;
     loop {
@@ -160,7 +215,7 @@ pub fn read_line(line: &[u8]) -> LineRead
                 return LineRead::Read;
             }
             NextWord::At(place) => {
-                let got = read_word(line, place);
+                let got = read_piece(pieces, line, place);
                 match got {
                     Reading::Fault(number) => {
                         return LineRead::Refused {
@@ -175,4 +230,18 @@ pub fn read_line(line: &[u8]) -> LineRead
             }
         }
     }
+}
+
+// Reads a line of words.
+pub fn read_line(line: &[u8]) -> LineRead
+    ensures { λ r. ⌜ verdict (readLine (now (line .entry))) ≡ verdictOf r ⌝ }
+{
+    read_pieces(Pieces::Words, line)
+}
+
+// Reads a line of assignments.
+pub fn read_assignments(line: &[u8]) -> LineRead
+    ensures { λ r. ⌜ verdict (readAssignments (now (line .entry))) ≡ verdictOf r ⌝ }
+{
+    read_pieces(Pieces::Assignments, line)
 }

@@ -1,15 +1,19 @@
--- A login ends at a `/` and where the text ends.
+-- A login ends at a `/`, in a value also at a `:`, and where the text ends.
 use Prim.Native.Nat.{ℕ}
 use Prim.Native.Char.{code}
 use mathlib.Core.Path.{_≡_, refl, sym, ap}
-use mathlib.Core.Bool.{true, false}
+use mathlib.Core.Bool.{Bool, true, false, _||_}
 use mathlib.Core.List.{[], _∷_}
 use denote.Enum.Declared.{tagOf}
 use types.Run.{OneOf, miss}
-use borrow.Author.Tests.{eq-eqb, ne-eqb}
+use lib.Dec.{eqb}
+use Rattle.stages.specs.Bytes.{isIn, text}
 use Rattle.stages.specs.Syntax as syntax
-use Rattle.stages.specs.Items.{isCloser, endsLogin}
-use Rattle.read_mode.specs.Modes.{sortOf, Sorted}
+use Rattle.stages.specs.Items.{isCloser, loginEnds, endsLogin}
+use Rattle.read_mode.specs.Modes.{modeOf, sortOf, Sorted}
+use Rattle.read_mode.proofs.Mode as mode-type
+use Rattle.read_mode.specs.declared.Mode.{Mode}
+use Rattle.read_mode.specs.declared.Mode.the-variants.{Word, Value, Bare, Single, Double, Operand, Arith}
 use Rattle.read_mode.proofs.Sort as sort-type
 use Rattle.read_mode.specs.declared.Sort.{Sort}
 use Rattle.read_mode.specs.declared.Sort.the-variants.{Backquote, Closes, Operator, Quotes, Quotes2, Backslash}
@@ -31,11 +35,26 @@ no-closer (Closing n) k = refl
 no-closer Tilde k = refl
 no-closer Literal k = refl
 
-module _ (m : syntax.Mode) (b : ℕ) where
-  pub slash-ends : b ≡ code "/" → true ≡ endsLogin m (b ∷ [])
-  unfolding endsLogin
-  slash-ends e = rw (eq-eqb b (code "/") e)
+-- the bytes that end a login where the mode is no value
+or-nothing : (x : Bool) → x ≡ (x || false)
+or-nothing true = refl
+or-nothing false = refl
 
-  pub sort-ends : (b ≡ code "/" → ⊥) → {s : Sort} → Sorted m b s → endsLogin m (b ∷ []) ≡ isCloser (sortOf s)
+pub other-ends : (m : Mode) (b : ℕ) → OneOf (0 ∷ 2 ∷ 3 ∷ 4 ∷ 5 ∷ 6 ∷ []) (tagOf mode-type.the-type m) → eqb b (code "/") ≡ isIn b (loginEnds (modeOf m))
+unfolding loginEnds
+other-ends (Word s) b k = or-nothing (eqb b (code "/"))
+other-ends (Value s) b k = absurd (miss (0 ∷ 2 ∷ 3 ∷ 4 ∷ 5 ∷ 6 ∷ []) 1 tt k)
+other-ends (Bare s l) b k = or-nothing (eqb b (code "/"))
+other-ends Single b k = or-nothing (eqb b (code "/"))
+other-ends (Double l) b k = or-nothing (eqb b (code "/"))
+other-ends (Operand l) b k = or-nothing (eqb b (code "/"))
+other-ends (Arith n) b k = or-nothing (eqb b (code "/"))
+
+module _ (m : syntax.Mode) (b : ℕ) where
+  pub byte-ends : isIn b (loginEnds m) ≡ true → true ≡ endsLogin m (b ∷ [])
   unfolding endsLogin
-  sort-ends n h = rw (ne-eqb b (code "/") n) (ap isCloser (sym (h .is)))
+  byte-ends e = rw e
+
+  pub sort-ends : isIn b (loginEnds m) ≡ false → {s : Sort} → Sorted m b s → endsLogin m (b ∷ []) ≡ isCloser (sortOf s)
+  unfolding endsLogin
+  sort-ends n h = rw n (ap isCloser (sym (h .is)))

@@ -5,16 +5,17 @@ use native.Mathlib.Omega.{arith}
 use mathlib.Core.Path.{_≡_, refl, sym, ap, _∙_}
 use mathlib.Core.Bool.{Bool, true, false}
 use mathlib.Core.List.{[], _∷_}
-use Rattle.stages.specs.Syntax.{word, bare, single, double, quotedOperand, arith as sums, plain, minus, equals, query, plus, removal, suffix, prefix, Colon}
+use Rattle.stages.specs.Syntax.{word, value, bare, single, double, quotedOperand, arith as sums, plain, minus, equals, query, plus, removal, suffix, prefix}
+use Rattle.stages.specs.Syntax.{Colon}
 use Rattle.stages.specs.Syntax as syntax
 use Rattle.stages.specs.Items.{ended, quotable, notServed, listsIn, letBy, wrong, fault, signForm, closerLength, endsLogin}
 use Rattle.stages.specs.Items as items
 use Rattle.text.specs.Cases.{hasColon, isLongest, isFresh, isServed, listsOf}
 use Rattle.text.proofs.Cases.{colon-back, reach-back, start-back, lists-back}
 use Rattle.text.proofs.Determined.{one-answer}
-use Rattle.read_mode.specs.Modes.{modeOf, modeOnward, formOf, sortOf, Carries, Sorted, Operands, endsLine}
+use Rattle.read_mode.specs.Modes.{modeOf, modeOnward, modeBehind, formOf, sortOf, Carries, Sorted, Operands, endsLine}
 use Rattle.read_mode.specs.declared.Mode.{Mode}
-use Rattle.read_mode.specs.declared.Mode.the-variants.{Word, Bare, Single, Double, Operand, Arith}
+use Rattle.read_mode.specs.declared.Mode.the-variants.{Word, Value, Bare, Single, Double, Operand, Arith}
 use Rattle.read_mode.specs.declared.Form.{Form}
 use Rattle.read_mode.specs.declared.Form.the-variants.{Minus, Equals, Query, Plus, Suffix, Prefix}
 use Rattle.read_mode.specs.declared.Sort.{Sort}
@@ -27,6 +28,7 @@ taken-back f g h r s e = h r ∙ ap g e ∙ sym (h s)
 
 abbrev pub modeBack : syntax.Mode → Mode
 modeBack (word s) = Word (isFresh s)
+modeBack (value s) = Value (isFresh s)
 modeBack (bare s l) = Bare (isFresh s) (isServed l)
 modeBack single = Single
 modeBack (double l) = Double (isServed l)
@@ -38,6 +40,7 @@ bare-same p q = cc
 
 pub mode-back : (m : Mode) → m ≡ modeBack (modeOf m)
 mode-back (Word s) = ap Word (start-back s)
+mode-back (Value s) = ap Value (start-back s)
 mode-back (Bare s l) = bare-same (start-back s) (lists-back l)
 mode-back Single = refl
 mode-back (Double l) = ap Double (lists-back l)
@@ -70,6 +73,7 @@ form-determined r s e = taken-back formOf formBack form-back r s e
 -- a sort with what it carries
 abbrev parensOf : syntax.Mode → ℕ
 parensOf (word s) = 0
+parensOf (value s) = 0
 parensOf (bare s l) = 0
 parensOf single = 0
 parensOf (double l) = 0
@@ -136,6 +140,9 @@ may-end-determined m r s p q = ends-back r s (sym p ∙ q)
 
 pub onward-determined : (m r s : Mode) → r ≡ modeOnward m → s ≡ modeOnward m → r ≡ s
 onward-determined m r s = one-answer
+
+pub behind-byte-determined : (m : Mode) (q : Bool) (b : ℕ) (r s : Mode) → r ≡ modeBehind m q b → s ≡ modeBehind m q b → r ≡ s
+behind-byte-determined m q b r s = one-answer
 
 pub ends-login-determined : (m : syntax.Mode) (b : ℕ) (r s : Bool) → r ≡ endsLogin m (b ∷ []) → s ≡ endsLogin m (b ∷ []) → r ≡ s
 ends-login-determined m b r s = one-answer

@@ -9,7 +9,7 @@ use Rattle.stages.specs.Items.{listsIn, both, letBy, operandMode}
 use Rattle.text.specs.Cases.{listsOf}
 use Rattle.read_mode.specs.Modes.{modeOf}
 use Rattle.read_mode.specs.declared.Mode.{Mode}
-use Rattle.read_mode.specs.declared.Mode.the-variants.{Word, Bare, Single, Double, Operand, Arith}
+use Rattle.read_mode.specs.declared.Mode.the-variants.{Word, Value, Bare, Single, Double, Operand, Arith}
 
 lists-pick : (b : Bool) → listsOf b ≡ pick b served barred
 lists-pick true = refl
@@ -29,6 +29,10 @@ module _ (m : Mode) (k a : Lists) (e : a ≡ both (listsIn (modeOf m)) k) where
   pub in-word : {s : Bool} → m ≡ Word s → bare fresh a ≡ operandMode (modeOf m) k
   unfolding listsIn both operandMode
   in-word g = subst (AsBare k a) (sym g) (λ h. ap (bare fresh) h) e
+
+  pub in-value : {s : Bool} → m ≡ Value s → bare fresh a ≡ operandMode (modeOf m) k
+  unfolding listsIn both operandMode
+  in-value g = subst (AsBare k a) (sym g) (λ h. ap (bare fresh) h) e
 
   pub in-bare : {s l : Bool} → m ≡ Bare s l → bare fresh a ≡ operandMode (modeOf m) k
   unfolding listsIn both operandMode

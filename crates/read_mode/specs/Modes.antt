@@ -6,13 +6,13 @@ use mathlib.Core.Bool.{Bool, true, false}
 use lib.Dec.{eqb}
 use Rattle.stages.specs.Numbers.{unended}
 use Rattle.stages.specs.Outcome.{pick}
-use Rattle.stages.specs.Syntax.{word, bare, single, double, quotedOperand, arith}
+use Rattle.stages.specs.Syntax.{word, value, bare, single, double, quotedOperand, arith}
 use Rattle.stages.specs.Syntax as syntax
 use Rattle.stages.specs.Items.{Item, fault, stop, operandMode, closerLength, sort}
 use Rattle.stages.specs.Items as items
 use Rattle.text.specs.Cases.{colonOf, reachOf, startOf, listsOf}
 use Rattle.read_mode.specs.declared.Mode.{Mode}
-use Rattle.read_mode.specs.declared.Mode.the-variants.{Word, Bare, Single, Double, Operand, Arith}
+use Rattle.read_mode.specs.declared.Mode.the-variants.{Word, Value, Bare, Single, Double, Operand, Arith}
 use Rattle.read_mode.specs.declared.Form.{Form}
 use Rattle.read_mode.specs.declared.Form.the-variants.{Minus, Equals, Query, Plus, Suffix, Prefix}
 use Rattle.read_mode.specs.declared.Sort.{Sort}
@@ -21,6 +21,7 @@ use Rattle.read_mode.specs.declared.Sort.the-variants.{Dollar, Bad, Open
 
 abbrev pub modeOf : Mode → syntax.Mode
 modeOf (Word fresh) = word (startOf fresh)
+modeOf (Value fresh) = value (startOf fresh)
 modeOf (Bare fresh lists) = bare (startOf fresh) (listsOf lists)
 modeOf Single = single
 modeOf (Double lists) = double (listsOf lists)
@@ -30,6 +31,7 @@ modeOf (Arith n) = arith n
 -- the open parentheses of a mode
 abbrev pub openIn : Mode → ℕ
 openIn (Word fresh) = 0
+openIn (Value fresh) = 0
 openIn (Bare fresh lists) = 0
 openIn Single = 0
 openIn (Double lists) = 0
@@ -39,11 +41,27 @@ openIn (Arith n) = n
 -- the mode in which a text goes on after its first item
 abbrev pub modeOnward : Mode → Mode
 modeOnward (Word fresh) = Word false
+modeOnward (Value fresh) = Value false
 modeOnward (Bare fresh lists) = Bare false lists
 modeOnward Single = Single
 modeOnward (Double lists) = Double lists
 modeOnward (Operand lists) = Operand lists
 modeOnward (Arith n) = Arith n
+
+-- whether a tilde of a value is looked at behind a byte
+abbrev pub opensTilde : Bool → ℕ → Bool
+opensTilde true b = false
+opensTilde false b = eqb b (code ":")
+
+-- the mode in which a text goes on after a byte that stands for itself
+abbrev pub modeBehind : Mode → Bool → ℕ → Mode
+modeBehind (Word fresh) q b = Word false
+modeBehind (Value fresh) q b = Value (opensTilde q b)
+modeBehind (Bare fresh lists) q b = Bare false lists
+modeBehind Single q b = Single
+modeBehind (Double lists) q b = Double lists
+modeBehind (Operand lists) q b = Operand lists
+modeBehind (Arith n) q b = Arith n
 
 abbrev pub formOf : Form → syntax.Form
 formOf (Minus colon) = syntax.minus (colonOf colon)

@@ -1,18 +1,20 @@
-// What a byte is where it stands. A mode says where a text stands: in a word of the line, in an operand, in quotes, in arithmetic. Each function
+// What a byte is where it stands. A mode says where a text stands: in a word of the line, in a value, in an operand, in quotes, in arithmetic. Each function
 // answers one question about a byte in a mode; none looks at a second byte.
 ghost use mathlib.Core.Path.{_≡_};
 ghost use mathlib.Core.List.{[], _∷_};
 ghost use Rattle.stages.specs.Bytes.{isIn, text};
 ghost use Rattle.stages.specs.Syntax.{word, bare, single, double, quotedOperand, arith};
 ghost use Rattle.text.specs.Cases.{colonOf, startOf, listsOf};
-ghost use Rattle.stages.specs.Items.{quotable, notServed, listsIn, both, letBy, ended, wrong, fault, signForm, beginsTilde, endsLogin};
-ghost use Rattle.read_mode.specs.Modes.{modeOf, formOf, modeOnward, Operands, Sorted, Shared, quotesSort, plainSort, endsLine};
+ghost use Rattle.stages.specs.Items.{quotable, notServed, listsIn, both, letBy, ended, wrong, fault, signForm, beginsTilde, loginEnds, endsLogin};
+ghost use Rattle.read_mode.specs.Modes.{modeOf, formOf, modeOnward, opensTilde, modeBehind, Operands, Sorted, Shared, quotesSort, plainSort, endsLine};
 use text::numbers;
 
 // Where a text stands.
 pub enum Mode {
     // a word of the line; whether it is read from its first byte on, where alone a tilde is looked at
     Word(bool),
+    // the value of an assignment; whether a tilde is looked at
+    Value(bool),
     // an operand read as bare text; whether it is read from its first byte on, and whether `$@` and `$*` may stand in it
     Bare { fresh: bool, lists: bool },
     // '...'
@@ -193,6 +195,7 @@ pub fn sort_at(mode: Mode, b: u8) -> Sort
 {
     match mode {
         Mode::Word(fresh) => sort_word(fresh, b),
+        Mode::Value(fresh) => sort_word(fresh, b),
         Mode::Bare { fresh, lists } => sort_bare(fresh, lists, b),
         Mode::Single => sort_single(b),
         Mode::Double(lists) => sort_double(lists, b),
@@ -207,6 +210,7 @@ pub fn is_quotable(mode: Mode, b: u8) -> bool
 {
     match mode {
         Mode::Word(_) => true,
+        Mode::Value(_) => true,
         Mode::Bare { fresh: _, lists: _ } => true,
         Mode::Single => false,
         Mode::Double(_) => text::is_in(b, b"$`\"\\"),
@@ -233,6 +237,7 @@ pub fn is_not_served(mode: Mode, b: u8) -> bool
 {
     match mode {
         Mode::Word(_) => is_unserved_bare(b),
+        Mode::Value(_) => is_unserved_bare(b),
         Mode::Bare { fresh: _, lists: _ } => is_unserved_bare(b),
         Mode::Single => false,
         Mode::Double(_) => is_unserved(b),
@@ -247,6 +252,7 @@ pub fn lists_in(mode: Mode) -> bool
 {
     match mode {
         Mode::Word(_) => true,
+        Mode::Value(_) => false,
         Mode::Bare { fresh: _, lists } => lists,
         Mode::Single => false,
         Mode::Double(lists) => lists,
@@ -282,6 +288,10 @@ pub fn operand_mode(mode: Mode, let_by_sign: bool) -> Mode
             fresh: true,
             lists: lists,
         },
+        Mode::Value(_) => Mode::Bare {
+            fresh: true,
+            lists: lists,
+        },
         Mode::Bare { fresh: _, lists: _ } => Mode::Bare {
             fresh: true,
             lists: lists,
@@ -296,12 +306,13 @@ pub fn operand_mode(mode: Mode, let_by_sign: bool) -> Mode
     }
 }
 
-// May the line end here? Only in a word.
+// May the line end here? Only in a word, and in a value.
 pub fn may_end(mode: Mode) -> bool
     ensures { λ r. ⌜ ended (modeOf mode) ≡ endsLine r ⌝ }
 {
     match mode {
         Mode::Word(_) => true,
+        Mode::Value(_) => true,
         Mode::Bare { fresh: _, lists: _ } => false,
         Mode::Single => false,
         Mode::Double(_) => false,
@@ -316,6 +327,7 @@ pub fn onward(mode: Mode) -> Mode
 {
     match mode {
         Mode::Word(_) => Mode::Word(false),
+        Mode::Value(_) => Mode::Value(false),
         Mode::Bare { fresh: _, lists } => Mode::Bare {
             fresh: false,
             lists: lists,
@@ -327,11 +339,41 @@ pub fn onward(mode: Mode) -> Mode
     }
 }
 
-// Does a login end before the byte? At a `/`, and where the text ends.
+// Is a tilde of a value looked at behind the byte, which a backslash quotes or not? Behind a bare `:`.
+fn opens_tilde(quoted: bool, b: u8) -> bool
+    ensures { λ r. ⌜ r ≡ opensTilde quoted b ⌝ }
+{
+    if quoted {
+        return false;
+    }
+    b == b':'
+}
+
+// The mode in which a text goes on after a byte that stands for itself.
+pub fn behind_byte(mode: Mode, quoted: bool, b: u8) -> Mode
+    ensures { λ r. ⌜ r ≡ modeBehind mode quoted b ⌝ }
+{
+    match mode {
+        Mode::Value(_) => Mode::Value(opens_tilde(quoted, b)),
+        _ => onward(mode),
+    }
+}
+
+// Is the byte one at which a login ends in this mode?
+fn is_login_end(mode: Mode, b: u8) -> bool
+    ensures { λ r. ⌜ r ≡ isIn b (loginEnds (modeOf mode)) ⌝ }
+{
+    match mode {
+        Mode::Value(_) => text::is_in(b, b"/:"),
+        _ => b == b'/',
+    }
+}
+
+// Does a login end before the byte? At a `/`, in a value also at a `:`, and where the text ends.
 pub fn ends_login(mode: Mode, b: u8) -> bool
     ensures { λ r. ⌜ r ≡ endsLogin (modeOf mode) (b ∷ []) ⌝ }
 {
-    if b == b'/' {
+    if is_login_end(mode, b) {
         return true;
     }
     let sort = sort_at(mode, b);

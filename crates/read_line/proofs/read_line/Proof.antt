@@ -1,81 +1,15 @@
--- The words read so far stand in front of those from here on. A word has a byte, so what is left falls.
-use Prim.Native.Nat.{_-_}
-use native.Mathlib.Omega.{arith}
-use lib.ListN.{length}
-use Rattle.read_line.specs.Says.{NextAt, WordTo}
-use Rattle.read_line.proofs.Lines.{next-shown, word-shown, Walks, walks-start, walks-read, walks-fault, walks-next}
+-- The pieces of the line from its start on are its words.
+use Rattle.stages.specs.Read.{readLine}
 use borrow.Author.Needs.{needs}
 use Rattle.read_line.proofs.read_line.Statement.{statement}
 use Rattle.read_line.proofs.read_line.Tie as tie
 
-abbrev Inv-loop : tie.InvT-loop
-Inv-loop line at₀ at = Walks line at
+read-pieces-requires : tie.Need-read-pieces-requires
+read-pieces-requires c κs = search needs
 
-abbrev μ-loop : tie.MeasureT-loop
-μ-loop line at₀ at = length line - at
-
--- the word that was found
-found : (c : tie.After-word Inv-loop μ-loop) →
-    let l = c .before .before .before in
-    NextAt (l .before .before .args .line .now) (l .loop .at) (c .word .given .0 .0)
-found c = next-shown _ _ (c .before .before .next-word .ensures) (c .word .given .1)
-
--- and where it ends, if it is read
-read-to : (c : tie.After-got2 Inv-loop μ-loop) →
-    let w = c .before .before .before .before in
-    WordTo (w .before .before .before .before .before .args .line .now) (w .word .given .0 .0) (c .got2 .given .0 .0)
-read-to c = word-shown _ _ (c .before .before .read-word .ensures) (c .got2 .given .1)
-
-loop-holds : tie.Need-loop-holds Inv-loop μ-loop
-loop-holds c = walks-start _
-
-next-word-requires : tie.Need-next-word-requires Inv-loop μ-loop
-next-word-requires c κs = c .loop .inv .within
-
-enum-told : tie.Need-enum-told Inv-loop μ-loop
-enum-told c = search needs
-
-returns : tie.Need-returns Inv-loop μ-loop
-returns c = walks-read (c .before .before .before .loop .inv) (next-shown _ _ (c .before .before .next-word .ensures) (c .enum-told .given .1))
-
-enum-known-word : tie.Need-enum-known-word Inv-loop μ-loop
-enum-known-word c = search needs
-
-read-word-requires : tie.Need-read-word-requires Inv-loop μ-loop
-read-word-requires c κs = (found (c .before) .within, found (c .before) .starts)
-
-enum-known-got : tie.Need-enum-known-got Inv-loop μ-loop
-enum-known-got c = search needs
-
-returns-2 : tie.Need-returns-2 Inv-loop μ-loop
-returns-2 c =
-    let w = c .before .before .before .before .before in
-    walks-fault (w .before .before .before .loop .inv) (found w)
-    (word-shown _ _ (c .before .before .before .read-word .ensures) (c .before .got .given .1))
-
-enum-known-got-2 : tie.Need-enum-known-got-2 Inv-loop μ-loop
-enum-known-got-2 c = search needs
-
-loop-less : tie.Need-loop-less Inv-loop μ-loop
-loop-less c = let r = c .before in omega (arith, found (r .before .before .before .before) .onward, read-to r .onward, read-to r .within)
-
-loop-again : tie.Need-loop-again Inv-loop μ-loop
-loop-again c = let w = c .before .before .before .before .before in walks-next (w .before .before .before .loop .inv) (found w) (read-to (c .before))
+returns : tie.Need-returns
+unfolding readLine
+returns c = c .read-pieces .ensures
 
 pub read-line-spec : {M : Type 1} → statement M
-read-line-spec =
-    tie.close
-    (tie.spec
-    Inv-loop
-    μ-loop
-    loop-holds
-    next-word-requires
-    enum-told
-    returns
-    enum-known-word
-    read-word-requires
-    enum-known-got
-    returns-2
-    enum-known-got-2
-    loop-less
-    loop-again)
+read-line-spec = tie.close (tie.spec read-pieces-requires returns)

@@ -7,11 +7,14 @@ use Rattle.read_mode.proofs.lists_in.Tie as tie
 enum-told : tie.Need-enum-told
 enum-told c = search needs
 
+enum-told-2 : tie.Need-enum-told-2
+enum-told-2 c = search needs
+
 enum-known-mode : tie.Need-enum-known-mode
 enum-known-mode c = search needs
 
-enum-told-2 : tie.Need-enum-told-2
-enum-told-2 c = search needs
+enum-told-3 : tie.Need-enum-told-3
+enum-told-3 c = search needs
 
 enum-known-mode-2 : tie.Need-enum-known-mode-2
 enum-known-mode-2 c = search needs
@@ -19,8 +22,8 @@ enum-known-mode-2 c = search needs
 enum-known-mode-3 : tie.Need-enum-known-mode-3
 enum-known-mode-3 c = search needs
 
-enum-told-3 : tie.Need-enum-told-3
-enum-told-3 c = search needs
+enum-told-4 : tie.Need-enum-told-4
+enum-told-4 c = search needs
 
 returns : tie.Need-returns
 unfolding listsIn
@@ -28,37 +31,43 @@ returns c = rw (c .enum-told .given .1)
 
 returns-2 : tie.Need-returns-2
 unfolding listsIn
-returns-2 c = rw (c .before .mode .given .1)
+returns-2 c = rw (c .enum-told2 .given .1)
 
 returns-3 : tie.Need-returns-3
 unfolding listsIn
-returns-3 c = rw (c .enum-told2 .given .1)
+returns-3 c = rw (c .before .mode .given .1)
 
 returns-4 : tie.Need-returns-4
 unfolding listsIn
-returns-4 c = rw (c .before .mode2 .given .1)
+returns-4 c = rw (c .enum-told3 .given .1)
 
 returns-5 : tie.Need-returns-5
 unfolding listsIn
-returns-5 c = rw (c .before .mode3 .given .1)
+returns-5 c = rw (c .before .mode2 .given .1)
 
 returns-6 : tie.Need-returns-6
 unfolding listsIn
-returns-6 c = rw (c .enum-told3 .given .1)
+returns-6 c = rw (c .before .mode3 .given .1)
+
+returns-7 : tie.Need-returns-7
+unfolding listsIn
+returns-7 c = rw (c .enum-told4 .given .1)
 
 pub lists-in-spec : {M : Type 1} → statement M
 lists-in-spec =
     tie.close
     (tie.spec
     enum-told
-    enum-known-mode
     enum-told-2
+    enum-known-mode
+    enum-told-3
     enum-known-mode-2
     enum-known-mode-3
-    enum-told-3
+    enum-told-4
     returns
     returns-2
     returns-3
     returns-4
     returns-5
-    returns-6)
+    returns-6
+    returns-7)

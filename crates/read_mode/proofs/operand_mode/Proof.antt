@@ -4,7 +4,7 @@ use Rattle.stages.specs.Syntax.{Lists}
 use Rattle.stages.specs.Items.{listsIn, both}
 use Rattle.text.specs.Cases.{listsOf}
 use Rattle.read_mode.specs.Modes.{modeOf}
-use Rattle.read_mode.proofs.Letting.{in-word, in-bare, in-single, in-double, in-operand, in-arith}
+use Rattle.read_mode.proofs.Letting.{in-word, in-value, in-bare, in-single, in-double, in-operand, in-arith}
 use borrow.Author.Needs.{needs}
 use Rattle.read_mode.proofs.operand_mode.Statement.{statement}
 use Rattle.read_mode.proofs.operand_mode.Tie as tie
@@ -33,6 +33,9 @@ enum-told-5 c = search needs
 enum-told-6 : tie.Need-enum-told-6
 enum-told-6 c = search needs
 
+enum-told-7 : tie.Need-enum-told-7
+enum-told-7 c = search needs
+
 -- whether they may stand in the operand
 lists : (c : tie.After-both-let) → let a = c .before .before .args in
     listsOf (c .both-let .result) ≡ both (listsIn (modeOf (a .mode))) (listsOf (a .let-by-sign))
@@ -52,7 +55,7 @@ returns-2 c =
     let b = c .before .before in
     let a = b .before .before .args in
     record {
-      is = in-bare (a .mode) (listsOf (a .let-by-sign)) (listsOf (b .both-let .result)) (lists b) (c .enum-told2 .given .1);
+      is = in-value (a .mode) (listsOf (a .let-by-sign)) (listsOf (b .both-let .result)) (lists b) (c .enum-told2 .given .1);
       closed = refl;
     }
 
@@ -61,7 +64,7 @@ returns-3 c =
     let b = c .before .before in
     let a = b .before .before .args in
     record {
-      is = in-single (a .mode) (listsOf (a .let-by-sign)) (listsOf (b .both-let .result)) (lists b) (c .enum-told3 .given .1);
+      is = in-bare (a .mode) (listsOf (a .let-by-sign)) (listsOf (b .both-let .result)) (lists b) (c .enum-told3 .given .1);
       closed = refl;
     }
 
@@ -70,7 +73,7 @@ returns-4 c =
     let b = c .before .before in
     let a = b .before .before .args in
     record {
-      is = in-double (a .mode) (listsOf (a .let-by-sign)) (listsOf (b .both-let .result)) (lists b) (c .enum-told4 .given .1);
+      is = in-single (a .mode) (listsOf (a .let-by-sign)) (listsOf (b .both-let .result)) (lists b) (c .enum-told4 .given .1);
       closed = refl;
     }
 
@@ -79,7 +82,7 @@ returns-5 c =
     let b = c .before .before in
     let a = b .before .before .args in
     record {
-      is = in-operand (a .mode) (listsOf (a .let-by-sign)) (listsOf (b .both-let .result)) (lists b) (c .enum-told5 .given .1);
+      is = in-double (a .mode) (listsOf (a .let-by-sign)) (listsOf (b .both-let .result)) (lists b) (c .enum-told5 .given .1);
       closed = refl;
     }
 
@@ -88,7 +91,16 @@ returns-6 c =
     let b = c .before .before in
     let a = b .before .before .args in
     record {
-      is = in-arith (a .mode) (listsOf (a .let-by-sign)) (listsOf (b .both-let .result)) (lists b) (c .enum-told6 .given .1);
+      is = in-operand (a .mode) (listsOf (a .let-by-sign)) (listsOf (b .both-let .result)) (lists b) (c .enum-told6 .given .1);
+      closed = refl;
+    }
+
+returns-7 : tie.Need-returns-7
+returns-7 c =
+    let b = c .before .before in
+    let a = b .before .before .args in
+    record {
+      is = in-arith (a .mode) (listsOf (a .let-by-sign)) (listsOf (b .both-let .result)) (lists b) (c .enum-told7 .given .1);
       closed = refl;
     }
 
@@ -104,9 +116,11 @@ operand-mode-spec =
     enum-told-4
     enum-told-5
     enum-told-6
+    enum-told-7
     returns
     returns-2
     returns-3
     returns-4
     returns-5
-    returns-6)
+    returns-6
+    returns-7)
