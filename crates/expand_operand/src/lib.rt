@@ -80,8 +80,8 @@ fn limit_of(vars_room: usize) -> usize
     vars_room
 }
 
-// Stores the operand's bytes without marks under the name.
-fn store_operand(
+// Stores the bytes without marks of the row at the front of the area under the name: the row of an operand, or of an assignment's value.
+pub fn store_operand(
     name: &[u8],
     units: usize,
     vars: &mut [u8],

@@ -83,7 +83,10 @@ lending {homes = homes} params w h l =
       };
     }
 
--- An operand's row: the bytes at the front, none of them zero.
+pub row-at : (row : Row) (area : Text) (n : ℕ) → Stands row area → length row ≡ n → rowOf (take (2 * n) area) ≡ row
+row-at row area n s e = ap rowOf (front row area n s e) ∙ rowOf-rowBytes row
+
+-- The row of a text: the bytes at the front, none of them zero.
 module _ {lent : Lent} {text : Text} {at : ℕ} {mode : Mode} {d units size : ℕ} {vars₀ : Text} {varsUsed : ℕ} (y : Ready text at mode d units size)
     (w : Lends lent vars₀ varsUsed) where
   tree-safe : SafeParts (y .tree)
@@ -95,8 +98,19 @@ module _ {lent : Lent} {text : Text} {at : ℕ} {mode : Mode} {d units size : �
       bytes-safe row (safe-done (expand-safe lent (w .safe) (y .tree) tree-safe k 0 (held (take varsUsed vars₀))
       (kept-held (lent .room) vars₀ varsUsed (w .holds))) e .0)
 
-pub row-at : (row : Row) (area : Text) (n : ℕ) → Stands row area → length row ≡ n → rowOf (take (2 * n) area) ≡ row
-row-at row area n s e = ap rowOf (front row area n s e) ∙ rowOf-rowBytes row
+  -- so it may be stored under a name
+  pub row-storable : (k : Mark) {area us : Text} {count left : ℕ} {came : Bool}
+      → IsRow (lent .room) 0 (expand lent (y .tree) k 0 (held (take varsUsed vars₀))) area us count left came → (p : Param) → IsNamed p
+      → Storable p area count
+  row-storable k {area} {us} {count} {left} {came} o p i =
+      let e = row-at (o .row) area count (o .stands) (o .counts) in
+      record {
+        few = omega (arith, o .fits);
+        inside = stands-inside (o .row) area count (o .stands) (o .counts);
+        is = ap rowBytes e ∙ sym (front (o .row) area count (o .stands) (o .counts));
+        clean = ap (λ (r : Row). all notZero (bytes r)) e ∙ row-clean k (o .row) (held (take left us)) came (o .is);
+        named = i;
+      }
 
 -- what a reader answers, once its case is known
 pub reading-known : (text : Text) (at : ℕ) (o : Taken) {r k : Reading} → ReadSays text at o r → r ≡ k → ReadSays text at o k
@@ -320,16 +334,7 @@ module _ {lent : Lent} {text : Text} {at : ℕ} {mode : Mode} {d size : ℕ} {va
     at-front = row-at (operand-row .0 .row) ys count (operand-row .0 .stands) (operand-row .0 .counts)
 
     pub used-ready : IsNamed p → Storable p ys count
-    used-ready i =
-        let o = operand-row .0 in
-        record {
-          few = omega (arith, o .fits);
-          inside = stands-inside (o .row) ys count (o .stands) (o .counts);
-          is = ap rowBytes at-front ∙ sym (front (o .row) ys count (o .stands) (o .counts));
-          clean = ap (λ (r : Row). all notZero (bytes r)) at-front ∙ row-clean (x .ready) (x .lends) (x .mark) (o .row)
-              (held (take left us)) came (o .is);
-          named = i;
-        }
+    used-ready i = row-storable (x .ready) (x .lends) (x .mark) (operand-row .0) p i
 
     pub used-given : (area vars : Text) (f : Expanded) → Finishes (lent .room) units
         (placed units (finished what lent p m (rowOf (take (2 * count) ys), held (take left us), came))) next area vars f

@@ -11,7 +11,7 @@ use Rattle.stages.specs.Outcome.{Outcome, refused, done}
 use Rattle.stages.specs.Images.{Pairs, held, orEmpty}
 use Rattle.stages.specs.Syntax.{unescaped, Parts, plain, end, lit, quo, par, len, lst, ari, til, bytesOf, parameters, arith as sums}
 use Rattle.stages.specs.Syntax as syntax
-use Rattle.stages.specs.Items.{item, onward}
+use Rattle.stages.specs.Items.{item, onward, behindByte}
 use Rattle.stages.specs.Items as items
 use Rattle.stages.specs.Read.{Taken, parts, nest}
 use Rattle.stages.specs.Units.{Mark, cell, Row, marked, expandedMark, litMark, decimal}
@@ -24,8 +24,8 @@ use Rattle.stages.proofs.Safe.{SafeParts, parts-safe}
 use Rattle.stages.proofs.Items.{IsParam}
 use Rattle.stages.proofs.Read.{at-fault, at-stop, at-byte, at-paren, at-value, at-count, at-spread, at-quote, at-inner, at-sum, at-home}
 use Rattle.stages.proofs.Read.{behind, Within, within}
-use Rattle.read_mode.specs.Modes.{modeOf, openIn, modeOnward, formOf}
-use Rattle.read_mode.proofs.GoingOn.{onward-mode, onward-open}
+use Rattle.read_mode.specs.Modes.{modeOf, openIn, modeOnward, modeBehind, formOf}
+use Rattle.read_mode.proofs.GoingOn.{onward-mode, onward-open, behind-mode, behind-open}
 use Rattle.read_mode.specs.declared.Mode.{Mode}
 use Rattle.read_mode.specs.declared.Mode.the-variants.{Arith}
 use Rattle.read_mode.specs.declared.Form as code-form
@@ -185,12 +185,14 @@ module _ {lent : Lent} {text : Text} {at : ℕ} {mode : Mode} {d : ℕ} {m : Mar
       → Adds units (record { next = next; «vars_used» = varsUsed; «of_none» = false }) (done (cell k b ∷ [])) area g → Said area vars₀ g
   item-byte {q} {b} {next} c {k} e area g f =
       let s = shown text at d _ (x .shows) c in
-      let t = behind (lit (escapeOf q) b) (parts (onward (modeOf mode)) d (drop next text)) (x .ready .tree) (x .ready .rest)
-      (sym (at-byte text at (modeOf mode) d (escapeOf q) b next (s .0) (s .1 .onward)) ∙ x .ready .is) in
+      let l = s .1 .onward in
+      let t = behind (lit (escapeOf q) b) (parts (behindByte (modeOf mode) (escapeOf q) b) d (drop next text)) (x .ready .tree) (x .ready .rest)
+      (sym (at-byte text at (modeOf mode) d (escapeOf q) b next (s .0) l) ∙ x .ready .is) in
       known m (x .ready) (x .lends) c area vars₀ g
-      (own-on m (x .ready) (x .lends) (t .next) false (done (cell (litMark (escapeOf q) m) b ∷ []))
+      (own-added m (x .ready) (x .lends) (t .next) false (done (cell (litMark (escapeOf q) m) b ∷ []))
       (ap (λ (x : Parts). expand lent x m units u) (t .whole) ∙ expand-lit lent (t .next) m units (escapeOf q) b u)
-      next (t .read) (s .1 .onward) (s .1 .within) area g
+      next (modeBehind mode q b) (ap (λ (j : syntax.Mode). parts j d (drop next text)) (sym (behind-mode mode q b)) ∙ t .read)
+      (omega (arith, behind-open mode q b, x .ready .opens)) l (s .1 .within) area g
       (adds-same units (record { next = next; «vars_used» = varsUsed; «of_none» = false }) area g (ap (λ (j : Mark). done (cell j b ∷ [])) e) f))
 
   pub paren-place : {b n : ℕ} → r ≡ Paren b n → at < length text

@@ -1,0 +1,4 @@
+pub mod Valuing
+pub mod Going
+pub mod Standing
+pub mod Determined
