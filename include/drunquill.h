@@ -1,4 +1,4 @@
-/* Drunquill: POSIX words expanded, fields quoted. Three functions over buffers that the caller lends.
+/* Drunquill: POSIX words expanded, fields quoted, variables assigned. Four functions over buffers that the caller lends.
  *
  * The functions are proved to answer as docs/01-scope.md says, with the requests of docs/02-change-requests.md that have landed, for any bytes in any
  * buffers: they call nothing but memcpy and memset, keep nothing between calls, use no heap, always return, and may run in several threads at once on
@@ -37,8 +37,8 @@ extern "C" {
 #define DRUNQUILL_LINE_MAX 2048    /* the longest line, and the longest quoted line */
 #define DRUNQUILL_IMAGE_MAX 8192   /* the longest image of variables, homes, parameters or fields */
 #define DRUNQUILL_PATHS_MAX 32768  /* the longest image of paths */
-#define DRUNQUILL_UNITS_MAX 2048   /* units of a word, an operand or an arithmetic text: its bytes, a mark for each opening quote, and between two
-                                      parameters of $@ or $* a mark, in quotes $@ has two */
+#define DRUNQUILL_UNITS_MAX 2048   /* units of a word, a value, an operand or an arithmetic text: its bytes, a mark for each opening quote, and between
+                                      two parameters of $@ or $* a mark, in quotes $@ has two */
 #define DRUNQUILL_MESSAGE_MAX 2048 /* no message is longer: it has at most a byte for each unit of an operand */
 #define DRUNQUILL_DEPTH_MAX 8      /* expansions open at once, "${" and "$((" together */
 #define DRUNQUILL_OPEN_MAX 32      /* parentheses and unary signs, + - ! ~, open at once in arithmetic, together */
@@ -60,12 +60,12 @@ enum {
     DRUNQUILL_BARE_OPERATOR = 8,      /* one of |&;<>() not quoted, or a # that begins a word */
     DRUNQUILL_SUBSTITUTION = 9,       /* a command substitution: $( or a backquote */
     DRUNQUILL_UNSERVED = 10,          /* a parameter that is not served: $?, $0, ${01}, ${1=x}, $'..'; $@ or $* in an operand of = or ?, of a removal, in
-                                         arithmetic, or with an operator */
-    DRUNQUILL_BAD_SYNTAX = 11,        /* other bad syntax */
+                                         arithmetic, in a value that is assigned, or with an operator */
+    DRUNQUILL_BAD_SYNTAX = 11,        /* other bad syntax; from the assigner, a word that does not begin with a name and a bare = */
     DRUNQUILL_TOO_DEEP = 12,          /* more than DRUNQUILL_DEPTH_MAX expansions, or DRUNQUILL_OPEN_MAX parentheses and signs */
     DRUNQUILL_DEMANDED = 13,          /* ${name?word} or ${name:?word} on a missing value: `message` begins with what the word expands to. A fault of the
                                          word comes in place of 13 */
-    DRUNQUILL_TOO_MANY_UNITS = 14,    /* a word, an operand or an arithmetic text above DRUNQUILL_UNITS_MAX units */
+    DRUNQUILL_TOO_MANY_UNITS = 14,    /* a word, a value, an operand or an arithmetic text above DRUNQUILL_UNITS_MAX units */
     DRUNQUILL_NOT_NUMBER = 15,        /* arithmetic: a constant or a variable's value that is not a number */
     DRUNQUILL_ARITHMETIC_SYNTAX = 16, /* arithmetic: bad syntax, or an empty text */
     DRUNQUILL_OVERFLOW = 17,          /* arithmetic: out of the range of 64 signed bits, or a shift count that is not 0 to 63 */
@@ -77,12 +77,12 @@ enum {
     DRUNQUILL_BAD_PARAMETERS = 23     /* positional parameters malformed or above their limit */
 };
 
-/* What the expander and the normaliser answer. */
+/* What the expander, the normaliser and the assigner answer. */
 struct drunquill_answer {
     uint8_t number;     /* one of the numbers above */
     size_t place;       /* where in the line: the offset of the first byte of the word at fault, or of the operator itself if no word is open.
                            0 on acceptance, for numbers 1 to 6 and 23, and for 21 from the normaliser's quoting */
-    size_t out_len;     /* bytes written to the front of `out`; 0 on a refusal */
+    size_t out_len;     /* bytes written to the front of `out`; 0 on a refusal, and from the assigner */
     size_t vars_used;   /* the variables' used length now: that of the new image, or on a refusal `vars_used` as it was given */
     size_t message_len; /* bytes written to the front of `message`; 0 for every number but 13, and where message or buffer is empty */
 };
@@ -98,8 +98,7 @@ struct drunquill_quote_answer {
  *
  *  vars         the variables: an image in the first `vars_used` of `vars_len` bytes. ${name=word} stores into it. The buffer may be longer than
  *               DRUNQUILL_IMAGE_MAX, the image may not.
- *  homes        whose directory ~login gives, at the start of a word or of a bare
- *               operand; ~ alone gives the variable HOME
+ *  homes        whose directory ~login gives, at the start of a word or of a bare operand; ~ alone gives the variable HOME
  *  params       the positional parameters: an image of fields, the first of them $1. One without parameters is the byte 1.
  *  paths        what patterns are matched against: the function looks at no file
  *  work         at least DRUNQUILL_WORK_LEAST bytes, whatever they hold. After every call, whatever the number, all `work_len` bytes are zero.
@@ -122,6 +121,22 @@ struct drunquill_answer drunquill_expand(const uint8_t *line, size_t line_len, u
 struct drunquill_answer drunquill_normalise(const uint8_t *line, size_t line_len, uint8_t *vars, size_t vars_len, size_t vars_used, const uint8_t *homes,
                                             size_t homes_len, const uint8_t *params, size_t params_len, const uint8_t *paths, size_t paths_len,
                                             uint8_t *work, size_t work_len, uint8_t *out, size_t out_len, uint8_t *message, size_t message_len);
+
+/* The assigner: each word of the line is a name, a bare `=` and a value, which may be empty, as in out=~/jobs:$base, and sets that variable. Assignments take
+ * effect from left to right, each seen by the next; if one is refused, none has taken effect.
+ *
+ * A value is expanded as a word is, but it is neither split nor matched against paths: it is one text. ~ and ~login give a directory right after the
+ * assignment's own `=`, and after each `:` that is written in the value, not quoted and in no operand; a login there ends at a `:` too. A word without name
+ * and `=` is DRUNQUILL_BAD_SYNTAX, whatever else is wrong with it; $@ and $* in a value are DRUNQUILL_UNSERVED.
+ *
+ * `vars`, `homes`, `params`, `work` and `message` are as in the expander; there are neither paths nor output, and the answer's `out_len` is 0. On acceptance
+ * the variables' new image stands at the front of `vars`, and its length is the answer's `vars_used`. It may be shorter than the one before: then the bytes
+ * after it are zero up to the `vars_used` that was given. All other bytes of `vars` are unchanged, and on a refusal every byte is. Faults are met in this
+ * order: numbers 1 to 3, 23, 5 and 6; then the whole line is read; then its values are expanded and stored from left to right. 4, 21 and 22 do not arise.
+ */
+struct drunquill_answer drunquill_assign(const uint8_t *line, size_t line_len, uint8_t *vars, size_t vars_len, size_t vars_used, const uint8_t *homes,
+                                         size_t homes_len, const uint8_t *params, size_t params_len, uint8_t *work, size_t work_len, uint8_t *message,
+                                         size_t message_len);
 
 /* The quoter: an image of fields as a line to `out`. A field that is not empty and holds only letters, digits, `.`, `_`, `-` and `/` stands there bare; any
  * other in single quotes, each ' in it written '\''. One blank between fields; no fields, no bytes. No zero byte is put after the line. Above

@@ -49,7 +49,8 @@ static inline void compare_buffers(const char *name) {
     if (!same(&message, &message_before)) fail(name, "message");
 }
 
-static inline void call(const char *name, job *f, unsigned number, size_t place) {
+/* Lends the buffers that a job writes to: the variables, and junk. */
+static inline void lend_all(void) {
     lend(&vars, vars_len, &vars_image, 5);
     lend(&work, work_len, NULL, 77);
     lend(&out, out_len, NULL, 141);
@@ -58,8 +59,9 @@ static inline void call(const char *name, job *f, unsigned number, size_t place)
     work_before = work;
     out_before = out;
     message_before = message;
-    struct drunquill_answer a = f(line.at, line.len, lent(&vars), vars_len, used, homes_image.at, homes_image.len, params_image.at, params_image.len,
-                                  paths_image.at, paths_image.len, lent(&work), work_len, lent(&out), out_len, lent(&message), message_len);
+}
+
+static inline void compare(const char *name, struct drunquill_answer a, unsigned number, size_t place) {
     if (a.number != number) {
         printf("tests/built/c: %s: number %u, not %u\n", name, a.number, number);
         exit(1);
@@ -70,6 +72,14 @@ static inline void call(const char *name, job *f, unsigned number, size_t place)
     if (a.message_len != want_message.len) fail(name, "message length");
     compare_buffers(name);
     count++;
+}
+
+static inline void call(const char *name, job *f, unsigned number, size_t place) {
+    lend_all();
+    compare(name,
+            f(line.at, line.len, lent(&vars), vars_len, used, homes_image.at, homes_image.len, params_image.at, params_image.len, paths_image.at,
+              paths_image.len, lent(&work), work_len, lent(&out), out_len, lent(&message), message_len),
+            number, place);
 }
 
 /* A line is refused by both jobs that take one, with the sizes and tables that are set. */

@@ -1,6 +1,6 @@
-/* Measures how deep the expander and the normaliser go on the stack: a thread runs on a stack filled with a pattern, and the lowest byte that a call changed
- * tells. The lines are the deepest known: all eight expansions open, all 32 parentheses and signs, patterns of many stars. The figure counts from the frame of
- * the function that calls the job, and is checked against DRUNQUILL_STACK. */
+/* Measures how deep the jobs that take a line go on the stack: a thread runs on a stack filled with a pattern, and the lowest byte that a call changed tells.
+ * The lines are the deepest known: all eight expansions open, all 32 parentheses and signs, patterns of many stars; the assigner has them as a value. The
+ * figure counts from the frame of the function that calls the job, and is checked against DRUNQUILL_STACK. */
 #define _GNU_SOURCE
 #include <pthread.h>
 #include <sys/mman.h>
@@ -11,15 +11,22 @@ enum { STACK = 1 << 23, PATTERN = 0xA7 };
 
 static struct bytes line, vars_image, homes_image, params_image, paths_image;
 static struct buffer vars, work, out, message;
-static int normalising;
+static enum job { EXPANDER, NORMALISER, ASSIGNER } job;
+static const char *const jobs[] = {"expander", "normaliser", "assigner"};
 static struct drunquill_answer answer;
 static uint8_t *caller;
 
 static void *run(void *unused) {
     caller = __builtin_frame_address(0);
-    answer = (normalising ? drunquill_normalise : drunquill_expand)(line.at, line.len, lent(&vars), vars.len, vars_image.len, homes_image.at, homes_image.len,
-                                                                   params_image.at, params_image.len, paths_image.at, paths_image.len, lent(&work),
-                                                                   work.len, lent(&out), out.len, lent(&message), message.len);
+    if (job == ASSIGNER) {
+        answer = drunquill_assign(line.at, line.len, lent(&vars), vars.len, vars_image.len, homes_image.at, homes_image.len, params_image.at,
+                                  params_image.len, lent(&work), work.len, lent(&message), message.len);
+        return unused;
+    }
+    answer = (job == NORMALISER ? drunquill_normalise : drunquill_expand)(line.at, line.len, lent(&vars), vars.len, vars_image.len, homes_image.at,
+                                                                         homes_image.len, params_image.at, params_image.len, paths_image.at,
+                                                                         paths_image.len, lent(&work), work.len, lent(&out), out.len, lent(&message),
+                                                                         message.len);
     return unused;
 }
 
@@ -66,18 +73,27 @@ static void within_parentheses(const char *open) {
 
 static size_t most;
 
-/* The line is measured in both jobs; the number is to be as expected, so that the line went where it should. */
-static void measure(const char *name, unsigned number) {
-    for (normalising = 0; normalising <= 1; normalising++) {
+/* The line is measured in each job up to the last; the number is to be as expected, so that the line went where it should. */
+static void measure_in(const char *name, unsigned number, enum job last) {
+    static struct bytes word;
+    for (job = EXPANDER; job <= last; job++) {
+        if (job == ASSIGNER) {
+            word = line;
+            line.len = 0;
+            add_string(&line, "a=");
+            add(&line, word.at, word.len);
+        }
         size_t depth = used_by_call();
         if (answer.number != number) {
             printf("tests/built/c: stack: %s: number %u, not %u\n", name, answer.number, number);
             exit(1);
         }
-        printf("  %-52s %-10s %6zu\n", name, normalising ? "normaliser" : "expander", depth);
+        printf("  %-52s %-10s %6zu\n", name, jobs[job], depth);
         if (depth > most) most = depth;
     }
 }
+
+static void measure(const char *name, unsigned number) { measure_in(name, number, ASSIGNER); }
 
 int main(void) {
     static struct bytes inside, value;
@@ -122,7 +138,7 @@ int main(void) {
     within(8, "$((", "1", "))");
     measure("eight nested $((", 0);
     within(8, "${u-", "\"$@\"", "}");
-    measure("eight nested ${u- around 500 parameters", 0);
+    measure_in("eight nested ${u- around 500 parameters", 0, NORMALISER);
 
     within_parentheses("1==1<1+1*(");
     measure("seven ${u- around 32 parentheses after operators", 0);

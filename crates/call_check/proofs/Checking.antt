@@ -12,20 +12,26 @@ use Rattle.stages.specs.Numbers.{workLeast, lineLimit, imageLimit}
 use Rattle.stages.specs.Bytes.{Text, isIn, all, notZero}
 use Rattle.stages.specs.Outcome.{Outcome, refused, demands, done, Placed, refusedAt, doneAt, placedAt, _then_, require, pick}
 use Rattle.stages.specs.Images.{Pairs, isSome, held, variablesOf, homesOf, pathsOf, fieldsOf, recordBytes}
-use Rattle.stages.specs.Syntax.{Word}
+use Rattle.stages.specs.Syntax.{Word, Assignment}
 use Rattle.stages.specs.Read.{readLine}
 use Rattle.stages.specs.Line.{Around, Fields, outFits, wordFields, expandWords, expandLine}
-use Rattle.stages.specs.Call.{Given, orRefused, expanded}
+use Rattle.stages.specs.Params.{Lent}
+use Rattle.stages.specs.Assign.{readAssignments, assignAll, assignLine}
+use Rattle.stages.specs.Call.{Given, orRefused, expanded, assigned}
 use Rattle.stages.proofs.Bools.{no, apart, and-right}
 use Rattle.stages.proofs.Tables.{none-of, vars-of, variables-are, homes-of, homes-are, paths-of, paths-are, fields-of, fields-are}
 use Rattle.stages.proofs.Safe.{NoZero}
 use Rattle.stages.proofs.SafeLines.{no-zero}
 use Rattle.table.specs.Places.{Listed}
-use Rattle.read_line.specs.Says.{verdictOf}
+use Rattle.table.specs.Around.{lentOf}
+use Rattle.read_line.specs.Says.{verdict, verdictOf}
 use Rattle.read_line.specs.declared.LineRead.{LineRead}
-use Rattle.read_line.proofs.Lines.{Accepted}
+use Rattle.read_line.specs.declared.LineRead.the-variants as line-read
+use Rattle.read_line.proofs.Lines.{Accepted, passed, refused-of}
 use Rattle.call_check.specs.Calls.{roomOf, worked}
-use Rattle.call_check.specs.Checks.{roomIn, around, Tabled, Passed, Stopped, Checks}
+use Rattle.call_check.specs.Checks.{roomIn, around, Lends, Unlent, smallArea, usedBeyond, varsBad, homesBad, LendSays}
+use Rattle.call_check.specs.Checks.{Plain, Unplain, tooLong, hasZero, PlainSays, Tabled, Passed, Stopped, Checks}
+use Rattle.call_check.specs.Checks.{AssignPassed, AssignStopped, AssignChecks}
 use Rattle.call_check.specs.declared.Job.{Job}
 use Rattle.call_check.specs.declared.Checked.{Checked}
 use Rattle.call_check.specs.declared.Checked.the-variants.{Fine, Refused}
@@ -40,76 +46,142 @@ zero-in (suc b ∷ t) e z = zero-in t (rw (eqb·zero-suc b) at e) (and-right (no
 refused-read : {A : Type 0} {w : Placed A} {n place : ℕ} {a : A} → w ≡ refusedAt n place → w ≡ doneAt a → ⊥
 refused-read h e = let z : _≡_ {A = ℕ} 0 1 = cc in omega arith
 
--- 1 to 4 and 23
+-- 1 to 3, whatever is worked out behind them
+
+unlent-lends : {work vars houses : Text} {used n place : ℕ} → Unlent work vars used houses n place → Lends work vars used houses → ⊥
+unlent-lends (smallArea h) t = omega (arith, h, t .area)
+unlent-lends (usedBeyond a h) t = omega (arith, h, t .inside)
+unlent-lends (varsBad a i h) t = apart h (t .formed)
+unlent-lends (homesBad a i v h) t = apart h (t .housed)
+
+module _ {A : Type 0} (g : Given) (k : Pairs → Pairs → Placed A) where
+  abbrev lentThen : Placed A
+  lentThen =
+      require (leb workLeast (length (g .work))) workTooSmall 0 then λ _.
+      require (leb (g .varsUsed) (length (g .vars))) badVariables 0 then λ _.
+      orRefused badVariables (variablesOf (take (g .varsUsed) (g .vars))) then λ v.
+      orRefused badHomes (homesOf (g .homes)) then λ h.
+      k v h
+
+  lent-refused : {n place : ℕ} → Unlent (g .work) (g .vars) (g .varsUsed) (g .homes) n place → lentThen ≡ refusedAt n place
+  unfolding orRefused
+  lent-refused (smallArea h) = rw (lt-leb workLeast (length (g .work)) h)
+  lent-refused (usedBeyond a h) = rw (le-leb workLeast (length (g .work)) a, lt-leb (g .varsUsed) (length (g .vars)) h)
+  lent-refused (varsBad a i h) =
+      rw (le-leb workLeast (length (g .work)) a, le-leb (g .varsUsed) (length (g .vars)) i, none-of (variablesOf (take (g .varsUsed) (g .vars))) h)
+  lent-refused (homesBad a i v h) =
+      rw (
+        le-leb workLeast (length (g .work)) a,
+        le-leb (g .varsUsed) (length (g .vars)) i,
+        variables-are _ (vars-of _ v),
+        none-of (homesOf (g .homes)) h,
+      )
+
+  lent-passed : Lends (g .work) (g .vars) (g .varsUsed) (g .homes) → lentThen ≡ k (held (take (g .varsUsed) (g .vars))) (held (g .homes))
+  unfolding orRefused
+  lent-passed t =
+      rw (
+        le-leb workLeast (length (g .work)) (t .area),
+        le-leb (g .varsUsed) (length (g .vars)) (t .inside),
+        variables-are _ (vars-of _ (t .formed)),
+        homes-are _ (homes-of _ (t .housed)),
+      )
+
+-- 1 to 4 and 23 before words
 
 module _ (job : Job) (g : Given) where
-  pub work-small : length (g .work) < workLeast → Stopped job g workTooSmall 0
+  abbrev behind-lent : Pairs → Pairs → Placed (Fields × Pairs)
+  behind-lent v h =
+      orRefused badPaths (pathsOf (g .paths)) then λ p.
+      orRefused badParameters (fieldsOf (g .params)) then λ ps.
+      expandLine (record { lent = record { room = length (g .vars); homes = h; params = ps }; out = roomOf job (length (g .out)); paths = p }) (g .line) v
+
+  worked-lent : worked job g ≡ lentThen g behind-lent
   unfolding expanded
-  work-small h = record { is = rw (lt-leb workLeast (length (g .work)) h); early = λ p. omega (arith, h, p .tables .area) }
+  worked-lent = refl
 
-  module _ (a : workLeast ≤ length (g .work)) where
-    pub used-beyond : length (g .vars) < g .varsUsed → Stopped job g badVariables 0
-    unfolding expanded
-    used-beyond h =
-        record {
-          is = rw (le-leb workLeast (length (g .work)) a, lt-leb (g .varsUsed) (length (g .vars)) h);
-          early = λ p. omega (arith, h, p .tables .inside);
-        }
+  abbrev tables-lend : Tabled g → Lends (g .work) (g .vars) (g .varsUsed) (g .homes)
+  tables-lend t = record { area = t .area; inside = t .inside; formed = t .formed; housed = t .housed }
 
-    module _ (i : g .varsUsed ≤ length (g .vars)) where
-      pub variables-bad : isSome (variablesOf (take (g .varsUsed) (g .vars))) ≡ false → Stopped job g badVariables 0
-      unfolding expanded orRefused
-      variables-bad h =
-          record {
-            is = rw (le-leb workLeast (length (g .work)) a, le-leb (g .varsUsed) (length (g .vars)) i, none-of (variablesOf (take (g .varsUsed) (g .vars))) h);
-            early = λ p. apart h (p .tables .formed);
-          }
+  pub lent-stops : {n place : ℕ} → Unlent (g .work) (g .vars) (g .varsUsed) (g .homes) n place → Stopped job g n place
+  lent-stops u = record { is = worked-lent ∙ lent-refused g behind-lent u; early = λ p. unlent-lends u (tables-lend (p .tables)) }
 
-      module _ (v : isSome (variablesOf (take (g .varsUsed) (g .vars))) ≡ true) where
-        pub homes-bad : isSome (homesOf (g .homes)) ≡ false → Stopped job g badHomes 0
-        unfolding expanded orRefused
-        homes-bad h =
+  module _ (t : Lends (g .work) (g .vars) (g .varsUsed) (g .homes)) where
+    pub paths-bad : isSome (pathsOf (g .paths)) ≡ false → Stopped job g badPaths 0
+    unfolding orRefused
+    paths-bad h =
+        record { is = worked-lent ∙ lent-passed g behind-lent t ∙ rw (none-of (pathsOf (g .paths)) h); early = λ p. apart h (p .tables .listed) }
+
+    module _ (l : isSome (pathsOf (g .paths)) ≡ true) where
+      pub parameters-bad : isSome (fieldsOf (g .params)) ≡ false → Stopped job g badParameters 0
+      unfolding orRefused
+      parameters-bad h = record {
+        is = worked-lent ∙ lent-passed g behind-lent t ∙ rw (paths-are _ (paths-of _ l), none-of (fieldsOf (g .params)) h);
+        early = λ p. apart h (p .tables .numbered);
+      }
+
+      pub tables-fine : isSome (fieldsOf (g .params)) ≡ true → Tabled g
+      tables-fine n = record { area = t .area; inside = t .inside; formed = t .formed; housed = t .housed; listed = l; numbered = n }
+
+-- E9: 1 to 3 and 23 before assignments
+
+module _ (g : Given) where
+  abbrev behind-tables : Pairs → Pairs → Placed Pairs
+  behind-tables v h =
+      orRefused badParameters (fieldsOf (g .params)) then λ ps. assignLine (record { room = length (g .vars); homes = h; params = ps }) (g .line) v
+
+  assigned-lent : assigned g ≡ lentThen g behind-tables
+  unfolding assigned
+  assigned-lent = refl
+
+  pub assign-unlent : {n place : ℕ} → Unlent (g .work) (g .vars) (g .varsUsed) (g .homes) n place → AssignStopped g n place
+  assign-unlent u = record { is = assigned-lent ∙ lent-refused g behind-tables u; early = λ p. unlent-lends u (p .tables) }
+
+  module _ (t : Lends (g .work) (g .vars) (g .varsUsed) (g .homes)) where
+    pub assign-unnumbered : isSome (fieldsOf (g .params)) ≡ false → AssignStopped g badParameters 0
+    unfolding orRefused
+    assign-unnumbered h =
+        record { is = assigned-lent ∙ lent-passed g behind-tables t ∙ rw (none-of (fieldsOf (g .params)) h); early = λ p. apart h (p .numbered) }
+
+    module _ (n : isSome (fieldsOf (g .params)) ≡ true) where
+      abbrev lent : Lent
+      lent = lentOf (length (g .vars)) (g .homes) (g .params)
+
+      values-left : assigned g ≡ assignLine lent (g .line) (held (take (g .varsUsed) (g .vars)))
+      unfolding orRefused
+      values-left = assigned-lent ∙ lent-passed g behind-tables t ∙ rw (fields-are _ (fields-of _ n))
+
+      pub assign-unplain : {e place : ℕ} → Unplain (g .line) e place → AssignStopped g e place
+      unfolding assignLine
+      assign-unplain (tooLong h) = record { is = values-left ∙ rw (lt-leb (length (g .line)) lineLimit h); early = λ p. omega (arith, h, p .short) }
+      assign-unplain (hasZero l h) =
+          record { is = values-left ∙ rw (le-leb (length (g .line)) lineLimit l, h); early = λ p. zero-in (g .line) h (p .clean) }
+
+      module _ (p : Plain (g .line)) where
+        abbrev then-all : Placed (List Assignment) → Placed Pairs
+        then-all w = w then λ ws. assignAll lent ws (held (take (g .varsUsed) (g .vars)))
+
+        values-read : assigned g ≡ then-all (readAssignments (g .line))
+        unfolding assignLine
+        values-read = values-left ∙ rw (le-leb (length (g .line)) lineLimit (p .short), p .whole)
+
+        pub assign-unread : {e place : ℕ} → verdict (readAssignments (g .line)) ≡ verdictOf (line-read.Refused e place) → AssignStopped g e place
+        assign-unread {e} {place} h =
+            let r = refused-of (readAssignments (g .line)) e place h in
+            record { is = values-read ∙ ap then-all r; early = λ q. refused-read r (q .read) }
+
+        pub assign-passed : verdict (readAssignments (g .line)) ≡ verdictOf line-read.Read → AssignPassed g
+        assign-passed h =
+            let r = passed (readAssignments (g .line)) h in
             record {
-              is = rw (
-                le-leb workLeast (length (g .work)) a,
-                le-leb (g .varsUsed) (length (g .vars)) i,
-                variables-are _ (vars-of _ v),
-                none-of
-                    (homesOf (g .homes)) h,
-              );
-              early = λ p. apart h (p .tables .housed);
+              tables = t;
+              numbered = n;
+              short = p .short;
+              clean = no-zero (g .line) (rw (p .whole));
+              words = r .all;
+              read = r .is;
+              is = values-read ∙ ap then-all (r .is);
             }
-
-        module _ (w : isSome (homesOf (g .homes)) ≡ true) where
-          pub paths-bad : isSome (pathsOf (g .paths)) ≡ false → Stopped job g badPaths 0
-          unfolding expanded orRefused
-          paths-bad h =
-              record {
-                is = rw (
-                  le-leb workLeast (length (g .work)) a,
-                  le-leb (g .varsUsed) (length (g .vars)) i,
-                  variables-are _ (vars-of _ v),
-                  homes-are _
-                      (homes-of _ w),
-                  none-of (pathsOf (g .paths)) h,
-                );
-                early = λ p. apart h (p .tables .listed);
-              }
-
-          pub parameters-bad : isSome (pathsOf (g .paths)) ≡ true → isSome (fieldsOf (g .params)) ≡ false → Stopped job g badParameters 0
-          unfolding expanded orRefused
-          parameters-bad p h =
-              record {
-                is = rw (
-                  le-leb workLeast (length (g .work)) a,
-                  le-leb (g .varsUsed) (length (g .vars)) i,
-                  variables-are _ (vars-of _ v),
-                  homes-are _ (homes-of _ w),
-                  paths-are _ (paths-of _ p),
-                  none-of (fieldsOf (g .params)) h,
-                );
-                early = λ q. apart h (q .tables .numbered);
-              }
 
 -- a list that 23 lets pass
 module _ {g : Given} (t : Tabled g) where
@@ -129,26 +201,19 @@ module _ (job : Job) (g : Given) (t : Tabled g) where
   out = roomOf job (length (g .out))
 
   tables-passed : expanded g out ≡ expandLine (around g out) (g .line) v
-  unfolding expanded orRefused
+  unfolding orRefused
   tables-passed =
-      rw (
-        le-leb workLeast (length (g .work)) (t .area),
-        le-leb (g .varsUsed) (length (g .vars)) (t .inside),
-        variables-are _ (vars-of _ (t .formed)),
-        homes-are _ (homes-of _ (t .housed)),
-        paths-are _ (paths-of _ (t .listed)),
-        fields-are _ (fields-of _ (t .numbered)),
-      )
+      worked-lent job g
+      ∙ lent-passed g (behind-lent job g) (tables-lend job g t)
+      ∙ rw (paths-are _ (paths-of _ (t .listed)), fields-are _ (fields-of _ (t .numbered)))
 
-  pub line-long : lineLimit < length (g .line) → Stopped job g lineTooLong 0
+  pub line-unplain : {n place : ℕ} → Unplain (g .line) n place → Stopped job g n place
   unfolding expandLine
-  line-long h = record { is = tables-passed ∙ rw (lt-leb (length (g .line)) lineLimit h); early = λ p. omega (arith, h, p .short) }
+  line-unplain (tooLong h) = record { is = tables-passed ∙ rw (lt-leb (length (g .line)) lineLimit h); early = λ p. omega (arith, h, p .short) }
+  line-unplain (hasZero l h) =
+      record { is = tables-passed ∙ rw (le-leb (length (g .line)) lineLimit l, h); early = λ p. zero-in (g .line) h (p .clean) }
 
   module _ (l : length (g .line) ≤ lineLimit) where
-    pub line-zero : isIn 0 (g .line) ≡ true → Stopped job g zeroByte 0
-    unfolding expandLine
-    line-zero h = record { is = tables-passed ∙ rw (le-leb (length (g .line)) lineLimit l, h); early = λ p. zero-in (g .line) h (p .clean) }
-
     module _ (z : isIn 0 (g .line) ≡ false) where
       pub line-refused : (n place : ℕ) → readLine (g .line) ≡ refusedAt n place → Stopped job g n place
       unfolding expandLine
@@ -231,11 +296,44 @@ module _ (job : Job) (g : Given) (t : Tabled g) (l : length (g .line) ≤ lineLi
 
 -- an answer once it is known
 
+module _ {work vars houses : Text} {used : ℕ} {r : Checked} where
+  pub unlent-as : {n place : ℕ} → r ≡ Refused n place → Unlent work vars used houses n place → LendSays work vars used houses r
+  unlent-as e h = subst (λ (x : Checked). LendSays work vars used houses x) (sym e) h
+
+  pub unlent-of : {n place : ℕ} → LendSays work vars used houses r → r ≡ Refused n place → Unlent work vars used houses n place
+  unlent-of h e = subst (λ (x : Checked). LendSays work vars used houses x) e h
+
+  pub lends-of : LendSays work vars used houses r → r ≡ Fine → Lends work vars used houses
+  lends-of h e = subst (λ (x : Checked). LendSays work vars used houses x) e h
+
+module _ {line : Text} {r : Checked} where
+  pub unplain-as : {n place : ℕ} → r ≡ Refused n place → Unplain line n place → PlainSays line r
+  unplain-as e h = subst (λ (x : Checked). PlainSays line x) (sym e) h
+
+  pub unplain-of : {n place : ℕ} → PlainSays line r → r ≡ Refused n place → Unplain line n place
+  unplain-of h e = subst (λ (x : Checked). PlainSays line x) e h
+
+  pub plain-of : PlainSays line r → r ≡ Fine → Plain line
+  plain-of h e = subst (λ (x : Checked). PlainSays line x) e h
+
 pub refuses : (job : Job) (g : Given) {r : Checked} {n place : ℕ} → r ≡ Refused n place → Stopped job g n place → Checks job g r
 refuses job g e h = subst (λ (x : Checked). Checks job g x) (sym e) h
 
 pub read-as : {w : Placed (Unit {0})} {r s : LineRead} → w ≡ verdictOf r → r ≡ s → w ≡ verdictOf s
 read-as h e = h ∙ ap verdictOf e
+
+-- the same of a line of assignments
+
+pub assign-refuses : (g : Given) {r : Checked} {n place : ℕ} → r ≡ Refused n place → AssignStopped g n place → AssignChecks g r
+assign-refuses g e h = subst (λ (x : Checked). AssignChecks g x) (sym e) h
+
+pub assign-fine : (g : Given) {r : Checked} → AssignChecks g r → r ≡ Fine → AssignPassed g
+assign-fine g h e = subst (λ (x : Checked). AssignChecks g x) e h
+
+pub assign-refused : (g : Given) {r : Checked} {n place : ℕ} → AssignChecks g r → r ≡ Refused n place → assigned g ≡ refusedAt n place
+assign-refused g {n = n} {place = place} h e = let s : AssignStopped g n place = subst (λ (x : Checked). AssignChecks g x) e h in s .is
+
+-- what a call that is checked passes, or is refused with
 
 pub check-passed : (job : Job) (g : Given) {r : Checked} → Checks job g r → r ≡ Fine → Passed job g
 check-passed job g h e = subst (λ (x : Checked). Checks job g x) e h

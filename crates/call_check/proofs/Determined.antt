@@ -1,11 +1,11 @@
--- The contracts determine every answer. For `check`: a call passes the checks or is stopped by one of them, never both.
+-- The contracts determine every answer. For `check` and `check_assignments`: a call passes the checks or is stopped by one of them, never both.
 use Prim.Native.Nat.{ℕ}
 use mathlib.Core.Path.{_≡_, refl}
 use mathlib.Core.List.{[]}
 use Rattle.stages.specs.Bytes.{Text}
 use Rattle.stages.specs.Call.{Given}
 use Rattle.text.proofs.Determined.{one-answer}
-use Rattle.call_check.specs.Checks.{roomIn, Checks}
+use Rattle.call_check.specs.Checks.{roomIn, Checks, AssignChecks}
 use Rattle.call_check.specs.declared.Job.{Job}
 use Rattle.call_check.specs.declared.Checked.{Checked}
 use Rattle.call_check.specs.declared.Checked.the-variants.{Fine, Refused}
@@ -25,3 +25,16 @@ checks-once job g (Refused n place) (Refused k at) p q =
 pub check-determined : (job : Job) (g : Text → Given) (r s : Checked) → ((message : Text) → Checks job (g message) r)
     → ((message : Text) → Checks job (g message) s) → r ≡ s
 check-determined job g r s p q = checks-once job (g []) r s (p []) (q [])
+
+assign-checks-once : (g : Given) (r s : Checked) → AssignChecks g r → AssignChecks g s → r ≡ s
+assign-checks-once g Fine Fine p q = refl
+assign-checks-once g Fine (Refused n place) p q = absurd (q .early p)
+assign-checks-once g (Refused n place) Fine p q = absurd (p .early q)
+assign-checks-once g (Refused n place) (Refused k at) p q =
+    let a = p .is in
+    let b = q .is in
+    cc
+
+pub check-assignments-determined : (g : Text → Given) (r s : Checked) → ((message : Text) → AssignChecks (g message) r)
+    → ((message : Text) → AssignChecks (g message) s) → r ≡ s
+check-assignments-determined g r s p q = assign-checks-once (g []) r s (p []) (q [])

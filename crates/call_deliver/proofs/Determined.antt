@@ -1,16 +1,19 @@
--- The contracts of `accept`, `deliver` and `tell` determine every value of the answer and every byte of the lent buffer: two outcomes that one of them allows
--- for one call are equal.
+-- The contracts determine every value of the answer and every byte of the lent buffers: two outcomes that one of them allows for one call are equal.
 use Prim.Native.Nat.{ℕ}
 use mathlib.Core.Path.{_≡_, sym, _∙_}
 use lib.ListN.{length, take}
 use Rattle.stages.specs.Bytes.{Text}
 use Rattle.stages.specs.Call.{over}
+use Rattle.stages.specs.Call as stage
 use Rattle.quote.specs.Answers.{quotingOf}
 use Rattle.quote.specs.declared.Quoted.{Quoted}
 use Rattle.quote.proofs.Determined.{quoted-determined}
 use Rattle.call_check.specs.declared.Job.{Job}
-use Rattle.call_deliver.specs.Hands.{Accepts, writingOf}
+use Rattle.text.proofs.Determined.{one-answer}
+use Rattle.call_deliver.specs.Hands.{Gives, Accepts, Settles, writingOf}
+use Rattle.call_deliver.specs.Awaits.{refusedWith, HandsOver}
 use Rattle.call_deliver.specs.declared.Answer.{Answer}
+use Rattle.call_deliver.specs.declared.Draft.{Draft}
 
 pub answer-same : (r s : Answer) → r .number ≡ s .number → r .place ≡ s .place → r .«out_len» ≡ s .«out_len» → r .«vars_used» ≡
     s .«vars_used» → r .«message_len» ≡ s .«message_len» → r ≡ s
@@ -28,3 +31,30 @@ deliver-determined job image old = quoted-determined (writingOf job image old)
 pub tell-determined : (text old left left′ : Text) (r s : ℕ) → (r ≡ length (take (length old) text)) × (left ≡ over (take (length old) text) old)
     → (s ≡ length (take (length old) text)) × (left′ ≡ over (take (length old) text) old) → (r ≡ s) × (left ≡ left′)
 tell-determined text old left left′ r s g h = (g .0 ∙ sym (h .0), g .1 ∙ sym (h .1))
+
+pub settle-determined : (used : ℕ) (image old : Text) (r s : Answer) (vars vars' : Text) → Settles used image old r vars → Settles used image old s vars'
+    → (r ≡ s) × (vars ≡ vars')
+settle-determined used image old r s vars vars' g h = (g .is ∙ sym (h .is), g .variables ∙ sym (h .variables))
+
+pub refuse-with-determined : (n place used at len : ℕ) (r s : Draft) → r ≡ refusedWith n place used at len → s ≡ refusedWith n place used at len → r ≡ s
+refuse-with-determined n place used at len r s = one-answer
+
+pub hand-over-determined : (d : Draft) (work message : Text) (r s : Answer) (area area' told told' : Text) → HandsOver d work message r area told
+    → HandsOver d work message s area' told' → (r ≡ s) × (area ≡ area') × (told ≡ told')
+hand-over-determined d work message r s area area' told told' g h =
+    (g .is ∙ sym (h .is), g .clears ∙ sym (h .clears), g .tells ∙ sym (h .tells))
+
+-- a whole job
+module _ (a : stage.Answer) (r s : Answer) (vars vars' work work' out out' message message' : Text) where
+  pub gives-determined : Gives a r vars work out message → Gives a s vars' work' out' message'
+      → (r ≡ s) × (vars ≡ vars') × (work ≡ work') × (out ≡ out') × (message ≡ message')
+  gives-determined g h =
+      let i = g .hands in
+      let j = h .hands in (
+        answer-same r s (i .number ∙ sym (j .number)) (i .place ∙ sym (j .place)) (i .outLength ∙ sym (j .outLength))
+            (i .varsUsed ∙ sym (j .varsUsed)) (i .messageLength ∙ sym (j .messageLength)),
+        i .variables ∙ sym (j .variables),
+        g .clears ∙ sym (h .clears),
+        i .output ∙ sym (j .output),
+        i .message ∙ sym (j .message),
+      )

@@ -1,2 +1,5 @@
 pub mod Handing
+pub mod Settling
+pub mod Copying
+pub mod Awaiting
 pub mod Determined

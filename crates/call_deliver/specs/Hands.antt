@@ -39,6 +39,11 @@ pub record Accepts (outLength : ℕ) (image old : Text) (r : Answer) (vars : Tex
   pub is : r ≡ acceptedAs outLength (length image)
   pub variables : vars ≡ stage.over image old
 
+-- after assignments: behind the new image come zeros up to the used length that was given
+pub record Settles (used : ℕ) (image old : Text) (r : Answer) (vars : Text) : Type 0 where
+  pub is : r ≡ acceptedAs 0 (length image)
+  pub variables : vars ≡ stage.over (stage.padded used image) old
+
 -- what is written of a fields image to an output: the image itself, or its quoted line
 abbrev pub writingOf : Job → Text → Text → stage.Quoting
 writingOf Expander t old = stage.quoting old (doneAt t)

@@ -1,15 +1,17 @@
 // What came of a call is handed over: the output is written, and the variables' new image is copied with the answer, or neither; and on 13 the message is.
-// "On acceptance, bytes behind either new image are unchanged": no more than the new images' bytes is ever copied.
+// "On acceptance, bytes behind either new image are unchanged": no more than the new images' bytes is ever copied; after assignments alone, zeros come behind
+// an image that is shorter than the one before.
 use call_check::Job;
 use quote::Quoted;
 use text::numbers;
 ghost use mathlib.Core.Path.{_≡_};
-ghost use Prim.Native.Nat.{ℕ, _≤_};
+ghost use Prim.Native.Nat.{ℕ, _+_, _≤_};
 ghost use lib.ListN.{length, take};
 ghost use Rattle.stages.specs.Call.{over};
 ghost use Rattle.quote.specs.Answers.{quotingOf};
 ghost use Rattle.call_check.specs.Calls.{roomOf};
-ghost use Rattle.call_deliver.specs.Hands.{refusedAs, writingOf, Accepts};
+ghost use Rattle.call_deliver.specs.Hands.{refusedAs, writingOf, Accepts, Settles};
+ghost use Rattle.call_deliver.specs.Awaits.{refusedWith, HandsOver};
 
 // "The answer is a number, a place, the output length and the variables' used length."; E7: "the answer gives the length written" of the message. Laid out as
 // C lays it out, so that the jobs for C hand it on.
@@ -22,6 +24,13 @@ pub struct Answer {
     pub message_len: usize,
 }
 
+// What a call comes to before its message is handed over: the message is the work area's `len` bytes from `at` on, none of them if nothing is demanded.
+pub struct Draft {
+    pub answer: Answer,
+    pub at: usize,
+    pub len: usize,
+}
+
 // A refusal: "the output length is 0, the used length is the one given"; no message is written yet.
 pub fn refuse(number: u8, place: usize, vars_used: usize) -> Answer
     ensures { λ r. ⌜ r ≡ refusedAs number place «vars_used» ⌝ }
@@ -32,6 +41,18 @@ pub fn refuse(number: u8, place: usize, vars_used: usize) -> Answer
         out_len: 0,
         vars_used: vars_used,
         message_len: 0,
+    }
+}
+
+// A refusal with a message: the work area's `len` bytes from `at` on.
+pub fn refuse_with(number: u8, place: usize, vars_used: usize, at: usize, len: usize) -> Draft
+    ensures { λ r. ⌜ r ≡ refusedWith number place «vars_used» at len ⌝ }
+{
+    let answer = refuse(number, place, vars_used);
+    Draft {
+        answer: answer,
+        at: at,
+        len: len,
     }
 }
 
@@ -48,6 +69,20 @@ pub fn accept(out_len: usize, image: &[u8], vars: &mut [u8]) -> Answer
         vars_used: image.len(),
         message_len: 0,
     }
+}
+
+// An acceptance of assignments: the new image comes to the front of the variables' buffer, and "bytes behind the new image are zero up to the old used length
+// (the one given), and kept beyond it".
+pub fn settle(image: &[u8], vars: &mut [u8], vars_used: usize) -> Answer
+    requires { ⌜ (length (now image) ≤ length (now vars)) × («vars_used» ≤ length (now vars)) ⌝ }
+    ensures { λ r. ⌜ Settles «vars_used» (now (image .entry)) (now (vars .entry)) r (now (vars .exit)) ⌝ }
+{
+    let answer = accept(0, image, vars);
+    let len = image.len();
+    if len < vars_used {
+        text_copy::fill_zero(&mut vars[len..vars_used]);
+    }
+    answer
 }
 
 // Writes what the job gives of a fields image to the output, if it has room.
@@ -76,4 +111,23 @@ pub fn tell(text: &[u8], message: &mut [u8]) -> usize
     }
     text_copy::copy_in(&text[..room], message);
     room
+}
+
+// The end of a call: the message that waits in the work area is told, and "The work area is zero throughout after every call".
+pub fn hand_over(draft: Draft, work: &mut [u8], message: &mut [u8]) -> Answer
+    requires { ⌜ draft .at + draft .len ≤ length (now work) ⌝ }
+    ensures { λ r. ⌜ HandsOver draft (now (work .entry)) (now (message .entry)) r (now (work .exit)) (now (message .exit)) ⌝ }
+{
+    let at = draft.at;
+    let end = at + draft.len;
+    let told = tell(&work[at..end], message);
+    text_copy::fill_zero(work);
+    let answer = draft.answer;
+    Answer {
+        number: answer.number,
+        place: answer.place,
+        out_len: answer.out_len,
+        vars_used: answer.vars_used,
+        message_len: told,
+    }
 }

@@ -4,8 +4,8 @@ use native.Mathlib.Omega.{arith}
 use mathlib.Core.Path.{_≡_, sym, ap, _∙_, subst}
 use mathlib.Core.List.{List, _++_}
 use mathlib.Core.Option.{some}
-use lib.ListN.{length, take, drop, length-append, length-drop}
-use lib.Seq.{length-take-le, take-at}
+use lib.ListN.{length, take, drop}
+use lib.Seq.{length-take-le}
 use Rattle.stages.specs.Numbers.{demanded, imageLimit}
 use Rattle.stages.specs.Bytes.{Text}
 use Rattle.stages.specs.Outcome.{Placed, doneAt, _then_}
@@ -22,7 +22,9 @@ use Rattle.call_check.specs.Checks.{roomIn, around, Passed}
 use Rattle.call_check.specs.declared.Job.{Job}
 use Rattle.call_deliver.specs.Hands.{Hands, Accepts, refusedAs}
 use Rattle.call_deliver.specs.declared.Answer.{Answer}
-use Rattle.call_run.specs.Drafts.{worded, draft, Drafting, Drafted, Demanding, DraftOf, telling}
+use Rattle.call_deliver.proofs.Copying.{used-low, copied, copy-long}
+use Rattle.call_deliver.specs.Awaits.{telling}
+use Rattle.call_run.specs.Drafts.{worded, draft, Drafting, Drafted, Demanding, DraftOf}
 use Rattle.call_run.specs.declared.Delivered.{Delivered}
 use Rattle.call_run.specs.declared.Delivered.the-variants as delivered
 use Rattle.call_run.proofs.Answering.{draft-refused, draft-demands, draft-accepted}
@@ -34,26 +36,13 @@ safe-given {P = P} (refusesAt h l) e = absurd (let z : _≡_ {A = ℕ} 0 1 = cc 
 safe-given {P = P} (asksAt h l) e = absurd (let z : _≡_ {A = ℕ} 0 1 = cc in omega arith)
 safe-given {P = P} {a = a} (givesAt {a = b} p) e = let k : b ≡ a = cc in rw (← k) p
 
--- the variables' image fits its copy
-pub copy-fits : {job : Job} {g : Given} → Passed job g → (copy : Text) → length copy ≡ imageLimit
-    → length (take (g .varsUsed) (g .vars)) ≤ length copy
-copy-fits {g = g} p copy l = omega (arith, vars-of (take (g .varsUsed) (g .vars)) (p .tables .formed) .small, l)
-
 module _ {job : Job} {g : Given} (p : Passed job g) {room : ℕ} (same : room ≡ length (g .vars)) (copy copy₁ : Text) (lc : length copy ≡ imageLimit)
     (d : copy₁ ≡ take (g .varsUsed) (g .vars) ++ drop (length (take (g .varsUsed) (g .vars))) copy) where
-  used-long : length (take (g .varsUsed) (g .vars)) ≡ g .varsUsed
-  used-long = length-take-le (g .varsUsed) (g .vars) (p .tables .inside)
+  same-image : take (g .varsUsed) copy₁ ≡ take (g .varsUsed) (g .vars)
+  same-image = copied (g .vars) (g .varsUsed) (p .tables .inside) (p .tables .formed) copy lc copy₁ d
 
-  used-low : g .varsUsed ≤ imageLimit
-  used-low = omega (arith, used-long, vars-of (take (g .varsUsed) (g .vars)) (p .tables .formed) .small)
-
-  copied : take (g .varsUsed) copy₁ ≡ take (g .varsUsed) (g .vars)
-  copied =
-      ap (take (g .varsUsed)) d
-      ∙ take-at (take (g .varsUsed) (g .vars)) (drop (length (take (g .varsUsed) (g .vars))) copy) (g .varsUsed) used-long
-
-  copy-long : length copy₁ ≡ imageLimit
-  copy-long = ap length d ∙ simp (length-append, length-drop) (omega (arith, used-long, used-low, lc))
+  long : length copy₁ ≡ imageLimit
+  long = copy-long (g .vars) (g .varsUsed) (p .tables .inside) (p .tables .formed) copy lc copy₁ d
 
   -- what the line gives with the copy, whose room is that of the variables' buffer
   abbrev given : ℕ → Placed (Fields × Pairs)
@@ -62,7 +51,7 @@ module _ {job : Job} {g : Given} (p : Passed job g) {room : ℕ} (same : room �
   worked-given : worked job g ≡ given (length (g .vars))
   worked-given =
       p .is
-      ∙ ap (λ (t : Text). expandWords (around g (roomIn job (length (g .out)))) (p .words) 1 (held t)) (sym copied)
+      ∙ ap (λ (t : Text). expandWords (around g (roomIn job (length (g .out)))) (p .words) 1 (held t)) (sym same-image)
       ∙ ap (λ (w : Placed (List Word)). w then λ ws. expandWords (around g (roomIn job (length (g .out)))) ws 1 (held (take (g .varsUsed) copy₁)))
       (sym (p .read))
 
@@ -74,10 +63,10 @@ module _ {job : Job} {g : Given} (p : Passed job g) {room : ℕ} (same : room �
         read = p .read;
         clean = p .clean;
         holds = record {
-          formed = ap (λ (t : Text). isSome (variablesOf t)) copied ∙ p .tables .formed;
-          inside = omega (arith, copy-long, used-low);
+          formed = ap (λ (t : Text). isSome (variablesOf t)) same-image ∙ p .tables .formed;
+          inside = omega (arith, long, used-low (g .vars) (g .varsUsed) (p .tables .inside) (p .tables .formed));
           fits = p .tables .inside;
-          long = omega (arith, copy-long);
+          long = omega (arith, long);
         };
         housed = p .tables .housed;
         numbered = p .tables .numbered;

@@ -1,10 +1,10 @@
 -- What a line comes to on a copy of the variables, before the call is answered.
-use Prim.Native.Nat.{ℕ, _+_, _≤_}
+use Prim.Native.Nat.{ℕ, _≤_}
 use mathlib.Core.Path.{_≡_}
 use mathlib.Core.Bool.{true}
 use mathlib.Core.List.{List}
 use mathlib.Core.Option.{some}
-use lib.ListN.{length, take, drop}
+use lib.ListN.{length, take}
 use Rattle.stages.specs.Numbers.{workLeast}
 use Rattle.stages.specs.Bytes.{Text, all, notZero}
 use Rattle.stages.specs.Outcome.{Placed, refusedAt, demandsAt, doneAt, _then_}
@@ -13,16 +13,12 @@ use Rattle.stages.specs.Syntax.{Word}
 use Rattle.stages.specs.Read.{readLine}
 use Rattle.stages.specs.Line.{Fields}
 use Rattle.stages.specs.Call.{over}
-use Rattle.stages.specs.Call as stage
 use Rattle.expand_add.specs.Answers.{Holds, Waits}
 use Rattle.table.specs.Around.{among}
 use Rattle.expand_line.specs.Answers.{lineOutcome}
 use Rattle.call_check.specs.Calls.{outputOf}
 use Rattle.call_check.specs.Checks.{roomIn}
 use Rattle.call_check.specs.declared.Job.{Job}
-use Rattle.call_deliver.specs.Hands.{Hands, refusedAs}
-use Rattle.call_deliver.specs.declared.Answer.{Answer}
-use Rattle.call_run.specs.declared.Draft.{Draft}
 use Rattle.call_run.specs.declared.Delivered.{Delivered}
 use Rattle.call_run.specs.declared.Delivered.the-variants as delivered
 
@@ -67,25 +63,3 @@ abbrev pub DraftOf : ℕ → Placed (Text × Pairs) → Text → Text → Text �
 DraftOf varsRoom o copy work old out (delivered.Refused n place) = (o ≡ refusedAt n place) × (out ≡ old)
 DraftOf varsRoom o copy work old out (delivered.Demanded at len place) = Demanding o work old out at len place
 DraftOf varsRoom o copy work old out (delivered.Done outLength varsUsed) = Drafted varsRoom o copy old out outLength varsUsed
-
--- an answer that comes without a message
-abbrev pub untold : Answer → Draft
-untold r = record { answer = r; at = 0; len = 0 }
-
--- a refusal, and where its message waits
-abbrev pub refusedWith : ℕ → ℕ → ℕ → ℕ → ℕ → Draft
-refusedWith n place varsUsed at len = record { answer = refusedAs n place varsUsed; at = at; len = len }
-
--- the message that waits in the work area, "cut to the buffer"
-abbrev pub toldTo : Text → Draft → Text → Text
-toldTo message r work = take (length message) (take (r .len) (drop (r .at) work))
-
--- an answer once so many bytes of its message are written
-abbrev pub telling : Answer → ℕ → Answer
-telling r n = record { number = r .number; place = r .place; «out_len» = r .«out_len»; «vars_used» = r .«vars_used»; «message_len» = n }
-
--- a call is answered but for its message, whatever buffer is lent for that: the answer is the stage's once the message that waits is written
-pub record Awaits (a : Text → stage.Answer) (r : Draft) (vars work out : Text) : Type 0 where
-  pub fits : r .at + r .len ≤ length work
-  pub hands : (message : Text) → Hands (a message) (telling (r .answer) (length (toldTo message r work))) vars out
-      (over (toldTo message r work) message)

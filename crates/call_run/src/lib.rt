@@ -4,6 +4,7 @@
 use call_check::Checked;
 use call_check::Job;
 use call_deliver::Answer;
+use call_deliver::Draft;
 use expand_add::answers::Extent;
 use expand_line::LineExpanded;
 use quote::Quoted;
@@ -15,7 +16,8 @@ ghost use Rattle.stages.specs.Bytes.{Text};
 ghost use Rattle.call_check.specs.Calls.{given, answerOf};
 ghost use Rattle.call_check.specs.Checks.{Passed};
 ghost use Rattle.call_deliver.specs.Hands.{Gives};
-ghost use Rattle.call_run.specs.Drafts.{worded, draft, refusedWith, Drafting, DraftOf, Awaits};
+ghost use Rattle.call_deliver.specs.Awaits.{Awaits};
+ghost use Rattle.call_run.specs.Drafts.{worded, draft, Drafting, DraftOf};
 
 // What holds for a whole call.
 struct Call {
@@ -29,25 +31,6 @@ enum Delivered {
     Done { out_len: usize, vars_used: usize },
     Refused { number: u8, place: usize },
     Demanded { at: usize, len: usize, place: usize },
-}
-
-// What a call comes to before its message is handed over: the message is the work area's `len` bytes from `at` on, none of them if nothing is demanded.
-struct Draft {
-    answer: Answer,
-    at: usize,
-    len: usize,
-}
-
-// A refusal with a message: the work area's `len` bytes from `at` on.
-fn refuse_with(number: u8, place: usize, vars_used: usize, at: usize, len: usize) -> Draft
-    ensures { λ r. ⌜ r ≡ refusedWith number place «vars_used» at len ⌝ }
-{
-    let answer = call_deliver::refuse(number, place, vars_used);
-    Draft {
-        answer: answer,
-        at: at,
-        len: len,
-    }
 }
 
 // The line, once the variables are copied: its fields' image stands in `image`, and what the job gives of it in the output, if the call is accepted.
@@ -168,19 +151,18 @@ fn on_copy(
         (now (out .exit)) ⌝ }
 {
     let extent = call.extent;
-    let vars_used = extent.vars_used;
-    text_copy::copy_in(&vars[..vars_used], copy);
+    let used = extent.vars_used;
+    text_copy::copy_in(&vars[..used], copy);
     let got = with_image(call, line, copy, homes, params, paths, work, out);
     match got {
-        Delivered::Refused { number, place } => refuse_with(number, place, vars_used, 0, 0),
-        Delivered::Demanded { at, len, place } => {
-            refuse_with(numbers::REFUSED_DEMAND, place, vars_used, at, len)
+        Delivered::Refused { number, place } => {
+            call_deliver::refuse_with(number, place, used, 0, 0)
         }
-        Delivered::Done {
-            out_len,
-            vars_used: left,
-        } => {
-            let answer = call_deliver::accept(out_len, &copy[..left], vars);
+        Delivered::Demanded { at, len, place } => {
+            call_deliver::refuse_with(numbers::REFUSED_DEMAND, place, used, at, len)
+        }
+        Delivered::Done { out_len, vars_used } => {
+            let answer = call_deliver::accept(out_len, &copy[..vars_used], vars);
             Draft {
                 answer: answer,
                 at: 0,
@@ -231,7 +213,9 @@ fn from_checks(
 {
     let checked = call_check::check(job, line, vars, vars_used, homes, params, paths, work, out);
     match checked {
-        Checked::Refused { number, place } => refuse_with(number, place, vars_used, 0, 0),
+        Checked::Refused { number, place } => {
+            call_deliver::refuse_with(number, place, vars_used, 0, 0)
+        }
         Checked::Fine => {
             let extent = Extent {
                 vars_used: vars_used,
@@ -246,8 +230,7 @@ fn from_checks(
     }
 }
 
-// The job whole: "The work area is zero throughout after every call of expander or normaliser, number 1 included." E7: the message is copied from the area
-// before that.
+// The job whole: "The work area is zero throughout after every call of expander or normaliser, number 1 included." The message is handed over before that.
 pub fn answer_call(
     job: Job,
     line: &[u8],
@@ -265,16 +248,5 @@ pub fn answer_call(
         (now (work .entry)) (now (out .entry)) (now (message .entry)))) r (now (vars .exit)) (now (work .exit)) (now (out .exit)) (now (message .exit)) ⌝ }
 {
     let draft = from_checks(job, line, vars, vars_used, homes, params, paths, work, out);
-    let at = draft.at;
-    let end = at + draft.len;
-    let told = call_deliver::tell(&work[at..end], message);
-    text_copy::fill_zero(work);
-    let answer = draft.answer;
-    Answer {
-        number: answer.number,
-        place: answer.place,
-        out_len: answer.out_len,
-        vars_used: answer.vars_used,
-        message_len: told,
-    }
+    call_deliver::hand_over(draft, work, message)
 }

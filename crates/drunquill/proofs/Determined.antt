@@ -1,12 +1,14 @@
--- The contracts of the three jobs determine every value of the answer and every byte of every lent buffer: two outcomes that a contract allows for one
+-- The contracts of the four jobs determine every value of the answer and every byte of every lent buffer: two outcomes that a contract allows for one
 -- call are equal.
 use Prim.Native.Nat.{ℕ}
 use mathlib.Core.Path.{_≡_, sym, ap, _∙_}
+use mathlib.Core.List.{[]}
 use Rattle.stages.specs.Bytes.{Text}
 use Rattle.stages.specs.Call as stage
 use Rattle.call_deliver.specs.Hands.{Gives}
 use Rattle.call_deliver.specs.declared.Answer.{Answer}
-use Rattle.call_run.proofs.Determined.{gives-determined}
+use Rattle.call_deliver.proofs.Determined.{gives-determined}
+use Rattle.call_assign.proofs.Determined.{answer-assign-determined}
 use Rattle.drunquill.specs.Hands.{Quotes}
 use Rattle.drunquill.specs.declared.QuoteAnswer.{QuoteAnswer}
 
@@ -18,6 +20,10 @@ module _ (g : stage.Given) (r s : Answer) (vars vars' work work' out out' messag
   pub normalise-determined : Gives (stage.normaliser g) r vars work out message → Gives (stage.normaliser g) s vars' work' out' message'
       → (r ≡ s) × (vars ≡ vars') × (work ≡ work') × (out ≡ out') × (message ≡ message')
   normalise-determined = gives-determined (stage.normaliser g) r s vars vars' work work' out out' message message'
+
+pub assign-determined : (g : stage.Given) (r s : Answer) (vars vars' work work' message message' : Text) → Gives (stage.assigner g) r vars work [] message
+    → Gives (stage.assigner g) s vars' work' [] message' → (r ≡ s) × (vars ≡ vars') × (work ≡ work') × (message ≡ message')
+assign-determined = answer-assign-determined
 
 pub quote-determined : (fields old : Text) (r s : QuoteAnswer) (out out' : Text) → Quotes (stage.quoter fields old) r out → Quotes
     (stage.quoter fields old) s out'

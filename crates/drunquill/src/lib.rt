@@ -1,10 +1,11 @@
-// Drunquill's three jobs. Each takes any bytes in any buffers and answers by document 01's numbers. Inside, a line is worked on in copies of the
+// Drunquill's four jobs. Each takes any bytes in any buffers and answers by document 01's numbers. Inside, a line is worked on in copies of the
 // variables and the output, which are handed over at the end, so that a refusal has touched neither.
 use call_check::Job;
 use call_deliver::Answer;
 use quote::Quoted;
 use text::numbers;
-ghost use Rattle.stages.specs.Call.{expander, normaliser, quoter};
+ghost use mathlib.Core.List.{[]};
+ghost use Rattle.stages.specs.Call.{expander, normaliser, assigner, quoter};
 ghost use Rattle.call_check.specs.Calls.{given};
 ghost use Rattle.call_deliver.specs.Hands.{Gives};
 ghost use Rattle.drunquill.specs.Hands.{Quotes};
@@ -79,6 +80,25 @@ pub fn normalise(
         out,
         message,
     )
+}
+
+// The assigner: a line "whose every word is a name, a bare `=` and a value" changes the variables from left to right, or on refusal not at all. Their new
+// image may be shorter than the one before: bytes behind it are zero up to the used length that was given. The output length is 0; work area and message as
+// in the expander. The job takes neither paths nor output: its stage does not look at them, and they stand as empty texts here.
+pub fn assign(
+    line: &[u8],
+    vars: &mut [u8],
+    vars_used: usize,
+    homes: &[u8],
+    params: &[u8],
+    work: &mut [u8],
+    message: &mut [u8],
+) -> Answer
+    ensures { λ r. ⌜ Gives
+        (assigner (given (now (line .entry)) (now (vars .entry)) «vars_used» (now (homes .entry)) (now (params .entry)) [] (now (work .entry)) []
+        (now (message .entry)))) r (now (vars .exit)) (now (work .exit)) [] (now (message .exit)) ⌝ }
+{
+    call_assign::answer_assign(line, vars, vars_used, homes, params, work, message)
 }
 
 // The quoter: an image of fields as a quoted line to `out`, whose bytes after the line stay; on refusal all of them do.

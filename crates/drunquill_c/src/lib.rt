@@ -1,6 +1,7 @@
-// The three jobs under C's calling convention: include/drunquill.h declares them for C. Each lent buffer comes as a pointer and a length, and a job's
+// The four jobs under C's calling convention: include/drunquill.h declares them for C. Each lent buffer comes as a pointer and a length, and a job's
 // answer is a struct that C lays out the same way.
-ghost use Rattle.stages.specs.Call.{expander, normaliser, quoter};
+ghost use mathlib.Core.List.{[]};
+ghost use Rattle.stages.specs.Call.{expander, normaliser, assigner, quoter};
 ghost use Rattle.call_check.specs.Calls.{given};
 ghost use Rattle.call_deliver.specs.Hands.{Gives};
 ghost use Rattle.drunquill.specs.Hands.{Quotes};
@@ -67,6 +68,26 @@ pub extern "C" fn drunquill_normalise(
         out,
         message,
     )
+}
+
+// The assigner: a line "whose every word is a name, a bare `=` and a value" changes the variables from left to right, or on refusal not at all. Their new
+// image may be shorter than the one before: bytes behind it are zero up to the used length that was given. The output length is 0; work area and message as
+// in the expander. The job takes neither paths nor output: its stage does not look at them, and they stand as empty texts here.
+#[no_mangle]
+pub extern "C" fn drunquill_assign(
+    line: &[u8],
+    vars: &mut [u8],
+    vars_used: usize,
+    homes: &[u8],
+    params: &[u8],
+    work: &mut [u8],
+    message: &mut [u8],
+) -> Answer
+    ensures { λ r. ⌜ Gives
+        (assigner (given (now (line .entry)) (now (vars .entry)) «vars_used» (now (homes .entry)) (now (params .entry)) [] (now (work .entry)) []
+        (now (message .entry)))) r (now (vars .exit)) (now (work .exit)) [] (now (message .exit)) ⌝ }
+{
+    drunquill::assign(line, vars, vars_used, homes, params, work, message)
 }
 
 // The quoter: an image of fields as a quoted line to `out`, whose bytes after the line stay; on refusal all of them do.

@@ -5,6 +5,8 @@
 typedef struct _IO_FILE FILE;
 extern FILE *stdout;
 #define _IOLBF 1
+#define EOF (-1)
+int getchar(void);
 int printf(const char *format, ...) __attribute__((format(printf, 1, 2)));
 int puts(const char *text);
 int snprintf(char *restrict to, size_t size, const char *restrict format, ...) __attribute__((format(printf, 3, 4)));

@@ -1,45 +1,24 @@
 -- The answer is the stage's once the message that waits is handed over, and the work area is cleared whatever it is.
-use Prim.Native.Nat.{ℕ, _+_, _≤_}
-use native.Mathlib.Omega.{arith}
-use mathlib.Core.Path.{ap, _∙_}
-use lib.ListN.{length, replicate}
-use Rattle.call_run.proofs.Answering.{told-hands, gives-cleared}
+use mathlib.Core.Path.{sym, _∙_}
+use Rattle.call_deliver.proofs.Awaiting.{cleared-same, handed-gives}
+use Rattle.call_run.proofs.Answering.{answer-clear}
 use borrow.Author.Needs.{needs}
 use Rattle.call_run.proofs.answer_call.Statement.{statement}
 use Rattle.call_run.proofs.answer_call.Tie as tie
 
--- where the call has been worked out: its entry, and the end of the message within the work area
-module _ (c : tie.After-from-checks) where
-  abbrev entry : tie.Start
-  entry = c .before .before .before .before .before .before .before .before .before .before .before .before
+-- the call's entry, where it has been worked out
+abbrev entry : tie.After-from-checks → tie.Start
+entry c = c .before .before .before .before .before .before .before .before .before .before .before .before
 
-  ends : c .from-checks .result .at + c .from-checks .result .len ≤ length (entry .args .work .now)
-  ends = omega (arith, c .from-checks .ensures .fits, c .from-checks .kept .1 .1 .1 .1 .1 .1 .1 .0)
-
--- that place, where the message has been told
-abbrev drafted : tie.After-tell → tie.After-from-checks
-drafted c = c .before .before .before .before .before .before .before .before .before .before .before
+-- that place, where the message has been handed over
+abbrev drafted : tie.After-hand-over → tie.After-from-checks
+drafted c = c .before .before .before .before .before .before .before .before .before
 
 from-checks-requires : tie.Need-from-checks-requires
 from-checks-requires c κs = search needs
 
-add-end : tie.Need-add-end
-add-end c = let d = c .before .before .before .before .before .before .before in omega (arith, ends d, entry d .good)
-
-sub-tell : tie.Need-sub-tell
-sub-tell c = omega arith
-
-part-tell-start : tie.Need-part-tell-start
-part-tell-start c = omega arith
-
-part-tell-end : tie.Need-part-tell-end
-part-tell-end c = omega (arith, c .before .before .before .before .before .before .before .before .from-checks .ensures .fits)
-
-tell-requires : tie.Need-tell-requires
-tell-requires c κs = search needs
-
-fill-zero-requires : tie.Need-fill-zero-requires
-fill-zero-requires c κs = search needs
+hand-over-requires : tie.Need-hand-over-requires
+hand-over-requires c κs = c .before .before .before .before .before .before .before .before .from-checks .ensures .fits
 
 same-length : tie.Need-same-length
 same-length c = search needs
@@ -55,24 +34,18 @@ same-length-4 c = search needs
 
 returns : tie.Need-returns
 returns c =
-    let z = c .before .before .before in
-    let t = z .before .before .before .before in
-    let d = drafted t in
+    let h = c .before .before .before .before in
+    let d = drafted h in
     let s = entry d in
-    gives-cleared (s .args .job) _ (told-hands _ (d .from-checks .ensures) (s .args .message .now) (t .tell .ensures))
-    (z .fill-zero .ensures ∙ ap (λ (n : ℕ). replicate n 0) (d .from-checks .kept .1 .1 .1 .1 .1 .1 .1 .0))
+    handed-gives _ (d .from-checks .ensures) (h .hand-over .ensures)
+    (answer-clear (s .args .job) _ ∙ cleared-same _ _ (sym (d .from-checks .kept .1 .1 .1 .1 .1 .1 .1 .0)))
 
 pub answer-call-spec : {M : Type 1} → statement M
 answer-call-spec =
     tie.close
     (tie.spec
     from-checks-requires
-    add-end
-    sub-tell
-    part-tell-start
-    part-tell-end
-    tell-requires
-    fill-zero-requires
+    hand-over-requires
     same-length
     same-length-2
     same-length-3

@@ -1,7 +1,8 @@
 -- A call is refused by its checks, or worked out on copies.
 use mathlib.Core.Path.{refl}
 use Rattle.call_check.proofs.Checking.{check-passed, check-refused}
-use Rattle.call_run.proofs.Answering.{answer-refused, untold-awaits, awaits-as}
+use Rattle.call_deliver.proofs.Awaiting.{untold-awaits, awaits-as}
+use Rattle.call_run.proofs.Answering.{answer-refused}
 use borrow.Author.Needs.{needs}
 use Rattle.call_run.proofs.from_checks.Statement.{statement}
 use Rattle.call_run.proofs.from_checks.Tie as tie

@@ -6,8 +6,9 @@ use lib.ListN.{length}
 use lib.Seq.{length-take-le}
 use Rattle.stages.specs.Bytes.{Text}
 use Rattle.call_deliver.specs.declared.Answer.{Answer}
-use Rattle.call_run.proofs.Answering.{untold-awaits, awaits-as}
-use Rattle.call_run.proofs.Working.{copy-fits, drafting, call-refused, message-within, call-demands, left-within, accept-ready, call-accepted}
+use Rattle.call_deliver.proofs.Copying.{copy-fits}
+use Rattle.call_deliver.proofs.Awaiting.{untold-awaits, awaits-as}
+use Rattle.call_run.proofs.Working.{drafting, call-refused, message-within, call-demands, left-within, accept-ready, call-accepted}
 use borrow.Author.Needs.{needs}
 use Rattle.call_run.proofs.on_copy.Statement.{statement}
 use Rattle.call_run.proofs.on_copy.Tie as tie
@@ -63,7 +64,10 @@ slice-aggregate-copy-in : tie.Need-slice-aggregate-copy-in
 slice-aggregate-copy-in c = sym (length-take-le _ _ (begun (c .before) .pre .0 [] .tables .inside))
 
 copy-in-requires : tie.Need-copy-in-requires
-copy-in-requires c κs = let s = begun (c .before .before) in copy-fits (s .pre .0 []) (s .args .copy .now) (s .pre .1 .1)
+copy-in-requires c κs =
+    let s = begun (c .before .before) in
+    let t = s .pre .0 [] .tables in
+    copy-fits (s .args .vars .now) (s .args .call .extent .«vars_used») (t .inside) (t .formed) (s .args .copy .now) (s .pre .1 .1)
 
 with-image-requires : tie.Need-with-image-requires
 with-image-requires c κs =

@@ -1,9 +1,9 @@
 -- The answer is the refusal, and the place of its message stands beside it.
 use mathlib.Core.Path.{ap}
 use Rattle.call_deliver.specs.declared.Answer.{Answer}
 use borrow.Author.Needs.{needs}
-use Rattle.call_run.proofs.refuse_with.Statement.{statement}
-use Rattle.call_run.proofs.refuse_with.Tie as tie
+use Rattle.call_deliver.proofs.refuse_with.Statement.{statement}
+use Rattle.call_deliver.proofs.refuse_with.Tie as tie
 
 refuse-requires : tie.Need-refuse-requires
 refuse-requires c κs = search needs
