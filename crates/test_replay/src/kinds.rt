@@ -5,6 +5,7 @@ use crate::words;
 pub enum Job {
     // The expander's, or the normaliser's.
     Line,
+    Assigner,
     Quoter,
     None,
 }
@@ -31,6 +32,26 @@ pub(crate) fn is_normaliser(case: &[u8]) -> bool {
     text::same(words::word(case, words::JOB), b"normalise")
 }
 
+// Is the case one of the assigner: words of the right kinds, variables that their buffer holds, bytes as many as told? On a refusal there are none of
+// variables.
+fn is_assign_case(case: &[u8]) -> bool {
+    if !words::has_shape(case, b"jhhdshshs=dddhdh")
+        || !words::fits(case, words::VARS, words::VARS_BUFFER)
+        || !words::agrees(
+            case,
+            words::ASSIGN_MESSAGE_LENGTH,
+            words::ASSIGN_MESSAGE_BYTES,
+        )
+    {
+        return false;
+    }
+    if words::number(words::word(case, words::ASSIGN_NUMBER)) == 0 {
+        words::agrees(case, words::ASSIGN_USED_LENGTH, words::ASSIGN_VARS_BYTES)
+    } else {
+        words::byte_count(words::word(case, words::ASSIGN_VARS_BYTES)) == 0
+    }
+}
+
 // Is the case one of the quoter?
 fn is_quote_case(case: &[u8]) -> bool {
     words::has_shape(case, b"jhs=dddh")
@@ -42,6 +63,9 @@ pub(crate) fn job_of(case: &[u8]) -> Job {
     let job = words::word(case, words::JOB);
     if text::same(job, b"quote") && is_quote_case(case) {
         return Job::Quoter;
+    }
+    if text::same(job, b"assign") && is_assign_case(case) {
+        return Job::Assigner;
     }
     let has_line = text::same(job, b"expand") || is_normaliser(case);
     if has_line && is_line_case(case) {

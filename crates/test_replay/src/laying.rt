@@ -13,15 +13,15 @@ ghost use Rattle.io.specs.Counts.{Counts};
 // What stands in the output before a call, and behind the variables in their buffer.
 pub const OUT_FILL: u8 = 0xa5;
 
-const VARS_FILL: u8 = 0x5a;
+pub const VARS_FILL: u8 = 0x5a;
 
 // What stands in the message's buffer before a call.
-const MESSAGE_FILL: u8 = 0xc3;
+pub const MESSAGE_FILL: u8 = 0xc3;
 
 // What stands in the work area before a call, behind the bytes of the line, and after it.
-const WORK_JUNK: u8 = 0xc3;
+pub const WORK_JUNK: u8 = 0xc3;
 
-const WORK_ZERO: u8 = 0;
+pub const WORK_ZERO: u8 = 0;
 
 // Writes the bytes of a word to the front of an area, and the fill behind them.
 pub(crate) fn lay(area: &mut [u8], bytes: &[u8], fill: u8) {

@@ -1,5 +1,6 @@
-// Runs the cases of standard input, or of the file that its first argument names, through Drunquill's three jobs: a case to a line, as
+// Runs the cases of standard input, or of the file that its first argument names, through Drunquill's four jobs: a case to a line, as
 // tests/vectors/README.md has them. Tells each case that differs, and at the end how many were run and how many differ.
+mod assigns;
 mod blocks;
 mod calls;
 mod kinds;
@@ -58,6 +59,9 @@ fn try_case(
             out,
             message,
         ),
+        Job::Assigner => {
+            assigns::try_assign(told, case, line, vars, homes, params, work, message)
+        }
         Job::Quoter => calls::try_quote(told, case, line, out),
         Job::None => telling::tell(told, b"not a case, or too large for its buffers here"),
     }

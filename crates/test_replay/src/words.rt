@@ -46,6 +46,25 @@ pub const MESSAGE_LENGTH: usize = 18;
 
 pub const MESSAGE_BYTES: usize = 19;
 
+// Those of the assigner; `=` stands at 9. Its line, variables, their lengths and homes stand where the expander's do.
+pub const ASSIGN_WORK: usize = 6;
+
+pub const ASSIGN_PARAMS: usize = 7;
+
+pub const ASSIGN_MESSAGE: usize = 8;
+
+pub const ASSIGN_NUMBER: usize = 10;
+
+pub const ASSIGN_PLACE: usize = 11;
+
+pub const ASSIGN_USED_LENGTH: usize = 12;
+
+pub const ASSIGN_VARS_BYTES: usize = 13;
+
+pub const ASSIGN_MESSAGE_LENGTH: usize = 14;
+
+pub const ASSIGN_MESSAGE_BYTES: usize = 15;
+
 // Those of the quoter; `=` stands at 3.
 pub const FIELDS: usize = 1;
 
