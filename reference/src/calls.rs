@@ -1,9 +1,11 @@
-//! The three calls of document 01 over lent buffers. Each works on copies; buffers are written once it is accepted.
+//! The three calls of document 01 and that of E9 over lent buffers. Each works on copies; buffers are written once it is accepted.
 
 use std::borrow::Cow;
 
-use crate::expand::{Expander, Seen};
+use crate::assignment;
+use crate::expand::Expander;
 use crate::image;
+use crate::lent::Lent;
 use crate::limits;
 use crate::matching::matching_paths;
 use crate::number::{Number, Refusal, ACCEPTED};
@@ -12,10 +14,9 @@ use crate::read::read;
 use crate::row::{bytes, Unit};
 use crate::split::split;
 use crate::tree::Word;
-use crate::variables::Variables;
 
 /// What a call gives back. `message` is the length of the message that was written, 0 on every number but 13. The quoter's used length and message
-/// length are always 0, as it has neither variables nor a message buffer.
+/// length are always 0, as it has neither variables nor a message buffer, and the output length of assignments is, as they have no output.
 #[derive(Clone, Copy, Debug, PartialEq, Eq)]
 pub struct Answer {
     pub number: u8,
@@ -31,15 +32,6 @@ pub struct Tables<'a> {
     pub homes: &'a [u8],
     pub paths: &'a [u8],
     pub parameters: &'a [u8],
-}
-
-/// What the expander and the normaliser read; the variables are the whole buffer.
-struct Lent<'a> {
-    line: &'a [u8],
-    variables: &'a [u8],
-    used: usize,
-    tables: Tables<'a>,
-    work: usize,
 }
 
 /// What an accepted call writes.
@@ -59,8 +51,8 @@ pub fn expand(
     message: &mut [u8],
 ) -> Answer {
     work.fill(0);
-    let lent = Lent { line, variables, used, tables, work: work.len() };
-    let written = lent.expand(out.len());
+    let lent = tables.lent(line, variables, used, work);
+    let written = expanded(&lent, out.len());
     answer(written, variables, used, out, message)
 }
 
@@ -75,12 +67,28 @@ pub fn normalise(
     message: &mut [u8],
 ) -> Answer {
     work.fill(0);
-    let lent = Lent { line, variables, used, tables, work: work.len() };
-    let written = lent.expand(limits::IMAGE).and_then(|written| {
+    let lent = tables.lent(line, variables, used, work);
+    let written = expanded(&lent, limits::IMAGE).and_then(|written| {
         let out = quoted(&written.out, out.len())?;
         Ok(Written { out, ..written })
     });
     answer(written, variables, used, out, message)
+}
+
+/// Assignments: each word of the line sets a variable.
+pub fn assign(
+    line: &[u8],
+    variables: &mut [u8],
+    used: usize,
+    homes: &[u8],
+    parameters: &[u8],
+    work: &mut [u8],
+    message: &mut [u8],
+) -> Answer {
+    work.fill(0);
+    let lent = Lent { line, variables, used, homes, paths: None, parameters, work: work.len() };
+    let written = assigned(&lent);
+    answer(written, variables, used, &mut [], message)
 }
 
 /// The quoter: an image of fields into a quoted line.
@@ -89,7 +97,8 @@ pub fn quote(fields: &[u8], out: &mut [u8]) -> Answer {
     answer(written, &mut [], 0, out, &mut [])
 }
 
-/// Writes what was accepted over the beginnings of the output and the variables, or, if it was refused, as much of the message as there is room for.
+/// Writes what was accepted over the beginnings of the output and the variables, with zeros behind these up to the used length that was given. If it was
+/// refused, writes as much of the message as there is room for.
 fn answer(
     written: Result<Written, Refusal>,
     variables: &mut [u8],
@@ -100,9 +109,10 @@ fn answer(
     match written {
         Ok(written) => {
             out[..written.out.len()].copy_from_slice(&written.out);
-            variables[..written.variables.len()].copy_from_slice(&written.variables);
-            let (length, used) = (written.out.len(), written.variables.len());
-            Answer { number: ACCEPTED, place: 0, length, used, message: 0 }
+            let (length, new) = (written.out.len(), written.variables.len());
+            variables[..new].copy_from_slice(&written.variables);
+            variables[new..used.max(new)].fill(0);
+            Answer { number: ACCEPTED, place: 0, length, used: new, message: 0 }
         }
         Err(Refusal { number, place, message: demanded }) => {
             let shown = demanded.len().min(message.len());
@@ -112,35 +122,29 @@ fn answer(
     }
 }
 
-impl Lent<'_> {
-    /// The numbers 1 to 4, 23, 5 and 6 in this order, then reading, then the words from left to right.
-    fn expand(&self, out_length: usize) -> Result<Written, Refusal> {
-        if self.work < limits::WORK_AREA {
-            return Err(Number::WorkArea.at(0));
-        }
-        let variables = self.variables.get(..self.used).and_then(image::variables);
-        let variables = variables.ok_or(Number::Variables.at(0))?;
-        let homes = image::homes(self.tables.homes).ok_or(Number::Homes.at(0))?;
-        let paths = image::paths(self.tables.paths).ok_or(Number::Paths.at(0))?;
-        let parameters = image::fields(self.tables.parameters).ok_or(Number::Parameters.at(0))?;
-        if self.line.len() > limits::LINE {
-            return Err(Number::LineTooLong.at(0));
-        }
-        if self.line.contains(&0) {
-            return Err(Number::ZeroByte.at(0));
-        }
-        let words = read(self.line)?;
-        let mut expander = Expander {
-            variables: Variables::new(variables, self.variables.len().min(limits::IMAGE)),
-            homes: &homes,
-            parameters: &parameters,
-            message: Vec::new(),
-            seen: Seen::default(),
-        };
-        let out = expand_words(&words, &mut expander, &paths, out_length)?;
-        let variables = expander.variables.image();
-        Ok(Written { out, variables })
+impl<'a> Tables<'a> {
+    fn lent(self, line: &'a [u8], variables: &'a [u8], used: usize, work: &[u8]) -> Lent<'a> {
+        let Tables { homes, paths, parameters } = self;
+        Lent { line, variables, used, homes, paths: Some(paths), parameters, work: work.len() }
     }
+}
+
+/// The expander's work: the numbers before reading, then reading, then the words from left to right.
+fn expanded(lent: &Lent, out_length: usize) -> Result<Written, Refusal> {
+    let tables = lent.check()?;
+    let words = read(lent.line)?;
+    let mut expander = tables.expander();
+    let out = expand_words(&words, &mut expander, &tables.paths, out_length)?;
+    Ok(Written { out, variables: expander.variables.image() })
+}
+
+/// The same of assignments; they write the variables alone.
+fn assigned(lent: &Lent) -> Result<Written, Refusal> {
+    let tables = lent.check()?;
+    let assignments = assignment::read(lent.line)?;
+    let mut expander = tables.expander();
+    assignment::assign(&assignments, &mut expander)?;
+    Ok(Written { out: Vec::new(), variables: expander.variables.image() })
 }
 
 /// The image of all fields, or the first word's fault.

@@ -1,7 +1,8 @@
 //! A case: one call with its answer, on one line of text in the format of tests/vectors/README.md.
 
-use crate::calls::{expand, normalise, quote, Answer, Tables};
+use crate::calls::{assign, expand, normalise, quote, Answer, Tables};
 use crate::hex;
+use crate::image;
 use crate::number::ACCEPTED;
 
 /// What stands in the buffers where the case says nothing.
@@ -14,9 +15,22 @@ const WORK_FILL: u8 = 0xc3;
 pub enum Job {
     Expand,
     Normalise,
+    Assign,
 }
 
-/// What the expander and the normaliser are given.
+impl Job {
+    const ALL: [Job; 3] = [Job::Expand, Job::Normalise, Job::Assign];
+
+    fn name(self) -> &'static str {
+        match self {
+            Job::Expand => "expand",
+            Job::Normalise => "normalise",
+            Job::Assign => "assign",
+        }
+    }
+}
+
+/// What the jobs that take a line are given; assignments have neither paths nor output.
 #[derive(Clone, Debug)]
 pub struct Lent {
     pub line: Vec<u8>,
@@ -35,6 +49,43 @@ impl Lent {
     pub fn tables(&self) -> Tables<'_> {
         Tables { homes: &self.homes, paths: &self.paths, parameters: &self.parameters }
     }
+
+    /// The words of a job's call behind its name.
+    fn words(&self, job: Job) -> Vec<String> {
+        let number = |number: usize| number.to_string();
+        let mut words = vec![hex::write(&self.line), hex::write(&self.variables), number(self.used)];
+        words.extend([number(self.variables_buffer), hex::write(&self.homes)]);
+        match job {
+            Job::Assign => words.push(number(self.work)),
+            _ => words.extend([hex::write(&self.paths), number(self.work), number(self.out)]),
+        }
+        words.extend([hex::write(&self.parameters), number(self.message)]);
+        words
+    }
+
+    /// What such words lend, or `None` if they are not in the format.
+    fn of_words(job: Job, words: &[&str]) -> Option<Lent> {
+        let (&[line, variables, used, variables_buffer, homes], rest) = words.split_first_chunk()?;
+        let (paths, work, out, parameters, message) = match (job, rest) {
+            (Job::Assign, &[work, parameters, message]) => (image::empty(), work, 0, parameters, message),
+            (Job::Expand | Job::Normalise, &[paths, work, out, parameters, message]) => {
+                (hex::read(paths)?, work, out.parse().ok()?, parameters, message)
+            }
+            _ => return None,
+        };
+        Some(Lent {
+            line: hex::read(line)?,
+            variables: hex::read(variables)?,
+            used: used.parse().ok()?,
+            variables_buffer: variables_buffer.parse().ok()?,
+            homes: hex::read(homes)?,
+            paths,
+            work: work.parse().ok()?,
+            out,
+            parameters: hex::read(parameters)?,
+            message: message.parse().ok()?,
+        })
+    }
 }
 
 #[derive(Clone, Debug)]
@@ -47,25 +98,7 @@ impl Call {
     /// The words before the `=`.
     pub fn words(&self) -> String {
         match self {
-            Call::Lines(job, lent) => {
-                let job = match job {
-                    Job::Expand => "expand",
-                    Job::Normalise => "normalise",
-                };
-                let words = [
-                    hex::write(&lent.line),
-                    hex::write(&lent.variables),
-                    lent.used.to_string(),
-                    lent.variables_buffer.to_string(),
-                    hex::write(&lent.homes),
-                    hex::write(&lent.paths),
-                    lent.work.to_string(),
-                    lent.out.to_string(),
-                    hex::write(&lent.parameters),
-                    lent.message.to_string(),
-                ];
-                format!("{job} {}", words.join(" "))
-            }
+            Call::Lines(job, lent) => format!("{} {}", job.name(), lent.words(*job).join(" ")),
             Call::Quote { fields, out } => format!("quote {} {out}", hex::write(fields)),
         }
     }
@@ -73,20 +106,12 @@ impl Call {
     /// The call before the `=` of a case, or `None` if it is not in the format.
     pub fn of_words(words: &str) -> Option<Call> {
         let words: Vec<&str> = words.split(' ').collect();
-        let job = match *words.first()? {
-            "expand" => Job::Expand,
-            "normalise" => Job::Normalise,
-            "quote" => {
-                let [_, fields, out] = words[..] else {
-                    return None;
-                };
-                let fields = hex::read(fields)?;
-                let out = out.parse().ok()?;
-                return Some(Call::Quote { fields, out });
-            }
-            _ => return None,
-        };
-        lent(&words[1..]).map(|lent| Call::Lines(job, lent))
+        if let ["quote", fields, out] = words[..] {
+            return Some(Call::Quote { fields: hex::read(fields)?, out: out.parse().ok()? });
+        }
+        let (name, words) = words.split_first()?;
+        let job = Job::ALL.into_iter().find(|job| job.name() == *name)?;
+        Lent::of_words(job, words).map(|lent| Call::Lines(job, lent))
     }
 
     /// The answer of the call and its words behind the `=`, or what was wrong in a buffer.
@@ -121,49 +146,35 @@ pub fn replay(text: &str) -> Result<(), String> {
     Err(format!("{words}\n  wanted {wanted}\n  given  {given}"))
 }
 
-/// What the words lend.
-fn lent(words: &[&str]) -> Option<Lent> {
-    let [line, variables, used, variables_buffer, homes, paths, work, out, parameters, message] = words else {
-        return None;
-    };
-    Some(Lent {
-        line: hex::read(line)?,
-        variables: hex::read(variables)?,
-        used: used.parse().ok()?,
-        variables_buffer: variables_buffer.parse().ok()?,
-        homes: hex::read(homes)?,
-        paths: hex::read(paths)?,
-        work: work.parse().ok()?,
-        out: out.parse().ok()?,
-        parameters: hex::read(parameters)?,
-        message: message.parse().ok()?,
-    })
-}
-
 fn lines_answer(job: Job, lent: &Lent) -> Result<(Answer, String), String> {
     let mut variables = lent.variables.clone();
     variables.resize(lent.variables_buffer, VARIABLES_FILL);
-    let given = variables.clone();
+    let mut given = variables.clone();
     let mut out = vec![OUT_FILL; lent.out];
     let mut work = vec![WORK_FILL; lent.work];
     let mut message = vec![MESSAGE_FILL; lent.message];
-    let call = match job {
-        Job::Expand => expand,
-        Job::Normalise => normalise,
+    let Lent { line, used, homes, parameters, .. } = lent;
+    let answer = match job {
+        Job::Expand => expand(line, &mut variables, *used, lent.tables(), &mut work, &mut out, &mut message),
+        Job::Normalise => normalise(line, &mut variables, *used, lent.tables(), &mut work, &mut out, &mut message),
+        Job::Assign => assign(line, &mut variables, *used, homes, parameters, &mut work, &mut message),
     };
-    let answer = call(&lent.line, &mut variables, lent.used, lent.tables(), &mut work, &mut out, &mut message);
     if work.iter().any(|&byte| byte != 0) {
         return Err("the work area is not zero".to_string());
     }
     check_behind(&out, answer.length, &vec![OUT_FILL; lent.out])?;
-    let refused = answer.number != ACCEPTED;
-    let changed = if refused { 0 } else { answer.used };
+    let changed = if answer.number == ACCEPTED { answer.used } else { 0 };
+    if job == Job::Assign && answer.number == ACCEPTED && changed < *used {
+        given[changed..*used].fill(0);
+    }
     check_behind(&variables, changed, &given)?;
     check_behind(&message, answer.message, &vec![MESSAGE_FILL; lent.message])?;
-    let out = hex::write(&out[..answer.length]);
+    let head = match job {
+        Job::Assign => format!("{} {}", answer.number, answer.place),
+        _ => head(&answer, &hex::write(&out[..answer.length])),
+    };
     let variables = hex::write(&variables[..changed]);
     let message = hex::write(&message[..answer.message]);
-    let head = head(&answer, &out);
     Ok((answer, format!("{head} {} {variables} {} {message}", answer.used, answer.message)))
 }
 
@@ -171,7 +182,7 @@ fn head(answer: &Answer, out: &str) -> String {
     format!("{} {} {} {out}", answer.number, answer.place, answer.length)
 }
 
-/// Every byte behind the new length must be the one given.
+/// Every byte behind the new length must be the one that is to stand there.
 fn check_behind(buffer: &[u8], length: usize, given: &[u8]) -> Result<(), String> {
     if buffer[length..] == given[length..] {
         Ok(())

@@ -46,7 +46,7 @@ impl Reader<'_> {
     }
 
     /// The longest name here; the caller has seen its first byte.
-    fn name(&mut self) -> Vec<u8> {
+    pub(crate) fn name(&mut self) -> Vec<u8> {
         self.run(continues_name).to_vec()
     }
 

@@ -168,7 +168,7 @@ impl Expander<'_> {
         }
     }
 
-    fn home(&self, login: &[u8]) -> Option<&[u8]> {
+    pub fn home(&self, login: &[u8]) -> Option<&[u8]> {
         if login.is_empty() {
             return self.variables.value(b"HOME");
         }

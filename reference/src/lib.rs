@@ -2,6 +2,7 @@
 //! of document 02 as many requests as have landed.
 
 mod arithmetic;
+mod assignment;
 mod bracket;
 mod calls;
 pub mod case;
@@ -12,6 +13,7 @@ mod expand;
 pub mod generate;
 mod hex;
 pub mod image;
+mod lent;
 pub mod limits;
 mod matching;
 pub mod number;
@@ -25,4 +27,4 @@ mod split;
 mod tree;
 mod variables;
 
-pub use calls::{expand, normalise, quote, Answer, Tables};
+pub use calls::{assign, expand, normalise, quote, Answer, Tables};

@@ -1,4 +1,4 @@
-//! The program of document 01: tables from a folder, parameters from its arguments, lines from a reader, one answer to a line.
+//! The program of document 01: tables from a folder, parameters from its arguments, lines from a reader, one answer to a line; and what lines demand.
 
 use std::fs;
 use std::io::{self, BufRead, ErrorKind, Write};
@@ -7,7 +7,7 @@ use std::path::Path;
 use crate::calls::{normalise, Answer, Tables};
 use crate::image;
 use crate::limits;
-use crate::number::ACCEPTED;
+use crate::number::{Number, ACCEPTED};
 
 /// The tables of a folder, the parameters, and the variables as the lines so far have left them.
 struct Program {
@@ -18,13 +18,26 @@ struct Program {
     parameters: Vec<u8>,
 }
 
-/// Answers every line; a table that is there and cannot be read is an error before any answer.
-pub fn run(folder: &Path, parameters: &[Vec<u8>], mut lines: impl BufRead, mut out: impl Write) -> io::Result<()> {
+/// Answers every line, and tells what it demands behind its number, counted from 1; a table that is there and cannot be read is an error before any answer.
+pub fn run(
+    folder: &Path,
+    parameters: &[Vec<u8>],
+    mut lines: impl BufRead,
+    mut out: impl Write,
+    mut told: impl Write,
+) -> io::Result<()> {
     let mut program = Program::new(folder, parameters)?;
     let mut line = Vec::new();
-    while lines.read_until(b'\n', &mut line)? > 0 {
-        out.write_all(&program.answer(line.strip_suffix(b"\n").unwrap_or(&line)))?;
+    for number in 1u64.. {
+        if lines.read_until(b'\n', &mut line)? == 0 {
+            break;
+        }
+        let (words, message) = program.answer(line.strip_suffix(b"\n").unwrap_or(&line));
+        out.write_all(&words)?;
         out.flush()?;
+        if let Some(message) = message {
+            told.write_all(&[format!("line {number}: ").as_bytes(), &message, b"\n"].concat())?;
+        }
         line.clear();
     }
     Ok(())
@@ -39,8 +52,9 @@ impl Program {
         Ok(Program { variables, used, homes, paths, parameters: list(parameters) })
     }
 
-    fn answer(&mut self, line: &[u8]) -> Vec<u8> {
-        let mut out = vec![0; limits::IMAGE];
+    /// The words of the answer to a line, and the message that it demands, if it does.
+    fn answer(&mut self, line: &[u8]) -> (Vec<u8>, Option<Vec<u8>>) {
+        let (mut out, mut message) = (vec![0; limits::IMAGE], vec![0; limits::ROW]);
         let answer = normalise(
             line,
             &mut self.variables,
@@ -48,11 +62,12 @@ impl Program {
             Tables { homes: &self.homes, paths: &self.paths, parameters: &self.parameters },
             &mut vec![0; limits::WORK_AREA],
             &mut out,
-            &mut [],
+            &mut message,
         );
         self.used = answer.used;
         out.truncate(answer.length);
-        said(&answer, &out)
+        message.truncate(answer.message);
+        (said(&answer, &out), (answer.number == Number::Missing as u8).then_some(message))
     }
 }
 

@@ -21,14 +21,17 @@ pub enum BareEnd {
     Word,
     /// At `}`.
     Operand,
+    /// Where a word does; it is the value of an assignment, in which a tilde may stand behind each `:` too.
+    Value,
 }
 
 impl BareEnd {
-    /// The bytes that end the login of a tilde that begins the text: a slash, or what ends the text itself.
+    /// The bytes that end the login of a tilde in the text: a slash, what ends the text itself, and in a value a colon.
     fn login_ends(self) -> &'static [u8] {
         match self {
             BareEnd::Word => b"/ \t\n",
             BareEnd::Operand => b"/}",
+            BareEnd::Value => b"/: \t\n",
         }
     }
 }
@@ -52,12 +55,7 @@ pub struct Reader<'a> {
 pub fn read(line: &[u8]) -> Result<Vec<Word>, Refusal> {
     let mut reader = Reader { line, at: 0, open: 0, lists: true };
     let mut words = Vec::new();
-    while let Some(byte) = reader.peek(0) {
-        if is_separator(byte) {
-            reader.at += 1;
-            continue;
-        }
-        let place = reader.at;
+    while let Some(place) = reader.next_word() {
         let parts = reader.word().map_err(|number| number.at(place))?;
         words.push(Word { place, parts });
     }
@@ -68,7 +66,7 @@ fn is_separator(byte: u8) -> bool {
     matches!(byte, b' ' | b'\t' | b'\n')
 }
 
-fn is_operator(byte: u8) -> bool {
+pub fn is_operator(byte: u8) -> bool {
     matches!(byte, b'|' | b'&' | b';' | b'<' | b'>' | b'(' | b')')
 }
 
@@ -76,6 +74,14 @@ impl Reader<'_> {
     /// The byte `ahead` of the next one, if the line has it.
     pub(crate) fn peek(&self, ahead: usize) -> Option<u8> {
         self.line.get(self.at + ahead).copied()
+    }
+
+    /// Passes over separators; where the next word begins, if there is one.
+    pub(crate) fn next_word(&mut self) -> Option<usize> {
+        while is_separator(self.peek(0)?) {
+            self.at += 1;
+        }
+        Some(self.at)
     }
 
     fn word(&mut self) -> Result<Vec<Part>, Number> {
@@ -103,7 +109,7 @@ impl Reader<'_> {
         loop {
             let Some(byte) = self.peek(0) else {
                 return match end {
-                    BareEnd::Word => Ok(parts),
+                    BareEnd::Word | BareEnd::Value => Ok(parts),
                     BareEnd::Operand => Err(Number::LineEnds),
                 };
             };
@@ -120,11 +126,14 @@ impl Reader<'_> {
                     self.at += 1;
                     return Ok(parts);
                 }
-                _ if end == BareEnd::Word && is_separator(byte) => return Ok(parts),
-                _ if end == BareEnd::Word && is_operator(byte) => return Err(Number::Operator),
+                _ if end != BareEnd::Operand && is_separator(byte) => return Ok(parts),
+                _ if end != BareEnd::Operand && is_operator(byte) => return Err(Number::Operator),
                 _ => {
                     self.at += 1;
                     parts.push(Part::Literal(byte));
+                    if end == BareEnd::Value && byte == b':' {
+                        parts.extend(self.tilde(end.login_ends()));
+                    }
                 }
             }
         }

@@ -7,6 +7,14 @@ pub struct Word {
     pub parts: Vec<Part>,
 }
 
+/// A word of an assignment line: its place, the name before its `=`, and the value behind it.
+#[derive(Debug)]
+pub struct Assignment {
+    pub place: usize,
+    pub name: Vec<u8>,
+    pub value: Vec<Part>,
+}
+
 /// One step of a row: a unit that stands in the line, or an expansion.
 #[derive(Debug)]
 pub enum Part {
@@ -16,7 +24,7 @@ pub enum Part {
     Quoted(u8),
     /// Quotes, single or double: what stands between the opening one and the closing one.
     Quotes(Vec<Part>),
-    /// A `~` at the start of a word or of an operand read as bare text, and the login behind it.
+    /// A `~` where it is looked up, and the login behind it: at the start of a word, of an operand read as bare text, of a value or behind a `:` in it.
     Tilde(Vec<u8>),
     Parameter {
         parameter: Parameter,

@@ -2,6 +2,7 @@
 //! answers to them.
 
 use std::fs::{create_dir_all, write};
+use std::io::sink;
 use std::path::Path;
 use std::process::ExitCode;
 
@@ -40,6 +41,6 @@ fn write_season(folder: &Path, season: &Season) -> std::io::Result<()> {
     let lines: Vec<u8> = season.lines.iter().flat_map(|line| [line.as_slice(), b"\n"].concat()).collect();
     write(folder.join("recipe.txt"), &lines)?;
     let mut answers = Vec::new();
-    program::run(folder, &[], lines.as_slice(), &mut answers)?;
+    program::run(folder, &[], lines.as_slice(), &mut answers, sink())?;
     write(folder.join("expected.txt"), answers)
 }

@@ -1,17 +1,20 @@
-//! Compares the reference with dash and bash on lines and arithmetic texts where documents 01 and 02 and POSIX agree.
+//! Compares the reference with dash and bash on lines, arithmetic texts, demanded messages and assignment lines where documents 01 and 02 and POSIX agree.
 
 use std::process::ExitCode;
 
 use reference::generate::random::Random;
 use reference::shells::script::is_harmless;
 use reference::shells::sums::{self, Sum, Sums};
-use reference::shells::{differences, lines, positional, reference, Folder, Given, Outcome, Shell, Table};
+use reference::shells::{
+    assignments, differences, lines, messages, positional, reference, Folder, Given, Outcome, Shell, Table, Taken,
+};
 
 fn main() -> ExitCode {
     let words: Vec<String> = std::env::args().skip(1).collect();
     let words: Vec<&str> = words.iter().map(String::as_str).collect();
     let compared = match words[..] {
-        ["--differences", ref names @ ..] | ["--parameters" | "--arithmetic", _, _, ref names @ ..]
+        ["--differences", ref names @ ..]
+        | ["--parameters" | "--arithmetic" | "--messages" | "--assignments", _, _, ref names @ ..]
             if !names.is_empty() =>
         {
             names.iter().map(|name| Shell::named(name)).collect()
@@ -27,17 +30,8 @@ fn main() -> ExitCode {
         eprintln!("not installed, so nothing is compared: {missing}");
         return ExitCode::FAILURE;
     }
-    let differ = match words[..] {
-        ["--differences", ..] => show_differences(&compared),
-        ["--arithmetic", seed, count, ..] => match (seed.parse(), count.parse()) {
-            (Ok(seed), Ok(count)) => compare_sums(seed, count, &compared),
-            _ => return usage(),
-        },
-        [seed, count] | ["--parameters", seed, count, ..] => match (seed.parse(), count.parse()) {
-            (Ok(seed), Ok(count)) => compare(seed, count, words.len() > 2, &compared),
-            _ => return usage(),
-        },
-        _ => return usage(),
+    let Some(differ) = compared_by(&words, &compared) else {
+        return usage();
     };
     match differ {
         Ok(0) => ExitCode::SUCCESS,
@@ -49,6 +43,23 @@ fn main() -> ExitCode {
     }
 }
 
+/// What the words ask for, with these shells: how many differ, or nothing if the words ask for nothing.
+fn compared_by(words: &[&str], shells: &[Shell]) -> Option<std::io::Result<usize>> {
+    let (seed, count) = match words[..] {
+        ["--differences", ..] => return Some(show_differences(shells)),
+        [seed, count] | [_, seed, count, ..] => (seed.parse().ok()?, count.parse().ok()?),
+        _ => return None,
+    };
+    Some(match words[0] {
+        "--parameters" => compare(seed, count, true, shells),
+        "--arithmetic" => compare_sums(seed, count, shells),
+        "--messages" => compare_messages(seed, count, shells),
+        "--assignments" => compare_assignments(seed, count, shells),
+        _ if words.len() == 2 => compare(seed, count, false, shells),
+        _ => return None,
+    })
+}
+
 /// Prints what docs/SHELLS.md lists, for these shells; how many of its lines show no difference.
 fn show_differences(shells: &[Shell]) -> std::io::Result<usize> {
     let (text, alike) = differences::measured(&Folder::new()?, shells)?;
@@ -58,7 +69,7 @@ fn show_differences(shells: &[Shell]) -> std::io::Result<usize> {
 
 fn usage() -> ExitCode {
     eprintln!(
-        "usage: shells SEED COUNT, shells --parameters|--arithmetic SEED COUNT [SHELL...], or shells --differences [SHELL...]"
+        "usage: shells SEED COUNT, shells --parameters|--arithmetic|--messages|--assignments SEED COUNT [SHELL...], or shells --differences [SHELL...]"
     );
     ExitCode::FAILURE
 }
@@ -78,7 +89,7 @@ fn compare(seed: u64, count: usize, parameters: bool, shells: &[Shell]) -> std::
             given.parameters = positional::parameters(random);
         }
         let line = lines::line(random, parameters);
-        let Ok(wanted) = reference(&line, &given) else {
+        let Ok(wanted) = reference(&line, &given, Taken::Fields) else {
             refused += 1;
             continue;
         };
@@ -91,7 +102,7 @@ fn compare(seed: u64, count: usize, parameters: bool, shells: &[Shell]) -> std::
         classes += usize::from(lines::has_class(&line));
         lists += usize::from(positional::has_list(&line));
         for shell in shells {
-            let said = shell.outcome(&folder, &line, &given)?;
+            let said = shell.outcome(&folder, &line, &given, Taken::Fields)?;
             if said.as_ref() != Some(&wanted) {
                 differ += 1;
                 report(*shell, &line, &given, &wanted, said.as_ref());
@@ -100,6 +111,74 @@ fn compare(seed: u64, count: usize, parameters: bool, shells: &[Shell]) -> std::
     }
     println!("not compared: {refused} lines refused by the reference, {left_out} left out");
     println!("{compared} lines, {classes} with a class, {lists} with a list, {differ} differ");
+    Ok(differ)
+}
+
+/// Compares the messages of so many lines that are refused with 13, for each shell those that it takes alike, and says how many differ.
+fn compare_messages(seed: u64, count: usize, shells: &[Shell]) -> std::io::Result<usize> {
+    let folder = Folder::new()?;
+    let (mut compared, mut differ, mut left_out) = (vec![0; shells.len()], 0, 0);
+    for case in 0.. {
+        if compared.iter().all(|compared| *compared == count) {
+            break;
+        }
+        let random = &mut Random::new(seed, case);
+        let given = Given { variables: lines::variables(random), parameters: Vec::new() };
+        let line = messages::line(random);
+        let Some(message) = messages::demanded(&line, &given).filter(|message| !message.is_empty()) else {
+            left_out += 1;
+            continue;
+        };
+        for (shell, compared) in shells.iter().zip(&mut compared) {
+            if *compared == count || !is_harmless(&line) || !shell.demands_alike(&line) {
+                continue;
+            }
+            *compared += 1;
+            let said = shell.complaint(&folder, &line, &given)?.unwrap_or_default();
+            if !said.ends_with(&[b": ", message.as_slice(), b"\n"].concat()) {
+                differ += 1;
+                println!("{}: {}\n  variables {}", shell.name(), line.escape_ascii(), shown(&given.variables));
+                println!("  reference {}\n  shell     {}", message.escape_ascii(), said.escape_ascii());
+            }
+        }
+    }
+    println!("not compared: {left_out} lines without a message");
+    println!("{count} messages of each shell, {differ} differ");
+    Ok(differ)
+}
+
+/// Compares so many accepted assignment lines by the variables that they leave, and says how many have a tilde and how many differ.
+fn compare_assignments(seed: u64, count: usize, shells: &[Shell]) -> std::io::Result<usize> {
+    let folder = Folder::new()?;
+    let (mut compared, mut tildes, mut differ, mut refused, mut left_out) = (0, 0, 0, 0, 0);
+    for case in 0.. {
+        if compared == count {
+            break;
+        }
+        let random = &mut Random::new(seed, case);
+        let given = Given { variables: lines::variables(random), parameters: positional::parameters(random) };
+        let numbered = random.once_in(2);
+        let line = assignments::line(random, numbered);
+        let Ok(wanted) = reference(&line, &given, Taken::Assignments) else {
+            refused += 1;
+            continue;
+        };
+        if !is_harmless(&line) {
+            left_out += 1;
+            continue;
+        }
+        compared += 1;
+        tildes += usize::from(line.contains(&b'~'));
+        for shell in shells {
+            let said = shell.outcome(&folder, &line, &given, Taken::Assignments)?;
+            if said.as_ref() != Some(&wanted) {
+                differ += 1;
+                report(*shell, &line, &given, &wanted, said.as_ref());
+            }
+        }
+    }
+    println!("not compared: {refused} lines refused by the reference, {left_out} left out");
+    println!("{compared} assignment lines, {tildes} with a tilde, {differ} differ");
     Ok(differ)
 }
 

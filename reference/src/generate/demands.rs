@@ -114,6 +114,11 @@ pub fn case(random: &mut Random, lent: &mut Lent) {
     lent.line = words.line();
 }
 
+/// A `?`, mostly on a missing value, as it may stand in bare text or in double quotes.
+pub fn demand(random: &mut Random, bare: bool) -> Vec<u8> {
+    Words { random, depth: 0 }.demand(bare)
+}
+
 struct Words<'a> {
     random: &'a mut Random,
     depth: usize,

@@ -1,5 +1,7 @@
 //! Cases made from a seed: lines and tables of every kind, for the reference and what is held against it to answer.
 
+pub mod assigned;
+pub mod assignments;
 pub mod brackets;
 pub mod classes;
 mod crowds;
@@ -42,6 +44,10 @@ pub const MOST_STEPS: usize = 5_000_000;
 /// The call of this case; the same for the same seed and case.
 pub fn call(seed: u64, case: u64) -> Call {
     let random = &mut Random::new(seed, case);
+    if random.once_in(5) {
+        let call = assignments::made(random);
+        return finished(random, call);
+    }
     let call = match random.below(326) {
         0..=11 => sizes::call(random),
         12..=18 => quoting::call(random),
@@ -66,7 +72,7 @@ pub fn call(seed: u64, case: u64) -> Call {
 fn finished(random: &mut Random, call: Call) -> Call {
     match call {
         Call::Lines(job, mut lent) => {
-            steps::thin(&mut lent, MOST_STEPS);
+            steps::thin(job, &mut lent, MOST_STEPS);
             tighten(random, job, &mut lent);
             demands::lend_room(random, job, &mut lent);
             Call::Lines(job, lent)
@@ -182,7 +188,7 @@ fn wrong_used(random: &mut Random, lent: &Lent) -> usize {
 
 /// Sometimes gives just the room the call needs, one byte less or more, or hardly any; to one that is refused seldom, as no output at all would be 21.
 fn tighten(random: &mut Random, job: Job, lent: &mut Lent) {
-    if random.once_in(5) {
+    if job != Job::Assign && random.once_in(5) {
         let answer = answered(job, lent);
         let hardly_any = random.once_in(3);
         if answer.number == ACCEPTED || random.once_in(5) {

@@ -2,7 +2,7 @@
 
 use super::{call, ordinary, random::Random, steps::steps, MOST_STEPS};
 use crate::calls::normalise;
-use crate::case::{Call, Lent};
+use crate::case::{Call, Job, Lent};
 use crate::limits;
 
 pub struct Season {
@@ -24,11 +24,11 @@ impl Season {
             if lines.len() == count {
                 break;
             }
-            let Call::Lines(_, made) = call(seed, case) else {
+            let Call::Lines(Job::Expand | Job::Normalise, made) = call(seed, case) else {
                 continue;
             };
             lent.line = made.line.into_iter().map(|byte| if byte == b'\n' { b' ' } else { byte }).collect();
-            if steps(&lent) <= MOST_STEPS {
+            if steps(Job::Normalise, &lent) <= MOST_STEPS {
                 carry_over(&mut lent);
                 lines.push(lent.line.clone());
             }

@@ -190,7 +190,7 @@ fn store(random: &mut Random, lent: &mut Lent) {
 fn quoter(random: &mut Random) -> Call {
     let out = *random.pick(&[2_047, 2_048, 2_049, 9_000, 0]);
     let length = about(random, limits::LINE);
-    let fields = match random.below(8) {
+    let fields = match random.below(10) {
         0 => of_texts(&[",".repeat(length - 2)]),
         1 => of_texts(&["x".repeat(length)]),
         2 => of_texts(&["'".to_string(), "x".repeat(length - 7)]),

@@ -2,15 +2,15 @@
 //! so that most cases stay cheap for whatever is held against the reference.
 
 use super::walk::walk;
-use crate::case::Lent;
+use crate::case::{Job, Lent};
 use crate::expand::{HeldTo, SeenPattern};
 use crate::image;
 use crate::pattern::{self, Element, Pattern};
 
 /// The steps of all patterns that the call comes to read.
-pub fn steps(lent: &Lent) -> usize {
+pub fn steps(job: Job, lent: &Lent) -> usize {
     let paths = image::paths(&lent.paths).unwrap_or_default();
-    walk(lent).patterns.iter().map(|seen| pattern_steps(seen, &paths)).sum()
+    walk(job, lent).patterns.iter().map(|seen| pattern_steps(seen, &paths)).sum()
 }
 
 /// Those of one pattern over all texts that it is held to: for a value, each prefix or each suffix.
@@ -36,8 +36,8 @@ fn text_steps(runs: &[usize], length: usize) -> usize {
 }
 
 /// Takes stars away, all of them, if the patterns cost more than they may.
-pub fn thin(lent: &mut Lent, allowed: usize) {
-    if steps(lent) > allowed {
+pub fn thin(job: Job, lent: &mut Lent, allowed: usize) {
+    if steps(job, lent) > allowed {
         for at in 0..lent.line.len() {
             if lent.line[at] == b'*' && !is_list(&lent.line[..at]) {
                 lent.line[at] = b'?';

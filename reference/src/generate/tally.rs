@@ -4,6 +4,7 @@ use std::collections::BTreeSet;
 use std::fmt;
 use std::ops::RangeInclusive;
 
+use super::assigned::Assigned;
 use super::brackets::Brackets;
 use super::call;
 use super::messages::Messages;
@@ -25,6 +26,7 @@ pub struct Tally {
     pub numbers: [usize; LAST_NUMBER as usize + 1],
     pub expand: usize,
     pub normalise: usize,
+    pub assign: usize,
     pub quote: usize,
     /// The bytes the cases take in a file.
     pub bytes: usize,
@@ -42,6 +44,7 @@ pub struct Tally {
     pub patterns: Patterns,
     pub positional: Positional,
     pub messages: Messages,
+    pub assigned: Assigned,
 }
 
 impl Tally {
@@ -63,23 +66,28 @@ impl Tally {
         *match call {
             Call::Lines(Job::Expand, _) => &mut self.expand,
             Call::Lines(Job::Normalise, _) => &mut self.normalise,
+            Call::Lines(Job::Assign, _) => &mut self.assign,
             Call::Quote { .. } => &mut self.quote,
         } += 1;
-        if let Call::Lines(_, lent) = call {
-            self.positional.add(lent, answer.number);
-            if is_walked(answer.number) {
-                self.add_seen(lent, &answer);
-            }
+        match call {
+            Call::Lines(Job::Assign, lent) if is_walked(answer.number) => self.assigned.add(lent, &answer),
+            Call::Lines(Job::Expand | Job::Normalise, lent) => self.add_line(lent, &answer),
+            _ => (),
         }
         match call {
-            Call::Lines(Job::Expand, _) => (),
+            Call::Lines(Job::Expand | Job::Assign, _) => (),
             Call::Lines(Job::Normalise, lent) => self.quoting.add_line(lent),
             Call::Quote { fields, .. } => self.quoting.add_image(fields),
         }
     }
 
-    fn add_seen(&mut self, lent: &Lent, answer: &Answer) {
-        let seen = walk(lent);
+    /// A line of the expander or the normaliser, and what it came across if it was walked.
+    fn add_line(&mut self, lent: &Lent, answer: &Answer) {
+        self.positional.add(lent, answer.number);
+        if !is_walked(answer.number) {
+            return;
+        }
+        let seen = walk(Job::Expand, lent);
         self.messages.add(lent, answer, &seen);
         self.full_lines += usize::from(lent.line.len() == limits::LINE);
         self.tildes.add(lent);
@@ -110,12 +118,14 @@ impl fmt::Display for Tally {
             writeln!(out, "{number:2} {count}")?;
         }
         let Tally { expand, normalise, quote, bytes, sums, different_sums, full_lines, rows, .. } = self;
-        let Tally { tildes, quoting, brackets, patterns, positional, kinds_of_sums, messages, .. } = self;
-        writeln!(out, "expand {expand}, normalise {normalise}, quote {quote}")?;
+        let Tally {
+            tildes, quoting, brackets, patterns, positional, kinds_of_sums, messages, assigned, assign, ..
+        } = self;
+        writeln!(out, "expand {expand}, normalise {normalise}, quote {quote}, assign {assign}")?;
         writeln!(out, "{bytes} bytes")?;
         writeln!(out, "arithmetic texts {sums}, different ones {}", different_sums.len())?;
         writeln!(out, "lines of 2048 bytes {full_lines}")?;
         writeln!(out, "rows of 2047 units {}, of 2048 {}, refused at 2049 {}", rows[0], rows[1], rows[2])?;
-        write!(out, "{tildes}{quoting}{brackets}{patterns}{positional}{kinds_of_sums}{messages}")
+        write!(out, "{tildes}{quoting}{brackets}{patterns}{positional}{kinds_of_sums}{messages}{assigned}")
     }
 }

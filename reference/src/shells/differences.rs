@@ -3,7 +3,7 @@
 use std::io;
 
 use super::script::is_harmless;
-use super::{reference, Folder, Given, Outcome, Shell, Table};
+use super::{reference, Folder, Given, Outcome, Shell, Table, Taken};
 
 /// A phrase of document 01 or 02, a line, and the variables it is expanded with.
 type Difference = (&'static str, &'static str, &'static [(&'static str, &'static str)]);
@@ -122,6 +122,16 @@ const POSITIONAL: &[Listed] = &[
     ("so do length and operators on them and on `#`", "${##}", &[], &["a"]),
 ];
 
+/// Assignment lines. Those that are 11 or 10 run nothing in a shell either.
+const ASSIGNMENTS: &[Listed] = &[
+    ("a name, a bare `=` and a value, perhaps empty, else 11", "x=a x+=b", &[], &[]),
+    ("after each bare literal `:` outside operands", "x=${u-a:~}", &[("HOME", "/h")], &[]),
+    ("its login ending at the first `/` or the operand's end", "x=${u-~:a}", &[("HOME", "/h")], &[]),
+    ("Text is bytes", "y=${x#c}", &[("IFS", "\x7f"), ("x", "a\x7fb")], &[]),
+    ("`$@` and `$*` in values are 10", "x=$@", &[("IFS", ":")], &["a", "b  c"]),
+    ("`$@` and `$*` in values are 10", "x=\"$*\"", &[], &["a", "b  c"]),
+];
+
 /// Every difference as docs/SHELLS.md lists it, and how many lines show none.
 pub fn measured(folder: &Folder, shells: &[Shell]) -> io::Result<(String, usize)> {
     let (mut text, mut alike) = (String::new(), 0);
@@ -133,16 +143,20 @@ pub fn measured(folder: &Folder, shells: &[Shell]) -> io::Result<(String, usize)
     ] {
         text.push_str(&format!("## {title}\n\n"));
         for (phrase, line, pairs) in list {
-            let (shown, parts) = measure(folder, shells, &(phrase, line, pairs, &[]))?;
+            let (shown, parts) = measure(folder, shells, &(phrase, line, pairs, &[]), Taken::Fields)?;
             text.push_str(&shown);
             alike += usize::from(!parts);
         }
     }
-    text.push_str("## Positional parameters\n\n");
-    for listed in POSITIONAL {
-        let (shown, parts) = measure(folder, shells, listed)?;
-        text.push_str(&shown);
-        alike += usize::from(!parts);
+    for (title, list, taken) in
+        [("Positional parameters", POSITIONAL, Taken::Fields), ("Assignment lines", ASSIGNMENTS, Taken::Assignments)]
+    {
+        text.push_str(&format!("## {title}\n\n"));
+        for listed in list {
+            let (shown, parts) = measure(folder, shells, listed, taken)?;
+            text.push_str(&shown);
+            alike += usize::from(!parts);
+        }
     }
     Ok((text, alike))
 }
@@ -152,12 +166,13 @@ fn measure(
     folder: &Folder,
     shells: &[Shell],
     (phrase, line, pairs, parameters): &Listed,
+    taken: Taken,
 ) -> io::Result<(String, bool)> {
     let before: Table = pairs.iter().map(|(name, value)| ((*name).into(), (*value).into())).collect();
     let parameters = parameters.iter().map(|text| text.as_bytes().to_vec()).collect();
     let lent = Given { variables: before.clone(), parameters };
     let line = line.as_bytes();
-    let wanted = reference(line, &lent);
+    let wanted = reference(line, &lent, taken);
     let mut text = format!("- {phrase}\n\n      line         {}", printable(line));
     for (name, value) in &before {
         text.push_str(&format!("   {}='{}'", printable(name), printable(value)));
@@ -166,7 +181,7 @@ fn measure(
         text.push_str(&format!("   {number}='{}'", printable(parameter)));
     }
     let given = match &wanted {
-        Ok(outcome) => shown(outcome, &before),
+        Ok(outcome) => shown(outcome, &before, taken),
         Err(number) => format!("refused with {number}"),
     };
     text.push_str(&format!("\n      documents    {given}\n"));
@@ -174,12 +189,12 @@ fn measure(
     let mut parts = !harmless;
     for shell in shells {
         let given = match harmless {
-            true => shell.outcome(folder, line, &lent)?,
+            true => shell.outcome(folder, line, &lent, taken)?,
             false => None,
         };
         parts |= given.as_ref() != wanted.as_ref().ok();
         let given = match &given {
-            Some(outcome) => shown(outcome, &before),
+            Some(outcome) => shown(outcome, &before, taken),
             None if harmless => "fails".to_string(),
             None => "not run".to_string(),
         };
@@ -188,17 +203,20 @@ fn measure(
     Ok((text + "\n", parts))
 }
 
-/// The fields, and the variables that have changed.
-fn shown(outcome: &Outcome, before: &Table) -> String {
+/// The fields, which assignments have not, and the variables that have changed.
+fn shown(outcome: &Outcome, before: &Table, taken: Taken) -> String {
     let fields = outcome.fields.iter();
     let mut words: Vec<String> = fields.map(|field| format!("<{}>", printable(field))).collect();
-    if words.is_empty() {
+    if words.is_empty() && taken == Taken::Fields {
         words.push("no fields".to_string());
     }
     for (name, value) in &outcome.variables {
         if before.get(name) != Some(value) {
             words.push(format!("{}='{}'", printable(name), printable(value)));
         }
+    }
+    if words.is_empty() {
+        words.push("no change".to_string());
     }
     words.join(" ")
 }

@@ -67,7 +67,7 @@ pub fn variables(random: &mut Random) -> Table {
 /// A line, with positional parameters in it if they are wanted.
 pub fn line(random: &mut Random, positional: bool) -> Vec<u8> {
     let words = random.between(1, 4);
-    let mut lines = Lines { random, depth: 0, in_removal: false, positional, lists: true };
+    let mut lines = Lines::new(random, positional, true);
     let mut line = Vec::new();
     for _ in 0..words {
         line.extend(lines.word());
@@ -102,7 +102,7 @@ pub fn has_class(line: &[u8]) -> bool {
 
 /// How deep the line being made is, whether inside a removal's operand, where nothing is stored, whether it has positional parameters, and whether
 /// `$@` and `$*` are served here.
-struct Lines<'a> {
+pub struct Lines<'a> {
     random: &'a mut Random,
     depth: usize,
     in_removal: bool,
@@ -110,7 +110,11 @@ struct Lines<'a> {
     lists: bool,
 }
 
-impl Lines<'_> {
+impl<'a> Lines<'a> {
+    pub fn new(random: &'a mut Random, positional: bool, lists: bool) -> Lines<'a> {
+        Lines { random, depth: 0, in_removal: false, positional, lists }
+    }
+
     fn word(&mut self) -> Vec<u8> {
         let mut word = Vec::new();
         if self.random.once_in(10) {
@@ -121,7 +125,7 @@ impl Lines<'_> {
         word
     }
 
-    fn pieces(&mut self, setting: Setting) -> Vec<u8> {
+    pub fn pieces(&mut self, setting: Setting) -> Vec<u8> {
         let most = if self.depth == 0 { 4 } else { 3 };
         let count = self.random.between(0, most);
         (0..count).flat_map(|_| self.piece(setting)).collect()
@@ -198,7 +202,7 @@ impl Lines<'_> {
     }
 
     /// The text of an operand, which begins with a tilde now and then.
-    fn operand_text(&mut self, setting: Setting) -> Vec<u8> {
+    pub fn operand_text(&mut self, setting: Setting) -> Vec<u8> {
         if !self.random.once_in(6) {
             return self.pieces(setting);
         }

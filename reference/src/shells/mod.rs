@@ -1,7 +1,9 @@
 //! The reference beside dash and bash: the same line, variables, parameters and paths, and whether all give the same.
 
+pub mod assignments;
 pub mod differences;
 pub mod lines;
+pub mod messages;
 pub mod positional;
 pub mod script;
 pub mod sums;
@@ -12,7 +14,7 @@ use std::io;
 use std::path::{Path, PathBuf};
 use std::process::{Command, Stdio};
 
-use crate::calls::{expand, Tables};
+use crate::calls::{assign, expand, Tables};
 use crate::image::{self, of_texts};
 use crate::limits;
 use crate::number::ACCEPTED;
@@ -35,6 +37,13 @@ const DIRECTORIES: [&str; 2] = ["d", "d/e"];
 pub struct Given {
     pub variables: Table,
     pub parameters: Vec<Vec<u8>>,
+}
+
+/// How a line is taken: as words that become fields, or as assignments.
+#[derive(Clone, Copy, Debug, PartialEq, Eq)]
+pub enum Taken {
+    Fields,
+    Assignments,
 }
 
 /// What a line gives: its fields, and the variables that are set afterwards.
@@ -116,14 +125,14 @@ impl Shell {
     }
 
     /// What the shell makes of the line in the folder; `None` if it fails, an error if the line is not harmless.
-    pub fn outcome(self, folder: &Folder, line: &[u8], given: &Given) -> io::Result<Option<Outcome>> {
+    pub fn outcome(self, folder: &Folder, line: &[u8], given: &Given, taken: Taken) -> io::Result<Option<Outcome>> {
         let harmless = script::is_harmless(line);
         let mut values = given.variables.values().chain(&given.parameters);
         if !harmless || !values.all(|value| script::is_harmless_value(value)) {
             return Err(io::Error::other("a line that could run something is not run"));
         }
         let script = folder.script();
-        fs::write(&script, script::script(line, given, &NAMES))?;
+        fs::write(&script, script::script(line, given, &NAMES, taken))?;
         let output = self.command(folder, &script).stdin(Stdio::null()).output()?;
         Ok(output.status.success().then(|| parsed(&output.stdout)).flatten())
     }
@@ -146,21 +155,20 @@ fn parsed(printed: &[u8]) -> Option<Outcome> {
 }
 
 /// What the reference makes of the line, or its number.
-pub fn reference(line: &[u8], given: &Given) -> Result<Outcome, u8> {
+pub fn reference(line: &[u8], given: &Given, taken: Taken) -> Result<Outcome, u8> {
     let texts: Vec<&Vec<u8>> = given.variables.iter().flat_map(|(key, value)| [key, value]).collect();
     let mut variables = of_texts(&texts);
     let used = variables.len();
     variables.resize(limits::IMAGE, 0);
-    let mut out = vec![0; limits::IMAGE];
-    let answer = expand(
-        line,
-        &mut variables,
-        used,
-        Tables { homes: &image::empty(), paths: &of_texts(&PATHS), parameters: &of_texts(&given.parameters) },
-        &mut vec![0; limits::WORK_AREA],
-        &mut out,
-        &mut [],
-    );
+    let (homes, paths, parameters) = (&image::empty(), &of_texts(&PATHS), &of_texts(&given.parameters));
+    let (work, mut out) = (&mut vec![0; limits::WORK_AREA], image::empty());
+    let answer = match taken {
+        Taken::Fields => {
+            out.resize(limits::IMAGE, 0);
+            expand(line, &mut variables, used, Tables { homes, paths, parameters }, work, &mut out, &mut [])
+        }
+        Taken::Assignments => assign(line, &mut variables, used, homes, parameters, work, &mut []),
+    };
     if answer.number != ACCEPTED {
         return Err(answer.number);
     }

@@ -1,7 +1,7 @@
 //! The script that has a shell expand one line: assignments and parameters in single quotes, `set --` and the line, then all results.
 //! A line that could run anything is refused here, by its bytes alone, before any shell sees it.
 
-use super::Given;
+use super::{Given, Taken};
 
 /// Whether the line holds nothing a shell could run: no backquote, no `$(` but that of a closed `$((...))`, and
 /// outside of these no operator and no newline. A byte behind a backslash is passed over, and so is the second `$`
@@ -52,16 +52,25 @@ pub fn is_harmless_value(value: &[u8]) -> bool {
     !value.contains(&b'`') && !value.windows(2).any(|two| two == b"$(")
 }
 
-/// The script for a line that is harmless: it prints the number of fields, the fields, and each name's state.
-pub fn script(line: &[u8], given: &Given, names: &[&str]) -> Vec<u8> {
+/// The script for a line that is harmless: it prints the number of fields, the fields, and each name's state. Assignments have no fields; should a word of
+/// theirs be taken for a command, none is found.
+pub fn script(line: &[u8], given: &Given, names: &[&str], taken: Taken) -> Vec<u8> {
     let mut script = b"unset IFS\n".to_vec();
     for (name, value) in &given.variables {
         script.extend([name, b"=".as_slice(), &quoted(value), b"\n"].concat());
     }
     let parameters = given.parameters.iter().flat_map(|text| [b" ".to_vec(), quoted(text)].concat());
     script.extend(b"set --".iter().copied().chain(parameters).chain(*b"\n"));
-    script.extend([b"set -- ", line, b"\n"].concat());
-    script.extend(b"printf '%s\\0' \"$#\" \"$@\"");
+    match taken {
+        Taken::Fields => {
+            script.extend([b"set -- ", line, b"\n"].concat());
+            script.extend(b"printf '%s\\0' \"$#\" \"$@\"");
+        }
+        Taken::Assignments => {
+            script.extend([b"PATH=/none\n", line, b"\nPATH=/usr/bin\n"].concat());
+            script.extend(b"printf '%s\\0' 0");
+        }
+    }
     for name in names {
         script.extend(format!(" \"${{{name}+set}}\" \"${{{name}-}}\"").bytes());
     }

@@ -9,7 +9,7 @@ use std::io;
 use std::process::Stdio;
 
 use super::script::{is_harmless, is_harmless_value, quoted};
-use super::{reference, Folder, Given, Shell, Table};
+use super::{reference, Folder, Given, Shell, Table, Taken};
 use crate::generate::operators;
 use crate::generate::random::Random;
 
@@ -52,7 +52,7 @@ impl Sums {
     fn add(&mut self, text: Vec<u8>, variables: Table) {
         let line = [b"$((".as_slice(), &text, b"))"].concat();
         let given = Given { variables, parameters: Vec::new() };
-        match reference(&line, &given) {
+        match reference(&line, &given, Taken::Fields) {
             Err(_) => self.refused += 1,
             Ok(_) if !is_alike(&text) => self.left_out += 1,
             Ok(outcome) => self.sums.push(Sum { text, variables: given.variables, result: outcome.fields.concat() }),

@@ -6,17 +6,23 @@ use std::sync::OnceLock;
 use reference::case::{case, replay, Call, Job};
 use reference::generate::random::Random;
 use reference::generate::{
-    brackets::KINDS, call, classes::BORDERS, demands, hostile, messages, operands::SIGNS, ordinary, positional,
-    quoting, season::Season, steps::steps, sums, tally::Tally, MOST_STEPS,
+    assigned, assignments, brackets::KINDS, call, classes::BORDERS, demands, hostile, messages, operands::SIGNS,
+    ordinary, positional, quoting, season::Season, steps::steps, sums, tally::Tally, MOST_STEPS,
 };
 use reference::{image, limits};
 
 const SEED: u64 = 2_001;
-const CASES: u64 = 30_000;
+const CASES: u64 = 38_000;
 
 fn tally() -> &'static Tally {
     static TALLY: OnceLock<Tally> = OnceLock::new();
     TALLY.get_or_init(|| Tally::of(SEED..=SEED, CASES))
+}
+
+/// The cases of the three jobs of document 01.
+fn lines() -> usize {
+    let Tally { expand, normalise, quote, .. } = tally();
+    expand + normalise + quote
 }
 
 #[test]
@@ -25,7 +31,7 @@ fn every_number_comes_up() {
     for (number, count) in tally.numbers.iter().enumerate() {
         assert!(*count >= 20, "{number} comes up {count} times");
     }
-    assert!(tally.expand.min(tally.normalise).min(tally.quote) > 500);
+    assert!(tally.expand.min(tally.normalise).min(tally.quote).min(tally.assign) > 500);
     assert!(tally.bytes < 2_000 * CASES as usize);
     assert!(tally.sums >= 1_000 && tally.different_sums.len() >= 500);
     assert!(tally.full_lines >= 20 && tally.rows.iter().all(|count| *count >= 20));
@@ -35,7 +41,7 @@ fn every_number_comes_up() {
 #[test]
 fn tildes_come_up() {
     let tildes = &tally().tildes;
-    assert!(tildes.lines >= CASES as usize / 10, "{tildes}");
+    assert!(tildes.lines >= lines() / 10, "{tildes}");
     for sign in SIGNS {
         let [bare, double, arithmetic] = tildes.forms[sign];
         assert!(bare >= 100 && double >= 20 && arithmetic >= 10, "{sign}: {tildes}");
@@ -59,7 +65,7 @@ fn quoted_lines_come_up() {
 #[test]
 fn classes_come_up() {
     let brackets = &tally().brackets;
-    assert!(brackets.lines >= CASES as usize / 10 && brackets.served >= CASES as usize / 12, "{brackets}");
+    assert!(brackets.lines >= lines() / 10 && brackets.served >= lines() / 12, "{brackets}");
     assert_eq!(brackets.classes.len(), 12, "{brackets}");
     assert!(brackets.classes.values().flatten().all(|count| *count >= 100), "{brackets}");
     for kind in KINDS {
@@ -75,10 +81,10 @@ fn classes_come_up() {
 #[test]
 fn stars_come_up() {
     let patterns = &tally().patterns;
-    assert!(patterns.stars >= CASES as usize / 25 && patterns.long_list >= 40, "{patterns}");
-    assert!(patterns.unclosed >= CASES as usize / 25 && patterns.many_unclosed >= 50, "{patterns}");
+    assert!(patterns.stars >= lines() / 25 && patterns.long_list >= 40, "{patterns}");
+    assert!(patterns.unclosed >= lines() / 25 && patterns.many_unclosed >= 50, "{patterns}");
     assert!(patterns.many_closed >= 100 && patterns.crowds >= 20, "{patterns}");
-    assert!(patterns.removal >= CASES as usize / 25 && patterns.long_value >= 20, "{patterns}");
+    assert!(patterns.removal >= lines() / 25 && patterns.long_value >= 20, "{patterns}");
     let answers = (0..100).map(|case| hostile::call(SEED, case).answer().expect("buffers kept as promised").0.number);
     assert!(answers.filter(|number| *number == 0).count() >= 20);
 }
@@ -87,12 +93,12 @@ fn stars_come_up() {
 #[test]
 fn positional_parameters_come_up() {
     let positional = &tally().positional;
-    assert!(positional.lists >= CASES as usize / 2 && positional.lists_read >= CASES as usize / 5 * 2, "{positional}");
-    assert!(positional.lists_refused >= 200 && positional.numbers >= CASES as usize / 10, "{positional}");
+    assert!(positional.lists >= lines() / 2 && positional.lists_read >= lines() / 5 * 2, "{positional}");
+    assert!(positional.lists_refused >= 200 && positional.numbers >= lines() / 10, "{positional}");
     for kind in positional::KINDS {
         assert!(positional.kinds[kind] >= 100, "{kind}: {positional}");
     }
-    assert!(positional.given_back >= 200 && positional.breaks >= CASES as usize / 10, "{positional}");
+    assert!(positional.given_back >= 200 && positional.breaks >= lines() / 10, "{positional}");
     assert!(positional.rows.iter().all(|count| *count >= 10), "{positional}");
     assert!(positional.lengths.iter().all(|count| *count >= 1_000) && positional.with_empty >= 1_000, "{positional}");
 }
@@ -101,7 +107,7 @@ fn positional_parameters_come_up() {
 #[test]
 fn operators_come_up() {
     let found = &tally().kinds_of_sums;
-    assert!(found.texts >= CASES as usize / 20, "{found}");
+    assert!(found.texts >= lines() / 20, "{found}");
     for kind in sums::KINDS {
         assert!(found.kinds[kind] >= 5, "{kind}: {found}");
     }
@@ -113,8 +119,7 @@ fn operators_come_up() {
 fn messages_come_up() {
     let tally = tally();
     let found = &tally.messages;
-    assert!((CASES as usize / 6..CASES as usize / 4).contains(&tally.numbers[13]), "{found}");
-    assert_eq!(found.demanded, tally.numbers[13]);
+    assert!((lines() / 6..lines() / 4).contains(&found.demanded), "{found}");
     for room in messages::ROOMS {
         assert!(found.rooms[room] >= 200, "{room}: {found}");
     }
@@ -124,6 +129,20 @@ fn messages_come_up() {
     assert!(found.kept >= 5_000, "{found}");
     let answers = (0..1_000).map(|case| demands::call(SEED, case).answer().expect("buffers kept as promised").0.number);
     assert!(answers.filter(|number| *number == 13).count() >= 600);
+}
+
+/// Assignment lines: a fifth of the cases, a third of them accepted, and every way in which a used length moves, a tilde is found or a line is refused.
+#[test]
+fn assignment_lines_come_up() {
+    let tally = tally();
+    let found = &tally.assigned;
+    assert!(tally.assign >= CASES as usize / 6 && found.accepted >= tally.assign / 3, "{found}");
+    for kind in assigned::KINDS {
+        assert!(found.kinds[kind] >= 20, "{kind}: {found}");
+    }
+    for case in 0..1_000 {
+        assert!(matches!(assignments::call(SEED, case), Call::Lines(Job::Assign, _)));
+    }
 }
 
 /// Demand 3 on made fields: their quoted line gives them again and is its own quoted line, under tables that were not asked for.
@@ -152,9 +171,9 @@ fn limits_come_up() {
         <[BTreeSet<usize>; 6]>::default();
     for number in 0..CASES {
         match call(SEED, number) {
-            Call::Lines(_, lent) => {
+            Call::Lines(job, lent) => {
                 assert!(lent.variables.len() <= lent.variables_buffer);
-                assert!(steps(&lent) <= MOST_STEPS, "{}", lent.line.escape_ascii());
+                assert!(steps(job, &lent) <= MOST_STEPS, "{}", lent.line.escape_ascii());
                 lines.insert(lent.line.len());
                 variables.insert(lent.used);
                 homes.insert(lent.homes.len());

@@ -1,6 +1,8 @@
 //! Document 01, section by section, then the requests of document 02 that have landed, and the readings their open points were given.
 
 mod arithmetic;
+mod assigned;
+mod assignments;
 mod bare_fields;
 mod calls;
 mod class_names;

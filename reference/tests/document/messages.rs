@@ -262,11 +262,12 @@ fn answered(job: Job, lent: &Lent, mut message: Vec<u8>) -> (reference::Answer, 
     let mut variables = lent.variables.clone();
     variables.resize(lent.variables_buffer, 0);
     let (work, out) = (&mut vec![0; lent.work], &mut vec![0; lent.out]);
-    let call = match job {
-        Job::Expand => reference::expand,
-        Job::Normalise => reference::normalise,
+    let Lent { line, used, homes, parameters, .. } = lent;
+    let answer = match job {
+        Job::Expand => reference::expand(line, &mut variables, *used, lent.tables(), work, out, &mut message),
+        Job::Normalise => reference::normalise(line, &mut variables, *used, lent.tables(), work, out, &mut message),
+        Job::Assign => reference::assign(line, &mut variables, *used, homes, parameters, work, &mut message),
     };
-    let answer = call(&lent.line, &mut variables, lent.used, lent.tables(), work, out, &mut message);
     (answer, message)
 }
 

@@ -37,9 +37,24 @@ impl Drop for Folder {
 }
 
 fn said(folder: &Path, parameters: &[&str], lines: &[u8]) -> std::io::Result<String> {
+    Ok(said_and_told(folder, parameters, lines)?.0)
+}
+
+fn said_and_told(folder: &Path, parameters: &[&str], lines: &[u8]) -> std::io::Result<(String, String)> {
     let parameters: Vec<Vec<u8>> = parameters.iter().map(|text| text.as_bytes().to_vec()).collect();
-    let mut out = Vec::new();
-    run(folder, &parameters, lines, &mut out).map(|()| String::from_utf8_lossy(&out).into_owned())
+    let (mut out, mut told) = (Vec::new(), Vec::new());
+    run(folder, &parameters, lines, &mut out, &mut told)?;
+    Ok((String::from_utf8_lossy(&out).into_owned(), String::from_utf8_lossy(&told).into_owned()))
+}
+
+#[test]
+fn what_lines_demand() {
+    let folder = Folder::new("demands");
+    let lines =
+        b"a\n${base:?no base file chosen}\n${base=b 07}\n\"${rover?~ and $base}\" b\n${rover?}\n${u?$((1/0))}\n'";
+    let (said, told) = said_and_told(&folder.0, &[], lines).expect("no tables");
+    assert_eq!(said, "ok a\nno 13 0\nok b 07\nno 13 0\nno 13 0\nno 18 0\nno 7 0\n");
+    assert_eq!(told, "line 2: no base file chosen\nline 4: ~ and b 07\nline 5: \n");
 }
 
 #[test]

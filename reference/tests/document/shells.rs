@@ -1,7 +1,9 @@
 //! The guard before the shells: no line that could run something passes it.
 
-use reference::shells::script::is_harmless;
+use reference::generate::random::Random;
+use reference::shells::script::{is_harmless, script};
 use reference::shells::sums::Sums;
+use reference::shells::{assignments, lines, messages, positional, reference, Given, Taken};
 
 #[test]
 fn lines_that_could_run_something() {
@@ -32,4 +34,39 @@ fn arithmetic_texts_run_nothing() {
         let result = std::str::from_utf8(&sum.result).expect("digits");
         assert_eq!(result.parse::<i64>().expect("a number").to_string(), result);
     }
+}
+
+fn given(random: &mut Random) -> Given {
+    Given { variables: lines::variables(random), parameters: positional::parameters(random) }
+}
+
+/// Of the assignment lines for the shells nearly all are accepted and run nothing, and should a shell see a command in one, it would find none.
+#[test]
+fn assignment_lines_run_nothing() {
+    let mut accepted = 0;
+    for case in 0..1_000 {
+        let random = &mut Random::new(2_001, case);
+        let given = given(random);
+        let line = assignments::line(random, true);
+        accepted += usize::from(is_harmless(&line) && reference(&line, &given, Taken::Assignments).is_ok());
+        let script = script(&line, &given, &[], Taken::Assignments);
+        let around = [b"\nPATH=/none\n", line.as_slice(), b"\nPATH="].concat();
+        assert!(script.windows(around.len()).any(|here| here == around));
+    }
+    assert!(accepted >= 800, "{accepted} accepted");
+}
+
+/// The lines for the shells whose message is compared are refused with 13, and most of them have one.
+#[test]
+fn messages_are_demanded() {
+    let mut messages = 0;
+    for case in 0..1_000 {
+        let random = &mut Random::new(2_001, case);
+        let given = given(random);
+        let line = messages::line(random);
+        let message = messages::demanded(&line, &given);
+        assert!(message.is_none() || reference(&line, &given, Taken::Fields) == Err(13), "{}", line.escape_ascii());
+        messages += usize::from(is_harmless(&line) && message.is_some_and(|message| !message.is_empty()));
+    }
+    assert!(messages >= 400, "{messages} messages");
 }

@@ -136,6 +136,22 @@ impl World {
     }
 }
 
+impl World {
+    /// What an assignment line answers; there is no output. The buffer behind the variables' image holds `.`.
+    pub fn assign(&self, line: impl AsRef<[u8]>) -> Left {
+        let mut variables = self.variables_image();
+        let used = variables.len();
+        variables.resize(self.variables_buffer, b'.');
+        let mut message = self.message.clone();
+        let (homes, parameters) = (pairs(&self.homes), of_texts(&self.parameters));
+        let work = &mut vec![7; limits::WORK_AREA];
+        let answer = reference::assign(line.as_ref(), &mut variables, used, &homes, &parameters, work, &mut message);
+        assert!(work.iter().all(|&byte| byte == 0));
+        assert_eq!(answer.length, 0);
+        Left { answer, out: Vec::new(), variables, message }
+    }
+}
+
 fn pairs(table: &BTreeMap<Vec<u8>, Vec<u8>>) -> Vec<u8> {
     let texts: Vec<&Vec<u8>> = table.iter().flat_map(|(key, value)| [key, value]).collect();
     of_texts(&texts)
@@ -173,6 +189,38 @@ pub fn demands(world: &World, line: impl AsRef<[u8]>, place: usize, message: &st
     let left = world.call(reference::expand, line);
     assert_eq!((left.answer.number, left.answer.place), (Number::Missing as u8, place), "{}", shown(line));
     assert_eq!(shown(&left.message[..left.answer.message]), message, "{}", shown(line));
+}
+
+/// The assignment line is accepted, and these are the variables that have another value than before.
+#[track_caller]
+pub fn assigns(world: &World, line: impl AsRef<[u8]>, changed: &[(&str, &str)]) {
+    let line = line.as_ref();
+    let left = world.assign(line);
+    assert_eq!((left.answer.number, left.answer.place, left.answer.message), (ACCEPTED, 0, 0), "{}", shown(line));
+    let variables = image::variables(&left.variables[..left.answer.used]).expect("a variables image");
+    let other = variables.iter().filter(|(name, value)| world.variables.get(name) != Some(value));
+    let other: Vec<(String, String)> = other.map(|(name, value)| (shown(name), shown(value))).collect();
+    let changed: Vec<(String, String)> =
+        changed.iter().map(|(name, value)| (name.to_string(), value.to_string())).collect();
+    assert_eq!(other, changed, "{}", shown(line));
+    assert!(world.variables.keys().all(|name| variables.iter().any(|(known, _)| known == name)), "{}", shown(line));
+}
+
+/// The assignment line is refused with this number at this place, and leaves every byte as it was.
+#[track_caller]
+pub fn refuses_to_assign(world: &World, line: impl AsRef<[u8]>, number: Number, place: usize) {
+    let line = line.as_ref();
+    let left = world.assign(line);
+    let mut before = world.variables_image();
+    assert_eq!((left.answer.number, left.answer.place), (number as u8, place), "{}", shown(line));
+    assert_eq!(left.answer.used, before.len(), "{}", shown(line));
+    before.resize(world.variables_buffer, b'.');
+    assert!(left.variables == before, "{}", shown(line));
+    assert!(
+        number == Number::Missing || (left.answer.message, &left.message) == (0, &world.message),
+        "{}",
+        shown(line)
+    );
 }
 
 /// The line is accepted and leaves the variable with this value.

@@ -1,6 +1,7 @@
 //! All vectors of the repository: every call of calls.txt and of named.txt, every folder of program.
 
 use std::fs;
+use std::io::sink;
 use std::path::{Path, PathBuf};
 
 use reference::case::replay;
@@ -19,7 +20,7 @@ fn lines(file: &str) -> Vec<String> {
 fn calls() {
     let cases = lines("calls.txt");
     let differ: Vec<String> = cases.iter().filter_map(|case| replay(case).err()).collect();
-    assert!(cases.len() > 1_250);
+    assert!(cases.len() > 2_750);
     assert!(differ.is_empty(), "{} differ, first:\n{}", differ.len(), differ[0]);
 }
 
@@ -31,7 +32,7 @@ fn named() {
         assert_eq!(replay(case), Ok(()), "{name}");
         cases += 1;
     }
-    assert!(cases >= 53);
+    assert!(cases >= 71);
 }
 
 /// The arguments of a folder, one to a line, `\\n` in one being a newline; none if it has no such file.
@@ -48,7 +49,7 @@ fn program() {
         let lines = fs::read(folder.join("stdin")).expect("stdin");
         let wanted = fs::read(folder.join("stdout")).expect("stdout");
         let mut out = Vec::new();
-        run(&folder, &arguments(&folder), lines.as_slice(), &mut out).expect("an answer");
+        run(&folder, &arguments(&folder), lines.as_slice(), &mut out, sink()).expect("an answer");
         assert!(out == wanted, "{} differs", folder.display());
         folders += 1;
     }
