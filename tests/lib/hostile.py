@@ -10,8 +10,8 @@ LINE, ROW, IMAGE, PATHS = 2048, 2048, 8192, 32768  # the limits of document 01
 
 # what a case grows where a doubled size may take four times as long
 BOTH = "pattern and value"
-# the kind of what is timed only
-UNBOUND = "unbound"
+# the kind of what is timed only, and of lines of assignments, which are calls
+UNBOUND, ASSIGNMENT = "unbound", "assignment"
 # `kind` is what is dear, `parts` how many removals, fields or arithmetic texts of the line are
 Case = namedtuple("Case", "name kind grows make parts")
 Given = namedtuple("Given", "line variables homes paths params", defaults=({}, {}, (), ()))
@@ -260,6 +260,27 @@ def messages():
     yield "a message behind words", "their number", lambda n: Given(b"$z " * n(660) + b"${u?$z}", far), 660
 
 
+def assignments():
+    """Lines of assignments: each store finds its place among the variables and moves all that stands behind it; each colon lets a tilde begin."""
+    far, homes, first = filled(b"z", b"1", room=8100), filled(b"z", b"/"), {b"A": b"", **filled(b"z", b"1", room=6000)}
+    yield "assignments", "their number", lambda n: Given(b"z= " * n(680), far), 680
+    yield "assignments before all others", "their number", lambda n: Given(b"A=b A= " * n(290), first), 580
+    yield "assignments of long values", "their number", lambda n: Given(b"A=$v A= " * n(250), {**first, b"v": b"a" * 900}), 500
+    yield ("assignments of new names", "their number",
+           lambda n: Given(b"".join(b"%c%c= " % (65 + i // 26, 65 + i % 26) for i in range(n(270))), filled(b"z", b"1", b"", 6500)), 270)
+    yield "assignments that see each other", "their number", lambda n: Given(b"z=$((z+1)) " * n(180), far), 180
+    yield "tildes of values", "their number", lambda n: Given(b"a=~z " * n(400), homes=homes), 400
+    yield "tildes of one value", "their number", lambda n: Given(b"a=" + b"~z:" * n(680), homes=homes), 680
+    yield "tildes that are not found", "their number", lambda n: Given(b"a=" + b"~zz:" * n(510), homes=homes), 510
+    yield "colons", "the line", lambda n: Given(b"a=" + b":" * n(2040)), 1
+    yield "a value", "the line", lambda n: Given(b"a=" + b"b" * n(2040)), 1
+    yield "a long name", "the line", lambda n: Given(b"a" * n(2040) + b"=b"), 1
+    yield "a long name alone", "the line", lambda n: Given(b"a" * n(2040)), 1
+    yield "assignments before a word", "their number", lambda n: Given(b"z= " * n(680) + b"z", far), 680
+    yield "a message behind assignments", "their number", lambda n: Given(b"z= " * n(670) + b"z=${u?$v}", {**far, b"v": b"a" * 20}), 670
+    yield "a long value made short", "the value", lambda n: Given(b"v=", {b"v": b"a" * n(8000)}), 1
+
+
 def one_of_each():
     """A removal, a field over paths and an arithmetic text, each dear."""
     def make(n):
@@ -276,7 +297,7 @@ def scaled(make):
 def cases():
     """All cases, in order."""
     groups = {"removal": removals, "field": fields, "arithmetic": arithmetic, "parameter": parameters, "message": messages, "other": others,
-              "line": one_of_each, UNBOUND: dearest}
+              "line": one_of_each, ASSIGNMENT: assignments, UNBOUND: dearest}
     for kind, group in groups.items():
         for name, grows, make, parts in group():
             yield Case(name, kind, grows, scaled(make), parts)

@@ -1,4 +1,4 @@
-"""A program of document 01's kind, asked some lines at a time in a folder with tables, and timed by its own processor time."""
+"""Programs timed by their own processor time: one of document 01's kind, asked some lines at a time in a folder with tables, and one that runs to its end."""
 import os
 import select
 import subprocess
@@ -19,6 +19,12 @@ def proved():
     return [os.path.join(ROOT, "tools/x86-64"), "run", os.path.join(ROOT, "target/bin/recipe")]
 
 
+def replaying():
+    """The command of the proved program that runs files of calls, which is built if need be."""
+    subprocess.run([os.path.join(ROOT, "tools/build-program"), "test_replay"], check=True)
+    return [os.path.join(ROOT, "tools/x86-64"), "run", os.path.join(ROOT, "target/bin/test_replay")]
+
+
 def is_emulated():
     """Whether the proved program runs in an emulator here, as tools/x86-64 decides."""
     return "RECIPE" not in os.environ and os.environ.get("DRUNQUILL_MACHINE", os.uname().machine) != "x86_64"
@@ -28,13 +34,34 @@ class TooLong(Exception):
     """The lines took more than was allowed, and the program was stopped."""
 
 
+def clock_of(process):
+    """The clock of a process's processor time: clock_getcpuclockid(3)."""
+    return (~process.pid << 3) | 2
+
+
+def seconds_to_end(command, most):
+    """The processor time of a program that runs to its end; TooLong past so many seconds of it."""
+    process = subprocess.Popen(command, stdin=subprocess.DEVNULL, stdout=subprocess.DEVNULL)
+    given_up = time.monotonic() + HUNG
+    while True:
+        ended, status, used = os.wait4(process.pid, os.WNOHANG)
+        if ended:
+            process.returncode = os.waitstatus_to_exitcode(status)
+            return used.ru_utime + used.ru_stime
+        if time.clock_gettime(clock_of(process)) > most or time.monotonic() > given_up:
+            process.kill()
+            process.wait()
+            raise TooLong
+        time.sleep(0.005)
+
+
 class Program:
     """The program in a folder. Neither its start nor other work on the machine is in the seconds that it gives."""
 
     def __init__(self, command, folder):
         self.said = tempfile.TemporaryFile()
         self.process = subprocess.Popen(command, cwd=folder, stdin=subprocess.PIPE, stdout=subprocess.PIPE, stderr=self.said, bufsize=0)
-        self.clock = (~self.process.pid << 3) | 2  # the clock of its processor time: clock_getcpuclockid(3)
+        self.clock = clock_of(self.process)
         self.unread = b""
 
     def __enter__(self):
