@@ -20,7 +20,7 @@ pub struct QuoteAnswer {
     pub out_len: usize,
 }
 
-/// Declares the jobs that take a line, which differ in their names alone, and defines each over slices.
+/// Declares the two jobs that expand a line, which differ in their names alone, and defines each over slices.
 macro_rules! jobs {
     ($($job:ident is $name:ident;)*) => {
         extern "C" {
@@ -87,7 +87,44 @@ jobs! {
 }
 
 extern "C" {
+    fn drunquill_assign(
+        line: *const u8,
+        line_len: usize,
+        vars: *mut u8,
+        vars_len: usize,
+        vars_used: usize,
+        homes: *const u8,
+        homes_len: usize,
+        params: *const u8,
+        params_len: usize,
+        work: *mut u8,
+        work_len: usize,
+        message: *mut u8,
+        message_len: usize,
+    ) -> Answer;
     fn drunquill_quote(fields: *const u8, fields_len: usize, out: *mut u8, out_len: usize) -> QuoteAnswer;
+}
+
+pub fn assign(line: &[u8], vars: &mut Variables, tables: Tables, work: &mut [u8], message: &mut [u8]) -> Answer {
+    let Tables { homes, params, paths: _ } = tables;
+    // SAFETY: as above, of the three that are written.
+    unsafe {
+        drunquill_assign(
+            line.as_ptr(),
+            line.len(),
+            vars.buffer.as_mut_ptr(),
+            vars.buffer.len(),
+            vars.used,
+            homes.as_ptr(),
+            homes.len(),
+            params.as_ptr(),
+            params.len(),
+            work.as_mut_ptr(),
+            work.len(),
+            message.as_mut_ptr(),
+            message.len(),
+        )
+    }
 }
 
 pub fn quote(fields: &[u8], out: &mut [u8]) -> QuoteAnswer {

@@ -1,4 +1,4 @@
-//! Drunquill for Rust: a POSIX shell line expanded into fields, fields quoted as a line, and both in one call.
+//! Drunquill for Rust: a POSIX shell line expanded into fields, fields quoted as a line, both in one call; and lines of assignments, which change variables.
 //!
 //! The functions are the proved ones of include/drunquill.h, for x86-64 Linux; this crate turns slices into pointers, numbers into names and a refusal with
 //! its message into an error, and nothing else.
@@ -8,7 +8,7 @@
 //! Lines, images and numbers are those of docs/01-scope.md, and of docs/02-change-requests.md as far as it has landed; man/drunquill.3 has them in short.
 //!
 //! ```
-//! use drunquill::{normalise, Number, Tables, Variables};
+//! use drunquill::{assign, normalise, Number, Tables, Variables};
 //!
 //! let mut buffer = [0; 64];
 //! let image = b"\x01\0\x03job\0\x03a b";
@@ -30,6 +30,9 @@
 //! let tables = Tables { params: b"\x01\0\x03a b\0\0", ..Tables::NONE };
 //! let line = normalise(b"cp \"$@\"", &mut variables, tables, &mut work, &mut out);
 //! assert_eq!(line, Ok(b"cp 'a b' ''".as_slice()));
+//!
+//! assign(b"job=c out=/jobs:$job", &mut variables, Tables::NONE, &mut work).expect("two assignments");
+//! assert_eq!(&variables.buffer[..variables.used], b"\x01\0\x03job\0\x01c\0\x03out\0\x07/jobs:c");
 //! ```
 
 mod archive;
@@ -56,8 +59,8 @@ pub const OPEN_MAX: usize = 32;
 /// What a call may need of the stack, in bytes: measured, not proved. The main thread and the threads of std have more.
 pub const STACK: usize = 524_288;
 
-/// The variables: an image in the first `used` bytes of a buffer, into which `${name=word}` stores. An accepted call leaves the new image and its length here;
-/// bytes after it, and on a refusal all of them, are as before.
+/// The variables: an image in the first `used` bytes of a buffer, into which `${name=word}` and assignments store. An accepted call leaves the new image and
+/// its length here; bytes after it are as before, but for the zeros that [`assign`] puts there, and on a refusal all of them are.
 #[derive(Debug)]
 pub struct Variables<'a> {
     pub buffer: &'a mut [u8],
@@ -103,6 +106,15 @@ pub fn normalise<'o>(
     let mut message = [0; MESSAGE_MAX];
     let answer = archive::normalise(line, variables, tables, work, out, &mut message);
     given(answer, &message, variables, out)
+}
+
+/// The assigner: a line whose every word is a name, a bare `=` and a value, perhaps empty, changes the variables, from left to right, each assignment seen by
+/// the next; any other word is [`Number::BadSyntax`]. A value is neither split nor matched against paths: those of the tables are not looked at. The new image
+/// may be shorter than the one before; bytes behind it are zero up to the used length that was given. Work area and message are as in the expander.
+pub fn assign(line: &[u8], variables: &mut Variables, tables: Tables, work: &mut [u8]) -> Result<(), Refusal> {
+    let mut message = [0; MESSAGE_MAX];
+    let answer = archive::assign(line, variables, tables, work, &mut message);
+    given(answer, &message, variables, &[]).map(|_| ())
 }
 
 /// The quoter: an image of fields as a line of at most [`LINE_MAX`] bytes to the front of `out`, which is given back. A field that is not empty and holds only

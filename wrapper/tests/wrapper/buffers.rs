@@ -1,6 +1,6 @@
 //! Lent buffers with guard bytes around them, and a call with all that it is given, checked against all that it must give back.
 
-use drunquill::{expand, normalise, quote, Refusal, Tables, Variables};
+use drunquill::{assign, expand, normalise, quote, Refusal, Tables, Variables};
 
 const GUARD: usize = 64;
 const GUARD_BYTE: u8 = 0xee;
@@ -33,9 +33,10 @@ impl Buffer {
 pub enum Job {
     Expand,
     Normalise,
+    Assign,
 }
 
-/// What a job is given.
+/// What a job is given; assignments look at no paths and have no output.
 #[derive(Clone, Debug)]
 pub struct Given {
     pub line: Vec<u8>,
@@ -56,12 +57,16 @@ pub struct Given {
 /// What it must give back: output and variables' image, or the refusal.
 pub type Wanted = Result<(Vec<u8>, Vec<u8>), Refusal>;
 
-/// The result as far as a message is compared.
-fn cut(result: Result<&[u8], Refusal>, message_len: usize) -> Result<Vec<u8>, Refusal> {
-    result.map(<[u8]>::to_vec).map_err(|mut refusal| {
-        refusal.message.truncate(message_len);
-        refusal
-    })
+/// What stands at the front of the variables' buffer then: their image and, after assignments, zeros up to the used length that was given.
+fn left(job: Job, given: &Given, wanted: &Wanted) -> Vec<u8> {
+    match wanted {
+        Ok((_, image)) if job == Job::Assign => {
+            let zeros = given.used.saturating_sub(image.len());
+            [image.as_slice(), &vec![0; zeros]].concat()
+        }
+        Ok((_, image)) => image.clone(),
+        Err(_) => Vec::new(),
+    }
 }
 
 /// Calls the job and compares result, lengths and every byte of every buffer, the guards too; says what differs.
@@ -72,17 +77,21 @@ pub fn differs(job: Job, given: &Given, wanted: &Wanted) -> Option<String> {
     let (vars_before, out_before) = (Buffer(vars.0.clone()), Buffer(out.0.clone()));
     let mut variables = Variables { buffer: vars.lent(), used: given.used };
     let tables = Tables { homes: &given.homes, params: &given.params, paths: &given.paths };
-    let job = match job {
-        Job::Expand => expand,
-        Job::Normalise => normalise,
+    let line = given.line.as_slice();
+    let mut result = match job {
+        Job::Expand => expand(line, &mut variables, tables, work.lent(), out.lent()).map(<[u8]>::to_vec),
+        Job::Normalise => normalise(line, &mut variables, tables, work.lent(), out.lent()).map(<[u8]>::to_vec),
+        Job::Assign => assign(line, &mut variables, tables, work.lent()).map(|()| Vec::new()),
     };
-    let result = cut(job(&given.line, &mut variables, tables, work.lent(), out.lent()), given.message_len);
+    if let Err(refusal) = &mut result {
+        refusal.message.truncate(given.message_len);
+    }
     let used = variables.used;
     let (front, image) = wanted.clone().unwrap_or_default();
     let checks = [
         ("result", result == wanted.clone().map(|(out, _)| out)),
         ("used length", used == if wanted.is_ok() { image.len() } else { given.used }),
-        ("variables", vars.0 == vars_before.with(&image).0),
+        ("variables", vars.0 == vars_before.with(&left(job, given, wanted)).0),
         ("output", out.0 == out_before.with(&front).0),
         ("work area", work.0 == Buffer::new(&[], given.work_len, |_| 0).0),
     ];

@@ -1,6 +1,7 @@
 //! Each function on good and bad input. What is expected is written out from docs/01-scope.md and
 //! docs/02-change-requests.md.
 
+use std::collections::BTreeMap;
 use std::thread;
 
 use drunquill::{quote, Number, Refusal, IMAGE_MAX, LINE_MAX, MESSAGE_MAX, WORK_LEAST};
@@ -167,6 +168,69 @@ fn messages_are_given() {
     let edge = Given { used: vars.len(), vars, vars_len: IMAGE_MAX, ..given(b"a${u?$v}") };
     demands(&edge, 0, &longest);
     refused(&Given { line: b"${u?''$v}".to_vec(), ..edge }, Number::TooManyUnits, 0);
+}
+
+/// The variables with these in place of those of the same name, in order.
+fn changed(records: &[(&[u8], &[u8])]) -> Vec<u8> {
+    let mut table: BTreeMap<&[u8], &[u8]> = VARIABLES.chunks(2).map(|record| (record[0], record[1])).collect();
+    table.extend(records.iter().copied());
+    let texts: Vec<&[u8]> = table.into_iter().flat_map(|(name, value)| [name, value]).collect();
+    image(&texts)
+}
+
+fn assigns(given: &Given, records: &[(&[u8], &[u8])]) {
+    accepted(Job::Assign, given, b"", &changed(records));
+}
+
+#[test]
+fn assignments_are_made() {
+    assigns(&given(b"out=~/jobs:$job"), &[(b"out", b"/home/crew/jobs:north field")]);
+    assigns(&given(b"tilt=1 height=$((tilt+1))"), &[(b"tilt", b"1"), (b"height", b"2")]);
+    assigns(&given(b"tilt='a  b'$note raw=*.raw"), &[(b"tilt", b"a  b"), (b"raw", b"*.raw")]);
+    assigns(&given(b""), &[]);
+    let home = Given { homes: image(&[b"kit", b"/k"]), params: image(&[b"p q"]), ..given(b"a=:~kit:~no b=$1$#") };
+    assigns(&home, &[(b"a", b":/k:~no"), (b"b", b"p q1")]);
+}
+
+#[test]
+fn a_shorter_value_leaves_zeros() {
+    assigns(&given(b"job="), &[(b"job", b"")]);
+    assigns(&given(b"job=s HOME=/h tilt=new"), &[(b"job", b"s"), (b"HOME", b"/h"), (b"tilt", b"new")]);
+    assigns(&given(b"job= job='north fields'"), &[(b"job", b"north fields")]);
+    assigns(&given(b"tilt=longer tilt="), &[(b"tilt", b"")]);
+    let full = given(b"job=s");
+    assigns(&Given { vars_len: full.used, ..full }, &[(b"job", b"s")]);
+}
+
+#[test]
+fn assignments_are_refused() {
+    let lines: [(&[u8], Number, usize); 12] = [
+        (b"a=1 b", Number::BadSyntax, 4),
+        (b"a=1 2b=3", Number::BadSyntax, 4),
+        (b"a=1 b`=", Number::BadSyntax, 4),
+        (b"a=1 | b=2", Number::BareOperator, 4),
+        (b"a=1 b=2|", Number::BareOperator, 4),
+        (b"a=1 b=\"", Number::Unended, 4),
+        (b"a=$@", Number::Unserved, 0),
+        (b"a=1 b=$((a/0))", Number::ZeroDivisor, 4),
+        (b"job= b=${job%[[.a.]]}", Number::BracketClass, 5),
+        (b"a=\0", Number::ZeroByte, 0),
+        (b"a=${b=2} c=${d?}", Number::Demanded, 9),
+        (b"a=$((1+))", Number::ArithmeticSyntax, 0),
+    ];
+    for (line, number, place) in lines {
+        refused_by(Job::Assign, &given(line), number, place);
+    }
+    let message = Refusal { number: Number::Demanded, place: 4, message: b"no 1 in ~".to_vec() };
+    refused_as(Job::Assign, &given(b"a=1 b=${c?no $a in ~}"), message);
+    let longer = given(b"a=1 tilt=x");
+    let room = longer.used + 6;
+    refused_by(Job::Assign, &Given { vars_len: room, ..longer.clone() }, Number::VariableRoom, 4);
+    refused_by(Job::Assign, &Given { work_len: WORK_LEAST - 1, ..longer.clone() }, Number::WorkTooSmall, 0);
+    refused_by(Job::Assign, &Given { used: 0, ..longer.clone() }, Number::BadVariables, 0);
+    refused_by(Job::Assign, &Given { homes: Vec::new(), params: Vec::new(), ..longer.clone() }, Number::BadHomes, 0);
+    refused_by(Job::Assign, &Given { params: Vec::new(), ..longer.clone() }, Number::BadParameters, 0);
+    assigns(&Given { paths: Vec::new(), out_len: 0, ..longer }, &[(b"a", b"1"), (b"tilt", b"x")]);
 }
 
 #[test]

@@ -23,11 +23,10 @@ fn sized(words: &[&str]) -> Vec<u8> {
     found
 }
 
-/// What stands behind the `=`: number, place, then the output behind its length; of a line the message behind its length comes last.
-fn outcome(words: &[&str]) -> Result<Vec<u8>, Refusal> {
-    let (out, message) = (sized(&words[2..]), if words.len() > 4 { sized(&words[6..]) } else { Vec::new() });
+/// What stands behind the `=`: number and place, then what is given on acceptance; on a refusal the message.
+fn outcome<T>(words: &[&str], given: T, message: Vec<u8>) -> Result<T, Refusal> {
     match words[0] {
-        "0" => Ok(out),
+        "0" => Ok(given),
         number => {
             let number = Number::of(number.parse().expect("a number")).expect("a refusal");
             Err(Refusal { number, place: count(words[1]), message })
@@ -35,31 +34,48 @@ fn outcome(words: &[&str]) -> Result<Vec<u8>, Refusal> {
     }
 }
 
-/// What differs in a case, if anything.
-fn case(line: &str) -> Option<String> {
-    let (call, answer) = line.split_once(" = ").expect("an answer");
-    let call: Vec<&str> = call.split(' ').collect();
-    let answer: Vec<&str> = answer.split(' ').collect();
-    let job = match call[0] {
-        "quote" => return quote_differs(&bytes(call[1]), count(call[2]), |_| 0xa5, &outcome(&answer)),
-        "expand" => Job::Expand,
-        _ => Job::Normalise,
+/// A case of a job that takes a line. Assignments have neither paths nor output: no byte is given for either.
+fn line_case(job: Job, call: &[&str], answer: &[&str]) -> Option<String> {
+    let (paths, out_len, rest) = match job {
+        Job::Assign => ("-", 0, [call[6], call[7], call[8]]),
+        _ => (call[6], count(call[8]), [call[7], call[9], call[10]]),
     };
+    let [work_len, params, message_len] = rest;
     let given = Given {
         line: bytes(call[1]),
         vars: bytes(call[2]),
         used: count(call[3]),
         vars_len: count(call[4]),
         homes: bytes(call[5]),
-        paths: bytes(call[6]),
-        work_len: count(call[7]),
-        out_len: count(call[8]),
-        params: bytes(call[9]),
-        message_len: count(call[10]),
+        paths: bytes(paths),
+        work_len: count(work_len),
+        out_len,
+        params: bytes(params),
+        message_len: count(message_len),
         fill: [|_| 0x5a, |_| 0xa5],
     };
-    let wanted: Wanted = outcome(&answer).map(|out| (out, bytes(answer[5])));
+    let (out, after) = match job {
+        Job::Assign => (Vec::new(), &answer[2..]),
+        _ => (sized(&answer[2..]), &answer[4..]),
+    };
+    let wanted: Wanted = outcome(answer, (out, bytes(after[1])), sized(&after[2..]));
     differs(job, &given, &wanted)
+}
+
+/// What differs in a case, if anything.
+fn case(line: &str) -> Option<String> {
+    let (call, answer) = line.split_once(" = ").expect("an answer");
+    let call: Vec<&str> = call.split(' ').collect();
+    let answer: Vec<&str> = answer.split(' ').collect();
+    match call[0] {
+        "quote" => {
+            let wanted = outcome(&answer, sized(&answer[2..]), Vec::new());
+            quote_differs(&bytes(call[1]), count(call[2]), |_| 0xa5, &wanted)
+        }
+        "expand" => line_case(Job::Expand, &call, &answer),
+        "assign" => line_case(Job::Assign, &call, &answer),
+        _ => line_case(Job::Normalise, &call, &answer),
+    }
 }
 
 #[test]
