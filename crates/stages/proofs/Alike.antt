@@ -1,7 +1,7 @@
 -- Document 02, E8: one thing worked out twice, under variables that differ in IFS alone. Where both come to a result it is the same, and the variables behind
 -- it differ in IFS alone again. Here: how that goes on through outcomes, and that it holds of stores and of arithmetic without the name.
 use Prim.Native.Nat.{ℕ, _+_}
-use mathlib.Core.Path.{_≡_}
+use mathlib.Core.Path.{_≡_, refl, ap}
 use mathlib.Core.Bool.{Bool, true, false, _&&_}
 use mathlib.Core.List.{_++_}
 use mathlib.Core.Option.{Option, none, some}
@@ -12,12 +12,13 @@ use borrow.Author.Tests.{not-true}
 use Rattle.stages.specs.Numbers.{imageLimit}
 use Rattle.stages.specs.Bytes.{Text, text, eqText}
 use Rattle.stages.specs.Outcome.{Outcome, refused, demands, done, _>>=_, choose}
-use Rattle.stages.specs.Images.{Pairs, lookup, stored, flat, imageLength}
+use Rattle.stages.specs.Images.{Pairs, stored, flat, imageLength}
+use Rattle.stages.specs.Syntax.{var}
 use Rattle.stages.specs.Units.{Row, fit}
 use Rattle.stages.specs.Constants.{nameNumber, signed}
-use Rattle.stages.specs.Arith.{isTrue, early, apply, applyAlone, Tree, constantOf, nameOf, unary, binary, choice, tree}
-use Rattle.stages.specs.Arith.{Evaluated, withVariables, unless, evaluate, arithmeticOf}
-use Rattle.stages.specs.Params.{store}
+use Rattle.stages.specs.Arith.{isTrue, Op, early, apply, applyAlone, Tree, constantOf, nameOf, unary, binary, choice, assign, tree}
+use Rattle.stages.specs.Arith.{Evaluated, withVariables, unless, valueOf, updated, keeping, storing, evaluate, arithmeticOf}
+use Rattle.stages.specs.Params.{Lent, holding, store, storeIn}
 use Rattle.stages.specs.Expand.{Made, onto, adding}
 use Rattle.stages.specs.Together.{otherName, otherNames, otherTree}
 use Rattle.stages.proofs.Bools.{either, and-left, and-right}
@@ -124,29 +125,52 @@ unfolding choose
 choose-both true f g h i a b = a
 choose-both false f g h i a b = b
 
-evaluate-both : (e : Tree) → otherNames e ≡ true → (v w : Pairs) → Alike v w → Both (Agree Any) (evaluate v e) (evaluate w e)
-unfolding evaluate otherNames
-evaluate-both (constantOf z) n v w k = both-give (agrees tt k)
-evaluate-both (nameOf x) n v w k = rw (k x (other-name x n)) (with-both v w k (nameNumber (lookup x w)))
-evaluate-both (unary o l) n v w k = agree-bind _ _ (evaluate-both l n v w k) (λ z i j _ m. with-both i j m (applyAlone o z))
-evaluate-both (binary o l r) n v w k =
-    agree-bind _ _ (evaluate-both l (and-left (otherNames l) (otherNames r) n) v w k)
-    (λ x i j _ m. unless-both (early o x) i j _ _ m
-    (agree-bind _ _ (evaluate-both r (and-right (otherNames l) (otherNames r) n) i j m) (λ y i j _ m. with-both i j m (apply o x y))))
-evaluate-both (choice c l r) n v w k =
-    let d : (otherNames l && otherNames r) ≡ true = and-right (otherNames c) (otherNames l && otherNames r) n in
-    agree-bind _ _ (evaluate-both c (and-left (otherNames c) (otherNames l && otherNames r) n) v w k)
-    (λ z i j _ m. choose-both (isTrue z) _ _ _ _ (evaluate-both l (and-left (otherNames l) (otherNames r) d) i j m)
-    (evaluate-both r (and-right (otherNames l) (otherNames r) d) i j m))
+-- with room for more variables in one than in the other
+module _ (a b : Lent) where
+  value-both : (x : Text) → otherName x ≡ true → (v w : Pairs) → Alike v w → valueOf a v x ≡ valueOf b w x
+  unfolding valueOf holding
+  value-both x n v w k = ap nameNumber (k x (other-name x n))
 
-tree-both : (o : Outcome Tree) → otherTree o ≡ true → (v w : Pairs) → Alike v w
-    → Both (Agree {A = Text} Any) (o >>= λ e. evaluate v e >>= λ p. done (signed (p .0), p .1))
-    (o >>= λ e. evaluate w e >>= λ p. done (signed (p .0), p .1))
-unfolding otherTree
-tree-both (refused i) n v w k = one-stops refuses
-tree-both (demands t) n v w k = one-stops asks
-tree-both (done e) n v w k = agree-bind _ _ (evaluate-both e n v w k) (λ z i j _ m. both-give (agrees tt m))
+  updated-both : (o : Option Op) (x : Text) → otherName x ≡ true → (z : ℤ) (v w : Pairs) → Alike v w → updated a v o x z ≡ updated b w o x z
+  unfolding updated
+  updated-both none x n z v w k = refl
+  updated-both (some o) x n z v w k = ap (λ (r : Outcome ℤ). r >>= λ y. apply o y z) (value-both x n v w k)
 
-pub arithmetic-both : (t : Text) → otherTree (tree t) ≡ true → (v w : Pairs) → Alike v w → Both (Agree Any) (arithmeticOf v t) (arithmeticOf w t)
-unfolding arithmeticOf
-arithmetic-both t n v w k = tree-both (tree t) n v w k
+  keeping-both : (x : Text) (z : ℤ) (v w : Pairs) → Alike v w → Both (Agree Any) (keeping a x v z) (keeping b x w z)
+  unfolding keeping storeIn
+  keeping-both x z v w k = both-bind _ _ (store-both (a .room) (b .room) x (signed z) v w k) (λ i j l. both-give (agrees tt l))
+
+  storing-both : (o : Option Op) (x : Text) → otherName x ≡ true → (z : ℤ) (v w : Pairs) → Alike v w
+      → Both (Agree Any) (storing a o x (z, v)) (storing b o x (z, w))
+  unfolding storing
+  storing-both o x n z v w k = rw (updated-both o x n z v w k) (both-from (updated b w o x z) _ _ (λ y. keeping-both x y v w k))
+
+  evaluate-both : (e : Tree) → otherNames e ≡ true → (v w : Pairs) → Alike v w → Both (Agree Any) (evaluate a v e) (evaluate b w e)
+  unfolding evaluate otherNames
+  evaluate-both (constantOf z) n v w k = both-give (agrees tt k)
+  evaluate-both (nameOf x) n v w k = rw (value-both x n v w k) (with-both v w k (valueOf b w x))
+  evaluate-both (unary o l) n v w k = agree-bind _ _ (evaluate-both l n v w k) (λ z i j _ m. with-both i j m (applyAlone o z))
+  evaluate-both (binary o l r) n v w k =
+      agree-bind _ _ (evaluate-both l (and-left (otherNames l) (otherNames r) n) v w k)
+      (λ x i j _ m. unless-both (early o x) i j _ _ m
+      (agree-bind _ _ (evaluate-both r (and-right (otherNames l) (otherNames r) n) i j m) (λ y i j _ m. with-both i j m (apply o x y))))
+  evaluate-both (choice c l r) n v w k =
+      let d : (otherNames l && otherNames r) ≡ true = and-right (otherNames c) (otherNames l && otherNames r) n in
+      agree-bind _ _ (evaluate-both c (and-left (otherNames c) (otherNames l && otherNames r) n) v w k)
+      (λ z i j _ m. choose-both (isTrue z) _ _ _ _ (evaluate-both l (and-left (otherNames l) (otherNames r) d) i j m)
+      (evaluate-both r (and-right (otherNames l) (otherNames r) d) i j m))
+  evaluate-both (assign o x r) n v w k =
+      agree-bind _ _ (evaluate-both r (and-right (otherName x) (otherNames r) n) v w k)
+      (λ z i j _ m. storing-both o x (and-left (otherName x) (otherNames r) n) z i j m)
+
+  tree-both : (o : Outcome Tree) → otherTree o ≡ true → (v w : Pairs) → Alike v w
+      → Both (Agree {A = Text} Any) (o >>= λ e. evaluate a v e >>= λ p. done (signed (p .0), p .1))
+      (o >>= λ e. evaluate b w e >>= λ p. done (signed (p .0), p .1))
+  unfolding otherTree
+  tree-both (refused i) n v w k = one-stops refuses
+  tree-both (demands t) n v w k = one-stops asks
+  tree-both (done e) n v w k = agree-bind _ _ (evaluate-both e n v w k) (λ z i j _ m. both-give (agrees tt m))
+
+  pub arithmetic-both : (t : Text) → otherTree (tree t) ≡ true → (v w : Pairs) → Alike v w → Both (Agree Any) (arithmeticOf a v t) (arithmeticOf b w t)
+  unfolding arithmeticOf
+  arithmetic-both t n v w k = tree-both (tree t) n v w k

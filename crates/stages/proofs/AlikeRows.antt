@@ -243,7 +243,7 @@ module _ (a b : Lent) (s : Shared a b) where
   expand-both (lst x p) h m n v w k = absurd h
   expand-both (ari q p) h m n v w k =
       makes-bind _ _ (literal-both q (h .0 .bytes) (h .0 .literal) Q 0 v w k)
-      (λ r v w c l. rw c (agree-bind _ _ (arithmetic-both (h .0 .bytes) (h .0 .other) v w l)
+      (λ r v w c l. rw c (agree-bind _ _ (arithmetic-both a b (h .0 .bytes) (h .0 .other) v w l)
       (λ t v w _ l. adding-both {C = Within m} n (marked (expandedMark m) t) _ _
       (λ z d. within-append m (marked (expandedMark m) t) z (within-marked m t) d) (λ i. expand-both p (h .1) m i v w l))))
   expand-both (til x p) h m n v w k =

@@ -1,74 +1,31 @@
 -- Every call's answer is well formed, whatever is given: a refusal has a number of the table and leaves the buffers alone; an acceptance leaves
--- well-formed images within their room.
-use Prim.Native.Nat.{ℕ, zero, suc, _-_, _≤_}
+-- well-formed images within their room, zeros behind the variables' up to the used length that was given, and what is beyond as it was.
+use Prim.Native.Nat.{ℕ, zero, suc, _+_, _-_, _≤_}
 use native.Mathlib.Omega.{arith}
 use mathlib.Core.Path.{_≡_, refl, ap, _∙_}
 use mathlib.Core.Bool.{Bool, true, false, _&&_, _||_}
-use mathlib.Core.List.{List, [], _∷_}
+use mathlib.Core.List.{List, [], _∷_, _++_}
 use mathlib.Core.Logic.{_⊎_, inl, inr}
 use mathlib.Core.Option.{Option, none, some}
 use lib.Dec.{leb, eqb}
 use lib.ListN.{length, take, drop, replicate, length-replicate}
 use lib.Seq.{length-take-le}
 use borrow.Author.Tests.{leb-true, eqb-true}
-use Rattle.stages.specs.Numbers.{
-  accepted,
-  workTooSmall,
-  badVariables,
-  badHomes,
-  badPaths,
-  zeroByte,
-  unended,
-  tooDeep,
-  demanded,
-  tooManyUnits,
-  variableRoom,
-  outputRoom,
-  badFields,
-  badParameters,
-  workLeast,
-  lineLimit,
-  imageLimit,
-}
+use Rattle.stages.specs.Numbers.{accepted, workTooSmall, badVariables, badHomes, badPaths, zeroByte, unended, tooDeep, demanded, tooManyUnits}
+use Rattle.stages.specs.Numbers.{variableRoom, outputRoom, badFields, badParameters, workLeast, lineLimit, imageLimit}
 use Rattle.stages.specs.Bytes.{Text, all, notZero, between}
 use Rattle.stages.specs.Outcome.{Placed, refusedAt, demandsAt, doneAt, _then_}
 use Rattle.stages.specs.Images.{Pairs, isName, isLogin, flat, image, imageLength, held, heldTexts, variablesOf, homesOf, pathsOf, fieldsOf}
 use Rattle.stages.specs.Line.{Fields}
 use Rattle.stages.specs.Quote.{quotedLine}
-use Rattle.stages.specs.Call.{
-  Given,
-  Answer,
-  over,
-  orRefused,
-  expanded,
-  cleared,
-  shown,
-  answered,
-  expander,
-  quotedIn,
-  normaliser,
-  Quoting,
-  quoting,
-  quoter,
-}
+use Rattle.stages.specs.Call.{Given, Answer, over, padded, orRefused, expanded, cleared, shown, answered, expander, quotedIn, normaliser}
+use Rattle.stages.specs.Call.{Quoting, quoting, quoter}
 use Rattle.stages.proofs.Bools.{no, and-left, and-right, or-cases, between-bounds}
-use Rattle.stages.proofs.Rooms.{over-front, over-behind, over-length}
+use Rattle.stages.proofs.Rooms.{over-front, over-behind, over-length, padded-front, padded-behind, padded-length}
 use Rattle.stages.proofs.Images.{Fine, length-image, held-image, heldTexts-image}
-use Rattle.stages.proofs.Tables.{
-  Table,
-  table-of,
-  table-fine,
-  table-length,
-  table-image,
-  variables-are,
-  Paths,
-  paths-held,
-  texts-held-fine,
-  fields-held,
-  fields-image,
-  fields-are,
-}
-use Rattle.stages.proofs.Outcomes.{isFault, isEarly, isLate, SafeBy, SafeAt, early, refusesAt, asksAt, givesAt, safe-then, safe-require}
+use Rattle.stages.proofs.Tables.{Table, table-of, table-fine, table-length, table-image, variables-are, Paths, paths-held, texts-held-fine}
+use Rattle.stages.proofs.Tables.{fields-held, fields-image, fields-are}
+use Rattle.stages.proofs.Outcomes.{isFault, isEarly, isLate, SafeBy, SafeAt, early, refusesAt, asksAt, givesAt, safe-then, safe-weakerAt, safe-require}
 use Rattle.stages.proofs.SafeRows.{Kept}
 use Rattle.stages.proofs.SafeLines.{Ready, line-safe}
 
@@ -84,7 +41,8 @@ pub record Refuses (g : Given) (a : Answer) : Type 0 where
   pub sameOut : a .out ≡ g .out
   pub sameVars : a .vars ≡ g .vars
 
--- an acceptance: the output's new bytes are as P says, the variables' new image is well formed, and what is behind either is as it was
+-- an acceptance: the output's new bytes are as P says, and what is behind them is as it was; the variables' new image is well formed, and by E9 and E10 "bytes
+-- behind the new image are zero up to the old used length (the one given), and kept beyond it"
 pub record Accepts (P : Text → Type 0) (g : Given) (a : Answer) : Type 0 where
   pub place : a .place ≡ 0
   pub output : P (take (a .outLength) (a .out))
@@ -94,7 +52,7 @@ pub record Accepts (P : Text → Type 0) (g : Given) (a : Answer) : Type 0 where
   pub stored : variablesOf (take (a .varsUsed) (a .vars)) ≡ some table
   pub varsFit : a .varsUsed ≤ length (g .vars)
   pub small : a .varsUsed ≤ imageLimit
-  pub behindVars : drop (a .varsUsed) (a .vars) ≡ drop (a .varsUsed) (g .vars)
+  pub behindVars : drop (a .varsUsed) (a .vars) ≡ replicate (g .varsUsed - a .varsUsed) 0 ++ drop (a .varsUsed + (g .varsUsed - a .varsUsed)) (g .vars)
 
 -- E7: "Its bytes without marks are written from the buffer's start, cut to the buffer": some text without a zero byte
 pub record Message (g : Given) (a : Answer) : Type 0 where
@@ -120,11 +78,16 @@ pub record Fits (P : Text → Type 0) (g : Given) (a : Answer) : Type 0 where
   pub refuses : (a .number ≡ accepted → ⊥) → Refuses g a
   pub accepts : a .number ≡ accepted → Accepts P g a
 
--- what may be written: a text that P holds of, no longer than the output, and variables that fit
+-- variables that may be written, where the used length that was given lies in the buffer
+pub record Settles (g : Given) (v : Pairs) : Type 0 where
+  pub kept : Kept (length (g .vars)) v
+  pub used : g .varsUsed ≤ length (g .vars)
+
+-- what may be written: a text that P holds of, no longer than the output, and such variables
 pub record Writes (P : Text → Type 0) (g : Given) (r : Text × Pairs) : Type 0 where
   pub output : P (r .0)
   pub fits : length (r .0) ≤ length (g .out)
-  pub kept : Kept (length (g .vars)) (r .1)
+  pub settles : Settles g (r .1)
 
 early-bounds : (n : ℕ) → isEarly n ≡ true → (1 ≤ n) × (n ≤ badParameters)
 early-bounds n e = go (or-cases (between workTooSmall n zeroByte) (eqb n badParameters) e)
@@ -220,12 +183,12 @@ module _ (g : Given) where
     }
 
   module _ (v : Pairs) (k : Kept (length (g .vars)) v) where
-    pub kept-fits : length (image (flat v)) ≤ length (g .vars)
+    kept-fits : length (image (flat v)) ≤ length (g .vars)
     kept-fits = rw (length-image (flat v)) (k .fits)
 
-    kept-stored : variablesOf (take (length (image (flat v))) (over (image (flat v)) (g .vars))) ≡ some v
+    kept-stored : variablesOf (take (length (image (flat v))) (over (padded (g .varsUsed) (image (flat v))) (g .vars))) ≡ some v
     kept-stored =
-        rw (over-front (image (flat v)) (g .vars))
+        rw (padded-front (g .varsUsed) (image (flat v)) (g .vars))
         (variables-are (image (flat v)) (table-image isName v (k .fine) (k .passes) (k .rises) (k .small)) ∙ ap some (held-image v (k .fine)))
 
   accepts-fits : (P : Text → Type 0) (r : Text × Pairs) → Writes P g r → Fits P g (answered g (doneAt r))
@@ -234,7 +197,7 @@ module _ (g : Given) where
     clear = refl;
     workKept = cleared-length;
     outKept = over-length (r .0) (g .out) (w .fits);
-    varsKept = over-length (image (flat (r .1))) (g .vars) (kept-fits (r .1) (w .kept));
+    varsKept = padded-length (g .varsUsed) (image (flat (r .1))) (g .vars) (kept-fits (r .1) (w .settles .kept)) (w .settles .used);
     tells = record {
       kept = refl;
       fits = omega arith;
@@ -249,10 +212,10 @@ module _ (g : Given) where
       outFits = w .fits;
       behindOut = over-behind (r .0) (g .out);
       table = r .1;
-      stored = kept-stored (r .1) (w .kept);
-      varsFit = kept-fits (r .1) (w .kept);
-      small = rw (length-image (flat (r .1))) (w .kept .small);
-      behindVars = over-behind (image (flat (r .1))) (g .vars);
+      stored = kept-stored (r .1) (w .settles .kept);
+      varsFit = kept-fits (r .1) (w .settles .kept);
+      small = rw (length-image (flat (r .1))) (w .settles .kept .small);
+      behindVars = padded-behind (g .varsUsed) (image (flat (r .1))) (g .vars);
     };
   }
 
@@ -298,19 +261,28 @@ paths-fine t l e = let b : (heldTexts t ≡ l) × Paths t = paths-held t l e in 
 pub fields-fine : (t : Text) (l : Fields) → fieldsOf t ≡ some l → Fine l
 fields-fine t l e = rw (fields-held t l e .0) at (texts-held-fine t (fields-held t l e .1 .table))
 
-pub expanded-safe : (g : Given) (out : ℕ) → SafeAt (length (g .line)) (Ready (length (g .vars)) out) (expanded g out)
+-- what a line gives, and that the used length was within the buffer
+record ReadyIn (g : Given) (out : ℕ) (r : Fields × Pairs) : Type 0 where
+  ready : Ready (length (g .vars)) out r
+  used : g .varsUsed ≤ length (g .vars)
+
+expanded-ready : (g : Given) (out : ℕ) → SafeAt (length (g .line)) (ReadyIn g out) (expanded g out)
 unfolding expanded
-expanded-safe g out =
+expanded-ready g out =
     safe-then _ (safe-require (leb workLeast (length (g .work))) workTooSmall 0 (early refl))
     (λ _ _. safe-then _ (safe-require (leb (g .varsUsed) (length (g .vars))) badVariables 0 (early refl))
     (λ _ l. safe-then _ (some-safe (length (g .line)) badVariables (variablesOf (take (g .varsUsed) (g .vars))) refl)
     (λ v e. safe-then _ (some-safe (length (g .line)) badHomes (homesOf (g .homes)) refl)
     (λ h f. safe-then _ (some-safe (length (g .line)) badPaths (pathsOf (g .paths)) refl)
     (λ p i. safe-then _ (some-safe (length (g .line)) badParameters (fieldsOf (g .params)) refl)
-    (λ ps j. line-safe (record { lent = record { room = length (g .vars); homes = h; params = ps }; out = out; paths = p })
+    (λ ps j. safe-weakerAt (λ r k. record { ready = k; used = leb-true (g .varsUsed) (length (g .vars)) l })
+    (line-safe (record { lent = record { room = length (g .vars); homes = h; params = ps }; out = out; paths = p })
     (record { homes = homes-fine (g .homes) h f; params = fields-fine (g .params) ps j })
     (paths-fine (g .paths) p i) (g .line) v
-    (vars-kept (g .vars) (g .varsUsed) v (leb-true (g .varsUsed) (length (g .vars)) l) e)))))))
+    (vars-kept (g .vars) (g .varsUsed) v (leb-true (g .varsUsed) (length (g .vars)) l) e))))))))
+
+pub expanded-safe : (g : Given) (out : ℕ) → SafeAt (length (g .line)) (Ready (length (g .vars)) out) (expanded g out)
+expanded-safe g out = safe-weakerAt (λ r h. h .ready) (expanded-ready g out)
 
 -- the expander
 
@@ -330,8 +302,12 @@ image-reads l f n = record {
 pub expander-fits : (g : Given) → Fits FieldsImage g (expander g)
 unfolding expander
 expander-fits g =
-    answered-fits g FieldsImage (safe-then (λ r. doneAt (image (r .0), r .1)) (expanded-safe g (length (g .out)))
-    (λ r h. givesAt (record { output = image-reads (r .0) (h .fine) (h .small); fits = rw (length-image (r .0)) (h .fits); kept = h .kept })))
+    answered-fits g FieldsImage (safe-then (λ r. doneAt (image (r .0), r .1)) (expanded-ready g (length (g .out)))
+    (λ r h. givesAt (record {
+      output = image-reads (r .0) (h .ready .fine) (h .ready .small);
+      fits = rw (length-image (r .0)) (h .ready .fits);
+      settles = record { kept = h .ready .kept; used = h .used };
+    })))
 
 -- the normaliser
 
@@ -364,12 +340,12 @@ quoted-safe size out l =
 pub normaliser-fits : (g : Given) → Fits QuotedLine g (normaliser g)
 unfolding normaliser
 normaliser-fits g =
-    answered-fits g QuotedLine (safe-then _ (expanded-safe g imageLimit)
+    answered-fits g QuotedLine (safe-then _ (expanded-ready g imageLimit)
     (λ r h. safe-then _ (quoted-safe (length (g .line)) (length (g .out)) (r .0))
     (λ t q. givesAt (record {
-      output = record { fields = r .0; is = q .is; short = q .short; fine = h .fine; small = h .small };
+      output = record { fields = r .0; is = q .is; short = q .short; fine = h .ready .fine; small = h .ready .small };
       fits = q .fits;
-      kept = h .kept;
+      settles = record { kept = h .ready .kept; used = h .used };
     }))))
 
 -- the quoter

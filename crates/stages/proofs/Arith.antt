@@ -14,9 +14,9 @@ use Rattle.stages.specs.Numbers.{tooDeep, arithmeticSyntax}
 use Rattle.stages.specs.Bytes.{Text, span, isBlank, isDigit, isNameStart, isNameByte}
 use Rattle.stages.specs.Outcome.{Outcome, refused, done, _>>=_, choose}
 use Rattle.stages.specs.Constants.{constant, fits, ranged, number}
-use Rattle.stages.specs.Arith.{Op, wholeLevel, choiceLevel, level, isSign, End, stop, shuts, colon, Token, ends, num, name, op, opens, query}
-use Rattle.stages.specs.Arith.{Lexed, Spellings, written, behind, spelled, token, Tree, constantOf, nameOf, unary, binary, choice, Grown, grown}
-use Rattle.stages.specs.Arith.{Task, operand, further, Grow, expression, rank, ended, upTo, enclosed, sign, operandAt, choiceAt, furtherAt}
+use Rattle.stages.specs.Arith.{Op, wholeLevel, choiceLevel, level, isSign, End, stop, shuts, colon, Token, ends, num, name, op, opens, query, gets}
+use Rattle.stages.specs.Arith.{Lexed, Spellings, written, behind, spelled, token, Tree, constantOf, nameOf, unary, binary, choice, assign, Grown, grown}
+use Rattle.stages.specs.Arith.{Task, operand, further, Grow, expression, rank, ended, upTo, enclosed, sign, targetAt, operandAt, choiceAt, furtherAt}
 use Rattle.stages.specs.Arith.{growStep, growSize, grow}
 use Rattle.stages.proofs.Bools.{no, or-right, and-left, and-right, clash, some-same}
 use Rattle.stages.proofs.Texts.{start-name-byte, span-join, span-more}
@@ -85,6 +85,7 @@ isPlain (name x) = false
 isPlain (op o) = true
 isPlain opens = true
 isPlain query = true
+isPlain (gets o) = true
 
 abbrev pub fair : Spellings → Bool
 fair [] = true
@@ -150,7 +151,7 @@ module _ (k : ℕ) (f : Grow) (good : (a : Task × ℕ × Text) → growSize a <
   behind-operand d j n (done p) h (some-left l) = leaves-wider (good (further j (p .0), d, p .1) (omega arith)) l
 
   pub expression-left : (d j : ℕ) (t : Text) → length t < k → Leaves (length t) (expression f d j t)
-  expression-left d j t h = behind-operand d j (length t) (f (operand, d, t)) h (good (operand, d, t) h)
+  expression-left d j t h = behind-operand d j (length t) (f (operand (leb j wholeLevel), d, t)) h (good (operand (leb j wholeLevel), d, t) h)
 
   ended-left : (e : End) (l : Tree) (n : ℕ) (o : Lexed) → Lexes n o → Leaves n (o >>= λ s. ended e l s)
   unfolding ended
@@ -165,6 +166,7 @@ module _ (k : ℕ) (f : Grow) (good : (a : Task × ℕ × Text) → growSize a <
   ended-left e l n (done (op o, u)) h = syntax-left
   ended-left e l n (done (opens, u)) h = syntax-left
   ended-left e l n (done (query, u)) h = syntax-left
+  ended-left e l n (done (gets o, u)) h = syntax-left
 
   closed-left : (e : End) (n : ℕ) (r : Grown) → Leaves n r → Leaves n (r >>= λ q. token (q .1) >>= λ s. ended e (q .0) s)
   closed-left e n (refused i) (none-left w) = none-left w
@@ -187,17 +189,31 @@ module _ (k : ℕ) (f : Grow) (good : (a : Task × ℕ × Text) → growSize a <
   unfolding sign
   sign-left false o d t h = syntax-left
   sign-left true o zero t h = deep-left
-  sign-left true o (suc d) t h = grown-left (unary o) (length t) (f (operand, d, t)) (good (operand, d, t) h)
+  sign-left true o (suc d) t h = grown-left (unary o) (length t) (f (operand false, d, t)) (good (operand false, d, t) h)
 
-  operand-left : (n d : ℕ) (o : Lexed) → Lexes n o → n ≤ k → Leaves n (o >>= λ p. operandAt f d p)
+  target-left : (d : ℕ) (x t : Text) (o : Lexed) → Lexes (length t) o → length t < k → Leaves (length t) (o >>= λ p. targetAt f d x t p)
+  unfolding targetAt
+  target-left d x t (refused e) (lex-refused w) h = none-left w
+  target-left d x t (done (ends e, u)) w h = some-left {p = (nameOf x, t)} (omega arith)
+  target-left d x t (done (num z, u)) w h = some-left {p = (nameOf x, t)} (omega arith)
+  target-left d x t (done (name y, u)) w h = some-left {p = (nameOf x, t)} (omega arith)
+  target-left d x t (done (op o, u)) w h = some-left {p = (nameOf x, t)} (omega arith)
+  target-left d x t (done (opens, u)) w h = some-left {p = (nameOf x, t)} (omega arith)
+  target-left d x t (done (query, u)) w h = some-left {p = (nameOf x, t)} (omega arith)
+  target-left d x t (done (gets o, u)) (lex-more w) h =
+      leaves-wider (grown-left (assign o x) (length u) (expression f d wholeLevel u) (expression-left d wholeLevel u (omega arith))) (omega arith)
+
+  operand-left : (n : ℕ) (first : Bool) (d : ℕ) (o : Lexed) → Lexes n o → n ≤ k → Leaves n (o >>= λ p. operandAt f first d p)
   unfolding operandAt
-  operand-left n d (refused e) (lex-refused w) h = none-left w
-  operand-left n d (done (ends e, u)) l h = syntax-left
-  operand-left n d (done (num z, u)) (lex-more l) h = some-left {p = (constantOf z, u)} (omega arith)
-  operand-left n d (done (name x, u)) (lex-more l) h = some-left {p = (nameOf x, u)} (omega arith)
-  operand-left n d (done (op o, u)) (lex-more l) h = leaves-wider (sign-left (isSign o) o d u (omega arith)) (omega arith)
-  operand-left n d (done (opens, u)) (lex-more l) h = leaves-wider (enclosed-left d u (omega arith)) (omega arith)
-  operand-left n d (done (query, u)) l h = syntax-left
+  operand-left n b d (refused e) (lex-refused w) h = none-left w
+  operand-left n b d (done (ends e, u)) l h = syntax-left
+  operand-left n b d (done (num z, u)) (lex-more l) h = some-left {p = (constantOf z, u)} (omega arith)
+  operand-left n false d (done (name x, u)) (lex-more l) h = some-left {p = (nameOf x, u)} (omega arith)
+  operand-left n true d (done (name x, u)) (lex-more l) h = leaves-wider (target-left d x u (token u) (token-left u) (omega arith)) (omega arith)
+  operand-left n b d (done (op o, u)) (lex-more l) h = leaves-wider (sign-left (isSign o) o d u (omega arith)) (omega arith)
+  operand-left n b d (done (opens, u)) (lex-more l) h = leaves-wider (enclosed-left d u (omega arith)) (omega arith)
+  operand-left n b d (done (query, u)) l h = syntax-left
+  operand-left n b d (done (gets o, u)) l h = syntax-left
 
   other-left : (d n : ℕ) (l : Tree) (r : Grown) → n < k → Leaves n r → Leaves n (r >>= λ a. grown (choice l (a .0)) (expression f d choiceLevel (a .1)))
   other-left d n l (refused e) h (none-left w) = none-left w
@@ -232,10 +248,11 @@ module _ (k : ℕ) (f : Grow) (good : (a : Task × ℕ × Text) → growSize a <
       go : (x : Bool) → leb j choiceLevel ≡ x → Leaves (length t) (furtherAt f d j l t (query, u))
       go true e = rw (e, furtherAt) (leaves-wider (choice-left d l u (omega arith)) (omega arith))
       go false e = rw (e, furtherAt) (some-left {p = (l, t)} (omega arith))
+  further-left d j l t (done (gets o, u)) w h = some-left {p = (l, t)} (omega arith)
 
   step-left : (a : Task × ℕ × Text) → growSize a ≤ k → Leaves (growSize a) (growStep f a)
   unfolding growStep
-  step-left (operand, d, t) h = operand-left (length t) d (token t) (token-left t) h
+  step-left (operand b, d, t) h = operand-left (length t) b d (token t) (token-left t) h
   step-left (further j l, d, t) h = further-left d j l t (token t) (token-left t) h
 
 abbrev shorter : ℕ → Grow
@@ -264,8 +281,8 @@ module _ (k : ℕ) (f g : Grow) (same : (a : Task × ℕ × Text) → growSize a
 
   expression-same : (d j : ℕ) (t : Text) → length t < k → expression f d j t ≡ expression g d j t
   expression-same d j t h =
-      ap (λ (r : Grown). r >>= λ p. f (further j (p .0), d, p .1)) (same (operand, d, t) h)
-      ∙ bind-same (length t) (λ x. further j x) d (g (operand, d, t)) h (good (operand, d, t) h)
+      ap (λ (r : Grown). r >>= λ p. f (further j (p .0), d, p .1)) (same (operand (leb j wholeLevel), d, t) h)
+      ∙ bind-same (length t) (λ x. further j x) d (g (operand (leb j wholeLevel), d, t)) h (good (operand (leb j wholeLevel), d, t) h)
 
   up-to-same : (e : End) (d : ℕ) (t : Text) → length t < k → upTo e f d t ≡ upTo e g d t
   unfolding upTo
@@ -280,17 +297,30 @@ module _ (k : ℕ) (f g : Grow) (same : (a : Task × ℕ × Text) → growSize a
   unfolding sign
   sign-same false o d t h = refl
   sign-same true o zero t h = refl
-  sign-same true o (suc d) t h = ap (grown (unary o)) (same (operand, d, t) h)
+  sign-same true o (suc d) t h = ap (grown (unary o)) (same (operand false, d, t) h)
 
-  operand-same : (n d : ℕ) (o : Lexed) → Lexes n o → n ≤ k → (o >>= λ p. operandAt f d p) ≡ (o >>= λ p. operandAt g d p)
+  target-same : (d : ℕ) (x t : Text) (o : Lexed) → Lexes (length t) o → length t < k → (o >>= λ p. targetAt f d x t p) ≡ (o >>= λ p. targetAt g d x t p)
+  unfolding targetAt
+  target-same d x t (refused e) w h = refl
+  target-same d x t (done (ends e, u)) w h = refl
+  target-same d x t (done (num z, u)) w h = refl
+  target-same d x t (done (name y, u)) w h = refl
+  target-same d x t (done (op o, u)) w h = refl
+  target-same d x t (done (opens, u)) w h = refl
+  target-same d x t (done (query, u)) w h = refl
+  target-same d x t (done (gets o, u)) (lex-more w) h = ap (grown (assign o x)) (expression-same d wholeLevel u (omega arith))
+
+  operand-same : (n : ℕ) (first : Bool) (d : ℕ) (o : Lexed) → Lexes n o → n ≤ k → (o >>= λ p. operandAt f first d p) ≡ (o >>= λ p. operandAt g first d p)
   unfolding operandAt
-  operand-same n d (refused e) l h = refl
-  operand-same n d (done (ends e, u)) l h = refl
-  operand-same n d (done (num z, u)) l h = refl
-  operand-same n d (done (name x, u)) l h = refl
-  operand-same n d (done (op o, u)) (lex-more l) h = sign-same (isSign o) o d u (omega arith)
-  operand-same n d (done (opens, u)) (lex-more l) h = enclosed-same d u (omega arith)
-  operand-same n d (done (query, u)) l h = refl
+  operand-same n b d (refused e) l h = refl
+  operand-same n b d (done (ends e, u)) l h = refl
+  operand-same n b d (done (num z, u)) l h = refl
+  operand-same n false d (done (name x, u)) l h = refl
+  operand-same n true d (done (name x, u)) (lex-more l) h = target-same d x u (token u) (token-left u) (omega arith)
+  operand-same n b d (done (op o, u)) (lex-more l) h = sign-same (isSign o) o d u (omega arith)
+  operand-same n b d (done (opens, u)) (lex-more l) h = enclosed-same d u (omega arith)
+  operand-same n b d (done (query, u)) l h = refl
+  operand-same n b d (done (gets o, u)) l h = refl
 
   other-same : (d n : ℕ) (l : Tree) (r : Grown) → n < k → Leaves n r
       → (r >>= λ a. grown (choice l (a .0)) (expression f d choiceLevel (a .1))) ≡ (r >>= λ a. grown (choice l (a .0)) (expression g d choiceLevel (a .1)))
@@ -329,10 +359,11 @@ module _ (k : ℕ) (f g : Grow) (same : (a : Task × ℕ × Text) → growSize a
       go : (x : Bool) → leb j choiceLevel ≡ x → furtherAt f d j l t (query, u) ≡ furtherAt g d j l t (query, u)
       go true e = rw (e, furtherAt) (choice-same d l u (omega arith))
       go false e = rw (e, furtherAt)
+  further-same n d j l t (done (gets o, u)) w h = refl
 
   step-same : (a : Task × ℕ × Text) → growSize a ≤ k → growStep f a ≡ growStep g a
   unfolding growStep
-  step-same (operand, d, t) h = operand-same (length t) d (token t) (token-left t) h
+  step-same (operand b, d, t) h = operand-same (length t) b d (token t) (token-left t) h
   step-same (further j l, d, t) h = further-same (length t) d j l t (token t) (token-left t) h
 
 -- THE LAW: the reader is its step, and itself for all that is read inside.

@@ -3,35 +3,32 @@
 -- as it was.
 use Prim.Native.Nat.{ℕ, _+_, _-_, _≤_}
 use native.Mathlib.Omega.{arith}
-use mathlib.Core.Path.{_≡_, refl, ap, _∙_}
+use mathlib.Core.Path.{_≡_, refl}
 use mathlib.Core.Bool.{Bool, true, not, _||_}
-use mathlib.Core.List.{List, [], _∷_, _++_, append-assoc}
+use mathlib.Core.List.{List, [], _∷_, _++_}
 use mathlib.Core.Logic.{_⊎_, inl, inr}
 use mathlib.Core.Option.{some}
 use lib.Dec.{eqb, leb}
-use lib.ListN.{length, take, drop, replicate, length-append, length-drop, length-replicate}
-use lib.Seq.{take-at, drop-at}
+use lib.ListN.{length, take, drop, replicate}
 use borrow.Author.Tests.{leb-true}
 use Rattle.stages.specs.Numbers.{accepted, workTooSmall, badVariables, badHomes, badPaths, lineTooLong, zeroByte, demanded, outputRoom, badParameters}
 use Rattle.stages.specs.Numbers.{workLeast, lineLimit, imageLimit}
 use Rattle.stages.specs.Bytes.{Text, between, isIn}
 use Rattle.stages.specs.Outcome.{Placed, refusedAt, demandsAt, doneAt, _then_}
-use Rattle.stages.specs.Images.{Pairs, isName, flat, image, variablesOf, homesOf, fieldsOf}
+use Rattle.stages.specs.Images.{Pairs, isName, variablesOf, homesOf, fieldsOf}
 use Rattle.stages.specs.Syntax.{Parts, Assignment}
 use Rattle.stages.specs.Units.{L, bytes}
 use Rattle.stages.specs.Params.{Lent}
 use Rattle.stages.specs.Assign.{assign, assignAll, readAssignments, assignLine}
-use Rattle.stages.specs.Call.{Given, Answer, over, cleared, shown, answered, assigned, padded, settled, assigner}
+use Rattle.stages.specs.Call.{Given, Answer, over, shown, answered, assigned, settled, assigner}
 use Rattle.stages.proofs.Bools.{no, or-cases, or-left, or-right, between-bounds, between-true}
-use Rattle.stages.proofs.Images.{length-image, held-image}
-use Rattle.stages.proofs.Tables.{table-image, variables-are}
 use Rattle.stages.proofs.Outcomes.{Each, isFault, isEarly, fault-late, Safe, safe-bind, SafeBy, SafeAt, early, refusesAt, asksAt, givesAt, safe-then}
 use Rattle.stages.proofs.Outcomes.{safe-weakerAt, safe-at, safe-require}
 use Rattle.stages.proofs.Safe.{SafeParts}
 use Rattle.stages.proofs.SafeRows.{Kept, SafeLent, expand-safe, bytes-safe, store-safe}
 use Rattle.stages.proofs.SafeLines.{no-zero}
 use Rattle.stages.proofs.Assignments.{AssignmentIn, assignments-safe}
-use Rattle.stages.proofs.Answers.{Refuses, Tells, Fits, Writes, answered-fits, cleared-length, kept-fits, some-safe, vars-kept, homes-fine, fields-fine}
+use Rattle.stages.proofs.Answers.{Refuses, Tells, Fits, Settles, answered-fits, some-safe, vars-kept, homes-fine, fields-fine}
 
 -- "The job takes neither paths nor output: 4 and 21 do not arise": what is looked at before the line is read are 1 to 3, 23, 5 and 6
 abbrev pub isFirst : ℕ → Bool
@@ -79,11 +76,6 @@ module _ (a : Lent) (l : SafeLent a) where
       (λ _ z. safe-then _ (assignments-safe (λ n e. e) (length t) (0, t) (no-zero t z) (omega arith))
       (λ ws h. all-safe (length t) ws v h k)))
 
--- variables that may be written, where the used length that was given lies in the buffer
-pub record Settles (g : Given) (v : Pairs) : Type 0 where
-  pub kept : Kept (length (g .vars)) v
-  pub used : g .varsUsed ≤ length (g .vars)
-
 pub assigned-safe : (g : Given) → SafeBy isFirst isFault (length (g .line)) (Settles g) (assigned g)
 unfolding assigned
 assigned-safe g =
@@ -122,98 +114,43 @@ pub record AssignerFits (g : Given) (a : Answer) : Type 0 where
   pub refuses : (a .number ≡ accepted → ⊥) → Refuses g a
   pub accepts : a .number ≡ accepted → Assigns g a
 
--- a text at the front of a buffer, and zeros behind it up to `used`
-module _ (used : ℕ) (t buffer : Text) where
-  padded-whole : over (padded used t) buffer ≡ t ++ (replicate (used - length t) 0 ++ drop (length t + (used - length t)) buffer)
-  unfolding over padded
-  padded-whole = append-assoc t (replicate (used - length t) 0) _ ∙ simp (length-append, length-replicate) refl
-
-  pub padded-front : take (length t) (over (padded used t) buffer) ≡ t
-  padded-front = rw padded-whole (take-at t _ (length t) refl)
-
-  pub padded-behind : drop (length t) (over (padded used t) buffer) ≡ replicate (used - length t) 0 ++ drop (length t + (used - length t)) buffer
-  padded-behind = rw padded-whole (drop-at t _ (length t) refl)
-
-  pub padded-length : length t ≤ length buffer → used ≤ length buffer → length (over (padded used t) buffer) ≡ length buffer
-  padded-length h k = rw padded-whole (simp (length-append, length-replicate, length-drop) (omega arith))
-
-abbrev AnyText : Text → Type 0
-AnyText t = Unit {0}
+-- nothing is written
+abbrev NoText : Text → Type 0
+NoText t = t ≡ []
 
 module _ (g : Given) where
-  -- a refusal is one of the other jobs' too
-  refusal-fits : (n place : ℕ) → Fits AnyText g (answered g (refusedAt n place)) → (n ≡ accepted → ⊥) → (n ≡ badPaths → ⊥) → (n ≡ outputRoom → ⊥)
-      → AssignerFits g (settled g (refusedAt n place))
-  unfolding settled answered
-  refusal-fits n place f number four full = record {
+  -- an answer of the other jobs that writes nothing
+  of-fits : (a : Answer) → Fits NoText g a → a .outLength ≡ 0 → a .out ≡ g .out → (a .number ≡ badPaths → ⊥) → (a .number ≡ outputRoom → ⊥)
+      → AssignerFits g a
+  of-fits a f nothing same four full = record {
     clear = f .clear;
     workKept = f .workKept;
-    varsKept = refl;
-    nothing = refl;
-    sameOut = refl;
+    varsKept = f .varsKept;
+    nothing = nothing;
+    sameOut = same;
     noPaths = four;
     noOutput = full;
     tells = f .tells;
     refuses = f .refuses;
-    accepts = λ e. absurd (number e);
-  }
-
-  demand-fits : (t : Text) (place : ℕ) → Fits AnyText g (answered g (demandsAt t place)) → AssignerFits g (settled g (demandsAt t place))
-  unfolding settled answered
-  demand-fits t place f = record {
-    clear = f .clear;
-    workKept = f .workKept;
-    varsKept = refl;
-    nothing = refl;
-    sameOut = refl;
-    noPaths = λ k. let z : _≡_ {A = ℕ} demanded badPaths = k in omega arith;
-    noOutput = λ k. let z : _≡_ {A = ℕ} demanded outputRoom = k in omega arith;
-    tells = f .tells;
-    refuses = f .refuses;
-    accepts = λ e. absurd (let k : _≡_ {A = ℕ} demanded accepted = e in omega arith);
-  }
-
-  settled-stored : (v : Pairs) → Kept (length (g .vars)) v
-      → variablesOf (take (length (image (flat v))) (over (padded (g .varsUsed) (image (flat v))) (g .vars))) ≡ some v
-  settled-stored v k =
-      rw (padded-front (g .varsUsed) (image (flat v)) (g .vars))
-      (variables-are (image (flat v)) (table-image isName v (k .fine) (k .passes) (k .rises) (k .small)) ∙ ap some (held-image v (k .fine)))
-
-  acceptance-fits : (v : Pairs) → Settles g v → AssignerFits g (settled g (doneAt v))
-  unfolding settled cleared
-  acceptance-fits v w = record {
-    clear = refl;
-    workKept = cleared-length g;
-    varsKept = padded-length (g .varsUsed) (image (flat v)) (g .vars) (kept-fits g v (w .kept)) (w .used);
-    nothing = refl;
-    sameOut = refl;
-    noPaths = λ k. let z : _≡_ {A = ℕ} accepted badPaths = k in omega arith;
-    noOutput = λ k. let z : _≡_ {A = ℕ} accepted outputRoom = k in omega arith;
-    tells = record {
-      kept = refl;
-      fits = omega arith;
-      behind = refl;
-      quiet = λ _. (refl, refl);
-      says = λ k. absurd (let z : _≡_ {A = ℕ} accepted demanded = k in omega arith);
-    };
-    refuses = λ h. absurd (h refl);
-    accepts = λ _. record {
-      place = refl;
-      table = v;
-      stored = settled-stored v (w .kept);
-      varsFit = kept-fits g v (w .kept);
-      small = rw (length-image (flat v)) (w .kept .small);
-      behind = padded-behind (g .varsUsed) (image (flat v)) (g .vars);
-    };
+    accepts = λ e.
+        let b = f .accepts e in
+        record { place = b .place; table = b .table; stored = b .stored; varsFit = b .varsFit; small = b .small; behind = b .behindVars };
   }
 
   settled-fits : {o : Placed Pairs} → SafeJob (length (g .line)) (Settles g) o → AssignerFits g (settled g o)
+  unfolding settled answered over
   settled-fits (early {n = n} e) =
-      refusal-fits n 0 (answered-fits g AnyText (early (first-early n e))) (λ k. no (rw k at e)) (λ k. no (rw k at e)) (λ k. no (rw k at e))
+      of-fits _ (answered-fits g NoText (early (first-early n e))) refl refl (λ k. no (rw k at e)) (λ k. no (rw k at e))
   settled-fits (refusesAt {n = n} {place = place} e l) =
-      refusal-fits n place (answered-fits g AnyText (refusesAt (fault-late n e) l)) (λ k. no (rw k at e)) (λ k. no (rw k at e)) (λ k. no (rw k at e))
-  settled-fits (asksAt {t = t} {place = place} z l) = demand-fits t place (answered-fits g AnyText (asksAt z l))
-  settled-fits (givesAt {a = v} w) = acceptance-fits v w
+      of-fits _ (answered-fits g NoText (refusesAt (fault-late n e) l)) refl refl (λ k. no (rw k at e)) (λ k. no (rw k at e))
+  settled-fits (asksAt {t = t} {place = place} z l) =
+      of-fits _ (answered-fits g NoText (asksAt z l)) refl refl
+      (λ k. let z : _≡_ {A = ℕ} demanded badPaths = k in omega arith)
+      (λ k. let z : _≡_ {A = ℕ} demanded outputRoom = k in omega arith)
+  settled-fits (givesAt {a = v} w) =
+      of-fits _ (answered-fits g NoText (givesAt (record { output = refl; fits = omega arith; settles = w }))) refl refl
+      (λ k. let z : _≡_ {A = ℕ} accepted badPaths = k in omega arith)
+      (λ k. let z : _≡_ {A = ℕ} accepted outputRoom = k in omega arith)
 
 -- DEMAND 1 for the assigner
 pub assigner-fits : (g : Given) → AssignerFits g (assigner g)
@@ -250,7 +187,7 @@ keeping out a = record {
 
 module _ (g : Given) (paths out : Text) where
   settled-blind : (o : Placed Pairs) → settled (elsewhere g paths out) o ≡ keeping out (settled g o)
-  unfolding settled answered shown
+  unfolding settled answered over shown
   settled-blind (refusedAt n place) = refl
   settled-blind (demandsAt t place) = refl
   settled-blind (doneAt v) = refl

@@ -15,7 +15,7 @@ use Rattle.stages.specs.Outcome.{doneAt, _then_}
 use Rattle.stages.specs.Images.{Pairs, flat, image, written, imageLength, variablesOf, homesOf, pathsOf, fieldsOf, held, isSome}
 use Rattle.stages.specs.Line.{Fields}
 use Rattle.stages.specs.Quote.{quotedLine}
-use Rattle.stages.specs.Call.{Given, Answer, over, orRefused, expanded, cleared, answered, expander, quotedIn, normaliser, quoting, quoter}
+use Rattle.stages.specs.Call.{Given, Answer, over, padded, orRefused, expanded, cleared, answered, expander, quotedIn, normaliser, quoting, quoter}
 use Rattle.stages.proofs.Images.{Bytes, bytes-take, Fine, length-image, heldTexts-image}
 use Rattle.stages.proofs.Tables.{
   table-canonical,
@@ -31,7 +31,7 @@ use Rattle.stages.proofs.Tables.{
 }
 use Rattle.stages.proofs.Answers.{fields-fine, FieldsImage, QuotedLine, expander-fits, normaliser-fits}
 use Rattle.stages.proofs.RoundTrip.{quoted-image, quoted-expands}
-use Rattle.stages.proofs.Rooms.{over-front}
+use Rattle.stages.proofs.Rooms.{over-front, padded-same}
 
 -- a call whose tables are well formed and whose work area is large enough; the variables' buffer holds bytes, which is known of a slice
 pub record WellFormed (h : Given) : Type 0 where
@@ -43,7 +43,7 @@ pub record WellFormed (h : Given) : Type 0 where
   pub paths : isSome (pathsOf (h .paths)) ≡ true
   pub params : isSome (fieldsOf (h .params)) ≡ true
 
--- the answer that accepts, writes this text to the output and these bytes to the variables' buffer
+-- the answer that accepts, writes this text to the output and this image to the variables' buffer
 abbrev writes : Given → Text → Text → Answer
 writes h t w = record {
   number = accepted;
@@ -51,7 +51,7 @@ writes h t w = record {
   outLength = length t;
   varsUsed = length w;
   out = over t (h .out);
-  vars = over w (h .vars);
+  vars = over (padded (h .varsUsed) w) (h .vars);
   work = cleared (h .work);
   messageLength = 0;
   message = h .message;
@@ -76,6 +76,9 @@ over-own : (n : ℕ) (t : Text) → n ≤ length t → over (take n t) t ≡ t
 unfolding over
 over-own n t h = rw (length-take-le n t h) (take-append-drop n t)
 
+own-length : (n : ℕ) (t : Text) → n ≤ length t → n ≤ length (take n t)
+own-length n t h = rw (length-take-le n t h) (omega arith)
+
 -- a quoted line that has room is written
 quoted-in : (l : Fields) (out : ℕ) → length (quotedLine l) ≤ lineLimit → length (quotedLine l) ≤ out → quotedIn out l ≡ doneAt (quotedLine l)
 unfolding quotedIn
@@ -94,7 +97,13 @@ module _ (h : Given) (r : WellFormed h) where
   -- written again, they leave the buffer as it was
   kept : (t : Text) → answered h (doneAt (t, given)) ≡ unchanged h t
   unfolding answered
-  kept t = ap (writes h t) given-image ∙ rw (over-own (h .varsUsed) (h .vars) (r .used), length-take-le (h .varsUsed) (h .vars) (r .used))
+  kept t =
+      ap (writes h t) given-image
+      ∙ rw (
+        padded-same (h .varsUsed) (take (h .varsUsed) (h .vars)) (own-length (h .varsUsed) (h .vars) (r .used)),
+        over-own (h .varsUsed) (h .vars) (r .used),
+        length-take-le (h .varsUsed) (h .vars) (r .used),
+      )
 
   -- the quoted line of fields without a zero byte, expanded
   module _ (l : Fields) (f : Fine l) (e : h .line ≡ quotedLine l) (short : length (quotedLine l) ≤ lineLimit) where

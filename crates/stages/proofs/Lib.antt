@@ -37,8 +37,11 @@ pub mod Barred  -- E5: where `$@` and `$*` may stand
 pub mod Unbroken  -- E5: where no break mark comes
 pub mod Bits  -- E6: the bits of a number
 pub mod Storeys  -- E6: the grammar in two storeys
-pub mod Turns  -- E6: reading as a loop
-pub mod Sums  -- E6: sums that compute, and sides that are not needed
+pub mod Ended  -- E10: behind an assignment is nothing more to read
+pub mod Targets  -- E10: what arithmetic stores to is a name
+pub mod Turns  -- E6 and E10: reading as a loop
+pub mod Sums  -- E6 and E10: sums that compute, and sides that are not needed
+pub mod Works  -- E6 and E10: what stands around an expression that is worked out
 pub mod Messages  -- E7: demanded messages
 pub mod ButIFS  -- E8: variables that differ in IFS alone
 pub mod Alike  -- E8: one thing worked out twice
@@ -51,3 +54,4 @@ pub mod TogetherLines  -- E8: words that stay together, and others
 pub mod Assignments  -- E9: the assignments of a line
 pub mod Assigns  -- E9: the assigner's answer is well formed
 pub mod AssignLines  -- E9: lines of assignments
+pub mod CountLines  -- E10: lines that count

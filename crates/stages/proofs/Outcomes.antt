@@ -106,10 +106,14 @@ pub sure-bind : {A B : Type 0} {P : A → Type 0} {Q : B → Type 0} {o : Outcom
 sure-bind f (fails e) h = fails e
 sure-bind f (comes {a = a} p) h = h a p
 
-pub sure-choose : {A : Type 0} {P : A → Type 0} (x : Bool) (f g : Unit {0} → Outcome A) → Sure P (f tt) → Sure P (g tt) → Sure P (choose x f g)
+pub sure-where : {A : Type 0} {P : A → Type 0} (x : Bool) (f g : Unit {0} → Outcome A) → (x ≡ true → Sure P (f tt)) → Sure P (g tt) →
+    Sure P (choose x f g)
 unfolding choose
-sure-choose true f g p q = p
-sure-choose false f g p q = q
+sure-where true f g p q = p refl
+sure-where false f g p q = q
+
+pub sure-choose : {A : Type 0} {P : A → Type 0} (x : Bool) (f g : Unit {0} → Outcome A) → Sure P (f tt) → Sure P (g tt) → Sure P (choose x f g)
+sure-choose x f g p q = sure-where x f g (λ e. p) q
 
 -- one of two outcomes that are safe, the first where its test passes
 pub safe-where : {A : Type 0} {P : A → Type 0} (x : Bool) (f g : Unit {0} → Outcome A) → (x ≡ true → Safe P (f tt)) → Safe P (g tt) →

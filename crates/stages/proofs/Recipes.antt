@@ -41,7 +41,7 @@ eqTexts [] (t ∷ l) = false
 eqTexts (t ∷ l) [] = false
 eqTexts (t ∷ l) (u ∷ m) = eqText t u && eqTexts l m
 
-abbrev eqPairs : Pairs → Pairs → Bool
+abbrev pub eqPairs : Pairs → Pairs → Bool
 eqPairs [] [] = true
 eqPairs [] (t ∷ l) = false
 eqPairs (t ∷ l) [] = false

@@ -29,9 +29,9 @@ use Rattle.stages.proofs.Texts.{all-take, all-drop}
 use Rattle.stages.proofs.Images.{Fine, fine-append}
 use Rattle.stages.proofs.Stores.{lookup-fine, rising-stored, keys-stored, fine-stored, name-fine}
 use Rattle.stages.proofs.Items.{IsParam}
-use Rattle.stages.proofs.Outcomes.{Each, each-append, Safe, refuses, asks, gives, safe-bind}
+use Rattle.stages.proofs.Outcomes.{Each, each-append, Safe, refuses, asks, gives, safe-bind, Sure, fails, comes, sure-safe}
 use Rattle.stages.proofs.Safe.{NoZero, SafeParts}
-use Rattle.stages.proofs.SafeSums.{decimal-safe, arithmetic-safe}
+use Rattle.stages.proofs.SafeSums.{decimal-safe, Stores, arithmetic-safe}
 
 -- rows
 
@@ -100,19 +100,27 @@ pub value-safe : (a : Lent) (v : Pairs) (x : Param) → SafeLent a → Fine (fla
 unfolding value
 value-safe a v x l f = or-empty-safe (holding a v x) (holding-safe a v x l f)
 
-pub store-safe : (room : ℕ) (x t : Text) (v : Pairs) → isName x ≡ true → NoZero t → Kept room v → Safe (Kept room) (store room x t v)
+pub store-sure : (room : ℕ) (x t : Text) (v : Pairs) → isName x ≡ true → NoZero t → Kept room v → Sure (Kept room) (store room x t v)
 unfolding store
-store-safe room x t v n z k =
+store-sure room x t v n z k =
     let size : ℕ = imageLength (flat (stored x t v)) in
     either (leb (imageLength (flat (stored x t v))) room && leb (imageLength (flat (stored x t v))) imageLimit)
-    (λ e. rw (e, store) (gives (record {
+    (λ e. rw (e, store) (comes (record {
       fine = fine-stored x t v (name-fine x n) z (k .fine);
       passes = keys-stored isName x t v n (k .passes);
       rises = rising-stored x t v (k .rises);
       fits = leb-true size room (and-left (leb size room) (leb size imageLimit) e);
       small = leb-true size imageLimit (and-right (leb size room) (leb size imageLimit) e);
     })))
-    (λ e. rw (e, store) (refuses refl))
+    (λ e. rw (e, store) (fails refl))
+
+pub store-safe : (room : ℕ) (x t : Text) (v : Pairs) → isName x ≡ true → NoZero t → Kept room v → Safe (Kept room) (store room x t v)
+store-safe room x t v n z k = sure-safe (store-sure room x t v n z k)
+
+-- so does one of arithmetic
+pub stores-kept : (a : Lent) → Stores a (Kept (a .room))
+unfolding storeIn
+stores-kept a x t v n z k = store-sure (a .room) x t v n z k
 
 -- parameters
 
@@ -265,7 +273,7 @@ module _ (a : Lent) (l : SafeLent a) where
       (λ i. expand-safe p s m i v k)
   expand-safe (ari q p) s m n v k =
       safe-bind _ (expand-safe q (s .0) Q 0 v k)
-      (λ r h. safe-bind _ (arithmetic-safe (Kept (a .room)) (r .1) (bytes (r .0)) (h .1))
+      (λ r h. safe-bind _ (arithmetic-safe a (Kept (a .room)) (stores-kept a) (r .1) (bytes (r .0)) (h .1))
       (λ t g. adding-safe (a .room) n (marked (expandedMark m) (t .0)) false _ (marked-safe (expandedMark m) (t .0) (g .0))
       (λ i. expand-safe p (s .1) m i (t .1) (g .1))))
   expand-safe (til x p) s m n v k =

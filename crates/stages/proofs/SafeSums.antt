@@ -1,5 +1,5 @@
 -- Arithmetic refuses only with numbers of document 01's table, since its reader calls itself only on what is shorter; its result is a text without a zero
--- byte, and it keeps the variables.
+-- byte, and what a store keeps of the variables it keeps, since it stores texts without a zero byte to names.
 use Prim.Native.Nat.{ℕ, zero, suc, _+_, _/_, _%_, _^_}
 use Prim.Native.Char.{code}
 use native.Mathlib.Omega.{arith}
@@ -12,20 +12,22 @@ use lib.ListN.{length}
 use lib.IntN.{ℤ, pos, negsuc, negℤ, _+ℤ_, _-ℤ_, _*ℤ_}
 use lib.Signed.{quotZ, remZ, shrZ}
 use borrow.Author.Tests.{le-leb}
-use Rattle.stages.specs.Numbers.{openLimit}
 use Rattle.stages.specs.Bytes.{Text, all, notZero}
 use Rattle.stages.specs.Outcome.{Outcome, done}
-use Rattle.stages.specs.Images.{Pairs, lookup}
+use Rattle.stages.specs.Images.{Pairs, isName}
+use Rattle.stages.specs.Syntax.{var}
+use Rattle.stages.specs.Params.{Lent, holding, storeIn}
 use Rattle.stages.specs.Units.{digits, decimal}
 use Rattle.stages.specs.Constants.{fits, ranged, constant, minusOf, valued, nameNumber, signed}
 use Rattle.stages.specs.Arith.{isZero, isTrue, divided, shifted, operator, Op, mul, div, rem, add, sub, shl, shr, lt, le, gt, ge, eq, ne}
-use Rattle.stages.specs.Arith.{bitAnd, bitXor, bitOr, logAnd, logOr, logNot, bitNot, early, apply, applyAlone, stop}
-use Rattle.stages.specs.Arith.{Tree, constantOf, nameOf, unary, binary, choice, Grown, grow, tree, Evaluated, withVariables, unless, evaluate}
-use Rattle.stages.specs.Arith.{arithmeticOf}
+use Rattle.stages.specs.Arith.{bitAnd, bitXor, bitOr, logAnd, logOr, logNot, bitNot, early, apply, applyAlone}
+use Rattle.stages.specs.Arith.{Tree, constantOf, nameOf, unary, binary, choice, assign, tree, Evaluated, withVariables, unless}
+use Rattle.stages.specs.Arith.{valueOf, updated, keeping, storing, evaluate, arithmeticOf}
 use Rattle.stages.proofs.Bools.{and-both}
 use Rattle.stages.proofs.Texts.{all-append}
 use Rattle.stages.proofs.Outcomes.{Sure, fails, comes, sure-bind, sure-choose, Safe, sure-safe}
-use Rattle.stages.proofs.Arith.{Numbered, ranged-sure, number-sure, Leaves, none-left, some-left, up-to-left, grow-left}
+use Rattle.stages.proofs.Arith.{Numbered, ranged-sure, number-sure}
+use Rattle.stages.proofs.Targets.{Named, tree-named}
 
 -- numbers
 
@@ -105,38 +107,6 @@ alone-sure logOr a = fails refl
 alone-sure logNot a = comes tt
 alone-sure bitNot a = comes tt
 
--- what is worked out keeps whatever holds of the variables
-module _ (K : Pairs → Type 0) where
-  with-sure : (v : Pairs) → K v → {o : Outcome ℤ} → Numbered o → Sure (λ p. K (p .1)) (withVariables v o)
-  with-sure v k s = sure-bind (λ z. done (z, v)) s (λ z _. comes k)
-
-  unless-sure : (o : Option ℤ) (v : Pairs) (more : Unit {0} → Evaluated) → K v → Sure (λ p. K (p .1)) (more tt) → Sure (λ p. K (p .1)) (unless o v more)
-  unless-sure none v more k s = s
-  unless-sure (some z) v more k s = comes k
-
-  evaluate-sure : (e : Tree) (v : Pairs) → K v → Sure (λ p. K (p .1)) (evaluate v e)
-  unfolding evaluate
-  evaluate-sure (constantOf z) v k = comes k
-  evaluate-sure (nameOf x) v k = with-sure v k (name-sure (lookup x v))
-  evaluate-sure (unary o l) v k = sure-bind _ (evaluate-sure l v k) (λ p i. with-sure (p .1) i (alone-sure o (p .0)))
-  evaluate-sure (binary o l r) v k =
-      sure-bind _ (evaluate-sure l v k)
-      (λ p i. unless-sure (early o (p .0)) (p .1) _ i
-      (sure-bind _ (evaluate-sure r (p .1) i) (λ q j. with-sure (q .1) j (apply-sure o (p .0) (q .0)))))
-  evaluate-sure (choice c l r) v k =
-      sure-bind _ (evaluate-sure c v k) (λ p i. sure-choose (isTrue (p .0)) _ _ (evaluate-sure l (p .1) i) (evaluate-sure r (p .1) i))
-
--- the reader of an expression
-
-grown-sure : {n : ℕ} {r : Grown} → Leaves n r → Numbered r
-grown-sure (none-left w) = fails w
-grown-sure (some-left l) = comes tt
-
-pub tree-sure : (t : Text) → Numbered (tree t)
-unfolding tree
-tree-sure t =
-    sure-bind (λ p. done (p .0)) (grown-sure (up-to-left (suc (length t)) grow (λ a _. grow-left a) stop openLimit t (omega arith))) (λ p _. comes tt)
-
 -- the text of a result
 
 digit-safe : (n : ℕ) → notZero (code "0" + n) ≡ true
@@ -160,7 +130,54 @@ unfolding signed
 signed-safe (pos n) = decimal-safe n
 signed-safe (negsuc n) = decimal-safe (suc n)
 
-pub arithmetic-safe : (K : Pairs → Type 0) (v : Pairs) (t : Text) → K v → Safe (λ s. (all notZero (s .0) ≡ true) × K (s .1)) (arithmeticOf v t)
-unfolding arithmeticOf
-arithmetic-safe K v t k =
-    sure-safe (sure-bind _ (tree-sure t) (λ e _. sure-bind _ (evaluate-sure K e v k) (λ p l. comes {a = (signed (p .0), p .1)} (signed-safe (p .0), l))))
+-- what a store keeps of the variables
+abbrev pub Stores : Lent → (Pairs → Type 0) → Type 0
+Stores a K = (x t : Text) (v : Pairs) → isName x ≡ true → all notZero t ≡ true → K v → Sure K (storeIn a (var x) t v)
+
+-- what is worked out keeps it too
+module _ (a : Lent) (K : Pairs → Type 0) (stores : Stores a K) where
+  abbrev Keeps : Evaluated → Type 0
+  Keeps o = Sure (λ p. K (p .1)) o
+
+  with-sure : (v : Pairs) → K v → {o : Outcome ℤ} → Numbered o → Keeps (withVariables v o)
+  with-sure v k s = sure-bind (λ z. done (z, v)) s (λ z _. comes k)
+
+  unless-sure : (o : Option ℤ) (v : Pairs) (more : Unit {0} → Evaluated) → K v → Keeps (more tt) → Keeps (unless o v more)
+  unless-sure none v more k s = s
+  unless-sure (some z) v more k s = comes k
+
+  value-sure : (v : Pairs) (x : Text) → Numbered (valueOf a v x)
+  unfolding valueOf
+  value-sure v x = name-sure (holding a v (var x))
+
+  updated-sure : (v : Pairs) (o : Option Op) (x : Text) (z : ℤ) → Numbered (updated a v o x z)
+  unfolding updated
+  updated-sure v none x z = comes tt
+  updated-sure v (some o) x z = sure-bind _ (value-sure v x) (λ y _. apply-sure o y z)
+
+  keeping-sure : (x : Text) (v : Pairs) (z : ℤ) → isName x ≡ true → K v → Keeps (keeping a x v z)
+  unfolding keeping
+  keeping-sure x v z n k = sure-bind _ (stores x (signed z) v n (signed-safe z) k) (λ w l. comes {a = (z, w)} l)
+
+  pub storing-sure : (o : Option Op) (x : Text) (p : ℤ × Pairs) → isName x ≡ true → K (p .1) → Keeps (storing a o x p)
+  unfolding storing
+  storing-sure o x p n k = sure-bind _ (updated-sure (p .1) o x (p .0)) (λ z _. keeping-sure x (p .1) z n k)
+
+  pub evaluate-sure : (e : Tree) → Named e → (v : Pairs) → K v → Keeps (evaluate a v e)
+  unfolding evaluate
+  evaluate-sure (constantOf z) n v k = comes k
+  evaluate-sure (nameOf x) n v k = with-sure v k (value-sure v x)
+  evaluate-sure (unary o l) n v k = sure-bind _ (evaluate-sure l n v k) (λ p i. with-sure (p .1) i (alone-sure o (p .0)))
+  evaluate-sure (binary o l r) n v k =
+      sure-bind _ (evaluate-sure l (n .0) v k)
+      (λ p i. unless-sure (early o (p .0)) (p .1) _ i
+      (sure-bind _ (evaluate-sure r (n .1) (p .1) i) (λ q j. with-sure (q .1) j (apply-sure o (p .0) (q .0)))))
+  evaluate-sure (choice c l r) n v k =
+      sure-bind _ (evaluate-sure c (n .0) v k)
+      (λ p i. sure-choose (isTrue (p .0)) _ _ (evaluate-sure l (n .1) (p .1) i) (evaluate-sure r (n .2) (p .1) i))
+  evaluate-sure (assign o x r) n v k = sure-bind _ (evaluate-sure r (n .1) v k) (λ p i. storing-sure o x p (n .0) i)
+
+  pub arithmetic-safe : (v : Pairs) (t : Text) → K v → Safe (λ s. (all notZero (s .0) ≡ true) × K (s .1)) (arithmeticOf a v t)
+  unfolding arithmeticOf
+  arithmetic-safe v t k =
+      sure-safe (sure-bind _ (tree-named t) (λ e n. sure-bind _ (evaluate-sure e n v k) (λ p l. comes {a = (signed (p .0), p .1)} (signed-safe (p .0), l))))

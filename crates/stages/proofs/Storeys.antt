@@ -11,8 +11,8 @@ use Rattle.stages.specs.Bytes.{Text}
 use Rattle.stages.specs.Outcome.{Outcome, refused, done, _>>=_}
 use Rattle.stages.specs.Arith.{Op, mul, div, rem, add, sub, shl, shr, lt, le, gt, ge, eq, ne, bitAnd, bitXor, bitOr, logAnd, logOr, logNot, bitNot}
 use Rattle.stages.specs.Arith.{operator, level}
-use Rattle.stages.specs.Arith.{wholeLevel, choiceLevel, Token, ends, num, name, op, opens, query, Lexed, token, Tree, binary, Grown, Task, operand}
-use Rattle.stages.specs.Arith.{further, expression}
+use Rattle.stages.specs.Arith.{wholeLevel, choiceLevel, Token, ends, num, name, op, opens, query, gets, Lexed, token, Tree, binary, Grown, Task}
+use Rattle.stages.specs.Arith.{operand, further, expression}
 use Rattle.stages.specs.Arith.{choiceAt, furtherAt, growStep, grow}
 use Rattle.stages.proofs.Arith.{Lexes, lex-more, token-left, Leaves, some-left, expression-left, grow-left, grow-eq}
 
@@ -28,6 +28,7 @@ asked d l t (name x, u) = done (l, t)
 asked d l t (op o, u) = done (l, t)
 asked d l t (opens, u) = done (l, t)
 asked d l t (query, u) = choiceAt grow d l u
+asked d l t (gets o, u) = done (l, t)
 
 abbrev pub upstairs : ℕ → Tree × Text → Grown
 upstairs d p = token (p .1) >>= λ s. asked d (p .0) (p .1) s
@@ -98,6 +99,7 @@ module _ (d k : ℕ) (gap : (o : Op) → leb k (level o) ≡ leb lowest (level o
   here t ih l (done (num z, u)) q w = sym (rw (q, asked))
   here t ih l (done (name x, u)) q w = sym (rw (q, asked))
   here t ih l (done (opens, u)) q w = sym (rw (q, asked))
+  here t ih l (done (gets o, u)) q w = sym (rw (q, asked))
   here t ih l (done (query, u)) q w = rw (asks, furtherAt) (sym (rw (q, asked)))
   here t ih l (done (op o, u)) q (lex-more w) = go (leb lowest (level o)) refl
     where

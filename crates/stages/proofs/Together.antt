@@ -21,7 +21,7 @@ use Rattle.stages.proofs.Bools.{no, some-same, either}
 use Rattle.stages.proofs.Outcomes.{SafeAt, early, refusesAt, asksAt, givesAt}
 use Rattle.stages.proofs.Images.{Fine, held-image, heldTexts-image}
 use Rattle.stages.proofs.Tables.{variables-held, fields-image, fields-are}
-use Rattle.stages.proofs.Rooms.{over-front}
+use Rattle.stages.proofs.Rooms.{over-front, padded-front}
 use Rattle.stages.proofs.SafeLines.{Ready}
 use Rattle.stages.proofs.Answers.{expanded-safe}
 use Rattle.stages.proofs.Demand.{output}
@@ -88,7 +88,7 @@ module _ (writes : Fields → Text) (ending : Given → Fields × Pairs → Plac
     is = q;
     ready = y;
     fills = ap output e ∙ over-front (writes (r .0)) (g .out);
-    leaves = ap varsAfter e ∙ ap held (over-front (image (flat (r .1))) (g .vars)) ∙ held-image (r .1) (y .kept .fine);
+    leaves = ap varsAfter e ∙ ap held (padded-front (g .varsUsed) (image (flat (r .1))) (g .vars)) ∙ held-image (r .1) (y .kept .fine);
   }
 
   came-of : (g : Given) (o : Placed (Fields × Pairs)) → SafeAt (length (g .line)) (Ready (length (g .vars)) (room g)) o → expanded g (room g) ≡ o

@@ -82,6 +82,7 @@ together-words =
     ∷ stays "'*'" ∷ stays "\"$((n/2))\"" ∷ stays "\"$1\"" ∷ stays "\"$#\""
     ∷ stays "\"*?[\"" ∷ stays "'*?['" ∷ stays "\\*\\?\\[" ∷ stays "'$IFS'" ∷ stays "\\$IFS" ∷ stays "IFS=:" ∷ stays "a$"
     ∷ stays "\"$1${10}$#${#1}\"" ∷ stays "\"${#x}\"" ∷ stays "\"${x:=a b}\"" ∷ stays "\"${x?no $y}\"" ∷ stays "\"${x-$((n+1))}\"" ∷ stays "\"$((IFSX&&n?2:3))\""
+    ∷ stays "\"$((n=n+1))\"" ∷ stays "\"${x-$((IFSX+=IFS_=2))}\""
     ∷ stays "\"${x%*}\"" ∷ stays "\"${x%%$y\"$z\"?}\"" ∷ stays "\"${x#~/}\"" ∷ []
 
 other-words : List Row
@@ -91,7 +92,7 @@ other-words =
     ∷ bareSign "*\"$x\"" ∷ bareSign "a?" ∷ bareSign "[a]" ∷ bareSign "\"$x\"*" ∷ bareSign "~*"
     ∷ aList "\"$@\"" ∷ aList "\"$*\"" ∷ aList "\"${@}\"" ∷ aList "\"${x-$@}\""
     ∷ aMention "\"${IFS}\"" ∷ aMention "\"${x:=$IFS}\"" ∷ aMention "\"$IFS\"" ∷ aMention "\"${IFS:=a}\"" ∷ aMention "\"${#IFS}\"" ∷ aMention "\"${x%$IFS}\""
-    ∷ aMention "\"$((IFS))\"" ∷ aMention "\"$((1?2:-IFS))\""
+    ∷ aMention "\"$((IFS))\"" ∷ aMention "\"$((1?2:-IFS))\"" ∷ aMention "\"$((IFS=1))\"" ∷ aMention "\"$((n=IFS))\"" ∷ aMention "\"$((n&&(IFS+=1)))\""
     ∷ dollarInSum "\"$(($n))\"" ∷ dollarInSum "\"$((${#n}))\"" ∷ dollarInSum "\"${x-$((1+$n))}\"" ∷ dollarInSum "\"$(($((1))))\""
     ∷ record { line = "$@"; clauses = false ∷ true ∷ false ∷ true ∷ true ∷ [] }
     ∷ []
@@ -155,6 +156,8 @@ reasons =
     ∷ stores "8" "\"${y:=$IFS}\""
     ∷ counts "7" "\"$((IFS))\""
     ∷ counts "8" "\"$((IFS))\""
+    ∷ counts "7" "\"$((IFS+=0))\""
+    ∷ counts "8" "\"$((IFS+=0))\""
     ∷ counts "7" "\"$(($n))\""
     ∷ counts "8" "\"$(($n))\""
     ∷ []

@@ -1,15 +1,16 @@
--- Document 02, E6: reading a whole expression as a loop, with a count of the colons that are still to come in the place of a stack. Each turn of the loop
--- is a law.
---
+-- Document 02, E6 and E10: reading a whole expression as a loop, with a count of the colons that are still to come in the place of a stack. Each turn of the
+-- loop is a law.
 use Prim.Native.Nat.{ℕ, zero, suc}
 use mathlib.Core.Path.{_≡_, refl, sym, ap, _∙_}
 use mathlib.Core.Bool.{true, false}
+use mathlib.Core.Option.{Option}
 use Rattle.stages.specs.Numbers.{arithmeticSyntax}
 use Rattle.stages.specs.Bytes.{Text}
 use Rattle.stages.specs.Outcome.{Outcome, refused, demands, done, _>>=_}
-use Rattle.stages.specs.Arith.{wholeLevel, choiceLevel, End, stop, shuts, colon, Token, ends, num, name, op, opens, query, Lexed, token}
-use Rattle.stages.specs.Arith.{Tree, choice, Grown, grown, Task, operand, further, expression, ended, upTo, choiceAt, grow}
+use Rattle.stages.specs.Arith.{Op, wholeLevel, choiceLevel, End, stop, shuts, colon, Token, ends, num, name, op, opens, query, gets, Lexed, token}
+use Rattle.stages.specs.Arith.{Tree, choice, assign, Grown, grown, Task, operand, further, expression, ended, upTo, choiceAt, grow}
 use Rattle.stages.proofs.Storeys.{lowest, asked, upstairs, whole-storeys, choice-storeys}
+use Rattle.stages.proofs.Ended.{assignment, NoTarget, choice-above, whole-above}
 
 -- what is behind a tree
 abbrev pub rest : Grown → Outcome Text
@@ -31,6 +32,7 @@ module _ (d : ℕ) where
   other (op o, u) = refused arithmeticSyntax
   other (opens, u) = refused arithmeticSyntax
   other (query, u) = refused arithmeticSyntax
+  other (gets o, u) = refused arithmeticSyntax
 
   -- p colons are still to come
   unfoldable pub pending : ℕ → Outcome Text → Outcome Text
@@ -53,6 +55,7 @@ module _ (d : ℕ) where
   colon-there l m (op o, u) = refl
   colon-there l m (opens, u) = refl
   colon-there l m (query, u) = refl
+  colon-there l m (gets o, u) = refl
 
   colon-next : (l m : Tree) (o : Lexed)
       → rest ((o >>= λ s. ended colon m s) >>= λ a. grown (choice l (a .0)) (expression grow d choiceLevel (a .1))) ≡ (o >>= λ s. other s)
@@ -86,10 +89,16 @@ module _ (d : ℕ) where
   turn-colon p l t u e =
       ap (λ (o : Lexed). pending (suc p) (rest (o >>= λ s. asked d l t s))) e ∙ ap (λ (o : Lexed). pending p (o >>= λ s. other s)) e
 
+  -- a name and `=` where a whole expression begins, with an operator before the `=` or without: as many, and a whole expression
+  pub turn-gets : (p : ℕ) (o : Option Op) (x t v u : Text) → token t ≡ done (name x, v) → token v ≡ done (gets o, u)
+      → pending p (rest (expression grow d wholeLevel t)) ≡ pending p (rest (expression grow d wholeLevel u))
+  turn-gets p o x t v u e f =
+      ap (λ (r : Grown). pending p (rest r)) (assignment d o x t v u e f) ∙ ap (pending p) (rest-grown (assign o x) (expression grow d wholeLevel u))
+
   -- THE LOOP'S START: a whole expression, or what is behind a colon, is an operand, the operators behind it, and then one of these turns
   pub begins-whole : (p : ℕ) (t : Text) → pending p (rest (expression grow d wholeLevel t))
-      ≡ pending p (rest (grow (operand, d, t) >>= λ q. grow (further lowest (q .0), d, q .1) >>= upstairs d))
-  begins-whole p t = ap (λ (r : Grown). pending p (rest r)) (go (grow (operand, d, t)))
+      ≡ pending p (rest (grow (operand true, d, t) >>= λ q. grow (further lowest (q .0), d, q .1) >>= upstairs d))
+  begins-whole p t = ap (λ (r : Grown). pending p (rest r)) (go (grow (operand true, d, t)))
     where
       go : (r : Grown) → (r >>= λ q. grow (further wholeLevel (q .0), d, q .1)) ≡ (r >>= λ q. grow (further lowest (q .0), d, q .1) >>= upstairs d)
       go (refused e) = refl
@@ -97,10 +106,18 @@ module _ (d : ℕ) where
       go (done q) = whole-storeys d (q .1) (q .0)
 
   pub begins-choice : (p : ℕ) (t : Text) → pending p (rest (expression grow d choiceLevel t))
-      ≡ pending p (rest (grow (operand, d, t) >>= λ q. grow (further lowest (q .0), d, q .1) >>= upstairs d))
-  begins-choice p t = ap (λ (r : Grown). pending p (rest r)) (go (grow (operand, d, t)))
+      ≡ pending p (rest (grow (operand false, d, t) >>= λ q. grow (further lowest (q .0), d, q .1) >>= upstairs d))
+  begins-choice p t = ap (λ (r : Grown). pending p (rest r)) (go (grow (operand false, d, t)))
     where
       go : (r : Grown) → (r >>= λ q. grow (further choiceLevel (q .0), d, q .1)) ≡ (r >>= λ q. grow (further lowest (q .0), d, q .1) >>= upstairs d)
       go (refused e) = refl
       go (demands m) = refl
       go (done q) = choice-storeys d (q .1) (q .0)
+
+  -- the same with the lower storey as one expression, the whole one beginning with no name that a `=` follows
+  pub above-whole : (p : ℕ) (t : Text) → NoTarget t → pending p (rest (expression grow d wholeLevel t))
+      ≡ pending p (rest (expression grow d lowest t >>= upstairs d))
+  above-whole p t bare = ap (λ (r : Grown). pending p (rest r)) (whole-above d t bare)
+
+  pub above-choice : (p : ℕ) (t : Text) → pending p (rest (expression grow d choiceLevel t)) ≡ pending p (rest (expression grow d lowest t >>= upstairs d))
+  above-choice p t = ap (λ (r : Grown). pending p (rest r)) (choice-above d t)

@@ -122,7 +122,7 @@ module _ (a : Lent) where
   expand-whole (lst s p) k m n v = clash (k .0)
   expand-whole (ari q p) k m n v =
       when-bind _ (expand-whole q (k .0) Q 0 v)
-      (λ r h. when-bind _ (any-outcome (arithmeticOf (r .1) (bytes (r .0))))
+      (λ r h. when-bind _ (any-outcome (arithmeticOf a (r .1) (bytes (r .0))))
       (λ t _. adding-whole n (marked (expandedMark m) (t .0)) false _ (marked-whole (expandedMark m) (t .0)) refl (λ i. expand-whole p (k .1) m i (t .1))))
   expand-whole (til x p) k m n v =
       adding-whole n (tildeRow x m (directory v (a .homes) x)) false _ (tilde-whole x m (directory v (a .homes) x)) refl (λ i. expand-whole p k m i v)

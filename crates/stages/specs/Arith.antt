@@ -1,4 +1,4 @@
--- Document 01, "Arithmetic", and document 02, E6: numbers, the table of operators, tokens, the tree that a text is read as, and what it comes to.
+-- Document 01, "Arithmetic", and document 02, E6 and E10: numbers, the table of operators, tokens, the tree that a text is read as, and what it comes to.
 use Prim.Native.Nat.{ℕ, zero, suc, _+_, _*_, _/_, _%_, _^_}
 use Prim.Native.Char.{code}
 use mathlib.Core.Bool.{Bool, true, false, _&&_, _||_, not}
@@ -12,7 +12,9 @@ use Rattle.stages.specs.Recur.{fix}
 use Rattle.stages.specs.Numbers.{tooDeep, arithmeticSyntax, overflow, zeroDivisor, openLimit}
 use Rattle.stages.specs.Bytes.{Text, text, span, isNameStart, isNameByte, isDigit, isBlank}
 use Rattle.stages.specs.Outcome.{Outcome, refused, done, _>>=_, pick, choose, cases}
-use Rattle.stages.specs.Images.{Pairs, lookup, isSome}
+use Rattle.stages.specs.Images.{Pairs, isSome}
+use Rattle.stages.specs.Syntax.{var}
+use Rattle.stages.specs.Params.{Lent, holding, storeIn}
 use Rattle.stages.specs.Constants.{constant, number, fits, ranged, nameNumber, signed}
 
 -- NUMBERS
@@ -127,7 +129,7 @@ operator logOr = decides 3 true
 operator logNot = oneOnly λ a. done (truth (isZero a))
 operator bitNot = oneOnly λ a. done (flipped a)
 
--- below them, from the right: `?:`, and a whole expression
+-- below them, from the right: `?:`, and a whole expression, which by E10 may be an assignment, "lowest in precedence"
 abbrev pub choiceLevel : ℕ
 choiceLevel = 2
 
@@ -170,6 +172,7 @@ pub data Token : Type 0 where
   name : Text → Token
   op : Op → Token
   opens query : Token
+  gets : Option Op → Token  -- E10: `=`, or an operator and `=`
 
 -- a token, and what is behind it
 abbrev pub Lexed : Type 0
@@ -189,6 +192,11 @@ written =
     ∷ (text "!=", op ne)
     ∷ (text "&&", op logAnd)
     ∷ (text "||", op logOr)
+    ∷ (text "*=", gets (some mul))
+    ∷ (text "/=", gets (some div))
+    ∷ (text "%=", gets (some rem))
+    ∷ (text "+=", gets (some add))
+    ∷ (text "-=", gets (some sub))
     ∷ (text "*", op mul)
     ∷ (text "/", op div)
     ∷ (text "%", op rem)
@@ -201,6 +209,7 @@ written =
     ∷ (text "|", op bitOr)
     ∷ (text "!", op logNot)
     ∷ (text "~", op bitNot)
+    ∷ (text "=", gets none)
     ∷ (text "?", query)
     ∷ (text ":", ends colon)
     ∷ (text "(", opens)
@@ -237,6 +246,7 @@ pub data Tree : Type 0 where
   unary : Op → Tree → Tree
   binary : Op → Tree → Tree → Tree
   choice : Tree → Tree → Tree → Tree  -- E6: `?:`
+  assign : Option Op → Text → Tree → Tree  -- E10: a name and `=`, or an operator before the `=`, and the right side
 
 -- a tree, and what is behind its text
 abbrev pub Grown : Type 0
@@ -245,9 +255,10 @@ Grown = Outcome (Tree × Text)
 abbrev pub grown : (Tree → Tree) → Grown → Grown
 grown f r = r >>= λ p. done (f (p .0), p .1)
 
--- what is to be read: an operand, or what may stand behind a tree, of at least a level
+-- what is to be read: an operand, or what may stand behind a tree, of at least a level. The Bool says whether the operand begins a whole expression, where
+-- an assignment may stand.
 pub data Task : Type 0 where
-  operand : Task
+  operand : Bool → Task
   further : ℕ → Tree → Task
 
 -- a task, how many parentheses and signs may still open, the text
@@ -256,7 +267,7 @@ Grow = Task × ℕ × Text → Grown
 
 -- an expression of at least level k: "all binary ones from the left"
 abbrev pub expression : Grow → ℕ → ℕ → Text → Grown
-expression rec d k t = rec (operand, d, t) >>= λ p. rec (further k (p .0), d, p .1)
+expression rec d k t = rec (operand (leb k wholeLevel), d, t) >>= λ p. rec (further k (p .0), d, p .1)
 
 abbrev pub rank : End → ℕ
 rank stop = 0
@@ -271,6 +282,7 @@ ended e l (name x, t) = refused arithmeticSyntax
 ended e l (op o, t) = refused arithmeticSyntax
 ended e l (opens, t) = refused arithmeticSyntax
 ended e l (query, t) = refused arithmeticSyntax
+ended e l (gets o, t) = refused arithmeticSyntax
 
 -- a whole expression up to this end
 unfoldable pub upTo : End → Grow → ℕ → Text → Grown
@@ -287,17 +299,30 @@ enclosed rec (suc d) t = upTo shuts rec d t
 unfoldable pub sign : Grow → Bool → Op → ℕ → Text → Grown
 sign rec false o d t = refused arithmeticSyntax
 sign rec true o zero t = refused tooDeep
-sign rec true o (suc d) t = grown (unary o) (rec (operand, d, t))
+sign rec true o (suc d) t = grown (unary o) (rec (operand false, d, t))
+
+-- E10, behind a name that begins a whole expression, before the text t, whose token and rest are given: "grouping from the right, lowest in precedence, with a
+-- bare name on the left". No operator is one of these tokens, so that elsewhere the expression ends before it, "else 16".
+unfoldable pub targetAt : Grow → ℕ → Text → Text → Token × Text → Grown
+targetAt rec d x t (ends e, u) = done (nameOf x, t)
+targetAt rec d x t (num z, u) = done (nameOf x, t)
+targetAt rec d x t (name y, u) = done (nameOf x, t)
+targetAt rec d x t (op o, u) = done (nameOf x, t)
+targetAt rec d x t (opens, u) = done (nameOf x, t)
+targetAt rec d x t (query, u) = done (nameOf x, t)
+targetAt rec d x t (gets o, u) = grown (assign o x) (expression rec d wholeLevel u)
 
 -- an operand that begins with a token
-unfoldable pub operandAt : Grow → ℕ → Token × Text → Grown
-unfolding sign isSign enclosed
-operandAt rec d (ends e, t) = refused arithmeticSyntax
-operandAt rec d (num z, t) = done (constantOf z, t)
-operandAt rec d (name x, t) = done (nameOf x, t)
-operandAt rec d (op o, t) = sign rec (isSign o) o d t
-operandAt rec d (opens, t) = enclosed rec d t
-operandAt rec d (query, t) = refused arithmeticSyntax
+unfoldable pub operandAt : Grow → Bool → ℕ → Token × Text → Grown
+unfolding sign isSign enclosed token targetAt
+operandAt rec first d (ends e, t) = refused arithmeticSyntax
+operandAt rec first d (num z, t) = done (constantOf z, t)
+operandAt rec false d (name x, t) = done (nameOf x, t)
+operandAt rec true d (name x, t) = token t >>= λ p. targetAt rec d x t p
+operandAt rec first d (op o, t) = sign rec (isSign o) o d t
+operandAt rec first d (opens, t) = enclosed rec d t
+operandAt rec first d (query, t) = refused arithmeticSyntax
+operandAt rec first d (gets o, t) = refused arithmeticSyntax
 
 -- behind `?`: C's grammar, a whole expression up to the colon and, behind it, one that may be another `?:`
 unfoldable pub choiceAt : Grow → ℕ → Tree → Text → Grown
@@ -317,10 +342,11 @@ furtherAt rec d k l t (op o, u) =
     ]
 furtherAt rec d k l t (opens, u) = done (l, t)
 furtherAt rec d k l t (query, u) = elim (leb k choiceLevel) [ true ↦ choiceAt rec d l u | false ↦ done (l, t) ]
+furtherAt rec d k l t (gets o, u) = done (l, t)
 
 unfoldable pub growStep : Grow → Task × ℕ × Text → Grown
 unfolding token operandAt furtherAt
-growStep rec (operand, d, t) = token t >>= λ p. operandAt rec d p
+growStep rec (operand first, d, t) = token t >>= λ p. operandAt rec first d p
 growStep rec (further k l, d, t) = token t >>= λ p. furtherAt rec d k l t p
 
 abbrev pub growSize : Task × ℕ × Text → ℕ
@@ -350,17 +376,41 @@ abbrev pub unless : Option ℤ → Pairs → (Unit {0} → Evaluated) → Evalua
 unless none v more = more tt
 unless (some z) v more = done (z, v)
 
--- "then left operand, right operand, operation"; E6: "The side of `&&`, `||` and `?:` that is not needed is read for syntax but not evaluated"
-unfoldable pub evaluate : Pairs → Tree → Evaluated
-unfolding nameNumber lookup apply applyAlone early choose
-evaluate v (constantOf z) = done (z, v)
-evaluate v (nameOf x) = withVariables v (nameNumber (lookup x v))
-evaluate v (unary o l) = evaluate v l >>= λ p. withVariables (p .1) (applyAlone o (p .0))
-evaluate v (binary o l r) =
-    evaluate v l >>= λ p. unless (early o (p .0)) (p .1) λ _. evaluate (p .1) r >>= λ q. withVariables (q .1) (apply o (p .0) (q .0))
-evaluate v (choice c l r) = evaluate v c >>= λ p. choose (isTrue (p .0)) (λ _. evaluate (p .1) l) (λ _. evaluate (p .1) r)
+-- what a name stands for
+unfoldable pub valueOf : Lent → Pairs → Text → Outcome ℤ
+unfolding nameNumber holding
+valueOf a v x = nameNumber (holding a v (var x))
+
+-- E10: "then the name is read if the operator needs it"
+unfoldable pub updated : Lent → Pairs → Option Op → Text → ℤ → Outcome ℤ
+unfolding valueOf apply
+updated a v none x z = done z
+updated a v (some o) x z = valueOf a v x >>= λ y. apply o y z
+
+-- "then the result is stored as its shortest decimal text; it is the value of the assignment"; "Number 20 can now come from arithmetic, at the moment of the
+-- store."
+unfoldable pub keeping : Lent → Text → Pairs → ℤ → Evaluated
+unfolding storeIn signed
+keeping a x v z = storeIn a (var x) (signed z) v >>= λ w. done (z, w)
+
+-- what an assignment makes of its right side
+unfoldable pub storing : Lent → Option Op → Text → ℤ × Pairs → Evaluated
+unfolding updated keeping
+storing a o x p = updated a (p .1) o x (p .0) >>= λ z. keeping a x (p .1) z
+
+-- 01: "then left operand, right operand, operation"; E6: "The side of `&&`, `||` and `?:` that is not needed is read for syntax but not evaluated"; E10: "The
+-- right side is worked out first", "The unneeded sides of E6 store nothing."
+unfoldable pub evaluate : Lent → Pairs → Tree → Evaluated
+unfolding valueOf apply applyAlone early choose storing
+evaluate a v (constantOf z) = done (z, v)
+evaluate a v (nameOf x) = withVariables v (valueOf a v x)
+evaluate a v (unary o l) = evaluate a v l >>= λ p. withVariables (p .1) (applyAlone o (p .0))
+evaluate a v (binary o l r) =
+    evaluate a v l >>= λ p. unless (early o (p .0)) (p .1) λ _. evaluate a (p .1) r >>= λ q. withVariables (q .1) (apply o (p .0) (q .0))
+evaluate a v (choice c l r) = evaluate a v c >>= λ p. choose (isTrue (p .0)) (λ _. evaluate a (p .1) l) (λ _. evaluate a (p .1) r)
+evaluate a v (assign o x r) = evaluate a v r >>= λ p. storing a o x p
 
 -- the text of a result, and the variables behind it
-unfoldable pub arithmeticOf : Pairs → Text → Outcome (Text × Pairs)
+unfoldable pub arithmeticOf : Lent → Pairs → Text → Outcome (Text × Pairs)
 unfolding tree evaluate signed
-arithmeticOf v t = tree t >>= λ e. evaluate v e >>= λ p. done (signed (p .0), p .1)
+arithmeticOf a v t = tree t >>= λ e. evaluate a v e >>= λ p. done (signed (p .0), p .1)

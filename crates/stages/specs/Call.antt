@@ -1,7 +1,7 @@
--- Document 01, "What a call gives back", and document 02, E7 and E9: the four jobs, from all that is given to all that comes back.
+-- Document 01, "What a call gives back", and document 02, E7, E9 and E10: the four jobs, from all that is given to all that comes back.
 use Prim.Native.Nat.{ℕ, _+_, _-_}
 use mathlib.Core.Bool.{_&&_}
-use mathlib.Core.List.{_++_}
+use mathlib.Core.List.{[], _++_}
 use mathlib.Core.Option.{Option, none, some}
 use lib.Dec.{leb}
 use lib.ListN.{length, take, drop, replicate}
@@ -66,11 +66,16 @@ cleared work = replicate (length work) 0
 unfoldable pub shown : Given → Text → Text
 shown g t = take (length (g .message)) t
 
+-- 01: "bytes behind either new image are unchanged"; E9, and by E10 in every job: "bytes behind the new image are zero up to the old used length (the one
+-- given), and kept beyond it": an image and these zeros
+unfoldable pub padded : ℕ → Text → Text
+padded used t = t ++ replicate (used - length t) 0
+
 -- the answer, by what is to be written and the variables: "On refusal the output length is 0, the used length is the one given, and output
 -- and variable buffers hold their old bytes." E7: "On every other answer the message length is 0 and the buffer keeps its bytes; on 13 the bytes behind
--- the message are kept."
+-- the message are kept." E10: "A store may now shorten a value, as in E9, with the same rule for the bytes behind it."
 unfoldable pub answered : Given → Placed (Text × Pairs) → Answer
-unfolding over image cleared shown
+unfolding over padded image cleared shown
 answered g (refusedAt n place) = record {
   number = n;
   place = place;
@@ -99,7 +104,7 @@ answered g (doneAt r) = record {
   outLength = length (r .0);
   varsUsed = length (image (flat (r .1)));
   out = over (r .0) (g .out);
-  vars = over (image (flat (r .1))) (g .vars);
+  vars = over (padded (g .varsUsed) (image (flat (r .1)))) (g .vars);
   work = cleared (g .work);
   messageLength = 0;
   message = g .message;
@@ -131,27 +136,10 @@ assigned g =
     orRefused badParameters (fieldsOf (g .params)) then λ ps.
     assignLine (record { room = length (g .vars); homes = h; params = ps }) (g .line) v
 
--- E9: "bytes behind the new image are zero up to the old used length (the one given)": an image and these zeros
-unfoldable pub padded : ℕ → Text → Text
-padded used t = t ++ replicate (used - length t) 0
-
--- E9, the answer by the variables: "A refusal undoes all."; the output is as it was; "the used length then falls, and bytes behind the new image are zero up
--- to the old used length (the one given), and kept beyond it"
+-- E9, the answer by the variables: "A refusal undoes all."; nothing is written, and the output is as it was
 unfoldable pub settled : Given → Placed Pairs → Answer
-unfolding answered over padded image cleared
-settled g (refusedAt n place) = answered g (refusedAt n place)
-settled g (demandsAt t place) = answered g (demandsAt t place)
-settled g (doneAt v) = record {
-  number = accepted;
-  place = 0;
-  outLength = 0;
-  varsUsed = length (image (flat v));
-  out = g .out;
-  vars = over (padded (g .varsUsed) (image (flat v))) (g .vars);
-  work = cleared (g .work);
-  messageLength = 0;
-  message = g .message;
-}
+unfolding answered
+settled g o = answered g (o then λ v. doneAt ([], v))
 
 -- E9: "a job that reads a line whose every word is a name, a bare `=` and a value"
 unfoldable pub assigner : Given → Answer

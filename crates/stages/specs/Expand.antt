@@ -130,5 +130,5 @@ expand a (par x f q p) m n v = parameter a (λ k w. expand a q k 0 w) x f m v >>
 expand a (len x p) m n v = adding n (marked (expandedMark m) (decimal (amount a x v))) false λ i. expand a p m i v
 expand a (lst s p) m n v = adding n (listRow s m (a .params) v) (ofNone s (a .params)) λ i. expand a p m i v
 expand a (ari q p) m n v =
-    expand a q Q 0 v >>= λ r. arithmeticOf (r .1) (bytes (r .0)) >>= λ s. adding n (marked (expandedMark m) (s .0)) false λ i. expand a p m i (s .1)
+    expand a q Q 0 v >>= λ r. arithmeticOf a (r .1) (bytes (r .0)) >>= λ s. adding n (marked (expandedMark m) (s .0)) false λ i. expand a p m i (s .1)
 expand a (til x p) m n v = adding n (tildeRow x m (directory v (a .homes) x)) false λ i. expand a p m i v

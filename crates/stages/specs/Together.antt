@@ -11,7 +11,7 @@ use Rattle.stages.specs.Images.{Pairs, push, isSome, held}
 use Rattle.stages.specs.Syntax.{Param, var, nth, Counted, bytesOf, parameters, Escape, escaped, unescaped}
 use Rattle.stages.specs.Syntax.{Parts, end, lit, quo, par, len, lst, ari, til}
 use Rattle.stages.specs.Read.{Words, readLine}
-use Rattle.stages.specs.Arith.{Tree, constantOf, nameOf, unary, binary, choice, tree}
+use Rattle.stages.specs.Arith.{Tree, constantOf, nameOf, unary, binary, choice, assign, tree}
 use Rattle.stages.specs.Call.{Given, Answer}
 
 -- THE WORD. A word is a row of parts, and what stands in quotes is one of them: outside quotes are the parts of the row itself.
@@ -97,7 +97,7 @@ unfolding otherParam
 otherCount (bytesOf x) = otherParam x
 otherCount parameters = true
 
--- .. or as a name in arithmetic, needed or not; a text that is refused in reading has no names
+-- .. or as a name in arithmetic, needed or not, read or by E10 stored; a text that is refused in reading has no names
 unfoldable pub otherNames : Tree → Bool
 unfolding otherName
 otherNames (constantOf z) = true
@@ -105,6 +105,7 @@ otherNames (nameOf x) = otherName x
 otherNames (unary o l) = otherNames l
 otherNames (binary o l r) = otherNames l && otherNames r
 otherNames (choice c l r) = otherNames c && (otherNames l && otherNames r)
+otherNames (assign o x r) = otherName x && otherNames r
 
 unfoldable pub otherTree : Outcome Tree → Bool
 unfolding otherNames
