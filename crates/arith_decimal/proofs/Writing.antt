@@ -14,7 +14,9 @@ use Rattle.stages.proofs.Bools.{no}
 use Rattle.stages.proofs.Digits as laws
 use Rattle.stages.specs.Units.{digits, decimal}
 use Rattle.stages.specs.Constants.{signed}
+use Rattle.stages.specs.Bytes.{Text}
 use Rattle.stages.specs.Call.{over}
+use Rattle.text.specs.Putting.{Puts}
 
 pub digits-none : (f n : ℕ) → f ≡ 0 → digits f n ≡ []
 unfolding digits
@@ -58,3 +60,8 @@ text-not-below (negsuc n) e = absurd (no (sym e))
 pub abs-room : (z : ℤ) → mag z < 2 ^ 63 → length (digits 20 (natAbs z)) ≤ 19
 abs-room (pos n) h = laws.digits-length 20 18 n (omega arith)
 abs-room (negsuc n) h = laws.digits-length 20 18 (suc n) (omega arith)
+
+-- a text that was written at the front ends within the buffer
+pub puts-inside : {text entry exit : Text} {n : ℕ} → Puts text entry exit n → n ≤ length exit
+unfolding over
+puts-inside {text} {entry} {exit} {n} p = omega (arith, p .counts, ap length (p .leaves), length-append text (drop (length text) entry))

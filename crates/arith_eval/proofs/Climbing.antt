@@ -20,49 +20,59 @@ use Rattle.stages.proofs.SafeSums.{apply-sure}
 use Rattle.stages.proofs.Storeys.{lowest}
 use Rattle.stages.proofs.Sums.{unneeded-right}
 use Rattle.text.specs.Places.{Behind}
+use Rattle.table_store.specs.Holding.{Holds}
 use Rattle.arith_int.specs.Answers.{opOf}
 use Rattle.arith_int.specs.declared.Op.{Op}
 use Rattle.arith_token.specs.Tokens.{levelOf, lexed, TokenAt}
-use Rattle.arith_eval.specs.Climbs.{turning, unlessDecided, Joins, isNone, Fails, Comes, Says, Worth, Continues, Turns}
+use Rattle.arith_token.specs.declared.Setting.{Setting}
 use Rattle.arith_token.specs.declared.Token.{Token}
 use Rattle.arith_token.specs.declared.Token.the-variants as code
-use Rattle.arith_eval.specs.declared.climb.Climbed.{Climbed}
-use Rattle.arith_eval.specs.declared.climb.Climbed.the-variants as climbed
-use Rattle.arith_eval.specs.declared.climb.Turn.{Turn}
-use Rattle.arith_eval.specs.declared.climb.Turn.the-variants as turn
 use Rattle.arith_token.proofs.Lexing.{level-is}
+use Rattle.arith_eval.specs.Climbs.{alone, inside, turning, unlessDecided, Joins, isNone, Fails, Worth, Kept, Says, Continues, Turns}
+use Rattle.arith_eval.specs.declared.answers.Climbed.{Climbed}
+use Rattle.arith_eval.specs.declared.answers.Climbed.the-variants as climbed
+use Rattle.arith_eval.specs.declared.answers.Turn.{Turn}
+use Rattle.arith_eval.specs.declared.answers.Turn.the-variants as turn
 use Rattle.arith_eval.proofs.Trees.{bound, right-refused, both-done, left-fails}
-use Rattle.arith_eval.proofs.Operands.{fault, work-fault, fails-same, fails-first}
+use Rattle.arith_eval.proofs.Operands.{fault, work-fault, fails-same, fails-first, kept-all, kept-on}
 
-pub turns-shown : (text : Text) (at : ℕ) (v : Pairs) (counts : Bool) (d k : ℕ) (y : ℤ) {r s : Turn} → Turns text at v counts d k y r → r ≡
-    s → Turns text at v counts d k y s
-turns-shown text at v counts d k y h e = subst (Turns text at v counts d k y) e h
+pub turns-shown : (room : ℕ) (text : Text) (at : ℕ) (vars : Text) (used : ℕ) (counts : Bool) (d k : ℕ) (y : ℤ) (left : Text) {r s : Turn}
+    → Turns room text at vars used counts d k y left r → r ≡ s → Turns room text at vars used counts d k y left s
+turns-shown room text at vars used counts d k y left h e = subst (Turns room text at vars used counts d k y left) e h
 
-module _ (text : Text) (v : Pairs) (counts : Bool) where
+module _ (room : ℕ) (text : Text) (vars : Text) (used : ℕ) (counts : Bool) where
+  abbrev before : Pairs
+  before = inside vars used
+
   -- An expression: an operand, and what is behind it.
   module _ (at d k : ℕ) (high : lowest ≤ k) where
+    -- an operand of the table's levels begins no whole expression
+    first-operand : expression grow d k (drop at text) ≡ (grow (operand false, d, drop at text) >>= λ p. grow (further k (p .0), d, p .1))
+    first-operand = rw (lt-leb k 1 (omega arith))
+
     abbrev all-here : Grown
     all-here = expression grow d k (drop at text)
 
-    pub expression-fails : (e : ℕ) → Fails v counts (grow (operand, d, drop at text)) e → Fails v counts all-here e
+    pub expression-fails : (e : ℕ) → Fails room before counts (grow (operand false, d, drop at text)) e → Fails room before counts all-here e
     expression-fails e f =
-        fails-first v counts (λ p. grow (further k (p .0), d, p .1)) f λ q p h b. left-fails v d k (q .0) (q .1) high p h e b
+        fails-same room before counts first-operand
+        (fails-first room before counts (λ p. grow (further k (p .0), d, p .1)) f λ q p h b. left-fails (alone room) before d k (q .0) (q .1) high p h e b)
 
-    pub expression-says : (z : ℤ) (next : ℕ) (r : Climbed) → Comes text (suc at) v counts (grow (operand, d, drop at text)) z next
-        → Continues text next v counts d k z r → Says text at v counts all-here r
-    expression-says z next (climbed.Refused e) c h =
-        fails-same v counts (ap (λ (o : Grown). o >>= λ p. grow (further k (p .0), d, p .1)) (c .is)) (h (c .tree) (c .worth))
-    expression-says z next (climbed.Value y n) c h =
-        let g = h (c .tree) (c .worth) in
-        let a = c .onward in
-        let b = g .onward in
-        record {
-          tree = g .tree;
-          is = ap (λ (o : Grown). o >>= λ p. grow (further k (p .0), d, p .1)) (c .is) ∙ g .is;
-          worth = g .worth;
-          onward = omega arith;
-          within = g .within;
-        }
+    module _ (mid : Text) (z : ℤ) (next now : ℕ)
+        (c : Says room text at vars used counts (grow (operand false, d, drop at text)) mid (climbed.Value z next now)) where
+      then-further : all-here ≡ grow (further k (c .0 .tree), d, drop next text)
+      then-further = first-operand ∙ ap (λ (o : Grown). o >>= λ p. grow (further k (p .0), d, p .1)) (c .0 .is)
+
+      pub expression-says : (left : Text) (r : Climbed) → Continues room text next mid now counts d k z left r
+          → Says room text at vars used counts all-here left r
+      expression-says left (climbed.Refused e) h = fails-same room before counts then-further (h before (c .0 .tree) (c .0 .worth))
+      expression-says left (climbed.Value y n last) h =
+          let g = h before (c .0 .tree) (c .0 .worth) in
+          let a = c .0 .onward in
+          let b = g .0 .onward in (
+            record { tree = g .0 .tree; is = then-further ∙ g .0 .is; worth = g .0 .worth; onward = omega arith; within = g .0 .within },
+            kept-on (c .1) (g .1),
+          )
 
   -- One operator, and its right side.
   module _ (at d k : ℕ) (y : ℤ) where
@@ -73,41 +83,45 @@ module _ (text : Text) (v : Pairs) (counts : Bool) where
     unfolding growStep
     by-operator t w l = grow-eq (further k l, d, drop at text) ∙ ap (λ (o : Lexed). o >>= λ p. furtherAt grow d k l (drop at text) p) (w .is)
 
-    pub turn-refused : (e : ℕ) → TokenAt text at (code.Refused e) → Turns text at v counts d k y (turn.Refused e)
-    turn-refused e t l w = fault v counts (by-operator (code.Refused e) t l)
+    pub turn-refused : (left : Text) (e : ℕ) → TokenAt text at (code.Refused e) → Turns room text at vars used counts d k y left (turn.Refused e)
+    turn-refused left e t v l w = fault room v counts (by-operator (code.Refused e) t l)
 
-    pub last-stop : TokenAt text at code.Stop → Turns text at v counts d k y turn.Last
+    pub last-stop : TokenAt text at code.Stop → Turns room text at vars used counts d k y vars turn.Last
     unfolding furtherAt
-    last-stop t l = by-operator code.Stop t l
+    last-stop t = (λ l. by-operator code.Stop t l, refl)
 
-    pub last-number : (z : ℤ) (n : ℕ) → TokenAt text at (code.Number z n) → Turns text at v counts d k y turn.Last
+    pub last-number : (z : ℤ) (n : ℕ) → TokenAt text at (code.Number z n) → Turns room text at vars used counts d k y vars turn.Last
     unfolding furtherAt
-    last-number z n t l = by-operator (code.Number z n) t l
+    last-number z n t = (λ l. by-operator (code.Number z n) t l, refl)
 
-    pub last-name : (a b : ℕ) → TokenAt text at (code.Name a b) → Turns text at v counts d k y turn.Last
+    pub last-name : (a b : ℕ) → TokenAt text at (code.Name a b) → Turns room text at vars used counts d k y vars turn.Last
     unfolding furtherAt
-    last-name a b t l = by-operator (code.Name a b) t l
+    last-name a b t = (λ l. by-operator (code.Name a b) t l, refl)
 
-    pub last-opens : (n : ℕ) → TokenAt text at (code.Opens n) → Turns text at v counts d k y turn.Last
+    pub last-opens : (n : ℕ) → TokenAt text at (code.Opens n) → Turns room text at vars used counts d k y vars turn.Last
     unfolding furtherAt
-    last-opens n t l = by-operator (code.Opens n) t l
+    last-opens n t = (λ l. by-operator (code.Opens n) t l, refl)
 
-    pub last-shuts : (n : ℕ) → TokenAt text at (code.Shuts n) → Turns text at v counts d k y turn.Last
+    pub last-shuts : (n : ℕ) → TokenAt text at (code.Shuts n) → Turns room text at vars used counts d k y vars turn.Last
     unfolding furtherAt
-    last-shuts n t l = by-operator (code.Shuts n) t l
+    last-shuts n t = (λ l. by-operator (code.Shuts n) t l, refl)
 
-    pub last-query : (n : ℕ) → lowest ≤ k → TokenAt text at (code.Query n) → Turns text at v counts d k y turn.Last
+    pub last-query : (n : ℕ) → lowest ≤ k → TokenAt text at (code.Query n) → Turns room text at vars used counts d k y vars turn.Last
     unfolding furtherAt
-    last-query n h t l = by-operator (code.Query n) t l ∙ rw (lt-leb k choiceLevel (omega arith), furtherAt)
+    last-query n h t = (λ l. by-operator (code.Query n) t l ∙ rw (lt-leb k choiceLevel (omega arith), furtherAt), refl)
 
-    pub last-colon : (n : ℕ) → TokenAt text at (code.Colon n) → Turns text at v counts d k y turn.Last
+    pub last-colon : (n : ℕ) → TokenAt text at (code.Colon n) → Turns room text at vars used counts d k y vars turn.Last
     unfolding furtherAt
-    last-colon n t l = by-operator (code.Colon n) t l
+    last-colon n t = (λ l. by-operator (code.Colon n) t l, refl)
+
+    pub last-gets : (s : Setting) (n : ℕ) → TokenAt text at (code.Gets s n) → Turns room text at vars used counts d k y vars turn.Last
+    unfolding furtherAt
+    last-gets s n t = (λ l. by-operator (code.Gets s n) t l, refl)
 
     module _ (o : Op) (next : ℕ) (t : TokenAt text at (code.Op o next)) where
-      pub last-loose : levelOf o < k → Turns text at v counts d k y turn.Last
+      pub last-loose : levelOf o < k → Turns room text at vars used counts d k y vars turn.Last
       unfolding furtherAt
-      last-loose h l = by-operator (code.Op o next) t l ∙ rw (lt-leb k (level (opOf o)) (rw (level-is o) at h), furtherAt)
+      last-loose h = (λ l. by-operator (code.Op o next) t l ∙ rw (lt-leb k (level (opOf o)) (rw (level-is o) at h), furtherAt), refl)
 
       right : Grown
       right = expression grow d (levelOf o + 1) (drop next text)
@@ -120,93 +134,133 @@ module _ (text : Text) (v : Pairs) (counts : Bool) where
             (ap (λ (i : ℕ). expression grow d i (drop next text) >>= λ r. grow (further k (binary (opOf o) l (r .0)), d, r .1))
             (ap suc (sym (level-is o)) ∙ sym (add-one (levelOf o))))
 
-        reads-fails : (e : ℕ) → expression grow d (levelOf o + 1) (drop next text) ≡ refused e → Turns text at v counts d k y (turn.Refused e)
+        reads-fails : (left : Text) (e : ℕ) → expression grow d (levelOf o + 1) (drop next text) ≡ refused e
+            → Turns room text at vars used counts d k y left (turn.Refused e)
         unfolding right
-        reads-fails e q l w = fault v counts (tight l ∙ ap (λ (r : Grown). r >>= λ r. grow (further k (binary (opOf o) l (r .0)), d, r .1)) q)
+        reads-fails left e q v l w =
+            fault room v counts (tight l ∙ ap (λ (r : Grown). r >>= λ r. grow (further k (binary (opOf o) l (r .0)), d, r .1)) q)
 
-        works-fails : (high : lowest ≤ k) (e : ℕ) → counts ≡ true → early (opOf o) y ≡ none
-            → Fails v true (expression grow d (levelOf o + 1) (drop next text)) e → Turns text at v counts d k y (turn.Refused e)
+        works-fails : (high : lowest ≤ k) (left : Text) (e : ℕ) → counts ≡ true → early (opOf o) y ≡ none
+            → Fails room before true (expression grow d (levelOf o + 1) (drop next text)) e → Turns room text at vars used counts d k y left (turn.Refused e)
         unfolding right
-        works-fails high e c i f l w =
-            fails-same v counts (tight l)
-            (work-fault v counts c λ p h.
+        works-fails high left e c i f v l w =
+            fails-same room v counts (tight l)
+            (work-fault room v counts c λ p h.
             let b = bound right (λ r. grow (further k (binary (opOf o) l (r .0)), d, r .1)) p h in
-            left-fails v d k (binary (opOf o) l (b .from .0)) (b .from .1) high p (b .then-is) e
-            (right-refused v (opOf o) l (b .from .0) y (w c) i e (f .works (b .from) (b .first))))
+            left-fails (alone room) v d k (binary (opOf o) l (b .from .0)) (b .from .1) high p (b .then-is) e
+            (right-refused (alone room) v (opOf o) l (b .from .0) y before (w c) i e (f .works (b .from) (b .first))))
 
-        pub right-fails : (high : lowest ≤ k) (e : ℕ) (b : Bool) (u : Option ℤ) → counts ≡ b → early (opOf o) y ≡ u
-            → Fails v (b && isNone u) (expression grow d (levelOf o + 1) (drop next text)) e → Turns text at v counts d k y (turn.Refused e)
-        right-fails high e true none c i f = works-fails high e c i f
-        right-fails high e true (some z) c i f = reads-fails e (f .reads refl)
-        right-fails high e false u c i f = reads-fails e (f .reads refl)
+        pub right-fails : (high : lowest ≤ k) (left : Text) (e : ℕ) (b : Bool) (u : Option ℤ) → counts ≡ b → early (opOf o) y ≡ u
+            → Fails room before (b && isNone u) (expression grow d (levelOf o + 1) (drop next text)) e
+            → Turns room text at vars used counts d k y left (turn.Refused e)
+        right-fails high left e true none c i f = works-fails high left e c i f
+        right-fails high left e true (some z) c i f = reads-fails left e (f .reads refl)
+        right-fails high left e false u c i f = reads-fails left e (f .reads refl)
 
-        module _ (high : lowest ≤ k) (b : Bool) (u : Option ℤ) (counted : counts ≡ b) (decides : early (opOf o) y ≡ u) (z : ℤ) (n : ℕ)
-            (c : Comes text (suc next) v (b && isNone u) (expression grow d (levelOf o + 1) (drop next text)) z n) where
-          grown-on : (l : Tree) → behind-left l ≡ grow (further k (binary (opOf o) l (c .tree)), d, drop n text)
+        module _ (high : lowest ≤ k) (b : Bool) (u : Option ℤ) (counted : counts ≡ b) (decides : early (opOf o) y ≡ u) (left : Text) (z : ℤ) (n now : ℕ)
+            (c : Says room text next vars used (b && isNone u) (expression grow d (levelOf o + 1) (drop next text)) left (climbed.Value z n now)) where
+          abbrev after : Pairs
+          after = inside left now
+
+          abbrev second : Tree
+          second = c .0 .tree
+
+          grown-on : (l : Tree) → behind-left l ≡ grow (further k (binary (opOf o) l second), d, drop n text)
           unfolding right
-          grown-on l = tight l ∙ ap (λ (r : Grown). r >>= λ r. grow (further k (binary (opOf o) l (r .0)), d, r .1)) (c .is)
+          grown-on l = tight l ∙ ap (λ (r : Grown). r >>= λ r. grow (further k (binary (opOf o) l (r .0)), d, r .1)) (c .0 .is)
 
           next-behind : Behind text at n
-          next-behind = let a = t .ends .onward in let b = c .onward in record { onward = omega arith; within = c .within }
+          next-behind = let a = t .ends .onward in let b = c .0 .onward in record { onward = omega arith; within = c .0 .within }
 
           -- the tree with its right side, whatever is known of it
-          next-turns : (x : ℤ) → ((l : Tree) → Worth v counts l y → Worth v counts (binary (opOf o) l (c .tree)) x)
-              → Turns text at v counts d k y (turn.Next x n)
-          next-turns x h = (next-behind, λ l w. record { tree = binary (opOf o) l (c .tree); is = grown-on l; worth = h l w })
+          next-turns : (x : ℤ) → Kept room vars used counts left now
+              → ((v : Pairs) (l : Tree) → Worth room v counts l y before → Worth room v counts (binary (opOf o) l second) x after)
+              → Turns room text at vars used counts d k y left (turn.Next x n now)
+          next-turns x s h = (next-behind, s, λ v l w. record { tree = binary (opOf o) l second; is = grown-on l; worth = h v l w })
 
           -- what both sides come to
-          both-turns : counts ≡ true → ((l : Tree) → Worth v counts l y → evaluate v (binary (opOf o) l (c .tree)) ≡ withVariables v (apply (opOf o) y z))
-              → (s : Outcome ℤ) → apply (opOf o) y z ≡ s → Turns text at v counts d k y (turning s n)
-          both-turns q h (refused e) a = λ l w.
-              work-fault v counts q λ p s.
-              left-fails v d k (binary (opOf o) l (c .tree)) (drop n text) high p (sym (grown-on l) ∙ s) e
-              (h l w ∙ ap (withVariables v) a)
-          both-turns q h (demands m) a = absurd (sure-quiet (apply-sure (opOf o) y z) a)
-          both-turns q h (done x) a = next-turns x (λ l w _. h l w ∙ ap (withVariables v) a)
+          both-turns : counts ≡ true → Kept room vars used counts left now
+              → ((v : Pairs) (l : Tree) → Worth room v counts l y before → evaluate (alone room) v (binary (opOf o) l second)
+              ≡ withVariables after (apply (opOf o) y z))
+              → (s : Outcome ℤ) → apply (opOf o) y z ≡ s → Turns room text at vars used counts d k y left (turning s n now)
+          both-turns q m h (refused e) a = λ v l w.
+              work-fault room v counts q λ p s.
+              left-fails (alone room) v d k (binary (opOf o) l second) (drop n text) high p (sym (grown-on l) ∙ s) e
+              (h v l w ∙ ap (withVariables after) a)
+          both-turns q m h (demands i) a = absurd (sure-quiet (apply-sure (opOf o) y z) a)
+          both-turns q m h (done x) a = next-turns x m (λ v l w _. h v l w ∙ ap (withVariables after) a)
 
-        pub turn-says : (high : lowest ≤ k) (b : Bool) (u : Option ℤ) → counts ≡ b → early (opOf o) y ≡ u → (z : ℤ) (n : ℕ)
-            → Comes text (suc next) v (b && isNone u) (expression grow d (levelOf o + 1) (drop next text)) z n → (r : Turn) → Joins o y z n b r
-            → Turns text at v counts d k y r
-        turn-says high true none q i z n c r s =
-            let h : r ≡ turning (apply (opOf o) y z) n = s ∙ ap (λ (e : Option ℤ). turning (unlessDecided e (apply (opOf o) y z)) n) i in
-            subst (Turns text at v counts d k y) (sym h)
-            (both-turns high true none q i z n c q (λ l w. both-done v (opOf o) l (c .tree) y (w q) i z (c .worth refl)) (apply (opOf o) y z) refl)
-        turn-says high true (some x) q i z n c r s =
-            let h : r ≡ turn.Next x n = s ∙ ap (λ (e : Option ℤ). turning (unlessDecided e (apply (opOf o) y z)) n) i in
-            subst (Turns text at v counts d k y) (sym h)
-            (next-turns high true (some x) q i z n c x (λ l w _. unneeded-right v v y (opOf o) l (c .tree) x (w q) i))
-        turn-says high false u q i z n c r s =
-            subst (Turns text at v counts d k y) (sym s) (next-turns high false u q i z n c y (λ l w p. absurd (no (sym q ∙ p))))
+        -- the variables where the right side decided nothing are those before it
+        stays : {left : Text} {now : ℕ} → Kept room vars used false left now → inside left now ≡ before
+        stays {left} {now} m = ap (λ (x : Text). inside x now) (m .bytes refl) ∙ ap (inside vars) (m .length refl)
+
+        held-on : {left : Text} {now : ℕ} → Kept room vars used false left now → Kept room vars used counts left now
+        held-on m = record { holds = m .holds; bytes = λ _. m .bytes refl; length = λ _. m .length refl }
+
+        pub turn-says : (high : lowest ≤ k) (b : Bool) (u : Option ℤ) → counts ≡ b → early (opOf o) y ≡ u → (left : Text) (z : ℤ) (n now : ℕ)
+            → Says room text next vars used (b && isNone u) (expression grow d (levelOf o + 1) (drop next text)) left (climbed.Value z n now)
+            → (r : Turn) → Joins o y z n b now r → Turns room text at vars used counts d k y left r
+        turn-says high true none q i left z n now c r s =
+            let h : r ≡ turning (apply (opOf o) y z) n now = s ∙ ap (λ (e : Option ℤ). turning (unlessDecided e (apply (opOf o) y z)) n now) i in
+            subst (Turns room text at vars used counts d k y left) (sym h)
+            (both-turns high true none q i left z n now c q (subst (λ (b : Bool). Kept room vars used b left now) (sym q) (c .1))
+            (λ v l w. both-done (alone room) v (opOf o) l (c .0 .tree) y before (w q) i z (inside left now) (c .0 .worth refl)) (apply (opOf o) y z) refl)
+        turn-says high true (some x) q i left z n now c r s =
+            let h : r ≡ turn.Next x n now = s ∙ ap (λ (e : Option ℤ). turning (unlessDecided e (apply (opOf o) y z)) n now) i in
+            subst (Turns room text at vars used counts d k y left) (sym h)
+            (next-turns high true (some x) q i left z n now c x (held-on (c .1))
+            (λ v l w _. unneeded-right (alone room) v before y (opOf o) l (c .0 .tree) x (w q) i ∙ ap (λ (p : Pairs). done (x, p)) (sym (stays (c .1)))))
+        turn-says high false u q i left z n now c r s =
+            subst (Turns room text at vars used counts d k y left) (sym s)
+            (next-turns high false u q i left z n now c y (held-on (c .1)) (λ v l w p. absurd (no (sym q ∙ p))))
 
   -- All operators behind a left side.
-  pub record Climbs (at d k : ℕ) (l : Tree) (z : ℤ) (i : ℕ) : Type 0 where
+  pub record Climbs (at d k : ℕ) (v : Pairs) (l : Tree) (z : ℤ) (i : ℕ) (w : Pairs) : Type 0 where
     pub tree : Tree
     pub is : grow (further k l, d, drop at text) ≡ grow (further k tree, d, drop i text)
-    pub worth : Worth v counts tree z
+    pub worth : Worth room v counts tree z w
 
-  pub record Going (at d k : ℕ) (y z : ℤ) (i : ℕ) : Type 0 where
+  pub record Going (at d k : ℕ) (y z : ℤ) (i : ℕ) (left : Text) (now : ℕ) : Type 0 where
     pub onward : at ≤ i
     pub within : i ≤ length text
-    pub climbs : (l : Tree) → Worth v counts l y → Climbs at d k l z i
+    pub kept : Kept room vars used counts left now
+    pub climbs : (v : Pairs) (l : Tree) → Worth room v counts l y before → Climbs at d k v l z i (inside left now)
 
   module _ (at d k : ℕ) (y : ℤ) where
-    pub going-start : at ≤ length text → Going at d k y y at
-    going-start h = record { onward = omega arith; within = h; climbs = λ l w. record { tree = l; is = refl; worth = w } }
+    pub going-start : at ≤ length text → Holds room vars used → Going at d k y y at vars used
+    going-start h m = record {
+      onward = omega arith;
+      within = h;
+      kept = kept-all room vars used counts m;
+      climbs = λ v l w. record { tree = l; is = refl; worth = w };
+    }
 
-    module _ (z : ℤ) (i : ℕ) (g : Going at d k y z i) where
-      pub going-refused : (e : ℕ) → Turns text i v counts d k z (turn.Refused e) → Continues text at v counts d k y (climbed.Refused e)
-      going-refused e h l w = let c = g .climbs l w in fails-same v counts (c .is) (h (c .tree) (c .worth))
+    module _ (z : ℤ) (i : ℕ) (mid : Text) (now : ℕ) (g : Going at d k y z i mid now) where
+      pub going-refused : (left : Text) (e : ℕ) → Turns room text i mid now counts d k z left (turn.Refused e)
+          → Continues room text at vars used counts d k y left (climbed.Refused e)
+      going-refused left e h v l w = let c = g .climbs v l w in fails-same room v counts (c .is) (h v (c .tree) (c .worth))
 
-      pub going-last : Turns text i v counts d k z turn.Last → Continues text at v counts d k y (climbed.Value z i)
-      going-last h l w =
-          let c = g .climbs l w in
-          record { tree = c .tree; is = c .is ∙ h (c .tree); worth = c .worth; onward = g .onward; within = g .within }
+      pub going-last : (left : Text) → Turns room text i mid now counts d k z left turn.Last
+          → Continues room text at vars used counts d k y left (climbed.Value z i now)
+      going-last left h v l w =
+          let c = g .climbs v l w in
+          let m = g .kept in (
+            record {
+              tree = c .tree;
+              is = c .is ∙ h .0 (c .tree);
+              worth = subst (λ (x : Text). Worth room v counts (c .tree) z (inside x now)) (sym (h .1)) (c .worth);
+              onward = g .onward;
+              within = g .within;
+            },
+            subst (λ (x : Text). Kept room vars used counts x now) (sym (h .1)) m,
+          )
 
-      pub going-next : (x : ℤ) (n : ℕ) → Turns text i v counts d k z (turn.Next x n) → Going at d k y x n
-      going-next x n h =
+      pub going-next : (left : Text) (x : ℤ) (n last : ℕ) → Turns room text i mid now counts d k z left (turn.Next x n last)
+          → Going at d k y x n left last
+      going-next left x n last h =
           let a = g .onward in
           let b = h .0 .onward in
-          record { onward = omega arith; within = h .0 .within; climbs = λ l w. more (g .climbs l w) }
+          record { onward = omega arith; within = h .0 .within; kept = kept-on (g .kept) (h .1); climbs = λ v l w. more (g .climbs v l w) }
         where
-          more : {l : Tree} → Climbs at d k l z i → Climbs at d k l x n
-          more c = let s = h .1 (c .tree) (c .worth) in record { tree = s .tree; is = c .is ∙ s .is; worth = s .worth }
+          more : {v : Pairs} {l : Tree} → Climbs at d k v l z i (inside mid now) → Climbs at d k v l x n (inside left last)
+          more {v} c = let s = h .2 v (c .tree) (c .worth) in record { tree = s .tree; is = c .is ∙ s .is; worth = s .worth }

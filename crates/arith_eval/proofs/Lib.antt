@@ -1,6 +1,8 @@
 pub mod Trees
 pub mod Operands
 pub mod Climbing
-pub mod Choices
-pub mod Wholes
+pub mod Reading
+pub mod Working
+pub mod Storing
+pub mod Texts
 pub mod Determined

@@ -1,75 +1,114 @@
-// The arithmetic text of document 01: climb.rt reads and works out an expression without a tree. The text is gone through twice, since "reading
+// The arithmetic text of document 01: an expression is read and worked out without a tree. The text is gone through twice, since "reading
 // faults come first": once where nothing counts, and once where all of it does.
-ghost use mathlib.Core.Path.{_≡_};
-ghost use Prim.Native.Nat.{_≤_};
+ghost use Prim.Native.Nat.{_*_, _≤_};
 ghost use lib.ListN.{length};
-ghost use Rattle.stages.specs.Images.{held, lookup};
-ghost use Rattle.stages.specs.Constants.{nameNumber};
+ghost use Rattle.stages.specs.Numbers.{rowLimit};
+ghost use Rattle.stages.specs.Bytes.{Text};
 ghost use Rattle.stages.specs.Arith.{tree};
-ghost use Rattle.table.specs.Places.{Table};
-ghost use Rattle.arith_int.specs.Answers.{numbered};
-ghost use Rattle.arith_eval.specs.Climbs.{Answers, Finishes, comesTo};
-use arith_int::Number;
+ghost use Rattle.table.specs.Around.{lentOf};
+ghost use Rattle.table_store.specs.Holding.{Holds};
+ghost use Rattle.arith_eval.specs.Climbs.{alone};
+ghost use Rattle.arith_eval.specs.Answers.{Finishes, Answers, ComesTo};
+use answers::Climbed;
+use answers::Scope;
 use arith_token::Token;
 use arith_token::token_at;
-use climb::Climbed;
 use climb::whole;
-use table::Found;
 use text::numbers;
 
+mod answers;
 mod climb;
+mod marks;
+mod values;
 
-// What a name stands for: 0 if unset or empty, else the constant that its value is.
-fn name_number(name: &[u8], vars: &[u8]) -> Number
-    requires { ⌜ Table (now vars) ⌝ }
-    ensures { λ r. ⌜ numbered r ≡ nameNumber (lookup (now (name .entry)) (held (now (vars .entry)))) ⌝ }
-{
-    let found = table_find::look_up(vars, name);
-    match found {
-        Found::At { from, to } => arith_constant::value_of(&vars[from..to]),
-        Found::Missing => Number::Value(0),
-    }
+// What a text comes to: a number, and how many bytes the image of variables has then.
+pub enum Worked {
+    Refused(u8),
+    Value { value: i64, vars_used: usize },
 }
 
+// How many places may wait for a value: each takes two bytes of a text.
+const PLACES: usize = 1024;
+
 // Nothing may stand behind the value of a whole text.
-fn ended(text: &[u8], value: i64, at: usize) -> Number
+fn ended(text: &[u8], at: usize, value: i64, vars_used: usize) -> Worked
     requires { ⌜ at ≤ length (now text) ⌝ }
-    ensures { λ r. ⌜ Finishes (now (text .entry)) at value r ⌝ }
+    ensures { λ r. ⌜ Finishes (now (text .entry)) at value «vars_used» r ⌝ }
 {
     let token = token_at(text, at);
     match token {
-        Token::Refused(e) => Number::Refused(e),
-        Token::Stop => Number::Value(value),
-        Token::Number { value: _, next: _ } => Number::Refused(numbers::REFUSED_ARITHMETIC),
-        Token::Name { from: _, to: _ } => Number::Refused(numbers::REFUSED_ARITHMETIC),
-        Token::Op(_, _) => Number::Refused(numbers::REFUSED_ARITHMETIC),
-        Token::Opens(_) => Number::Refused(numbers::REFUSED_ARITHMETIC),
-        Token::Shuts(_) => Number::Refused(numbers::REFUSED_ARITHMETIC),
-        Token::Query(_) => Number::Refused(numbers::REFUSED_ARITHMETIC),
-        Token::Colon(_) => Number::Refused(numbers::REFUSED_ARITHMETIC),
+        Token::Refused(e) => Worked::Refused(e),
+        Token::Stop => Worked::Value {
+            value: value,
+            vars_used: vars_used,
+        },
+        Token::Number { value: _, next: _ } => Worked::Refused(numbers::REFUSED_ARITHMETIC),
+        Token::Name { from: _, to: _ } => Worked::Refused(numbers::REFUSED_ARITHMETIC),
+        Token::Op(_, _) => Worked::Refused(numbers::REFUSED_ARITHMETIC),
+        Token::Opens(_) => Worked::Refused(numbers::REFUSED_ARITHMETIC),
+        Token::Shuts(_) => Worked::Refused(numbers::REFUSED_ARITHMETIC),
+        Token::Query(_) => Worked::Refused(numbers::REFUSED_ARITHMETIC),
+        Token::Colon(_) => Worked::Refused(numbers::REFUSED_ARITHMETIC),
+        Token::Gets(_, _) => Worked::Refused(numbers::REFUSED_ARITHMETIC),
     }
 }
 
 // The whole text, gone through once.
-fn once(text: &[u8], counts: bool, vars: &[u8]) -> Number
-    requires { ⌜ Table (now vars) ⌝ }
-    ensures { λ r. ⌜ Answers (held (now (vars .entry))) counts (tree (now (text .entry))) r ⌝ }
+fn once(
+    text: &[u8],
+    counts: bool,
+    vars: &mut [u8],
+    vars_used: usize,
+    vars_room: usize,
+    places: &mut [u16],
+) -> Worked
+    requires { ⌜ (length (now text) ≤ rowLimit) × Holds «vars_room» (now vars) «vars_used» × (rowLimit ≤ 2 * length (now places)) ⌝ }
+    ensures { λ r. ⌜ Answers «vars_room» (now (vars .entry)) «vars_used» counts (tree (now (text .entry))) (now (vars .exit)) r ⌝ }
 {
-    let got = whole(text, 0, numbers::OPEN_LIMIT, counts, vars);
+    let scope = Scope {
+        room: numbers::OPEN_LIMIT,
+        counts: counts,
+        vars_used: vars_used,
+        vars_room: vars_room,
+    };
+    let got = whole(text, 0, scope, vars, places);
     match got {
-        Climbed::Refused(e) => Number::Refused(e),
-        Climbed::Value { value, next } => ended(text, value, next),
+        Climbed::Refused(e) => Worked::Refused(e),
+        Climbed::Value {
+            value,
+            next,
+            vars_used: used,
+        } => ended(text, next, value, used),
     }
 }
 
-// The number that an arithmetic text comes to: reading faults first, then those of working it out.
-pub fn evaluate_text(text: &[u8], vars: &[u8]) -> Number
-    requires { ⌜ Table (now vars) ⌝ }
-    ensures { λ r. ⌜ numbered r ≡ comesTo (held (now (vars .entry))) (now (text .entry)) ⌝ }
+// Reading faults first, then those of working it out.
+fn twice(
+    text: &[u8],
+    vars: &mut [u8],
+    vars_used: usize,
+    vars_room: usize,
+    places: &mut [u16],
+) -> Worked
+    requires { ⌜ (length (now text) ≤ rowLimit) × Holds «vars_room» (now vars) «vars_used» × (rowLimit ≤ 2 * length (now places)) ⌝ }
+    ensures { λ r. ⌜ ComesTo (alone «vars_room») (now (text .entry)) (now (vars .entry)) «vars_used» (now (vars .exit)) r ⌝ }
 {
-    let read = once(text, false, vars);
+    let read = once(text, false, vars, vars_used, vars_room, places);
     match read {
-        Number::Refused(e) => Number::Refused(e),
-        Number::Value(_) => once(text, true, vars),
+        Worked::Refused(e) => Worked::Refused(e),
+        Worked::Value {
+            value: _,
+            vars_used: used,
+        } => once(text, true, vars, used, vars_room, places),
     }
+}
+
+// The number that an arithmetic text comes to, and the variables as its assignments leave them.
+pub fn evaluate_text(text: &[u8], vars: &mut [u8], vars_used: usize, vars_room: usize) -> Worked
+    requires { ⌜ (length (now text) ≤ rowLimit) × Holds «vars_room» (now vars) «vars_used» ⌝ }
+    ensures { λ r. ⌜ ((homes params : Text) → ComesTo (lentOf «vars_room» homes params) (now (text .entry)) (now (vars .entry)) «vars_used»
+        (now (vars .exit)) r) ⌝ }
+{
+    let mut places = [0u16; PLACES];
+    twice(text, vars, vars_used, vars_room, &mut places)
 }

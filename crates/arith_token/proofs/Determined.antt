@@ -2,18 +2,21 @@
 use Prim.Native.Nat.{ℕ, _-_, _≤_}
 use native.Mathlib.Omega.{arith}
 use mathlib.Core.Path.{_≡_, refl, sym, ap, _∙_}
+use mathlib.Core.Option.{Option, none, some}
 use lib.ListN.{length, drop, length-drop}
 use Rattle.stages.specs.Bytes.{Text, part}
 use Rattle.stages.specs.Numbers.{demanded}
 use Rattle.stages.specs.Outcome.{refused, demands, done}
-use Rattle.stages.specs.Arith.{Lexed, stop, shuts, colon, ends, num, name, op, opens, query}
+use Rattle.stages.specs.Arith.{Lexed, stop, shuts, colon, ends, num, name, op, opens, query, gets}
 use Rattle.stages.specs.Arith as arith-stage
 use Rattle.text.proofs.Parts.{part-length}
 use Rattle.arith_int.specs.Answers.{opOf}
 use Rattle.arith_int.specs.declared.Op.{Op}
 use Rattle.arith_int.specs.declared.Op.the-variants.{Mul, Div, Rem, Add, Sub, Shl, Shr, Lt, Le, Gt, Ge, Eq, Ne, BitAnd, BitXor, BitOr}
 use Rattle.arith_int.specs.declared.Op.the-variants.{LogAnd, LogOr, LogNot, BitNot}
-use Rattle.arith_token.specs.Tokens.{levelOf, lexed, Ends, TokenAt}
+use Rattle.arith_token.specs.Tokens.{levelOf, settingOf, lexed, Ends, TokenAt}
+use Rattle.arith_token.specs.declared.Setting.{Setting}
+use Rattle.arith_token.specs.declared.Setting.the-variants.{Plain, With}
 use Rattle.arith_token.specs.declared.Token.{Token}
 use Rattle.arith_token.specs.declared.Token.the-variants as code
 
@@ -65,6 +68,14 @@ op-back LogOr = refl
 op-back LogNot = refl
 op-back BitNot = refl
 
+abbrev settingBack : Option arith-stage.Op → Setting
+settingBack none = Plain
+settingBack (some o) = With (opBack o)
+
+setting-back : (s : Setting) → settingBack (settingOf s) ≡ s
+setting-back Plain = refl
+setting-back (With o) = ap With (op-back o)
+
 -- the code's token of the stage's: a place is where what is behind it begins
 abbrev back : Text → Lexed → Token
 back text (refused e) = code.Refused e
@@ -77,6 +88,7 @@ back text (done (name x, u)) = code.Name (length text - length u - length x) (le
 back text (done (op o, u)) = code.Op (opBack o) (length text - length u)
 back text (done (opens, u)) = code.Opens (length text - length u)
 back text (done (query, u)) = code.Query (length text - length u)
+back text (done (gets o, u)) = code.Gets (settingBack o) (length text - length u)
 
 module _ (text : Text) where
   place : (next : ℕ) → next ≤ length text → length text - length (drop next text) ≡ next
@@ -95,6 +107,7 @@ module _ (text : Text) where
   token-back at (code.Shuts next) w = ap code.Shuts (place next (w .within))
   token-back at (code.Query next) w = ap code.Query (place next (w .within))
   token-back at (code.Colon next) w = ap code.Colon (place next (w .within))
+  token-back at (code.Gets s next) w = rw (setting-back s, place next (w .within))
 
   pub token-at-determined : (at : ℕ) (r s : Token) → TokenAt text at r → TokenAt text at s → r ≡ s
   token-at-determined at r s h k = sym (token-back at r (h .ends)) ∙ ap (back text) (sym (h .is) ∙ k .is) ∙ token-back at s (k .ends)

@@ -15,9 +15,10 @@ use borrow.Author.Tests.{eq-eqb, ne-eqb, not-true}
 use Rattle.stages.specs.Numbers.{arithmeticSyntax}
 use Rattle.stages.specs.Bytes.{Text, part, all, span, isBlank, isDigit, isNameStart, isNameByte}
 use Rattle.stages.specs.Outcome.{Outcome, refused, done, _>>=_, choose}
+use Rattle.stages.specs.Images.{isName}
 use Rattle.stages.specs.Constants.{number, constant}
-use Rattle.stages.specs.Arith.{operator, level, Lexed, num, name, op, Spellings, written, behind, spelled, token}
-use Rattle.stages.proofs.Bools.{no, and-left, and-right}
+use Rattle.stages.specs.Arith.{Token as Kind, operator, level, Lexed, num, name, Spellings, written, behind, spelled, token}
+use Rattle.stages.proofs.Bools.{no, and-left, and-right, and-both}
 use Rattle.stages.proofs.Texts.{Stops, span-join, span-all, span-stops, span-more, start-name-byte}
 use Rattle.stages.proofs.Arith.{digit-name-byte}
 use Rattle.text.specs.Classes.{Runs}
@@ -28,7 +29,7 @@ use Rattle.arith_int.specs.declared.Op.the-variants.{Mul, Div, Rem, Add, Sub, S
 use Rattle.arith_int.specs.declared.Op.the-variants.{LogAnd, LogOr, LogNot, BitNot}
 use Rattle.arith_int.specs.declared.Number.{Number}
 use Rattle.text.specs.Places.{Behind}
-use Rattle.arith_token.specs.Tokens.{levelOf, lexed, Ends, TokenAt, pairedBy, Pairs, Symbol}
+use Rattle.arith_token.specs.Tokens.{levelOf, lexed, Ends, TokenAt, pairedBy, Pairable, Pairs, Symbol}
 use Rattle.arith_token.specs.declared.Token.{Token}
 use Rattle.arith_token.specs.declared.Token.the-variants as code
 
@@ -82,8 +83,8 @@ level-small BitNot = omega arith
 -- a byte that begins no row of the table
 abbrev Others : ℕ → Type 0
 Others b =
-    (b ≡ 40 → ⊥) × (b ≡ 41 → ⊥) × (b ≡ 63 → ⊥) × (b ≡ 58 → ⊥) × (b ≡ 42 → ⊥) × (b ≡ 47 → ⊥) × (b ≡ 37 → ⊥) × (b ≡ 43 → ⊥) × (b ≡ 45 → ⊥)
-    × (b ≡ 94 → ⊥) × (b ≡ 126 → ⊥) × (b ≡ 60 → ⊥) × (b ≡ 62 → ⊥) × (b ≡ 61 → ⊥) × (b ≡ 33 → ⊥) × (b ≡ 38 → ⊥) × (b ≡ 124 → ⊥)
+    (b ≡ 40 → ⊥) × (b ≡ 41 → ⊥) × (b ≡ 63 → ⊥) × (b ≡ 58 → ⊥) × (b ≡ 94 → ⊥) × (b ≡ 126 → ⊥) × (b ≡ 42 → ⊥) × (b ≡ 47 → ⊥) × (b ≡ 37 → ⊥)
+    × (b ≡ 43 → ⊥) × (b ≡ 45 → ⊥) × (b ≡ 60 → ⊥) × (b ≡ 62 → ⊥) × (b ≡ 61 → ⊥) × (b ≡ 33 → ⊥) × (b ≡ 38 → ⊥) × (b ≡ 124 → ⊥)
 
 -- no row of a table begins with the byte
 abbrev begins : ℕ → Text → Bool
@@ -117,13 +118,13 @@ others-begin-none b e =
       ne-eqb b 41 (e .1),
       ne-eqb b 63 (e .2),
       ne-eqb b 58 (e .3),
-      ne-eqb b 42 (e .4),
-      ne-eqb b 47 (e .5),
-      ne-eqb b 37 (e .6),
-      ne-eqb b 43 (e .7),
-      ne-eqb b 45 (e .8),
-      ne-eqb b 94 (e .9),
-      ne-eqb b 126 (e .10),
+      ne-eqb b 94 (e .4),
+      ne-eqb b 126 (e .5),
+      ne-eqb b 42 (e .6),
+      ne-eqb b 47 (e .7),
+      ne-eqb b 37 (e .8),
+      ne-eqb b 43 (e .9),
+      ne-eqb b 45 (e .10),
       ne-eqb b 60 (e .11),
       ne-eqb b 62 (e .12),
       ne-eqb b 61 (e .13),
@@ -154,6 +155,9 @@ here text at h = drop-cons text at 0 h ∙ ap (λ (i : ℕ). getD text at 0 ∷ 
 pub next-place : (text : Text) (at : ℕ) → at < length text → Behind text at (at + 1)
 next-place text at h = record { onward = omega arith; within = omega arith }
 
+pub last-place : (text : Text) (at : ℕ) → at + 2 ≤ length text → Behind text at (at + 2)
+last-place text at h = record { onward = omega arith; within = h }
+
 -- a token that its first byte decides
 pub single : (text : Text) (at b : ℕ) (r : Token) → Symbol text at → getD text at 0 ≡ b → token (b ∷ drop (at + 1) text) ≡ lexed text r
     → Ends text at r → TokenAt text at r
@@ -172,35 +176,36 @@ behind-one : (b c : ℕ) (u : Text) → eqb b c ≡ true → behind (c ∷ []) (
 unfolding behind
 behind-one b c u e = rw (e, behind)
 
-module _ (text : Text) (at second : ℕ) (alone : Token) (both : Op) where
+module _ (text : Text) (at second : ℕ) (alone both : Token) (p : Pairable text at alone both) where
   -- by what is behind the first byte
-  abbrev told : Option Text → Lexed
-  told o = elim o [ some u ↦ done (op (opOf both), u) | none ↦ lexed text alone ]
+  abbrev told : Kind → Option Text → Lexed
+  told k o = elim o [ some u ↦ done (k, u) | none ↦ lexed text alone ]
 
-  by-second : (o : Option Text) → at + 1 < length text → behind (second ∷ []) (getD text (at + 1) 0 ∷ drop (at + 1 + 1) text) ≡ o
-      → pairedBy second (lexed text alone) (op (opOf both)) (drop (at + 1) text) ≡ told o
+  by-second : (k : Kind) (o : Option Text) → at + 1 < length text → behind (second ∷ []) (getD text (at + 1) 0 ∷ drop (at + 1 + 1) text) ≡ o
+      → pairedBy second (lexed text alone) k (drop (at + 1) text) ≡ told k o
   unfolding pairedBy
-  by-second o h e = rw (here text (at + 1) h) (ap told e)
+  by-second k o h e = rw (here text (at + 1) h) (ap (told k) e)
 
-  pub with-second : at + 1 < length text → getD text (at + 1) 0 ≡ second → Pairs text at second alone both (code.Op both (at + 2))
+  pub with-second : at + 1 < length text → getD text (at + 1) 0 ≡ second → Pairs text at second alone both both
   with-second h e = record {
-    is =
-        let p : at + 1 + 1 ≡ at + 2 = omega arith in
-        ap (λ (i : ℕ). told (some (drop i text))) (sym p)
-        ∙ sym (by-second (some (drop (at + 1 + 1) text)) h
+    is = λ k q.
+        let i : at + 1 + 1 ≡ at + 2 = omega arith in
+        q ∙ ap (λ (j : ℕ). told k (some (drop j text))) (sym i)
+        ∙ sym (by-second k (some (drop (at + 1 + 1) text)) h
         (behind-one (getD text (at + 1) 0) second (drop (at + 1 + 1) text) (eq-eqb (getD text (at + 1) 0) second e)));
-    ends = record { onward = omega arith; within = omega arith };
+    ends = p .two (omega arith);
   }
 
-  pub without-second : at + 1 < length text → (getD text (at + 1) 0 ≡ second → ⊥) → Ends text at alone → Pairs text at second alone both alone
-  without-second h n w = record {
-    is = sym (by-second none h (behind-other (getD text (at + 1) 0) second [] (drop (at + 1 + 1) text) (ne-eqb (getD text (at + 1) 0) second n)));
-    ends = w;
+  pub without-second : at + 1 < length text → (getD text (at + 1) 0 ≡ second → ⊥) → Pairs text at second alone both alone
+  without-second h n = record {
+    is = λ k q.
+        sym (by-second k none h (behind-other (getD text (at + 1) 0) second [] (drop (at + 1 + 1) text) (ne-eqb (getD text (at + 1) 0) second n)));
+    ends = p .one;
   }
 
-  pub at-the-end : length text ≤ at + 1 → Ends text at alone → Pairs text at second alone both alone
+  pub at-the-end : length text ≤ at + 1 → Pairs text at second alone both alone
   unfolding pairedBy behind
-  at-the-end h w = record { is = rw (drop-of-length-le text h); ends = w }
+  at-the-end h = record { is = λ k q. rw (drop-of-length-le text h); ends = p .one }
 
 -- blanks in front are passed
 token-blanks : (t u : Text) → all isBlank t ≡ true → token (t ++ u) ≡ token u
@@ -226,12 +231,13 @@ module _ (text : Text) (at i : ℕ) (r : Runs text at Blank i) where
       wider (code.Refused e) w = tt
       wider code.Stop w = tt
       wider (code.Number z next) w = further-on next w
-      wider (code.Name from to) w = record { behind = further-on to (w .behind); rising = w .rising }
+      wider (code.Name from to) w = record { named = w .named; behind = further-on to (w .behind); rising = w .rising }
       wider (code.Op o next) w = further-on next w
       wider (code.Opens next) w = further-on next w
       wider (code.Shuts next) w = further-on next w
       wider (code.Query next) w = further-on next w
       wider (code.Colon next) w = further-on next w
+      wider (code.Gets s next) w = further-on next w
 
   pub nothing-left : i ≡ length text → TokenAt text at code.Stop
   unfolding token
@@ -258,6 +264,13 @@ module _ (text : Text) (at to : ℕ) (h : at < length text) (r : Runs text at Na
       grows : suc (length (span isNameByte (drop (at + 1) text) .0)) ≡ length (part text at to) → at < to
       grows q = omega (arith, length-take (to - at) (drop at text))
 
+  run-name : isNameStart (getD text at 0) ≡ true → isName (part text at to) ≡ true
+  unfolding isName
+  run-name e =
+      ap (λ (p : Text × Text). isName (p .0)) (sym run)
+      ∙ rw (span-more isNameByte (getD text at 0) (drop (at + 1) text) (start-name-byte (getD text at 0) e))
+      (and-both e (span-all isNameByte (drop (at + 1) text)))
+
   module _ (bare : isBlank (getD text at 0) ≡ false) where
     constant-token : isDigit (getD text at 0) ≡ true → token (drop at text) ≡
         (number pos (constant (part text at to)) >>= λ z. done (num z, drop to text))
@@ -266,7 +279,7 @@ module _ (text : Text) (at to : ℕ) (h : at < length text) (r : Runs text at Na
     pub name-at : isDigit (getD text at 0) ≡ false → isNameStart (getD text at 0) ≡ true → TokenAt text at (code.Name at to)
     name-at e f = record {
       is = ap token (here text at h) ∙ name-first (getD text at 0) (drop (at + 1) text) bare e f (part text at to) (drop to text) run;
-      ends = record { behind = run-behind (start-name-byte (getD text at 0) f); rising = r .onward };
+      ends = record { named = run-name f; behind = run-behind (start-name-byte (getD text at 0) f); rising = r .onward };
     }
 
     pub bad-constant : isDigit (getD text at 0) ≡ true → (e : ℕ) → refused e ≡ number pos (constant (part text at to)) → TokenAt text at

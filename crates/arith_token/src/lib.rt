@@ -1,12 +1,18 @@
 // What stands at a place of an arithmetic text. Blanks separate; a constant is judged where it is the next token.
 ghost use mathlib.Core.Path.{_≡_};
-ghost use Prim.Native.Nat.{_≤_, _<_};
+ghost use Prim.Native.Nat.{_≤_};
 ghost use lib.ListN.{length};
-ghost use Rattle.arith_token.specs.Tokens.{levelOf, TokenAt, Digit, Symbol, Ends, Pairs};
+ghost use Rattle.arith_token.specs.Tokens.{levelOf, TokenAt, Digit, Symbol, Pairable, Pairs};
 use arith_int::Number;
 use arith_int::Op;
 use text::Class;
 use text::numbers;
+
+// What an assignment makes of its right side: it is stored as it is, or an operator takes it behind what the name stands for.
+pub enum Setting {
+    Plain,
+    With(Op),
+}
 
 // A token, and the place behind it; of a name, where it begins and ends.
 pub enum Token {
@@ -19,6 +25,7 @@ pub enum Token {
     Shuts(usize),
     Query(usize),
     Colon(usize),
+    Gets(Setting, usize),
 }
 
 // How tightly an operator binds between two operands, 0 if it does not stand there: "C's precedence".
@@ -62,15 +69,15 @@ fn constant_at(text: &[u8], at: usize) -> Token
     }
 }
 
-// One operator with this byte behind its first, which is at `at`; else the token that it is without.
-fn paired(text: &[u8], at: usize, second: u8, alone: Token, both: Op) -> Token
-    requires { ⌜ (at < length (now text)) × Ends (now text) at alone ⌝ }
+// The token of two bytes, if this one is behind its first, which is at `at`; else the token that it is without.
+fn paired(text: &[u8], at: usize, second: u8, alone: Token, both: Token) -> Token
+    requires { ⌜ Pairable (now text) at alone both ⌝ }
     ensures { λ r. ⌜ Pairs (now (text .entry)) at second alone both r ⌝ }
 {
     let next = at + 1;
     if next < text.len() {
         if text[next] == second {
-            return Token::Op(both, at + 2);
+            return both;
         }
     }
     alone
@@ -82,36 +89,97 @@ fn symbol_at(text: &[u8], at: usize) -> Token
     ensures { λ r. ⌜ TokenAt (now (text .entry)) at r ⌝ }
 {
     let next = at + 1;
+    let last = at + 2;
     match text[at] {
         b'(' => Token::Opens(next),
         b')' => Token::Shuts(next),
         b'?' => Token::Query(next),
         b':' => Token::Colon(next),
-        b'*' => Token::Op(Op::Mul, next),
-        b'/' => Token::Op(Op::Div, next),
-        b'%' => Token::Op(Op::Rem, next),
-        b'+' => Token::Op(Op::Add, next),
-        b'-' => Token::Op(Op::Sub, next),
         b'^' => Token::Op(Op::BitXor, next),
         b'~' => Token::Op(Op::BitNot, next),
+        b'*' => paired(
+            text,
+            at,
+            b'=',
+            Token::Op(Op::Mul, next),
+            Token::Gets(Setting::With(Op::Mul), last),
+        ),
+        b'/' => paired(
+            text,
+            at,
+            b'=',
+            Token::Op(Op::Div, next),
+            Token::Gets(Setting::With(Op::Div), last),
+        ),
+        b'%' => paired(
+            text,
+            at,
+            b'=',
+            Token::Op(Op::Rem, next),
+            Token::Gets(Setting::With(Op::Rem), last),
+        ),
+        b'+' => paired(
+            text,
+            at,
+            b'=',
+            Token::Op(Op::Add, next),
+            Token::Gets(Setting::With(Op::Add), last),
+        ),
+        b'-' => paired(
+            text,
+            at,
+            b'=',
+            Token::Op(Op::Sub, next),
+            Token::Gets(Setting::With(Op::Sub), last),
+        ),
         b'<' => {
-            let alone = paired(text, at, b'=', Token::Op(Op::Lt, next), Op::Le);
-            paired(text, at, b'<', alone, Op::Shl)
+            let less = paired(
+                text,
+                at,
+                b'=',
+                Token::Op(Op::Lt, next),
+                Token::Op(Op::Le, last),
+            );
+            paired(text, at, b'<', less, Token::Op(Op::Shl, last))
         }
         b'>' => {
-            let alone = paired(text, at, b'=', Token::Op(Op::Gt, next), Op::Ge);
-            paired(text, at, b'>', alone, Op::Shr)
+            let more = paired(
+                text,
+                at,
+                b'=',
+                Token::Op(Op::Gt, next),
+                Token::Op(Op::Ge, last),
+            );
+            paired(text, at, b'>', more, Token::Op(Op::Shr, last))
         }
         b'=' => paired(
             text,
             at,
             b'=',
-            Token::Refused(numbers::REFUSED_ARITHMETIC),
-            Op::Eq,
+            Token::Gets(Setting::Plain, next),
+            Token::Op(Op::Eq, last),
         ),
-        b'!' => paired(text, at, b'=', Token::Op(Op::LogNot, next), Op::Ne),
-        b'&' => paired(text, at, b'&', Token::Op(Op::BitAnd, next), Op::LogAnd),
-        b'|' => paired(text, at, b'|', Token::Op(Op::BitOr, next), Op::LogOr),
+        b'!' => paired(
+            text,
+            at,
+            b'=',
+            Token::Op(Op::LogNot, next),
+            Token::Op(Op::Ne, last),
+        ),
+        b'&' => paired(
+            text,
+            at,
+            b'&',
+            Token::Op(Op::BitAnd, next),
+            Token::Op(Op::LogAnd, last),
+        ),
+        b'|' => paired(
+            text,
+            at,
+            b'|',
+            Token::Op(Op::BitOr, next),
+            Token::Op(Op::LogOr, last),
+        ),
         _ => Token::Refused(numbers::REFUSED_ARITHMETIC),
     }
 }

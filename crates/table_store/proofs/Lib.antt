@@ -1,6 +1,7 @@
 pub mod Writing
 pub mod Placed
 pub mod Splices
-pub mod Determined
 pub mod StoredImages
 pub mod Callers
+pub mod Holding
+pub mod Determined

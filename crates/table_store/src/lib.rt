@@ -7,6 +7,7 @@ ghost use Rattle.stages.specs.Numbers.{imageLimit};
 ghost use Rattle.stages.specs.Images.{framed, held};
 ghost use Rattle.table.specs.Places.{Table};
 ghost use Rattle.table_store.specs.Answers.{putOutcome, storedOutcome, recordIn, imageIn, Writes};
+ghost use Rattle.table_store.specs.Holding.{Holds, Settable, limitOf, StoresIn};
 ghost use Rattle.table_store.specs.Splice.{spliced, within, roomFor};
 use table::Spot;
 use text::numbers;
@@ -99,4 +100,29 @@ pub fn store(vars: &mut [u8], vars_used: usize, name: &[u8], value: &[u8], limit
         Spot::Known { at, mid: _, end } => splice(vars, vars_used, at, end, name, value, limit),
         Spot::Fresh(at) => splice(vars, vars_used, at, at, name, value, limit),
     }
+}
+
+// What an image of variables may grow to, where the caller has so much room.
+fn limit_of(vars_room: usize) -> usize
+    ensures { λ r. ⌜ r ≡ limitOf «vars_room» ⌝ }
+{
+    if vars_room > numbers::IMAGE_LIMIT {
+        return numbers::IMAGE_LIMIT;
+    }
+    vars_room
+}
+
+// Stores a value under a name as the stages do: the image may grow to the caller's room, and to 8,192 bytes.
+pub fn store_within(
+    name: &[u8],
+    value: &[u8],
+    vars: &mut [u8],
+    vars_used: usize,
+    vars_room: usize,
+) -> Stored
+    requires { ⌜ Settable (now name) (now value) × Holds «vars_room» (now vars) «vars_used» ⌝ }
+    ensures { λ r. ⌜ StoresIn «vars_room» (now (name .entry)) (now (value .entry)) (held (take «vars_used» (now (vars .entry)))) (now (vars .exit)) r ⌝ }
+{
+    let limit = limit_of(vars_room);
+    store(vars, vars_used, name, value, limit)
 }

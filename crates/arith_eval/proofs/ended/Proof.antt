@@ -1,4 +1,5 @@
 -- `arith_eval::ended` meets its contract: nothing else may stand behind the value.
+use mathlib.Core.Path.{refl}
 use Rattle.stages.specs.Arith.{stop, ended}
 use Rattle.arith_int.proofs.Ranges.{held}
 use Rattle.arith_eval.proofs.Operands.{token-shown, ended-by}
@@ -36,62 +37,92 @@ enum-told-7 c = search needs
 enum-told-8 : tie.Need-enum-told-8
 enum-told-8 c = search needs
 
+enum-told-9 : tie.Need-enum-told-9
+enum-told-9 c = search needs
+
 returns : tie.Need-returns
 unfolding ended
 returns c =
-    let s = c .before .before .before .before .before in
-    λ l. ended-by (s .args .text .now) (s .args .at) stop _ (token-shown (c .before .before .before .token-at .ensures) (c .before .token .given .1)) l
+    let at-token = c .before in
+    let at-token-at = at-token .before .before in
+    let s = at-token-at .before .before in
+    let a = s .args in
+    λ l. ended-by (a .text .now) (a .at) stop _ (token-shown (at-token-at .token-at .ensures) (at-token .token .given .1)) l
 
 returns-2 : tie.Need-returns-2
 unfolding ended
 returns-2 c =
-    let s = c .before .before .before .before in (
+    let at-token-at = c .before .before in
+    let s = at-token-at .before .before in (
       held (s .args .value) (s .fits .value),
+      refl,
       λ l. ended-by (s .args .text .now) (s .args .at) stop _
-          (token-shown (c .before .before .token-at .ensures) (c .enum-told .given .1)) l,
+          (token-shown (at-token-at .token-at .ensures) (c .enum-told .given .1)) l,
     )
 
 returns-3 : tie.Need-returns-3
 unfolding ended
 returns-3 c =
-    let s = c .before .before .before .before in
-    λ l. ended-by (s .args .text .now) (s .args .at) stop _ (token-shown (c .before .before .token-at .ensures) (c .enum-told2 .given .1)) l
+    let at-token-at = c .before .before in
+    let s = at-token-at .before .before in
+    let a = s .args in
+    λ l. ended-by (a .text .now) (a .at) stop _ (token-shown (at-token-at .token-at .ensures) (c .enum-told2 .given .1)) l
 
 returns-4 : tie.Need-returns-4
 unfolding ended
 returns-4 c =
-    let s = c .before .before .before .before in
-    λ l. ended-by (s .args .text .now) (s .args .at) stop _ (token-shown (c .before .before .token-at .ensures) (c .enum-told3 .given .1)) l
+    let at-token-at = c .before .before in
+    let s = at-token-at .before .before in
+    let a = s .args in
+    λ l. ended-by (a .text .now) (a .at) stop _ (token-shown (at-token-at .token-at .ensures) (c .enum-told3 .given .1)) l
 
 returns-5 : tie.Need-returns-5
 unfolding ended
 returns-5 c =
-    let s = c .before .before .before .before in
-    λ l. ended-by (s .args .text .now) (s .args .at) stop _ (token-shown (c .before .before .token-at .ensures) (c .enum-told4 .given .1)) l
+    let at-token-at = c .before .before in
+    let s = at-token-at .before .before in
+    let a = s .args in
+    λ l. ended-by (a .text .now) (a .at) stop _ (token-shown (at-token-at .token-at .ensures) (c .enum-told4 .given .1)) l
 
 returns-6 : tie.Need-returns-6
 unfolding ended
 returns-6 c =
-    let s = c .before .before .before .before in
-    λ l. ended-by (s .args .text .now) (s .args .at) stop _ (token-shown (c .before .before .token-at .ensures) (c .enum-told5 .given .1)) l
+    let at-token-at = c .before .before in
+    let s = at-token-at .before .before in
+    let a = s .args in
+    λ l. ended-by (a .text .now) (a .at) stop _ (token-shown (at-token-at .token-at .ensures) (c .enum-told5 .given .1)) l
 
 returns-7 : tie.Need-returns-7
 unfolding ended
 returns-7 c =
-    let s = c .before .before .before .before in
-    λ l. ended-by (s .args .text .now) (s .args .at) stop _ (token-shown (c .before .before .token-at .ensures) (c .enum-told6 .given .1)) l
+    let at-token-at = c .before .before in
+    let s = at-token-at .before .before in
+    let a = s .args in
+    λ l. ended-by (a .text .now) (a .at) stop _ (token-shown (at-token-at .token-at .ensures) (c .enum-told6 .given .1)) l
 
 returns-8 : tie.Need-returns-8
 unfolding ended
 returns-8 c =
-    let s = c .before .before .before .before in
-    λ l. ended-by (s .args .text .now) (s .args .at) stop _ (token-shown (c .before .before .token-at .ensures) (c .enum-told7 .given .1)) l
+    let at-token-at = c .before .before in
+    let s = at-token-at .before .before in
+    let a = s .args in
+    λ l. ended-by (a .text .now) (a .at) stop _ (token-shown (at-token-at .token-at .ensures) (c .enum-told7 .given .1)) l
 
 returns-9 : tie.Need-returns-9
 unfolding ended
 returns-9 c =
-    let s = c .before .before .before .before in
-    λ l. ended-by (s .args .text .now) (s .args .at) stop _ (token-shown (c .before .before .token-at .ensures) (c .enum-told8 .given .1)) l
+    let at-token-at = c .before .before in
+    let s = at-token-at .before .before in
+    let a = s .args in
+    λ l. ended-by (a .text .now) (a .at) stop _ (token-shown (at-token-at .token-at .ensures) (c .enum-told8 .given .1)) l
+
+returns-10 : tie.Need-returns-10
+unfolding ended
+returns-10 c =
+    let at-token-at = c .before .before in
+    let s = at-token-at .before .before in
+    let a = s .args in
+    λ l. ended-by (a .text .now) (a .at) stop _ (token-shown (at-token-at .token-at .ensures) (c .enum-told9 .given .1)) l
 
 pub ended-spec : {M : Type 1} → statement M
 ended-spec =
@@ -107,6 +138,7 @@ ended-spec =
     enum-told-6
     enum-told-7
     enum-told-8
+    enum-told-9
     returns
     returns-2
     returns-3
@@ -115,4 +147,5 @@ ended-spec =
     returns-6
     returns-7
     returns-8
-    returns-9)
+    returns-9
+    returns-10)

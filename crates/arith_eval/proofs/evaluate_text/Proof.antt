@@ -1,35 +1,34 @@
--- `arith_eval::evaluate_text` meets its contract: what the first run refuses, else what the second gives.
-use mathlib.Core.Bool.{false}
-use Rattle.stages.specs.Images.{held}
-use Rattle.arith_eval.proofs.Wholes.{answers-shown, first-refused, second-says}
+-- `arith_eval::evaluate_text` meets its contract: 1,024 places are lent, and all that is lent beside the room is not asked for.
+use mathlib.Core.Path.{refl}
+use Rattle.table.specs.Around.{lentOf}
+use Rattle.arith_eval.specs.Climbs.{alone}
+use Rattle.arith_eval.proofs.Texts.{lent-alike}
 use borrow.Author.Needs.{needs}
 use Rattle.arith_eval.proofs.evaluate_text.Statement.{statement}
 use Rattle.arith_eval.proofs.evaluate_text.Tie as tie
 
-once-requires : tie.Need-once-requires
-once-requires c κs = search needs
+slice-aggregate-twice : tie.Need-slice-aggregate-twice
+slice-aggregate-twice c = search needs
 
-enum-known-read : tie.Need-enum-known-read
-enum-known-read c = search needs
+twice-requires : tie.Need-twice-requires
+twice-requires c κs = search needs
 
-enum-told : tie.Need-enum-told
-enum-told c = search needs
-
-once-requires-2 : tie.Need-once-requires-2
-once-requires-2 c κs = search needs
+same-length : tie.Need-same-length
+same-length c = search needs
 
 returns : tie.Need-returns
 returns c =
-    let a = c .before .before .before .before .before .before .args in
-    first-refused (a .text .now) (held (a .vars .now)) _
-    (answers-shown (held (a .vars .now)) false _ (c .before .before .before .once .ensures) (c .before .read .given .1))
-
-returns-2 : tie.Need-returns-2
-returns-2 c =
-    let a = c .before .before .before .before .before .before .args in
-    second-says (a .text .now) (held (a .vars .now)) _ (c .once2 .result)
-    (answers-shown (held (a .vars .now)) false _ (c .before .before .before .once .ensures) (c .before .enum-told .given .1)) (c .once2 .ensures)
+    let at-twice = c .before .before .before in
+    let s = at-twice .before .before .before .before .before in
+    let a = s .args in
+    λ homes params. lent-alike (alone (a .vars-room)) (lentOf (a .vars-room) homes params) refl (a .text .now) (a .vars .now) (a .vars-used) _
+    (at-twice .twice .result) (at-twice .twice .ensures)
 
 pub evaluate-text-spec : {M : Type 1} → statement M
 evaluate-text-spec =
-    tie.close (tie.spec once-requires enum-known-read enum-told once-requires-2 returns returns-2)
+    tie.close
+    (tie.spec
+    slice-aggregate-twice
+    twice-requires
+    same-length
+    returns)

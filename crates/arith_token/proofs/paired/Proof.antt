@@ -10,23 +10,20 @@ add-next c = search needs
 shared-slice-read-if2 : tie.Need-shared-slice-read-if2
 shared-slice-read-if2 c = search needs
 
-add-t12 : tie.Need-add-t12
-add-t12 c = search needs
-
 returns : tie.Need-returns
 returns c =
-    let a = c .before .before .before .args in
-    with-second (a .text .now) (a .at) (a .second) (a .alone) (a .both) (c .before .before .if1 .taken) (c .if2 .taken)
+    let s = c .before .before .before in let a = s .args in
+    with-second (a .text .now) (a .at) (a .second) (a .alone) (a .both) (s .pre) (c .before .before .if1 .taken) (c .if2 .taken)
 
 returns-2 : tie.Need-returns-2
 returns-2 c =
     let s = c .before .before .before in let a = s .args in
-    without-second (a .text .now) (a .at) (a .second) (a .alone) (a .both) (c .before .before .if1 .taken) (c .if2 .left) (s .pre .1)
+    without-second (a .text .now) (a .at) (a .second) (a .alone) (a .both) (s .pre) (c .before .before .if1 .taken) (c .if2 .left)
 
 returns-3 : tie.Need-returns-3
 returns-3 c =
-    let s = c .before in let a = s .args in at-the-end (a .text .now) (a .at) (a .second) (a .alone) (a .both) (c .if1 .left) (s .pre .1)
+    let s = c .before in let a = s .args in at-the-end (a .text .now) (a .at) (a .second) (a .alone) (a .both) (s .pre) (c .if1 .left)
 
 pub paired-spec : {M : Type 1} → statement M
 paired-spec =
-    tie.close (tie.spec add-next shared-slice-read-if2 add-t12 returns returns-2 returns-3)
+    tie.close (tie.spec add-next shared-slice-read-if2 returns returns-2 returns-3)

@@ -1,8 +1,14 @@
 -- The climber meets its contracts: each way through a member is a law of its own, and each call stands further on in the text.
 mod Measures
 mod Operands
+mod Signs
 mod Expressions
-mod Choices
+mod Operators
+mod Wholes
+mod Readings
+mod Steps
+mod Waiting
+mod Workings
 use Rattle.arith_eval.proofs.climb.enclosed.Reads as enclosed
 use Rattle.arith_eval.proofs.climb.expression.Reads as expression
 use Rattle.arith_eval.proofs.climb.further.Reads as further
@@ -50,6 +56,8 @@ use Rattle.arith_eval.proofs.climb.+enclosed+expression+further+operand
   operand-enum-known-token,
   operand-enum-known-token-2,
   operand-enum-known-token-3,
+  operand-slice-reshare-prefix-named,
+  operand-slice-aggregate-named,
   operand-named-requires,
   operand-enum-known-token-4,
   operand-signed-requires,
@@ -59,35 +67,57 @@ use Rattle.arith_eval.proofs.climb.+enclosed+expression+further+operand
   operand-enum-told-2,
   operand-enum-told-3,
   operand-enum-told-4,
+  operand-enum-told-5,
   operand-returns,
   operand-returns-2,
+  operand-same-length,
   operand-returns-3,
+  operand-same-length-2,
+  operand-same-length-3,
   operand-returns-4,
+  operand-same-length-4,
+  operand-same-length-5,
   operand-returns-5,
   operand-returns-6,
   operand-returns-7,
   operand-returns-8,
   operand-returns-9,
+  operand-returns-10,
   operand-callees,
+}
+use Rattle.arith_eval.proofs.climb.+enclosed+expression+further+operand+operator+signed+skip+stepped+whole+worked.Proof.Signs.{
   signed-is-sign-requires,
   signed-returns,
   signed-returns-2,
-  signed-sub-operand,
+  signed-sub-t15,
   signed-operand-requires,
   signed-enum-known-got,
   signed-enum-known-got-2,
   signed-turned-requires,
+  signed-same-length,
+  signed-same-length-2,
   signed-returns-3,
+  signed-same-length-3,
+  signed-same-length-4,
   signed-returns-4,
   signed-callees,
   enclosed-returns,
-  enclosed-sub-whole,
+  enclosed-sub-t16,
   enclosed-whole-requires,
   enclosed-enum-known-got,
   enclosed-enum-known-got-2,
   enclosed-closed-requires,
+  enclosed-enum-known-shut,
+  enclosed-enum-known-shut-2,
+  enclosed-same-length,
+  enclosed-same-length-2,
   enclosed-returns-2,
+  enclosed-same-length-3,
+  enclosed-same-length-4,
   enclosed-returns-3,
+  enclosed-same-length-5,
+  enclosed-same-length-6,
+  enclosed-returns-4,
   enclosed-callees,
 }
 use Rattle.arith_eval.proofs.climb.+enclosed+expression+further+operand+operator+signed+skip+stepped+whole+worked.Proof.Expressions.{
@@ -95,14 +125,22 @@ use Rattle.arith_eval.proofs.climb.+enclosed+expression+further+operand
   expression-enum-known-got,
   expression-enum-known-got-2,
   expression-further-requires,
+  expression-same-length,
+  expression-same-length-2,
   expression-returns,
+  expression-same-length-3,
+  expression-same-length-4,
   expression-returns-2,
   expression-callees,
   further-loop-holds,
   further-operator-requires,
   further-enum-known-got,
+  further-same-length,
+  further-same-length-2,
   further-returns,
   further-enum-told,
+  further-same-length-3,
+  further-same-length-4,
   further-returns-2,
   further-enum-known-got-2,
   further-loop-less,
@@ -110,6 +148,8 @@ use Rattle.arith_eval.proofs.climb.+enclosed+expression+further+operand
   further-callees,
   further-Inv-loop,
   further-μ-loop,
+}
+use Rattle.arith_eval.proofs.climb.+enclosed+expression+further+operand+operator+signed+skip+stepped+whole+worked.Proof.Operators.{
   operator-token-at-requires,
   operator-enum-known-token,
   operator-enum-known-token-2,
@@ -128,8 +168,13 @@ use Rattle.arith_eval.proofs.climb.+enclosed+expression+further+operand
   operator-enum-told-5,
   operator-enum-told-6,
   operator-enum-told-7,
+  operator-enum-told-8,
   operator-returns-2,
+  operator-same-length,
+  operator-same-length-2,
   operator-returns-3,
+  operator-same-length-3,
+  operator-same-length-4,
   operator-returns-4,
   operator-returns-5,
   operator-returns-6,
@@ -138,60 +183,66 @@ use Rattle.arith_eval.proofs.climb.+enclosed+expression+further+operand
   operator-returns-9,
   operator-returns-10,
   operator-returns-11,
+  operator-returns-12,
   operator-callees,
 }
-use Rattle.arith_eval.proofs.climb.+enclosed+expression+further+operand+operator+signed+skip+stepped+whole+worked.Proof.Choices.{
+use Rattle.arith_eval.proofs.climb.+enclosed+expression+further+operand+operator+signed+skip+stepped+whole+worked.Proof.Wholes.{
   whole-worked-requires,
+  whole-same-length,
+  whole-same-length-2,
   whole-returns,
   whole-skip-requires,
   whole-enum-known-got,
   whole-enum-known-got-2,
+  whole-same-length-3,
+  whole-same-length-4,
   whole-returns-2,
+  whole-same-length-5,
+  whole-same-length-6,
   whole-returns-3,
   whole-callees,
+}
+use Rattle.arith_eval.proofs.climb.+enclosed+expression+further+operand+operator+signed+skip+stepped+whole+worked.Proof.Readings.{
   skip-loop-holds,
+  skip-target-at-requires,
+  skip-enum-known-target,
+  skip-loop-less,
+  skip-loop-again,
+  skip-enum-told,
   skip-expression-requires,
   skip-enum-known-got,
+  skip-same-length,
+  skip-same-length-2,
   skip-returns,
   skip-enum-known-got-2,
   skip-mark-at-requires,
   skip-enum-known-mark,
+  skip-same-length-3,
+  skip-same-length-4,
   skip-returns-2,
   skip-enum-known-mark-2,
   skip-add-awaited,
-  skip-loop-less,
-  skip-loop-again,
-  skip-enum-known-mark-3,
-  skip-returns-3,
-  skip-sub-awaited,
   skip-loop-less-2,
   skip-loop-again-2,
-  skip-enum-told,
+  skip-enum-known-mark-3,
+  skip-same-length-5,
+  skip-same-length-6,
+  skip-returns-3,
+  skip-sub-awaited,
+  skip-loop-less-3,
+  skip-loop-again-3,
+  skip-enum-told-2,
+  skip-same-length-7,
+  skip-same-length-8,
   skip-returns-4,
+  skip-same-length-9,
+  skip-same-length-10,
   skip-returns-5,
   skip-callees,
   skip-Inv-loop,
   skip-μ-loop,
-  worked-loop-holds,
-  worked-expression-requires,
-  worked-enum-known-got,
-  worked-returns,
-  worked-enum-known-got-2,
-  worked-stepped-requires,
-  worked-enum-known-step,
-  worked-returns-2,
-  worked-enum-known-step-2,
-  worked-returns-3,
-  worked-enum-known-step-3,
-  worked-add-awaited,
-  worked-loop-less,
-  worked-loop-again,
-  worked-enum-known-step-4,
-  worked-loop-less-2,
-  worked-loop-again-2,
-  worked-callees,
-  worked-Inv-loop,
-  worked-μ-loop,
+}
+use Rattle.arith_eval.proofs.climb.+enclosed+expression+further+operand+operator+signed+skip+stepped+whole+worked.Proof.Steps.{
   stepped-mark-at-requires,
   stepped-enum-known-mark,
   stepped-enum-known-mark-2,
@@ -209,12 +260,68 @@ use Rattle.arith_eval.proofs.climb.+enclosed+expression+further+operand
   stepped-enum-told,
   stepped-returns-3,
   stepped-returns-4,
+  stepped-same-length,
+  stepped-same-length-2,
   stepped-returns-5,
+  stepped-same-length-3,
+  stepped-same-length-4,
   stepped-returns-6,
+  stepped-same-length-5,
+  stepped-same-length-6,
   stepped-returns-7,
+  stepped-same-length-7,
+  stepped-same-length-8,
   stepped-returns-8,
   stepped-returns-9,
   stepped-callees,
+}
+use Rattle.arith_eval.proofs.climb.+enclosed+expression+further+operand+operator+signed+skip+stepped+whole+worked.Proof.Workings.{
+  worked-loop-holds,
+  worked-target-at-requires,
+  worked-enum-known-target,
+  worked-cast-places,
+  worked-mul-places,
+  worked-slice-write-places,
+  worked-add-waiting,
+  worked-loop-less,
+  worked-loop-again,
+  worked-enum-told,
+  worked-mul-expression,
+  worked-sub-expression,
+  worked-part-expression-start,
+  worked-part-expression-end,
+  worked-expression-requires,
+  worked-enum-known-got,
+  worked-same-length,
+  worked-same-length-2,
+  worked-returns,
+  worked-enum-known-got-2,
+  worked-mul-stepped,
+  worked-sub-stepped,
+  worked-part-stepped-start,
+  worked-part-stepped-end,
+  worked-stepped-requires,
+  worked-enum-known-step,
+  worked-same-length-3,
+  worked-same-length-4,
+  worked-returns-2,
+  worked-enum-known-step-2,
+  worked-stored-all-requires,
+  worked-same-length-5,
+  worked-same-length-6,
+  worked-returns-3,
+  worked-enum-known-step-3,
+  worked-add-awaited,
+  worked-loop-less-2,
+  worked-loop-again-2,
+  worked-enum-known-step-4,
+  worked-loop-less-3,
+  worked-loop-again-3,
+}
+use Rattle.arith_eval.proofs.climb.+enclosed+expression+further+operand+operator+signed+skip+stepped+whole+worked.Proof.Waiting.{
+  worked-callees,
+  worked-Inv-loop,
+  worked-μ-loop,
 }
 use Rattle.arith_eval.proofs.climb.+enclosed+expression+further+operand+operator+signed+skip+stepped+whole+worked.{statement}
 use Rattle.arith_eval.proofs.climb.+enclosed+expression+further+operand+operator+signed+skip+stepped+whole+worked.Tie.{close}
@@ -225,20 +332,33 @@ pub +enclosed+expression+further+operand+operator+signed+skip+stepped+whole+work
     (λ t. enclosed-lts.spec (enclosed-callees t) (enclosed-at t)
     enclosed.Post
     (enclosed-returns t)
-    (enclosed-sub-whole t)
+    (enclosed-sub-t16 t)
     (enclosed-whole-requires t)
     (enclosed-enum-known-got t)
     (enclosed-enum-known-got-2 t)
     (enclosed-closed-requires t)
+    (enclosed-enum-known-shut t)
+    (enclosed-enum-known-shut-2 t)
+    (enclosed-same-length t)
+    (enclosed-same-length-2 t)
     (enclosed-returns-2 t)
-    (enclosed-returns-3 t))
+    (enclosed-same-length-3 t)
+    (enclosed-same-length-4 t)
+    (enclosed-returns-3 t)
+    (enclosed-same-length-5 t)
+    (enclosed-same-length-6 t)
+    (enclosed-returns-4 t))
     (λ t. expression-lts.spec (expression-callees t) (expression-at t)
     expression.Post
     (expression-operand-requires t)
     (expression-enum-known-got t)
     (expression-enum-known-got-2 t)
     (expression-further-requires t)
+    (expression-same-length t)
+    (expression-same-length-2 t)
     (expression-returns t)
+    (expression-same-length-3 t)
+    (expression-same-length-4 t)
     (expression-returns-2 t))
     (λ t. further-lts.spec (further-callees t) (further-at t)
     further.Post
@@ -247,8 +367,12 @@ pub +enclosed+expression+further+operand+operator+signed+skip+stepped+whole+work
     (further-loop-holds t)
     (further-operator-requires t)
     (further-enum-known-got t)
+    (further-same-length t)
+    (further-same-length-2 t)
     (further-returns t)
     (further-enum-told t)
+    (further-same-length-3 t)
+    (further-same-length-4 t)
     (further-returns-2 t)
     (further-enum-known-got-2 t)
     (further-loop-less t)
@@ -259,6 +383,8 @@ pub +enclosed+expression+further+operand+operator+signed+skip+stepped+whole+work
     (operand-enum-known-token t)
     (operand-enum-known-token-2 t)
     (operand-enum-known-token-3 t)
+    (operand-slice-reshare-prefix-named t)
+    (operand-slice-aggregate-named t)
     (operand-named-requires t)
     (operand-enum-known-token-4 t)
     (operand-signed-requires t)
@@ -268,15 +394,22 @@ pub +enclosed+expression+further+operand+operator+signed+skip+stepped+whole+work
     (operand-enum-told-2 t)
     (operand-enum-told-3 t)
     (operand-enum-told-4 t)
+    (operand-enum-told-5 t)
     (operand-returns t)
     (operand-returns-2 t)
+    (operand-same-length t)
     (operand-returns-3 t)
+    (operand-same-length-2 t)
+    (operand-same-length-3 t)
     (operand-returns-4 t)
+    (operand-same-length-4 t)
+    (operand-same-length-5 t)
     (operand-returns-5 t)
     (operand-returns-6 t)
     (operand-returns-7 t)
     (operand-returns-8 t)
-    (operand-returns-9 t))
+    (operand-returns-9 t)
+    (operand-returns-10 t))
     (λ t. operator-lts.spec (operator-callees t) (operator-at t)
     operator.Post
     (operator-token-at-requires t)
@@ -297,8 +430,13 @@ pub +enclosed+expression+further+operand+operator+signed+skip+stepped+whole+work
     (operator-enum-told-5 t)
     (operator-enum-told-6 t)
     (operator-enum-told-7 t)
+    (operator-enum-told-8 t)
     (operator-returns-2 t)
+    (operator-same-length t)
+    (operator-same-length-2 t)
     (operator-returns-3 t)
+    (operator-same-length-3 t)
+    (operator-same-length-4 t)
     (operator-returns-4 t)
     (operator-returns-5 t)
     (operator-returns-6 t)
@@ -306,42 +444,62 @@ pub +enclosed+expression+further+operand+operator+signed+skip+stepped+whole+work
     (operator-returns-8 t)
     (operator-returns-9 t)
     (operator-returns-10 t)
-    (operator-returns-11 t))
+    (operator-returns-11 t)
+    (operator-returns-12 t))
     (λ t. signed-lts.spec (signed-callees t) (signed-at t)
     signed.Post
     (signed-is-sign-requires t)
     (signed-returns t)
     (signed-returns-2 t)
-    (signed-sub-operand t)
+    (signed-sub-t15 t)
     (signed-operand-requires t)
     (signed-enum-known-got t)
     (signed-enum-known-got-2 t)
     (signed-turned-requires t)
+    (signed-same-length t)
+    (signed-same-length-2 t)
     (signed-returns-3 t)
+    (signed-same-length-3 t)
+    (signed-same-length-4 t)
     (signed-returns-4 t))
     (λ t. skip-lts.spec (skip-callees t) (skip-at t)
     skip.Post
     skip-Inv-loop
     skip-μ-loop
     (skip-loop-holds t)
+    (skip-target-at-requires t)
+    (skip-enum-known-target t)
+    (skip-loop-less t)
+    (skip-loop-again t)
+    (skip-enum-told t)
     (skip-expression-requires t)
     (skip-enum-known-got t)
+    (skip-same-length t)
+    (skip-same-length-2 t)
     (skip-returns t)
     (skip-enum-known-got-2 t)
     (skip-mark-at-requires t)
     (skip-enum-known-mark t)
+    (skip-same-length-3 t)
+    (skip-same-length-4 t)
     (skip-returns-2 t)
     (skip-enum-known-mark-2 t)
     (skip-add-awaited t)
-    (skip-loop-less t)
-    (skip-loop-again t)
-    (skip-enum-known-mark-3 t)
-    (skip-returns-3 t)
-    (skip-sub-awaited t)
     (skip-loop-less-2 t)
     (skip-loop-again-2 t)
-    (skip-enum-told t)
+    (skip-enum-known-mark-3 t)
+    (skip-same-length-5 t)
+    (skip-same-length-6 t)
+    (skip-returns-3 t)
+    (skip-sub-awaited t)
+    (skip-loop-less-3 t)
+    (skip-loop-again-3 t)
+    (skip-enum-told-2 t)
+    (skip-same-length-7 t)
+    (skip-same-length-8 t)
     (skip-returns-4 t)
+    (skip-same-length-9 t)
+    (skip-same-length-10 t)
     (skip-returns-5 t))
     (λ t. stepped-lts.spec (stepped-callees t) (stepped-at t)
     stepped.Post
@@ -362,38 +520,76 @@ pub +enclosed+expression+further+operand+operator+signed+skip+stepped+whole+work
     (stepped-enum-told t)
     (stepped-returns-3 t)
     (stepped-returns-4 t)
+    (stepped-same-length t)
+    (stepped-same-length-2 t)
     (stepped-returns-5 t)
+    (stepped-same-length-3 t)
+    (stepped-same-length-4 t)
     (stepped-returns-6 t)
+    (stepped-same-length-5 t)
+    (stepped-same-length-6 t)
     (stepped-returns-7 t)
+    (stepped-same-length-7 t)
+    (stepped-same-length-8 t)
     (stepped-returns-8 t)
     (stepped-returns-9 t))
     (λ t. whole-lts.spec (whole-callees t) (whole-at t)
     whole.Post
     (whole-worked-requires t)
+    (whole-same-length t)
+    (whole-same-length-2 t)
     (whole-returns t)
     (whole-skip-requires t)
     (whole-enum-known-got t)
     (whole-enum-known-got-2 t)
+    (whole-same-length-3 t)
+    (whole-same-length-4 t)
     (whole-returns-2 t)
+    (whole-same-length-5 t)
+    (whole-same-length-6 t)
     (whole-returns-3 t))
     λ t. worked-lts.spec (worked-callees t) (worked-at t)
     worked.Post
     worked-Inv-loop
     worked-μ-loop
     (worked-loop-holds t)
+    (worked-target-at-requires t)
+    (worked-enum-known-target t)
+    (worked-cast-places t)
+    (worked-mul-places t)
+    (worked-slice-write-places t)
+    (worked-add-waiting t)
+    (worked-loop-less t)
+    (worked-loop-again t)
+    (worked-enum-told t)
+    (worked-mul-expression t)
+    (worked-sub-expression t)
+    (worked-part-expression-start t)
+    (worked-part-expression-end t)
     (worked-expression-requires t)
     (worked-enum-known-got t)
+    (worked-same-length t)
+    (worked-same-length-2 t)
     (worked-returns t)
     (worked-enum-known-got-2 t)
+    (worked-mul-stepped t)
+    (worked-sub-stepped t)
+    (worked-part-stepped-start t)
+    (worked-part-stepped-end t)
     (worked-stepped-requires t)
     (worked-enum-known-step t)
+    (worked-same-length-3 t)
+    (worked-same-length-4 t)
     (worked-returns-2 t)
     (worked-enum-known-step-2 t)
+    (worked-stored-all-requires t)
+    (worked-same-length-5 t)
+    (worked-same-length-6 t)
     (worked-returns-3 t)
     (worked-enum-known-step-3 t)
     (worked-add-awaited t)
-    (worked-loop-less t)
-    (worked-loop-again t)
-    (worked-enum-known-step-4 t)
     (worked-loop-less-2 t)
     (worked-loop-again-2 t)
+    (worked-enum-known-step-4 t)
+    (worked-loop-less-3 t)
+    (worked-loop-again-3 t)
