@@ -12,7 +12,7 @@ use Rattle.stages.specs.Images.{Pairs, isName, held, flat, image, imageLength}
 use Rattle.stages.proofs.Images.{Bytes, bytes-take}
 use Rattle.stages.proofs.Tables.{vars-of, table-canonical}
 use Rattle.expand_add.proofs.Waiting.{waits-length}
-use Rattle.expand_add.proofs.Determined.{vars-used-is}
+use Rattle.table_store.proofs.Holding.{vars-used-is}
 use Rattle.assign_line.specs.Answers.{IsLeft, LineDemands, LineSays}
 use Rattle.assign_line.specs.declared.LineAssigned.{LineAssigned}
 use Rattle.assign_line.specs.declared.LineAssigned.the-variants.{Done, Refused, Demanded}

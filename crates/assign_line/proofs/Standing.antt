@@ -12,7 +12,7 @@ use Rattle.stages.specs.Assign.{anAssignment, assignmentOf, assign}
 use Rattle.stages.proofs.Pieces.{FirstPiece}
 use Rattle.table.specs.Around.{lentOf}
 use Rattle.read_line.specs.Says.{NextAt, NextNone}
-use Rattle.expand_add.specs.Answers.{Holds}
+use Rattle.table_store.specs.Holding.{Holds}
 use Rattle.assign_line.specs.Answers.{lineOutcome, AssignmentReady, IsStored, WordDemands, AssignmentOf, AssignmentSays, LineReady, LineSays}
 use Rattle.assign_line.specs.declared.WordAssigned.{WordAssigned}
 use Rattle.assign_line.specs.declared.WordAssigned.the-variants as word

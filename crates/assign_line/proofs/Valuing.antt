@@ -26,8 +26,9 @@ use Rattle.expand_add.specs.Answers.{IsRow, IsDemand, Answers, Says}
 use Rattle.expand_add.specs.declared.answers.Expanded.{Expanded}
 use Rattle.expand_add.specs.declared.answers.Expanded.the-variants as expanded
 use Rattle.expand_add.proofs.Holding.{says-known, answers-known}
-use Rattle.expand_operand.specs.Operands.{Storable, rowAt, StoresIn}
-use Rattle.expand_operand.proofs.Storing.{stored-known}
+use Rattle.table_store.specs.Holding.{StoresIn}
+use Rattle.table_store.proofs.Holding.{stored-known}
+use Rattle.expand_operand.specs.Operands.{Storable, rowAt}
 use Rattle.expand_text.proofs.Inside.{lending, row-at, row-storable}
 use Rattle.assign_line.specs.Answers.{Named, AssignmentReady, ValueReady, AssignmentOf, AssignmentSays}
 use Rattle.assign_line.specs.declared.WordAssigned.{WordAssigned}

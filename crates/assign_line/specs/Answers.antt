@@ -13,7 +13,8 @@ use Rattle.stages.specs.Params.{Lent}
 use Rattle.stages.specs.Assign.{anAssignment, assignmentOf, readAssignments, assign, assignAll}
 use Rattle.read_mode.specs.declared.Mode.the-variants as mode
 use Rattle.read_line.specs.Says.{AssignmentTo}
-use Rattle.expand_add.specs.Answers.{Holds, Ready, Waits}
+use Rattle.table_store.specs.Holding.{Holds}
+use Rattle.expand_add.specs.Answers.{Ready, Waits}
 use Rattle.assign_line.specs.declared.WordAssigned.{WordAssigned}
 use Rattle.assign_line.specs.declared.WordAssigned.the-variants as word
 use Rattle.assign_line.specs.declared.LineAssigned.{LineAssigned}

@@ -7,7 +7,6 @@ use mathlib.Core.Path.{_≡_, refl, sym, ap, _∙_}
 use mathlib.Core.Bool.{Bool}
 use mathlib.Core.List.{[]}
 use lib.ListN.{length, take, drop, length-drop}
-use lib.Seq.{length-take-le}
 use Rattle.stages.specs.Bytes.{Text}
 use Rattle.stages.specs.Outcome.{Outcome, refused, demands, done}
 use Rattle.stages.specs.Images.{Pairs, isName, held, flat, image, imageLength}
@@ -16,15 +15,16 @@ use Rattle.stages.specs.Read.{Taken}
 use Rattle.stages.specs.Units.{Row}
 use Rattle.stages.specs.Expand.{Made}
 use Rattle.stages.proofs.Images.{Bytes}
-use Rattle.stages.proofs.Tables.{table-length, table-canonical}
+use Rattle.stages.proofs.Tables.{table-canonical}
 use Rattle.stages.proofs.Rooms.{fit-ok}
 use Rattle.text.specs.Rows.{rowBytes}
-use Rattle.expand_add.specs.Answers.{Holds, IsRow, IsDemand, Ends, Answers, Says, Finishes}
+use Rattle.table_store.proofs.Holding.{vars-held, vars-used-is}
+use Rattle.expand_add.specs.Answers.{IsRow, IsDemand, Ends, Answers, Says, Finishes}
 use Rattle.expand_add.specs.declared.answers.Onward.{Onward}
 use Rattle.expand_add.specs.declared.answers.Expanded.{Expanded}
 use Rattle.expand_add.specs.declared.answers.Expanded.the-variants as answer
 use Rattle.expand_add.proofs.Standing.{front}
-use Rattle.expand_add.proofs.Holding.{vars-held, says-known, answers-known}
+use Rattle.expand_add.proofs.Holding.{says-known, answers-known}
 use Rattle.expand_add.proofs.Waiting.{waits-length}
 use Rattle.text.proofs.Determined.{one-answer}
 use Rattle.expand_add.specs.Added.{Adds, Fitting, measured}
@@ -82,11 +82,6 @@ waiting area (answer.Demanded at len) = take len (drop at area)
 pub record OneAnswer (area : Text) (r : Expanded) (area′ : Text) (r′ : Expanded) : Type 0 where
   pub answers : apart r ≡ apart r′
   pub message : waiting area r ≡ waiting area′ r′
-
-pub vars-used-is : (varsRoom : ℕ) (vars : Text) (varsUsed : ℕ) → Holds varsRoom vars varsUsed
-    → varsUsed ≡ imageLength (flat (held (take varsUsed vars)))
-vars-used-is varsRoom vars varsUsed w =
-    sym (length-take-le varsUsed vars (w .inside)) ∙ table-length isName (take varsUsed vars) (vars-held varsRoom vars varsUsed w)
 
 module _ (varsRoom units : ℕ) (made : Made) (area vars area′ vars′ : Text) where
   clash : {e : ℕ} {p : Row × Pairs × Bool} → made ≡ refused e → made ≡ done p → ⊥

@@ -1,16 +1,14 @@
 -- Room for a row, and rows that fill a front.
 use Prim.Native.Nat.{ℕ, suc, _+_, _≤_, _<_}
-use native.Mathlib.Omega.{arith}
 use mathlib.Core.Path.{_≡_, refl, ap, _∙_, subst}
 use mathlib.Core.List.{[], _∷_}
 use borrow.Author.Tests.{le-leb, lt-leb}
 use lib.Dec.{leb}
-use lib.ListN.{length, drop, length-append}
+use lib.ListN.{length, drop}
 use Rattle.stages.specs.Numbers.{rowLimit, tooManyUnits}
 use Rattle.stages.specs.Bytes.{Text}
 use Rattle.stages.specs.Outcome.{Outcome, refused, done}
 use Rattle.stages.specs.Units.{Mark, Row, marked, expandedMark, fit}
-use Rattle.stages.specs.Call.{over}
 use Rattle.stages.proofs.Bools.{either}
 use Rattle.stages.proofs.Rooms.{fit-full}
 use Rattle.text.specs.Rows.{rowBytes}
@@ -21,7 +19,6 @@ use Rattle.expand_add.specs.Added.{EndsExpanded, Adds, Fitting, measured
 use Rattle.expand_add.specs.declared.answers.Onward.{Onward}
 use Rattle.expand_add.specs.declared.answers.Expanded.{Expanded}
 use Rattle.expand_add.specs.declared.answers.Expanded.the-variants as answer
-use Rattle.text.specs.Putting.{Puts}
 
 -- what holds where there is room and where there is none
 pub by-fit : (P : Outcome ℕ → Type 0) (n k : ℕ) → P (done (n + k)) → P (refused tooManyUnits) → P (fit n k)
@@ -76,8 +73,3 @@ adds-expanded row {there} on {t} {u} area r x e h =
     subst (λ (n : ℕ). Adds n on (done (marked (expandedMark (markOf (row .mark))) u)) area r) (x .units)
     (adds-same (there .units) on area r
     (ap (λ (k : Mark). done (marked k t)) (x .mark) ∙ ap (λ (s : Text). done (marked (expandedMark (markOf (row .mark))) s)) e) h)
-
--- a text that was written at the front ends within the buffer
-pub puts-inside : {text entry exit : Text} {n : ℕ} → Puts text entry exit n → n ≤ length exit
-unfolding over
-puts-inside {text} {entry} {exit} {n} p = omega (arith, p .counts, ap length (p .leaves), length-append text (drop (length text) entry))

@@ -1,4 +1,4 @@
--- What an answer says, once its case is known, and the variables that stand in their bytes.
+-- What an answer says, once its case is known.
 use Prim.Native.Nat.{ℕ}
 use native.Mathlib.Omega.{arith}
 use mathlib.Core.Path.{_≡_, subst}
@@ -10,21 +10,14 @@ use Rattle.stages.specs.Syntax.{Parts}
 use Rattle.stages.specs.Read.{Taken}
 use Rattle.stages.specs.Units.{Row}
 use Rattle.stages.specs.Expand.{Made}
-use Rattle.stages.proofs.Tables.{Vars, vars-of}
-use Rattle.table.specs.Places as places
+use Rattle.table_store.specs.Holding.{Holds}
 use Rattle.expand_add.specs.Added.{Adds}
 use Rattle.expand_add.specs.Steps.{beside, placed}
-use Rattle.expand_add.specs.Answers.{Holds, Ends, Answers, Says, Finishes}
+use Rattle.expand_add.specs.Answers.{Ends, Answers, Says, Finishes}
 use Rattle.expand_add.specs.declared.answers.Onward.{Onward}
 use Rattle.expand_add.specs.declared.answers.Expanded.{Expanded}
 use Rattle.expand_add.specs.declared.answers.Expanded.the-variants as answer
 use Rattle.expand_add.proofs.Steps.{placed-fits, beside-refused, beside-done}
-
-pub vars-held : (varsRoom : ℕ) (vars : Text) (varsUsed : ℕ) → Holds varsRoom vars varsUsed → Vars (take varsUsed vars)
-vars-held varsRoom vars varsUsed w = vars-of (take varsUsed vars) (w .formed)
-
-pub table-held : (varsRoom : ℕ) (vars : Text) (varsUsed : ℕ) → Holds varsRoom vars varsUsed → places.Table (take varsUsed vars)
-table-held varsRoom vars varsUsed w = let t = vars-held varsRoom vars varsUsed w in record { pairs = t .table; rises = t .rises }
 
 -- the answer of a text, once its parts are known
 pub says-known : (varsRoom : ℕ) (text : Text) (at units : ℕ) (own : Parts → Made) {o : Taken} {p : Parts × Text} (area vars : Text) (r : Expanded)

@@ -102,16 +102,16 @@ module _ (a : Lent) (p : Parts) (m : Mark) (n : ℕ) where
   number-bind (done s) = refl
 
   sum-bind : (o : Made)
-      → (o >>= λ r. arithmeticOf (r .1) (bytes (r .0)) >>= λ s. adding n (marked (expandedMark m) (s .0)) false λ i. expand a p m i (s .1))
-      ≡ ((o >>= λ r. summed m r) >>= λ r. adding n (r .0) (r .2) λ i. expand a p m i (r .1))
+      → (o >>= λ r. arithmeticOf a (r .1) (bytes (r .0)) >>= λ s. adding n (marked (expandedMark m) (s .0)) false λ i. expand a p m i (s .1))
+      ≡ ((o >>= λ r. summed a m r) >>= λ r. adding n (r .0) (r .2) λ i. expand a p m i (r .1))
   unfolding summed marked
   sum-bind (refused e) = refl
   sum-bind (demands t) = refl
-  sum-bind (done r) = number-bind (arithmeticOf (r .1) (bytes (r .0)))
+  sum-bind (done r) = number-bind (arithmeticOf a (r .1) (bytes (r .0)))
 
-  pub expand-ari : (q : Parts) (v : Pairs) → expand a (ari q p) m n v ≡ followed a p m n (placed n (expand a q Q 0 v >>= λ r. summed m r))
+  pub expand-ari : (q : Parts) (v : Pairs) → expand a (ari q p) m n v ≡ followed a p m n (placed n (expand a q Q 0 v >>= λ r. summed a m r))
   unfolding expand
-  expand-ari q v = sum-bind (expand a q Q 0 v) ∙ placed-followed (expand a q Q 0 v >>= λ r. summed m r)
+  expand-ari q v = sum-bind (expand a q Q 0 v) ∙ placed-followed (expand a q Q 0 v >>= λ r. summed a m r)
 
   pub followed-refused : (own : Made) (e : ℕ) → own ≡ refused e → followed a p m n own ≡ refused e
   unfolding followed

@@ -3,26 +3,20 @@ use Prim.Native.Nat.{ℕ, _+_, _*_, _≤_}
 use mathlib.Core.Path.{_≡_}
 use mathlib.Core.Bool.{Bool, true}
 use lib.ListN.{length, take, drop}
-use Rattle.stages.specs.Numbers.{rowLimit, imageLimit}
+use Rattle.stages.specs.Numbers.{rowLimit}
 use Rattle.stages.specs.Bytes.{Text, all, notZero}
 use Rattle.stages.specs.Outcome.{refused, demands, done}
-use Rattle.stages.specs.Images.{variablesOf, held, isSome}
+use Rattle.stages.specs.Images.{held}
 use Rattle.stages.specs.Syntax.{Parts}
 use Rattle.stages.specs.Read.{Taken, parts}
 use Rattle.stages.specs.Units.{Row}
 use Rattle.stages.specs.Expand.{Made}
 use Rattle.row.specs.Stands.{Stands}
+use Rattle.table_store.specs.Holding.{Holds}
 use Rattle.read_mode.specs.Modes.{modeOf, openIn}
 use Rattle.read_mode.specs.declared.Mode.{Mode}
 use Rattle.expand_add.specs.declared.answers.Expanded.{Expanded}
 use Rattle.expand_add.specs.declared.answers.Expanded.the-variants as expanded
-
--- the first `varsUsed` bytes are the image of variables, which may grow to `varsRoom`
-pub record Holds (varsRoom : ℕ) (vars : Text) (varsUsed : ℕ) : Type 0 where
-  pub formed : isSome (variablesOf (take varsUsed vars)) ≡ true
-  pub inside : varsUsed ≤ length vars
-  pub fits : varsUsed ≤ varsRoom
-  pub long : imageLimit ≤ length vars
 
 -- the text from `at` on is read, no byte of it is zero, and there is room for its row and for those of the expansions that may open in it
 pub record Ready (text : Text) (at : ℕ) (mode : Mode) (depth units size : ℕ) : Type 0 where

@@ -25,14 +25,14 @@ unfolding expand fit inQuotes
 quoted a q n v = fit n 1 >>= λ i. expand a q Q i v >>= λ r. done (inQuotes (r .2) (r .0), r .1, false)
 
 -- the number of an arithmetic text that is expanded
-unfoldable pub summed : Mark → Row × Pairs × Bool → Made
+unfoldable pub summed : Lent → Mark → Row × Pairs × Bool → Made
 unfolding arithmeticOf bytes marked
-summed m p = arithmeticOf (p .1) (bytes (p .0)) >>= λ s. done (marked (expandedMark m) (s .0), s .1, false)
+summed a m p = arithmeticOf a (p .1) (bytes (p .0)) >>= λ s. done (marked (expandedMark m) (s .0), s .1, false)
 
 -- the number of an arithmetic text
 unfoldable pub summing : Lent → Parts → Mark → Pairs → Made
 unfolding expand summed
-summing a q m v = expand a q Q 0 v >>= λ p. summed m p
+summing a q m v = expand a q Q 0 v >>= λ p. summed a m p
 
 -- what a part gives, and behind it the parts p
 unfoldable pub followed : Lent → Parts → Mark → ℕ → Made → Made

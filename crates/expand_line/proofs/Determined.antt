@@ -14,7 +14,7 @@ use Rattle.stages.specs.Call.{over}
 use Rattle.stages.proofs.Images.{Bytes, bytes-take}
 use Rattle.stages.proofs.Tables.{vars-of, table-canonical}
 use Rattle.expand_add.proofs.Waiting.{waits-length}
-use Rattle.expand_add.proofs.Determined.{vars-used-is}
+use Rattle.table_store.proofs.Holding.{vars-used-is}
 use Rattle.expand_line.specs.Answers.{IsLine, LineDemands, LineSays}
 use Rattle.expand_line.specs.declared.LineExpanded.{LineExpanded}
 use Rattle.expand_line.specs.declared.LineExpanded.the-variants.{Done, Refused, Demanded}

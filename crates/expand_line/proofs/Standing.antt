@@ -18,7 +18,7 @@ use Rattle.stages.proofs.Read.{word-good}
 use Rattle.stages.proofs.Words.{FirstWord}
 use Rattle.read_line.specs.Says.{NextAt, NextNone}
 use Rattle.read_line.proofs.Lines.{good-left}
-use Rattle.expand_add.specs.Answers.{Holds}
+use Rattle.table_store.specs.Holding.{Holds}
 use Rattle.table_store.specs.Splice.{placed}
 use Rattle.table.specs.Around.{among}
 use Rattle.expand_line.specs.Answers.{wordOutcome, lineOutcome, WordReady, IsFields, WordDemands, WordOf, WordSays, LineReady, LineSays}

@@ -13,7 +13,8 @@ use Rattle.stages.specs.Read.{Taken, readLine}
 use Rattle.stages.specs.Line.{Around, Fields, wordFields, outFits, expandWords}
 use Rattle.stages.specs.Call.{over}
 use Rattle.read_mode.specs.declared.Mode.the-variants as mode
-use Rattle.expand_add.specs.Answers.{Holds, Ready, Waits, Ends}
+use Rattle.table_store.specs.Holding.{Holds}
+use Rattle.expand_add.specs.Answers.{Ready, Waits, Ends}
 use Rattle.table_store.specs.Splice.{placed}
 use Rattle.expand_line.specs.declared.WordExpanded.{WordExpanded}
 use Rattle.expand_line.specs.declared.WordExpanded.the-variants as word

@@ -23,7 +23,8 @@ use Rattle.text.proofs.Rows.{length-rowBytes}
 use Rattle.row.specs.Stands.{Stands}
 use Rattle.expand_add.specs.Added.{Adds, admitted}
 use Rattle.expand_add.specs.Steps.{beside, placed}
-use Rattle.expand_add.specs.Answers.{Holds, Finishes}
+use Rattle.table_store.specs.Holding.{Holds}
+use Rattle.expand_add.specs.Answers.{Finishes}
 use Rattle.expand_add.specs.declared.answers.Onward.{Onward}
 use Rattle.expand_add.specs.declared.answers.Expanded.{Expanded}
 use Rattle.expand_add.specs.declared.answers.Expanded.the-variants as answer

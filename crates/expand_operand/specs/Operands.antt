@@ -4,24 +4,20 @@ use mathlib.Core.Path.{_≡_}
 use mathlib.Core.Bool.{true, false}
 use lib.ListN.{length, take}
 use Rattle.stages.specs.Bytes.{Text, all, notZero}
-use Rattle.stages.specs.Outcome.{Outcome, done, _>>=_, refused, pick}
-use Rattle.stages.specs.Images.{Pairs, isName, lookup, held, orEmpty}
+use Rattle.stages.specs.Outcome.{Outcome, done, _>>=_}
+use Rattle.stages.specs.Images.{Pairs, isName, lookup, orEmpty}
 use Rattle.stages.specs.Syntax.{Side, Reach, Param, var, nth}
 use Rattle.stages.specs.Units.{Mark, Row, marked, bytes, expandedMark}
 use Rattle.stages.specs.Pattern.{forRemoval, pattern}
 use Rattle.stages.specs.Removal.{removed}
-use Rattle.stages.specs.Arith.{arithmeticOf}
 use Rattle.stages.specs.Params.{store}
 use Rattle.stages.specs.Expand.{Made}
-use Rattle.stages.specs.Numbers.{rowLimit, imageLimit, variableRoom}
-use Rattle.table_store.specs.declared.Stored.{Stored}
-use Rattle.table_store.specs.declared.Stored.the-variants.{Used, Full}
+use Rattle.stages.specs.Numbers.{rowLimit}
 use Rattle.expand_add.specs.Added.{Adds}
-use Rattle.expand_add.specs.Answers.{Holds, Waits}
+use Rattle.expand_add.specs.Answers.{Waits}
 use Rattle.expand_add.specs.declared.answers.Onward.{Onward}
 use Rattle.expand_add.specs.declared.answers.Expanded.{Expanded}
 use Rattle.expand_add.specs.declared.answers.Expanded.the-variants as expanded
-use lib.Dec.{leb}
 use Rattle.text.specs.Rows.{rowBytes, rowOf}
 use Rattle.pattern_row.specs.Kept.{NoEmpty}
 use Rattle.expand_operand.specs.declared.Tried.{Tried}
@@ -71,17 +67,3 @@ abbrev pub Demands : Text → Text → Expanded → Type 0
 Demands t area (expanded.Row count next varsUsed ofNone) = ⊥
 Demands t area (expanded.Refused e) = ⊥
 Demands t area (expanded.Demanded at len) = Waits t area at len
-
--- the number of an arithmetic text, as units
-unfoldable pub sumOf : Mark → Row → Pairs → Outcome Row
-unfolding arithmeticOf bytes marked
-sumOf m row v = arithmeticOf v (bytes row) >>= λ s. done (marked (expandedMark m) (s .0))
-
--- "longer than its buffer or 8,192": the lesser of the two
-abbrev pub limitOf : ℕ → ℕ
-limitOf varsRoom = pick (leb varsRoom imageLimit) varsRoom imageLimit
-
--- the value is stored as the stage stores it, or refused
-abbrev pub StoresIn : ℕ → Text → Text → Pairs → Text → Stored → Type 0
-StoresIn varsRoom x t v vars Full = store varsRoom x t v ≡ refused variableRoom
-StoresIn varsRoom x t v vars (Used varsUsed) = (store varsRoom x t v ≡ done (held (take varsUsed vars))) × Holds varsRoom vars varsUsed

@@ -1,6 +1,7 @@
 // What is done with an operand's row, which stands at the front of the area: it is stored, it is the pattern of a removal, it is an arithmetic text, it is
 // the message of a refusal, or it is the expansion itself.
 ghost use mathlib.Core.Path.{_≡_};
+ghost use mathlib.Core.Bool.{false};
 ghost use Prim.Native.Nat.{ℕ, _*_, _≤_};
 ghost use lib.ListN.{length, take};
 ghost use Rattle.stages.specs.Numbers.{rowLimit};
@@ -17,10 +18,11 @@ ghost use Rattle.read_brace.specs.Shows.{Name, paramOf};
 ghost use Rattle.expand_param.specs.Holding.{holdingIn};
 ghost use Rattle.expand_add.specs.Added.{Adds, admitted};
 ghost use Rattle.expand_form.specs.Plans.{settled, finished};
-ghost use Rattle.expand_add.specs.Steps.{placed};
-ghost use Rattle.expand_operand.specs.Operands.{Storable, rowAt, storing, cutOf, sumOf, limitOf, StoresIn, Pattern, TriedSays, Demands};
-ghost use Rattle.expand_add.specs.Answers.{Holds, Finishes};
-use arith_int::Number;
+ghost use Rattle.expand_add.specs.Steps.{placed, summed};
+ghost use Rattle.expand_operand.specs.Operands.{Storable, rowAt, storing, cutOf, Pattern, TriedSays, Demands};
+ghost use Rattle.table_store.specs.Holding.{Holds, StoresIn};
+ghost use Rattle.expand_add.specs.Answers.{Finishes};
+use arith_eval::Worked;
 use expand_add::answers::Expanded;
 use expand_add::answers::Extent;
 use expand_add::answers::Onward;
@@ -70,16 +72,6 @@ fn admit(units: usize, row: RowEnd, on: Onward) -> Expanded
     }
 }
 
-// What an image of variables may grow to, where the caller has so much room.
-fn limit_of(vars_room: usize) -> usize
-    ensures { λ r. ⌜ r ≡ limitOf «vars_room» ⌝ }
-{
-    if vars_room > numbers::IMAGE_LIMIT {
-        return numbers::IMAGE_LIMIT;
-    }
-    vars_room
-}
-
 // Stores the bytes without marks of the row at the front of the area under the name: the row of an operand, or of an assignment's value.
 pub fn store_operand(
     name: &[u8],
@@ -94,13 +86,7 @@ pub fn store_operand(
 {
     let end = 2 * units;
     let n = row::strip_marks(&mut work[..end]);
-    table_store::store(
-        vars,
-        extent.vars_used,
-        name,
-        &work[..n],
-        limit_of(extent.vars_room),
-    )
+    table_store::store_within(name, &work[..n], vars, extent.vars_used, extent.vars_room)
 }
 
 // "if missing, the operand's bytes without marks are stored; then the value is given, whatever quotes the operand had": no `$@` of no parameters comes of it.
@@ -242,18 +228,38 @@ fn cut<'a>(
     cut_value(value, full, row, on, work)
 }
 
-// The number of the arithmetic text that the row is.
-pub fn sum_up(units: usize, row: RowEnd, on: Onward, vars: &[u8], work: &mut [u8]) -> Expanded
-    requires { ⌜ Table (now vars) × (2 * units ≤ length (now work)) × (row .units ≤ rowLimit) × (2 * rowLimit ≤ length (now work)) ⌝ }
-    ensures { λ r. ⌜ Adds (row .units) on (sumOf (markOf (row .mark)) (rowAt (now (work .entry)) units) (held (now (vars .entry))))
-        (now (work .exit)) r ⌝ }
+// The number of the arithmetic text that the row is. What the text stores is stored.
+pub fn sum_up(
+    units: usize,
+    next: usize,
+    row: RowEnd,
+    vars: &mut [u8],
+    extent: Extent,
+    work: &mut [u8],
+) -> Expanded
+    requires { ⌜ Holds (extent .«vars_room») (now vars) (extent .«vars_used») × (units ≤ rowLimit) × (row .units ≤ rowLimit) ×
+        (2 * rowLimit ≤ length (now work)) ⌝ }
+    ensures { λ r. ⌜ ((homes params : Text) → Finishes (extent .«vars_room») (row .units)
+        (placed (row .units) (summed (lentOf (extent .«vars_room») homes params) (markOf (row .mark))
+        (rowAt (now (work .entry)) units, held (take (extent .«vars_used») (now (vars .entry))), false)))
+        next (now (work .exit)) (now (vars .exit)) r) ⌝ }
 {
     let end = 2 * units;
     let n = row::strip_marks(&mut work[..end]);
-    let got = arith_eval::evaluate_text(&work[..n], vars);
+    let got = arith_eval::evaluate_text(&work[..n], vars, extent.vars_used, extent.vars_room);
     match got {
-        Number::Refused(e) => Expanded::Refused(e),
-        Number::Value(z) => expand_add::give_number(z, row, on, work),
+        Worked::Refused(e) => Expanded::Refused(e),
+        Worked::Value {
+            value,
+            vars_used: left,
+        } => {
+            let on = Onward {
+                next: next,
+                vars_used: left,
+                of_none: false,
+            };
+            expand_add::give_number(value, row, on, work)
+        }
     }
 }
 

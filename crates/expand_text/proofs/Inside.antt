@@ -11,19 +11,17 @@ use lib.ListN.{length, take, drop}
 use lib.Seq.{length-take-le}
 use Rattle.stages.specs.Numbers.{rowLimit, tooManyUnits}
 use Rattle.stages.specs.Bytes.{Text, all, notZero}
-use Rattle.stages.specs.Outcome.{Outcome, refused, demands, done, _>>=_, pick}
+use Rattle.stages.specs.Outcome.{refused, demands, done, _>>=_, pick}
 use Rattle.stages.specs.Images.{Pairs, texts, isName, flat, held, heldTexts}
 use Rattle.stages.specs.Syntax.{Param, Form, Parts, arith as sums}
 use Rattle.stages.specs.Read.{Taken, parts}
-use Rattle.stages.specs.Units.{Mark, Q, N, Row, marked, bytes, expandedMark}
-use Rattle.stages.specs.Arith.{arithmeticOf}
+use Rattle.stages.specs.Units.{Mark, Q, N, Row, bytes}
 use Rattle.stages.specs.Params.{Lent}
 use Rattle.stages.specs.Expand.{Made, parameter, inQuotes, expand}
 use Rattle.stages.proofs.Texts.{all-drop}
 use Rattle.stages.proofs.Images.{image-fine, pairsOf-some}
 use Rattle.stages.proofs.Tables.{table-fine, table-length}
-use Rattle.stages.proofs.Outcomes.{Safe, gives, safe-done}
-use Rattle.stages.proofs.SafeSums.{arithmetic-safe}
+use Rattle.stages.proofs.Outcomes.{safe-done}
 use Rattle.stages.proofs.Safe.{NoZero, SafeParts, parts-safe}
 use Rattle.stages.proofs.SafeRows.{Kept, SafeLent, bytes-safe, expand-safe}
 use Rattle.stages.proofs.Rooms.{fit-ok, fit-full}
@@ -41,10 +39,11 @@ use Rattle.table.specs.declared.Found.{Found}
 use Rattle.expand_add.specs.Added.{Adds}
 use Rattle.expand_param.specs.Holding.{Shown, missingIn}
 use Rattle.expand_form.specs.Plans.{planOf, operandMark, settled, finished}
-use Rattle.expand_add.specs.Steps.{beside, placed, quoted, summed, summing}
-use Rattle.expand_operand.specs.Operands.{IsNamed, Storable, sumOf}
+use Rattle.expand_add.specs.Steps.{placed, quoted, summed, summing}
+use Rattle.expand_operand.specs.Operands.{IsNamed, Storable}
 use Rattle.expand_text.specs.Items.{unitsInQuotes}
-use Rattle.expand_add.specs.Answers.{Holds, Ready, IsRow, IsDemand, Ends, Answers, Says, Finishes}
+use Rattle.table_store.specs.Holding.{Holds}
+use Rattle.expand_add.specs.Answers.{Ready, IsRow, IsDemand, Ends, Answers, Says, Finishes}
 use Rattle.expand_add.specs.declared.answers.Expanded.{Expanded}
 use Rattle.expand_add.specs.declared.answers.Expanded.the-variants as answer
 use Rattle.expand_form.specs.declared.Plan.{Plan}
@@ -53,7 +52,8 @@ use Rattle.expand_form.specs.declared.Unused.{Unused}
 use Rattle.expand_form.specs.declared.Used.{Used}
 use Rattle.expand_form.proofs.Forms.{unused-operand, used-operand}
 use Rattle.expand_add.proofs.Steps.{placed-refused, placed-demands}
-use Rattle.expand_add.proofs.Holding.{says-known, answers-known, adds-finishes, finishes-same, finishes-answers, vars-held}
+use Rattle.table_store.proofs.Holding.{vars-held}
+use Rattle.expand_add.proofs.Holding.{says-known, answers-known, adds-finishes, finishes-same, finishes-answers}
 use Rattle.expand_add.proofs.Standing.{front, stands-inside}
 use Rattle.expand_add.proofs.Waiting.{waits-nest}
 
@@ -347,17 +347,6 @@ module _ {lent : Lent} {text : Text} {at : ℕ} {mode : Mode} {d size : ℕ} {va
 
 -- An arithmetic text.
 
-summed-beside : (m : Mark) (row : Row) (v : Pairs) (came : Bool) → summed m (row, v, came) ≡ beside v false (sumOf m row v)
-unfolding summed sumOf
-summed-beside m row v came = go (arithmeticOf v (bytes row)) (arithmetic-safe (λ (u : Pairs). u ≡ v) v (bytes row) refl)
-  where
-    go : (o : Outcome (Text × Pairs)) → Safe (λ s. (all notZero (s .0) ≡ true) × (s .1 ≡ v)) o
-        → _≡_ {A = Made} (_>>=_ {B = Row × Pairs × Bool} o (λ s. done (marked (expandedMark m) (s .0), s .1, false)))
-        (beside v false (o >>= λ s. done (marked (expandedMark m) (s .0))))
-    go (refused e) s = refl
-    go (demands t) s = refl
-    go (done p) (gives s) = ap (λ (u : Pairs). done (marked (expandedMark m) (p .0), u, false)) (s .1)
-
 -- its text, expanded
 pub record SumExpanded (lent : Lent) (text : Text) (at d size : ℕ) (vars₀ : Text) (varsUsed units : ℕ) (m : Mark) (ys us : Text) (g : Expanded)
     : Type 0 where
@@ -378,7 +367,7 @@ module _ {lent : Lent} {text : Text} {at d size : ℕ} {vars₀ : Text} {varsUse
   sum-refused area {b} q =
       let h : expand lent (x .ready .tree) Q 0 (held (take varsUsed vars₀)) ≡ refused b =
       answers-known (lent .room) text at 0 _ (x .ready .rest) ys us sum-answer q in
-      rw (x .ready .is) (placed-refused units _ b (ap (λ (o : Made). o >>= λ u. summed m u) h))
+      rw (x .ready .is) (placed-refused units _ b (ap (λ (o : Made). o >>= λ u. summed lent m u) h))
 
   pub sum-demanded : {from len : ℕ} → g ≡ answer.Demanded from len → Summed ys us (answer.Demanded from len)
   unfolding summing
@@ -388,7 +377,7 @@ module _ {lent : Lent} {text : Text} {at d size : ℕ} {vars₀ : Text} {varsUse
       rw (x .ready .is)
       (record {
         message = h .message;
-        is = placed-demands units _ (h .message) (ap (λ (o : Made). o >>= λ u. summed m u) (h .is));
+        is = placed-demands units _ (h .message) (ap (λ (o : Made). o >>= λ u. summed lent m u) (h .is));
         waits = h .waits;
       })
 
@@ -400,28 +389,22 @@ module _ {lent : Lent} {text : Text} {at d size : ℕ} {vars₀ : Text} {varsUse
     pub sum-holds : Holds (lent .room) us left
     sum-holds = sum-row .0 .holds
 
-    pub sum-inside : 2 * count ≤ length ys
-    sum-inside = stands-inside (sum-row .0 .row) ys count (sum-row .0 .stands) (sum-row .0 .counts)
+    pub sum-few : count ≤ rowLimit
+    sum-few = omega (arith, sum-row .0 .fits)
 
-    pub sum-given : (area : Text) (f : Expanded)
-        → Adds units (record { next = next; «vars_used» = left; «of_none» = false }) (sumOf m (rowOf (take (2 * count) ys)) (held (take left us))) area f
-        → Summed area us f
+    pub sum-given : (area vars : Text) (f : Expanded)
+        → Finishes (lent .room) units (placed units (summed lent m (rowOf (take (2 * count) ys), held (take left us), false))) next area vars f
+        → Summed area vars f
     unfolding summing
-    sum-given area f h =
+    sum-given area vars f h =
         rw (x .ready .is)
         (finishes-answers (lent .room) text at units (placed units (summing lent (x .ready .tree) m (held (take varsUsed vars₀)))) next
-        (x .ready .rest) area us f
-        (finishes-same (lent .room) units next area us f (sym (ap (placed units) same))
-        (adds-finishes (lent .room) units (record { next = next; «vars_used» = left; «of_none» = false }) (sumOf m row (held (take left us))) area us f h
-        (sum-row .0 .holds)))
-        (sum-row .1))
+        (x .ready .rest) area vars f
+        (finishes-same (lent .room) units next area vars f (sym (ap (placed units) same)) h) (sum-row .1))
       where
-        row : Row
-        row = rowOf (take (2 * count) ys)
-
-        same : (summing lent (x .ready .tree) m (held (take varsUsed vars₀))) ≡ beside (held (take left us)) false
-            (sumOf m row (held (take left us)))
+        -- whether `$@` of no parameters came in the text is not asked
+        same : (summing lent (x .ready .tree) m (held (take varsUsed vars₀))) ≡ summed lent m (rowOf (take (2 * count) ys), held (take left us), false)
         same =
-            ap (λ (o : Made). o >>= λ u. summed m u) (sum-row .0 .is)
-            ∙ ap (λ (r : Row). summed m (r, held (take left us), came)) (sym (row-at (sum-row .0 .row) ys count (sum-row .0 .stands) (sum-row .0 .counts)))
-            ∙ summed-beside m row (held (take left us)) came
+            unfold summed in
+            ap (λ (o : Made). o >>= λ u. summed lent m u) (sum-row .0 .is)
+            ∙ ap (λ (r : Row). summed lent m (r, held (take left us), came)) (sym (row-at (sum-row .0 .row) ys count (sum-row .0 .stands) (sum-row .0 .counts)))

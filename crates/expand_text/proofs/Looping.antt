@@ -20,7 +20,8 @@ use Rattle.text.specs.Rows.{rowBytes}
 use Rattle.row.specs.Stands.{Stands}
 use Rattle.read_mode.specs.Modes.{modeOf, openIn}
 use Rattle.read_mode.specs.declared.Mode.{Mode}
-use Rattle.expand_add.specs.Answers.{Holds, Ready, IsDemand, Says}
+use Rattle.table_store.specs.Holding.{Holds}
+use Rattle.expand_add.specs.Answers.{Ready, IsDemand, Says}
 use Rattle.expand_text.specs.Items.{Moves, Closes, Passes, ItemAnswers, ItemRead}
 use Rattle.expand_add.specs.declared.answers.Expanded.{Expanded}
 use Rattle.expand_add.specs.declared.answers.Expanded.the-variants as answer

@@ -22,7 +22,8 @@ use Rattle.read_mode.specs.declared.Mode.{Mode}
 use Rattle.read_mode.specs.declared.Cursor.{Cursor}
 use Rattle.read_brace.specs.declared.Item.{Item}
 use Rattle.read_item.specs.After.{modeAfter, isStop}
-use Rattle.expand_add.specs.Answers.{Holds, IsDemand, Ends}
+use Rattle.table_store.specs.Holding.{Holds}
+use Rattle.expand_add.specs.Answers.{IsDemand, Ends}
 use Rattle.expand_add.specs.declared.answers.Expanded.{Expanded}
 use Rattle.expand_add.specs.declared.answers.Expanded.the-variants as expanded
 

@@ -15,7 +15,8 @@ ghost use Rattle.read_mode.specs.Modes.{modeOf, formOf};
 ghost use Rattle.read_brace.specs.Shows.{Name, paramOf};
 ghost use Rattle.read_item.specs.After.{ItemAt};
 ghost use Rattle.expand_add.specs.Steps.{placed, quoted, summing};
-ghost use Rattle.expand_add.specs.Answers.{Holds, Ready, Says};
+ghost use Rattle.table_store.specs.Holding.{Holds};
+ghost use Rattle.expand_add.specs.Answers.{Ready, Says};
 ghost use Rattle.expand_operand.specs.Operands.{IsNamed};
 ghost use Rattle.expand_text.specs.Items.{ItemSays, unitsInQuotes};
 use expand_add::answers::Expanded;
@@ -239,12 +240,11 @@ fn expand_sum(
             vars_used,
             of_none: _,
         } => {
-            let on = Onward {
-                next: next,
+            let after = Extent {
                 vars_used: vars_used,
-                of_none: false,
+                vars_room: extent.vars_room,
             };
-            sum_up(units, row, on, &vars[..vars_used], work)
+            sum_up(units, next, row, vars, after, work)
         }
     }
 }

@@ -1,24 +1,25 @@
 -- Records behind the used part of an output, on plain lists: two written one behind the other are both written, a record in the lent free part is
 -- written behind what was used, and what each answer of a writer says.
-use Prim.Native.Nat.{ℕ, suc, _+_, _-_, _≤_, _<_}
+use Prim.Native.Nat.{ℕ, _+_, _-_, _≤_, _<_}
 use native.Mathlib.Omega.{arith}
 use mathlib.Core.Path.{_≡_, refl, sym, ap, _∙_}
 use mathlib.Core.Bool.{Bool, true, false}
 use mathlib.Core.List.{List, [], _∷_, _++_, append-assoc, append-nil}
-use lib.Dec.{eqb, leb}
+use lib.Dec.{leb}
 use lib.ListN.{length, take, drop, length-append, length-drop, take-append-drop}
 use lib.Seq.{length-take-le, take-at, drop-at, drop-drop}
 use borrow.Rule.Slice.PartMut.{putMid, midOf}
 use borrow.Author.Tests.{le-leb, lt-leb, leb-true, leb-false}
 use Rattle.stages.specs.Numbers.{imageLimit}
 use Rattle.stages.specs.Bytes.{Text}
-use Rattle.stages.specs.Outcome.{Outcome, done, pick}
-use Rattle.stages.specs.Units.{L, E, Q, cell, N, B, Row, bytes}
+use Rattle.stages.specs.Outcome.{Outcome, done}
+use Rattle.stages.specs.Units.{bytes}
 use Rattle.stages.specs.Images.{framed, written, recordBytes}
 use Rattle.stages.specs.Call.{over}
-use Rattle.text.specs.Rows.{unitOf, rowOf}
+use Rattle.text.specs.Rows.{rowOf}
 use Rattle.text.proofs.Parts.{rest-is, rest-length, rest-back}
 use Rattle.row.specs.Stands.{Stripped}
+use Rattle.row.proofs.Laws.{bytes-half}
 use Rattle.table_store.specs.Answers.{putOutcome, textLimit, recordIn, Writes}
 use Rattle.table_store.specs.declared.Put.{Put}
 use Rattle.table_store.specs.declared.Put.the-variants.{Len as PutLen, NoRoom as PutNoRoom}
@@ -117,29 +118,12 @@ says-answers {o} {used} {old} (noRoom l e h) = sym (rw (e, lt-leb (used + record
 
 -- `put_own`: a field's bytes without marks stand at its front
 
-bytes-fit : (b m : ℕ) (r : Row) → length (bytes (unitOf b m ∷ r)) ≤ suc (length (bytes r))
-unfolding bytes unitOf
-bytes-fit b m r = go (eqb m 1) (eqb m 2) (eqb m 3) (eqb m 4)
-  where
-    go : (x y z w : Bool) → length (bytes (pick x (cell L b) (pick y (cell E b) (pick z (cell Q b) (pick w B N))) ∷ r)) ≤ suc (length (bytes r))
-    go true y z w = omega arith
-    go false true z w = omega arith
-    go false false true w = omega arith
-    go false false false true = omega arith
-    go false false false false = omega arith
-
-own-fits : (t : Text) → length (bytes (rowOf t)) ≤ length t
-unfolding bytes rowOf
-own-fits [] = omega arith
-own-fits (a ∷ []) = omega arith
-own-fits (a ∷ b ∷ t) = omega (arith, bytes-fit a b (rowOf t), own-fits t)
-
 module _ {field left : Text} {n : ℕ} (s : Stripped field left n) where
   left-length : length left ≡ length field
-  left-length = ap length (s .leaves) ∙ length-append (bytes (rowOf field)) _ ∙ simp length-drop (omega (arith, own-fits field))
+  left-length = ap length (s .leaves) ∙ length-append (bytes (rowOf field)) _ ∙ simp length-drop (omega (arith, bytes-half field))
 
   pub own-within : n ≤ length left
-  own-within = omega (arith, own-fits field, s .counts, left-length)
+  own-within = omega (arith, bytes-half field, s .counts, left-length)
 
   own-is : take n left ≡ bytes (rowOf field)
   own-is = ap (take n) (s .leaves) ∙ take-at (bytes (rowOf field)) _ n (sym (s .counts))

@@ -10,10 +10,10 @@ use Rattle.stages.specs.Images.{held}
 use Rattle.stages.specs.Units.{bytes}
 use Rattle.row.specs.Marks.{markOf}
 use Rattle.table_store.specs.declared.Stored.{Stored}
-use Rattle.expand_add.specs.Answers.{Holds}
-use Rattle.expand_add.proofs.Holding.{table-held}
-use Rattle.expand_operand.specs.Operands.{rowAt, StoresIn}
-use Rattle.expand_operand.proofs.Storing.{stored-known, assign-full, assign-given}
+use Rattle.table_store.specs.Holding.{Holds, StoresIn}
+use Rattle.table_store.proofs.Holding.{table-held, stored-known}
+use Rattle.expand_operand.specs.Operands.{rowAt}
+use Rattle.expand_operand.proofs.Storing.{assign-full, assign-given}
 use Rattle.expand_operand.proofs.assign.Statement.{statement}
 use Rattle.expand_operand.proofs.assign.Tie as tie
 

@@ -16,7 +16,7 @@ use Rattle.expand_add.specs.Answers.{Finishes}
 use Rattle.expand_add.specs.declared.answers.Onward.{Onward}
 use Rattle.expand_add.specs.declared.answers.Expanded.{Expanded}
 use Rattle.expand_add.specs.declared.answers.Expanded.the-variants as answer
-use Rattle.expand_add.proofs.Holding.{table-held}
+use Rattle.table_store.proofs.Holding.{table-held}
 use Rattle.expand_param.proofs.Holding.{value-held}
 use Rattle.expand_form.specs.Plans.{finished}
 use Rattle.expand_form.specs.declared.Used.{Used}

@@ -65,7 +65,7 @@ pub +expand-inner+expand-item+expand-quote+expand-sum+expand-text-spec : {M : Ty
     (quote.returns-2 t) (quote.same-length-3 t) (quote.same-length-4 t) (quote.returns-3 t) (quote.same-length-5 t) (quote.same-length-6 t)
     (quote.returns-4 t))
     (λ t. sum-lts.spec (sum.callees t) (expand-sum-at t) expand-sum.Post (sum.expand-text-requires t) (sum.enum-known-got t) (sum.enum-known-got-2 t)
-    (sum.enum-known-got-3 t) (sum.slice-reshare-prefix-sum-up t) (sum.slice-aggregate-sum-up t) (sum.sum-up-requires t) (sum.same-length t)
+    (sum.enum-known-got-3 t) (sum.sum-up-requires t) (sum.same-length t)
     (sum.same-length-2 t) (sum.returns t) (sum.same-length-3 t) (sum.same-length-4 t) (sum.returns-2 t) (sum.same-length-5 t) (sum.same-length-6 t)
     (sum.returns-3 t))
     λ t. text-lts.spec (text.callees t) (expand-text-at t) expand-text.Post text.Inv-loop text.μ-loop (text.loop-holds t) (text.item-at-requires t)

@@ -7,7 +7,7 @@ use Rattle.read_mode.specs.Modes.{formOf}
 use Rattle.read_brace.specs.Shows.{paramOf}
 use Rattle.table.specs.Around.{lentOf}
 use Rattle.row.specs.Marks.{markOf}
-use Rattle.expand_add.proofs.Holding.{table-held}
+use Rattle.table_store.proofs.Holding.{table-held}
 use Rattle.expand_text.proofs.Inside.{
   lending,
   reading-known,

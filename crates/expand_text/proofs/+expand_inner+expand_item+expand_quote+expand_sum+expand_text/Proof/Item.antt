@@ -5,7 +5,7 @@ use lib.ListN.{length}
 use lib.Seq.{length-take-le}
 use Rattle.row.specs.Marks.{markOf}
 use Rattle.table.specs.Around.{lentOf}
-use Rattle.expand_add.proofs.Holding.{table-held}
+use Rattle.table_store.proofs.Holding.{table-held}
 use Rattle.expand_text.proofs.Inside.{lending}
 use Rattle.expand_text.proofs.Items.{
   Here,

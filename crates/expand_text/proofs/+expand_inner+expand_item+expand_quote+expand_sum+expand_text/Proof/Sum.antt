@@ -1,12 +1,9 @@
 -- An arithmetic text is expanded as if it were quoted, and its row is summed up.
 use Prim.Native.Nat.{ℕ}
-use mathlib.Core.Path.{sym}
 use lib.ListN.{length}
-use lib.Seq.{length-take-le}
 use Rattle.row.specs.Marks.{markOf}
 use Rattle.table.specs.Around.{lentOf}
-use Rattle.expand_add.proofs.Holding.{table-held}
-use Rattle.expand_text.proofs.Inside.{SumExpanded, sum-refused, sum-demanded, sum-holds, sum-inside, sum-given}
+use Rattle.expand_text.proofs.Inside.{SumExpanded, sum-refused, sum-demanded, sum-holds, sum-few, sum-given}
 use borrow.Author.Needs.{needs}
 use native.Mathlib.Omega.{arith}
 use Rattle.expand_text.proofs.+expand_inner+expand_item+expand_quote+expand_sum+expand_text.Lts-expand_sum as lts
@@ -69,21 +66,13 @@ module _ (t : ℕ) where
   pub enum-known-got-3 : lts.Need-enum-known-got-3 (callees t) (expand-sum-at t) expand-sum.Post
   enum-known-got-3 c = search needs
 
-  pub slice-reshare-prefix-sum-up : lts.Need-slice-reshare-prefix-sum-up (callees t) (expand-sum-at t) expand-sum.Post
-  slice-reshare-prefix-sum-up c = sum-holds (inside (given c)) (c .before .got3 .given .1) .inside
-
-  pub slice-aggregate-sum-up : lts.Need-slice-aggregate-sum-up (callees t) (expand-sum-at t) expand-sum.Post
-  slice-aggregate-sum-up c =
-      let g = c .before in
-      sym (length-take-le _ (given g .expand-text .last .1 .1 .1 .0) (sum-holds (inside (given g)) (g .before .got3 .given .1) .inside))
-
   pub sum-up-requires : lts.Need-sum-up-requires (callees t) (expand-sum-at t) expand-sum.Post
   sum-up-requires c κs =
       let g = c .before .before in
       let e = given g in
       let q = g .before .got3 .given .1 in (
-        table-held _ _ _ (sum-holds (inside e) q),
-        sum-inside (inside e) q,
+        sum-holds (inside e) q,
+        sum-few (inside e) q,
         began e .pre .1 .4,
         omega (arith, began e .pre .1 .0 .area, e .expand-text .kept .1 .1 .1 .1 .1 .1 .1 .0),
       )
@@ -107,14 +96,18 @@ module _ (t : ℕ) where
   returns-2 c = sum-demanded (inside (demanded c)) (c .before .got2 .given .1)
 
   pub same-length-5 : lts.Need-same-length-5 (callees t) (expand-sum-at t) expand-sum.Post
-  same-length-5 c = omega (arith, given (summed (c .before .before)) .expand-text .kept .1 .1 .1 .0)
+  same-length-5 c =
+      let u = c .before .before .before .before in
+      omega (arith, given (summed u) .expand-text .kept .1 .1 .1 .0, u .sum-up .kept .1 .1 .1 .0)
 
   pub same-length-6 : lts.Need-same-length-6 (callees t) (expand-sum-at t) expand-sum.Post
   same-length-6 c =
-      let u = c .before .before in
-      omega (arith, given (summed u) .expand-text .kept .1 .1 .1 .1 .1 .1 .1 .0, u .sum-up .kept .1 .1 .1 .1 .0)
+      let u = c .before .before .before .before in
+      omega (arith, given (summed u) .expand-text .kept .1 .1 .1 .1 .1 .1 .1 .0, u .sum-up .kept .1 .1 .1 .1 .1 .0)
 
   pub returns-3 : lts.Need-returns-3 (callees t) (expand-sum-at t) expand-sum.Post
   returns-3 c =
-      let u = c .before .before in
-      sum-given (inside (given (summed u))) (summed u .before .got3 .given .1) _ (u .sum-up .result) (u .sum-up .ensures)
+      let u = c .before .before .before .before in
+      let e = given (summed u) in
+      sum-given (inside e) (summed u .before .got3 .given .1) _ _ (u .sum-up .result)
+      (u .sum-up .ensures (began e .args .homes .now) (began e .args .params .now))
