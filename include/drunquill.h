@@ -67,11 +67,11 @@ enum {
                                          word comes in place of 13 */
     DRUNQUILL_TOO_MANY_UNITS = 14,    /* a word, a value, an operand or an arithmetic text above DRUNQUILL_UNITS_MAX units */
     DRUNQUILL_NOT_NUMBER = 15,        /* arithmetic: a constant or a variable's value that is not a number */
-    DRUNQUILL_ARITHMETIC_SYNTAX = 16, /* arithmetic: bad syntax, or an empty text */
+    DRUNQUILL_ARITHMETIC_SYNTAX = 16, /* arithmetic: bad syntax, an assignment to what is not a name alone, or an empty text */
     DRUNQUILL_OVERFLOW = 17,          /* arithmetic: out of the range of 64 signed bits, or a shift count that is not 0 to 63 */
     DRUNQUILL_ZERO_DIVISOR = 18,      /* arithmetic: division or remainder by zero */
     DRUNQUILL_BRACKET_CLASS = 19,     /* in a bracket of a pattern: [: without one of the twelve names of POSIX, [. or [=, or a class in a range */
-    DRUNQUILL_VARIABLE_ROOM = 20,     /* a store makes the variables longer than their buffer or DRUNQUILL_IMAGE_MAX */
+    DRUNQUILL_VARIABLE_ROOM = 20,     /* a store, in arithmetic too, makes the variables longer than their buffer or DRUNQUILL_IMAGE_MAX */
     DRUNQUILL_OUTPUT_ROOM = 21,       /* the output is longer than its buffer or its limit */
     DRUNQUILL_BAD_FIELDS = 22,        /* the quoter's fields malformed or above their limit */
     DRUNQUILL_BAD_PARAMETERS = 23     /* positional parameters malformed or above their limit */
@@ -96,8 +96,8 @@ struct drunquill_quote_answer {
 
 /* The expander: the fields of the line's words, an image, to `out`.
  *
- *  vars         the variables: an image in the first `vars_used` of `vars_len` bytes. ${name=word} stores into it. The buffer may be longer than
- *               DRUNQUILL_IMAGE_MAX, the image may not.
+ *  vars         the variables: an image in the first `vars_used` of `vars_len` bytes. ${name=word} and arithmetic, as $((n=n+1)), store into it. The
+ *               buffer may be longer than DRUNQUILL_IMAGE_MAX, the image may not.
  *  homes        whose directory ~login gives, at the start of a word or of a bare operand; ~ alone gives the variable HOME
  *  params       the positional parameters: an image of fields, the first of them $1. One without parameters is the byte 1.
  *  paths        what patterns are matched against: the function looks at no file
@@ -107,9 +107,10 @@ struct drunquill_quote_answer {
  *               bytes without quotes and without a zero byte behind them: its first `message_len` bytes. A message that is longer than the buffer is
  *               cut to it; one of DRUNQUILL_MESSAGE_MAX bytes takes every message whole.
  *
- * On acceptance the bytes of `vars` and `out` after the new images are unchanged. On a refusal every byte of both is. The bytes of `message` after the
- * message are unchanged, and on every number but DRUNQUILL_DEMANDED every byte of it is. Faults are met in this order: numbers 1 to 4, 23, 5 and 6; then
- * the whole line is read; then its words are expanded from left to right; the first fault is answered.
+ * On acceptance the variables' new image stands at the front of `vars`, and its length is the answer's `vars_used`. It may be shorter than the one before:
+ * then the bytes after it are zero up to the `vars_used` that was given. All other bytes of `vars` and `out` after the new images are unchanged. On a refusal
+ * every byte of both is. The bytes of `message` after the message are unchanged, and on every number but DRUNQUILL_DEMANDED every byte of it is. Faults are
+ * met in this order: numbers 1 to 4, 23, 5 and 6; then the whole line is read; then its words are expanded from left to right; the first fault is answered.
  */
 struct drunquill_answer drunquill_expand(const uint8_t *line, size_t line_len, uint8_t *vars, size_t vars_len, size_t vars_used, const uint8_t *homes,
                                          size_t homes_len, const uint8_t *params, size_t params_len, const uint8_t *paths, size_t paths_len, uint8_t *work,
@@ -129,10 +130,9 @@ struct drunquill_answer drunquill_normalise(const uint8_t *line, size_t line_len
  * assignment's own `=`, and after each `:` that is written in the value, not quoted and in no operand; a login there ends at a `:` too. A word without name
  * and `=` is DRUNQUILL_BAD_SYNTAX, whatever else is wrong with it; $@ and $* in a value are DRUNQUILL_UNSERVED.
  *
- * `vars`, `homes`, `params`, `work` and `message` are as in the expander; there are neither paths nor output, and the answer's `out_len` is 0. On acceptance
- * the variables' new image stands at the front of `vars`, and its length is the answer's `vars_used`. It may be shorter than the one before: then the bytes
- * after it are zero up to the `vars_used` that was given. All other bytes of `vars` are unchanged, and on a refusal every byte is. Faults are met in this
- * order: numbers 1 to 3, 23, 5 and 6; then the whole line is read; then its values are expanded and stored from left to right. 4, 21 and 22 do not arise.
+ * `vars`, `homes`, `params`, `work` and `message` are as in the expander, before the call and after it; there are neither paths nor output, and the answer's
+ * `out_len` is 0. Faults are met in this order: numbers 1 to 3, 23, 5 and 6; then the whole line is read; then its values are expanded and stored from left to
+ * right. 4, 21 and 22 do not arise.
  */
 struct drunquill_answer drunquill_assign(const uint8_t *line, size_t line_len, uint8_t *vars, size_t vars_len, size_t vars_used, const uint8_t *homes,
                                          size_t homes_len, const uint8_t *params, size_t params_len, uint8_t *work, size_t work_len, uint8_t *message,

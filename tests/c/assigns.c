@@ -2,12 +2,11 @@
  * docs/02-change-requests.md, then each call of standard input, in the format of tests/vectors/README.md. */
 #include "jobs.h"
 
-/* A call of the assigner with the sizes and tables that are set. An acceptance leaves `want_vars`, and behind it zeros up to the used length given. */
+/* A call of the assigner with the sizes and tables that are set. */
 static void assign(const char *name, unsigned number, size_t place) {
     lend_all();
     struct drunquill_answer a = drunquill_assign(line.at, line.len, lent(&vars), vars_len, used, homes_image.at, homes_image.len, params_image.at,
                                                  params_image.len, lent(&work), work_len, lent(&message), message_len);
-    if (number == 0 && want_vars.len < used) memset(lent(&vars_before) + want_vars.len, 0, used - want_vars.len);
     compare(name, a, number, place);
 }
 

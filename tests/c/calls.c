@@ -82,6 +82,35 @@ static void parameters(void) {
     refused("paths are looked at before parameters", DRUNQUILL_BAD_PATHS, 0);
 }
 
+/* Both jobs give this one field and leave these variables, by the line that is set. */
+static void counts(const char *name, const char *field, const char *const *texts) {
+    image(&want_vars, texts);
+    image(&want_out, (const char *const[]){field, NULL});
+    call(name, drunquill_expand, 0, 0);
+    want_out.len = 0;
+    add_string(&want_out, field);
+    call(name, drunquill_normalise, 0, 0);
+}
+
+/* Assignments in arithmetic: what they store is there for all that comes behind, a shorter image leaves zeros, and a refusal undoes them. */
+static void counting(void) {
+    set("P$((n=n+1))-$((n+=1))-$n");
+    counts("setups are numbered", "P1-2-2", (const char *const[]){"HOME", "/home/crew", "job", "north field", "n", "2", "note", "", NULL});
+    set("$((job=note=3))");
+    counts("a shorter value", "3", (const char *const[]){"HOME", "/home/crew", "job", "3", "note", "3", NULL});
+    vars_len = used;
+    counts("a shorter value in a buffer that the variables fill", "3", (const char *const[]){"HOME", "/home/crew", "job", "3", "note", "3", NULL});
+    set("$((job=7))$((job*=12345678901))");
+    counts("a value that is shorter for a while", "786419752307", (const char *const[]){"HOME", "/home/crew", "job", "86419752307", "note", "", NULL});
+    refuses("a $((job=3))$((1/0))", DRUNQUILL_ZERO_DIVISOR, 2);
+    refuses("$((job=3)) ${base:?}", DRUNQUILL_DEMANDED, 11);
+    refuses("$((job+=1))", DRUNQUILL_NOT_NUMBER, 0);
+    refuses("$(((note)=1))", DRUNQUILL_ARITHMETIC_SYNTAX, 0);
+    set("a $((n=1))");
+    vars_len = used + 5;
+    refused("one byte short for a number", DRUNQUILL_VARIABLE_ROOM, 2);
+}
+
 static void empty_things(void) {
     set("");
     empty_image(&want_out);
@@ -215,6 +244,7 @@ static void quoted_fields(void) {
 int main(void) {
     accepted_lines();
     parameters();
+    counting();
     empty_things();
     refused_tables();
     refused_lines();

@@ -37,8 +37,10 @@ static inline void set(const char *text) {
     want_message.len = 0;
 }
 
-/* The buffers after the call: new images and the message in front, junk as before after them, and the work area zero. */
+/* The buffers after the call: new images and the message in front, junk as before after them, but behind the variables' new image zeros up to the used length
+ * given; and the work area zero. */
 static inline void compare_buffers(const char *name) {
+    if (want_vars.len && want_vars.len < used) memset(lent(&vars_before), 0, used);
     memcpy(lent(&vars_before), want_vars.at, want_vars.len);
     memcpy(lent(&out_before), want_out.at, want_out.len);
     memcpy(lent(&message_before), want_message.at, want_message.len);

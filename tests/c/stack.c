@@ -1,6 +1,6 @@
 /* Measures how deep the jobs that take a line go on the stack: a thread runs on a stack filled with a pattern, and the lowest byte that a call changed tells.
- * The lines are the deepest known: all eight expansions open, all 32 parentheses and signs, patterns of many stars; the assigner has them as a value. The
- * figure counts from the frame of the function that calls the job, and is checked against DRUNQUILL_STACK. */
+ * The lines are the deepest known: all eight expansions open, all 32 parentheses and signs, patterns of many stars, assignments in each other; the assigner
+ * has them as a value. The figure counts from the frame of the function that calls the job, and is checked against DRUNQUILL_STACK. */
 #define _GNU_SOURCE
 #include <pthread.h>
 #include <sys/mman.h>
@@ -144,6 +144,14 @@ int main(void) {
     measure("seven ${u- around 32 parentheses after operators", 0);
     within_parentheses("0||1&&1|1^1&1==1<1<<1+1*(");
     measure("the same after an operator of every level", 0);
+    within_parentheses("n=0||1&&1|1^1&1==1<1<<1+1*(");
+    measure("the same, each in an assignment", 0);
+    inside.len = 0;
+    add_string(&inside, "$((");
+    repeat(&inside, "n=", 1000);
+    add(&inside, "1))", 4);
+    within(7, "${u-", (const char *)inside.at, "}");
+    measure("seven ${u- around a thousand assignments", 0);
     inside.len = 0;
     add_string(&inside, "$((");
     repeat(&inside, "-", 32);

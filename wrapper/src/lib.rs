@@ -59,8 +59,9 @@ pub const OPEN_MAX: usize = 32;
 /// What a call may need of the stack, in bytes: measured, not proved. The main thread and the threads of std have more.
 pub const STACK: usize = 524_288;
 
-/// The variables: an image in the first `used` bytes of a buffer, into which `${name=word}` and assignments store. An accepted call leaves the new image and
-/// its length here; bytes after it are as before, but for the zeros that [`assign`] puts there, and on a refusal all of them are.
+/// The variables: an image in the first `used` bytes of a buffer, into which `${name=word}`, arithmetic as `$((n=n+1))` and [`assign`] store. An accepted call
+/// leaves the new image and its length here. It may be shorter than the one before: bytes behind it are zero up to the used length that was given, and those
+/// beyond are as before. On a refusal all of them are.
 #[derive(Debug)]
 pub struct Variables<'a> {
     pub buffer: &'a mut [u8],
@@ -109,8 +110,8 @@ pub fn normalise<'o>(
 }
 
 /// The assigner: a line whose every word is a name, a bare `=` and a value, perhaps empty, changes the variables, from left to right, each assignment seen by
-/// the next; any other word is [`Number::BadSyntax`]. A value is neither split nor matched against paths: those of the tables are not looked at. The new image
-/// may be shorter than the one before; bytes behind it are zero up to the used length that was given. Work area and message are as in the expander.
+/// the next; any other word is [`Number::BadSyntax`]. A value is neither split nor matched against paths: those of the tables are not looked at. Work area and
+/// message are as in the expander.
 pub fn assign(line: &[u8], variables: &mut Variables, tables: Tables, work: &mut [u8]) -> Result<(), Refusal> {
     let mut message = [0; MESSAGE_MAX];
     let answer = archive::assign(line, variables, tables, work, &mut message);

@@ -2,7 +2,7 @@
 use Prim.Native.Nat.{ℕ, _+_, _≤_}
 use native.Mathlib.Omega.{arith}
 use mathlib.Core.Path.{_≡_, refl, sym, ap, _∙_, subst}
-use mathlib.Core.List.{List, _++_}
+use mathlib.Core.List.{List, [], _++_}
 use lib.ListN.{length, take, drop}
 use lib.Seq.{length-take-le}
 use Rattle.stages.specs.Numbers.{demanded, imageLimit}
@@ -11,21 +11,19 @@ use Rattle.stages.specs.Outcome.{Placed, refusedAt, demandsAt, doneAt, _then_}
 use Rattle.stages.specs.Images.{Pairs, isName, isSome, held, flat, image, variablesOf}
 use Rattle.stages.specs.Syntax.{Assignment}
 use Rattle.stages.specs.Assign.{assignAll}
-use Rattle.stages.specs.Call.{Given, over, cleared, answered, assigned, padded, settled, assigner}
-use Rattle.stages.specs.Call as stage
+use Rattle.stages.specs.Call.{Given, over, cleared, assigned, settled, assigner}
 use Rattle.stages.proofs.Images.{Bytes, bytes-take}
 use Rattle.stages.proofs.Tables.{vars-of, table-canonical}
-use Rattle.stages.proofs.Assigns.{assigner-fits}
 use Rattle.table.specs.Around.{lentOf}
 use Rattle.assign_line.specs.Answers.{lineOutcome, LineReady, LineDemands, IsLeft, LineSays}
 use Rattle.assign_line.specs.declared.LineAssigned.{LineAssigned}
 use Rattle.assign_line.specs.declared.LineAssigned.the-variants as line
 use Rattle.call_check.specs.Checks.{AssignPassed}
-use Rattle.call_deliver.specs.Hands.{Hands, Settles, refusedAs}
+use Rattle.call_deliver.specs.Hands.{Hands, Accepts, refusedAs}
 use Rattle.call_deliver.specs.Awaits.{telling}
 use Rattle.call_deliver.specs.declared.Answer.{Answer}
 use Rattle.call_deliver.proofs.Copying.{used-low, copied, copy-long}
-use Rattle.call_deliver.proofs.Awaiting.{refused-hands, demanded-hands}
+use Rattle.call_deliver.proofs.Awaiting.{answered-clear, refused-hands, demanded-hands, accepted-hands}
 
 -- THE STAGE'S ANSWER
 
@@ -40,27 +38,16 @@ module _ (g : Given) {r : Answer} where
   unfolding assigner settled
   answer-demands {t} {place} h e = demanded-hands g t place (ap (settled g) h) e
 
-  -- the new image comes to the variables' buffer, and zeros behind it
-  answer-settled : {v : Pairs} {t vars : Text} → assigned g ≡ doneAt v → t ≡ image (flat v) → Settles (g .varsUsed) t (g .vars) r vars
+  -- the new image comes to the variables' buffer, and nothing is written
+  answer-accepted : {v : Pairs} {w vars : Text} → assigned g ≡ doneAt v → Accepts 0 (g .varsUsed) w (g .vars) r vars → w ≡ image (flat v)
       → Hands (assigner g) r vars (g .out) (g .message)
-  unfolding assigner settled
-  answer-settled {vars = vars} h c s =
-      subst (λ (a : stage.Answer). Hands a r vars (g .out) (g .message)) (sym (ap (settled g) h))
-      (record {
-        number = ap (λ (x : Answer). x .number) (s .is);
-        place = ap (λ (x : Answer). x .place) (s .is);
-        outLength = ap (λ (x : Answer). x .«out_len») (s .is);
-        varsUsed = ap (λ (x : Answer). x .«vars_used») (s .is) ∙ ap length c;
-        messageLength = ap (λ (x : Answer). x .«message_len») (s .is);
-        output = refl;
-        variables = s .variables ∙ ap (λ (x : Text). over (padded (g .varsUsed) x) (g .vars)) c;
-        message = refl;
-      })
+  unfolding assigner settled over
+  answer-accepted {v} h c = accepted-hands g [] v (ap (settled g) h) c refl refl
 
 -- "The work area is zero throughout after every call"
 pub answer-clear : (g : Given) → assigner g .work ≡ cleared (g .work)
-unfolding cleared
-answer-clear g = assigner-fits g .clear
+unfolding assigner settled
+answer-clear g = answered-clear g (assigned g then λ v. doneAt ([], v))
 
 -- THE ASSIGNMENTS ON THE COPY
 
@@ -133,11 +120,11 @@ module _ {g : Given} (p : AssignPassed g) {room : ℕ} (same : room ≡ length (
       pub left-within : left ≤ length copy₂
       left-within = stands .holds .inside
 
-      pub settle-ready : length (take left copy₂) ≤ length (g .vars)
-      settle-ready = omega (arith, length-take-le left copy₂ left-within, stands .holds .fits)
+      pub accept-ready : (length (take left copy₂) ≤ length (g .vars)) × (g .varsUsed ≤ length (g .vars))
+      accept-ready = (omega (arith, length-take-le left copy₂ left-within, stands .holds .fits), p .tables .inside)
 
-      pub call-settled : {r : Answer} {vars : Text} → Bytes copy₂ → Settles (g .varsUsed) (take left copy₂) (g .vars) r vars
+      pub call-accepted : {r : Answer} {vars : Text} → Bytes copy₂ → Accepts 0 (g .varsUsed) (take left copy₂) (g .vars) r vars
           → Hands (assigner g) r vars (g .out) (g .message)
-      call-settled b s =
-          answer-settled g (stands .is)
-          (table-canonical isName (take left copy₂) (vars-of (take left copy₂) (stands .holds .formed)) (bytes-take left copy₂ b)) s
+      call-accepted b a =
+          answer-accepted g (stands .is) a
+          (table-canonical isName (take left copy₂) (vars-of (take left copy₂) (stands .holds .formed)) (bytes-take left copy₂ b))

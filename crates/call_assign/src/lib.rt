@@ -45,7 +45,7 @@ fn on_copy(
             call_deliver::refuse_with(numbers::REFUSED_DEMAND, place, used, at, len)
         }
         LineAssigned::Done { vars_used } => {
-            let answer = call_deliver::settle(&copy[..vars_used], vars, used);
+            let answer = call_deliver::accept(0, &copy[..vars_used], vars, used);
             Draft {
                 answer: answer,
                 at: 0,

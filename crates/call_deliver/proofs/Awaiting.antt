@@ -2,16 +2,15 @@
 use Prim.Native.Nat.{ℕ, _+_, _-_}
 use native.Mathlib.Omega.{arith}
 use mathlib.Core.Path.{_≡_, refl, sym, ap, _∙_, subst}
-use mathlib.Core.List.{[]}
 use lib.ListN.{length, take, drop, replicate}
 use lib.Seq.{take-nil}
 use Rattle.stages.specs.Numbers.{demanded}
 use Rattle.stages.specs.Bytes.{Text}
 use Rattle.stages.specs.Outcome.{Placed, refusedAt, demandsAt, doneAt}
-use Rattle.stages.specs.Images.{Pairs}
-use Rattle.stages.specs.Call.{Given, over, cleared, shown, answered}
+use Rattle.stages.specs.Images.{Pairs, flat, image}
+use Rattle.stages.specs.Call.{Given, over, padded, cleared, shown, answered}
 use Rattle.stages.specs.Call as stage
-use Rattle.call_deliver.specs.Hands.{Hands, Gives, refusedAs}
+use Rattle.call_deliver.specs.Hands.{Hands, Gives, Accepts, refusedAs}
 use Rattle.call_deliver.specs.Awaits.{untold, toldTo, telling, Awaits, HandsOver}
 use Rattle.call_deliver.specs.declared.Answer.{Answer}
 use Rattle.call_deliver.specs.declared.Draft.{Draft}
@@ -60,6 +59,23 @@ module _ (g : Given) {a : stage.Answer} {r : Answer} where
         messageLength = refl;
         output = refl;
         variables = refl;
+        message = refl;
+      })
+
+  -- a call is accepted: so much is written to the output, and the variables' new image comes to their buffer
+  pub accepted-hands : (t : Text) (v : Pairs) {w vars out : Text} {n : ℕ} → a ≡ answered g (doneAt (t, v)) → Accepts n (g .varsUsed) w (g .vars) r vars
+      → n ≡ length t → out ≡ over t (g .out) → w ≡ image (flat v) → Hands a r vars out (g .message)
+  unfolding answered
+  accepted-hands t v {vars = vars} {out = out} h c k o e =
+      subst (λ (x : stage.Answer). Hands x r vars out (g .message)) (sym h)
+      (record {
+        number = ap (λ (x : Answer). x .number) (c .is);
+        place = ap (λ (x : Answer). x .place) (c .is);
+        outLength = ap (λ (x : Answer). x .«out_len») (c .is) ∙ k;
+        varsUsed = ap (λ (x : Answer). x .«vars_used») (c .is) ∙ ap length e;
+        messageLength = ap (λ (x : Answer). x .«message_len») (c .is);
+        output = o;
+        variables = c .variables ∙ ap (λ (x : Text). over (padded (g .varsUsed) x) (g .vars)) e;
         message = refl;
       })
 

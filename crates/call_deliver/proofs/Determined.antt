@@ -10,7 +10,7 @@ use Rattle.quote.specs.declared.Quoted.{Quoted}
 use Rattle.quote.proofs.Determined.{quoted-determined}
 use Rattle.call_check.specs.declared.Job.{Job}
 use Rattle.text.proofs.Determined.{one-answer}
-use Rattle.call_deliver.specs.Hands.{Gives, Accepts, Settles, writingOf}
+use Rattle.call_deliver.specs.Hands.{Gives, Accepts, writingOf}
 use Rattle.call_deliver.specs.Awaits.{refusedWith, HandsOver}
 use Rattle.call_deliver.specs.declared.Answer.{Answer}
 use Rattle.call_deliver.specs.declared.Draft.{Draft}
@@ -20,9 +20,9 @@ pub answer-same : (r s : Answer) → r .number ≡ s .number → r .place ≡ s 
 answer-same r s a b c d e i =
     record { number = a i; place = b i; «out_len» = c i; «vars_used» = d i; «message_len» = e i }
 
-pub accept-determined : (n : ℕ) (image old : Text) (r s : Answer) (vars vars' : Text) → Accepts n image old r vars → Accepts n image old s vars'
+pub accept-determined : (n used : ℕ) (image old : Text) (r s : Answer) (vars vars' : Text) → Accepts n used image old r vars → Accepts n used image old s vars'
     → (r ≡ s) × (vars ≡ vars')
-accept-determined n image old r s vars vars' g h = (g .is ∙ sym (h .is), g .variables ∙ sym (h .variables))
+accept-determined n used image old r s vars vars' g h = (g .is ∙ sym (h .is), g .variables ∙ sym (h .variables))
 
 pub deliver-determined : (job : Job) (image old left left′ : Text) (r s : Quoted) → quotingOf r left ≡ writingOf job image old
     → quotingOf s left′ ≡ writingOf job image old → (r ≡ s) × (left ≡ left′)
@@ -31,10 +31,6 @@ deliver-determined job image old = quoted-determined (writingOf job image old)
 pub tell-determined : (text old left left′ : Text) (r s : ℕ) → (r ≡ length (take (length old) text)) × (left ≡ over (take (length old) text) old)
     → (s ≡ length (take (length old) text)) × (left′ ≡ over (take (length old) text) old) → (r ≡ s) × (left ≡ left′)
 tell-determined text old left left′ r s g h = (g .0 ∙ sym (h .0), g .1 ∙ sym (h .1))
-
-pub settle-determined : (used : ℕ) (image old : Text) (r s : Answer) (vars vars' : Text) → Settles used image old r vars → Settles used image old s vars'
-    → (r ≡ s) × (vars ≡ vars')
-settle-determined used image old r s vars vars' g h = (g .is ∙ sym (h .is), g .variables ∙ sym (h .variables))
 
 pub refuse-with-determined : (n place used at len : ℕ) (r s : Draft) → r ≡ refusedWith n place used at len → s ≡ refusedWith n place used at len → r ≡ s
 refuse-with-determined n place used at len r s = one-answer

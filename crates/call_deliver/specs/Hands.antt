@@ -34,14 +34,9 @@ refusedAs n place varsUsed = record { number = n; place = place; «out_len» = 0
 abbrev pub acceptedAs : ℕ → ℕ → Answer
 acceptedAs outLength varsUsed = record { number = accepted; place = 0; «out_len» = outLength; «vars_used» = varsUsed; «message_len» = 0 }
 
--- the variables' new image stands at the front of their buffer, and its length is the used length
-pub record Accepts (outLength : ℕ) (image old : Text) (r : Answer) (vars : Text) : Type 0 where
+-- the variables' new image stands at the front of their buffer, and its length is the used length; behind it come zeros up to the used length that was given
+pub record Accepts (outLength used : ℕ) (image old : Text) (r : Answer) (vars : Text) : Type 0 where
   pub is : r ≡ acceptedAs outLength (length image)
-  pub variables : vars ≡ stage.over image old
-
--- after assignments: behind the new image come zeros up to the used length that was given
-pub record Settles (used : ℕ) (image old : Text) (r : Answer) (vars : Text) : Type 0 where
-  pub is : r ≡ acceptedAs 0 (length image)
   pub variables : vars ≡ stage.over (stage.padded used image) old
 
 -- what is written of a fields image to an output: the image itself, or its quoted line

@@ -1,16 +1,16 @@
 // What came of a call is handed over: the output is written, and the variables' new image is copied with the answer, or neither; and on 13 the message is.
-// "On acceptance, bytes behind either new image are unchanged": no more than the new images' bytes is ever copied; after assignments alone, zeros come behind
-// an image that is shorter than the one before.
+// "On acceptance, bytes behind either new image are unchanged" holds of the output, and of the variables beyond the used length that was given: up to it,
+// zeros come behind an image that is shorter than the one before.
 use call_check::Job;
 use quote::Quoted;
 use text::numbers;
 ghost use mathlib.Core.Path.{_≡_};
-ghost use Prim.Native.Nat.{ℕ, _+_, _≤_};
+ghost use Prim.Native.Nat.{_+_, _≤_};
 ghost use lib.ListN.{length, take};
 ghost use Rattle.stages.specs.Call.{over};
 ghost use Rattle.quote.specs.Answers.{quotingOf};
 ghost use Rattle.call_check.specs.Calls.{roomOf};
-ghost use Rattle.call_deliver.specs.Hands.{refusedAs, writingOf, Accepts, Settles};
+ghost use Rattle.call_deliver.specs.Hands.{refusedAs, writingOf, Accepts};
 ghost use Rattle.call_deliver.specs.Awaits.{refusedWith, HandsOver};
 
 // "The answer is a number, a place, the output length and the variables' used length."; E7: "the answer gives the length written" of the message. Laid out as
@@ -56,33 +56,24 @@ pub fn refuse_with(number: u8, place: usize, vars_used: usize, at: usize, len: u
     }
 }
 
-// An acceptance: the variables' new image comes to the front of their buffer.
-pub fn accept(out_len: usize, image: &[u8], vars: &mut [u8]) -> Answer
-    requires { ⌜ length (now image) ≤ length (now vars) ⌝ }
-    ensures { λ r. ⌜ Accepts «out_len» (now (image .entry)) (now (vars .entry)) r (now (vars .exit)) ⌝ }
+// An acceptance: the variables' new image comes to the front of their buffer, and "bytes behind the new image are zero up to the old used length (the one
+// given), and kept beyond it".
+pub fn accept(out_len: usize, image: &[u8], vars: &mut [u8], vars_used: usize) -> Answer
+    requires { ⌜ (length (now image) ≤ length (now vars)) × («vars_used» ≤ length (now vars)) ⌝ }
+    ensures { λ r. ⌜ Accepts «out_len» «vars_used» (now (image .entry)) (now (vars .entry)) r (now (vars .exit)) ⌝ }
 {
     text_copy::copy_in(image, vars);
-    Answer {
-        number: numbers::ACCEPTED,
-        place: 0,
-        out_len: out_len,
-        vars_used: image.len(),
-        message_len: 0,
-    }
-}
-
-// An acceptance of assignments: the new image comes to the front of the variables' buffer, and "bytes behind the new image are zero up to the old used length
-// (the one given), and kept beyond it".
-pub fn settle(image: &[u8], vars: &mut [u8], vars_used: usize) -> Answer
-    requires { ⌜ (length (now image) ≤ length (now vars)) × («vars_used» ≤ length (now vars)) ⌝ }
-    ensures { λ r. ⌜ Settles «vars_used» (now (image .entry)) (now (vars .entry)) r (now (vars .exit)) ⌝ }
-{
-    let answer = accept(0, image, vars);
     let len = image.len();
     if len < vars_used {
         text_copy::fill_zero(&mut vars[len..vars_used]);
     }
-    answer
+    Answer {
+        number: numbers::ACCEPTED,
+        place: 0,
+        out_len: out_len,
+        vars_used: len,
+        message_len: 0,
+    }
 }
 
 // Writes what the job gives of a fields image to the output, if it has room.

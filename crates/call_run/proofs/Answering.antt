@@ -1,6 +1,6 @@
 -- What a line comes to, and what the stage answers then.
 use Prim.Native.Nat.{ℕ}
-use mathlib.Core.Path.{_≡_, refl, sym, ap, _∙_, subst}
+use mathlib.Core.Path.{_≡_, refl, ap, _∙_}
 use lib.ListN.{length, take}
 use Rattle.stages.specs.Numbers.{demanded}
 use Rattle.stages.specs.Bytes.{Text}
@@ -9,10 +9,10 @@ use Rattle.stages.specs.Images.{Pairs, flat, image}
 use Rattle.stages.specs.Call.{Given, over, cleared, answered, expander, normaliser}
 use Rattle.stages.specs.Call as stage
 use Rattle.call_check.specs.Calls.{answerOf, worked}
-use Rattle.call_deliver.specs.Hands.{Hands, refusedAs, acceptedAs}
+use Rattle.call_deliver.specs.Hands.{Hands, Accepts, refusedAs}
 use Rattle.call_deliver.specs.Awaits.{telling}
 use Rattle.call_deliver.specs.declared.Answer.{Answer}
-use Rattle.call_deliver.proofs.Awaiting.{answered-clear, refused-hands, demanded-hands}
+use Rattle.call_deliver.proofs.Awaiting.{answered-clear, refused-hands, demanded-hands, accepted-hands}
 use Rattle.call_check.specs.declared.Job.{Job}
 use Rattle.call_check.specs.declared.Job.the-variants.{Expander, Normaliser}
 use Rattle.call_run.specs.Drafts.{draft}
@@ -41,23 +41,9 @@ module _ (job : Job) (g : Given) {r : Answer} where
   draft-demands {t} {place} h e = demanded-hands g t place (answer-is job g ∙ ap (answered g) h) e
 
   -- it is accepted
-  pub draft-accepted : {t vars out : Text} {v : Pairs} {n used : ℕ} → draft job (length (g .out)) (worked job g) ≡ doneAt (t, v) → r ≡
-      acceptedAs n used
-      → n ≡ length t → used ≡ length (image (flat v)) → vars ≡ over (image (flat v)) (g .vars) → out ≡ over t (g .out)
-      → Hands (answerOf job g) r vars out (g .message)
-  unfolding answered
-  draft-accepted {vars = vars} {out = out} h e k l m o =
-      subst (λ (a : stage.Answer). Hands a r vars out (g .message)) (sym (answer-is job g ∙ ap (answered g) h))
-      (record {
-        number = ap (λ (x : Answer). x .number) e;
-        place = ap (λ (x : Answer). x .place) e;
-        outLength = ap (λ (x : Answer). x .«out_len») e ∙ k;
-        varsUsed = ap (λ (x : Answer). x .«vars_used») e ∙ l;
-        messageLength = ap (λ (x : Answer). x .«message_len») e;
-        output = o;
-        variables = m;
-        message = refl;
-      })
+  pub draft-accepted : {t w vars out : Text} {v : Pairs} {n : ℕ} → draft job (length (g .out)) (worked job g) ≡ doneAt (t, v)
+      → Accepts n (g .varsUsed) w (g .vars) r vars → n ≡ length t → out ≡ over t (g .out) → w ≡ image (flat v) → Hands (answerOf job g) r vars out (g .message)
+  draft-accepted {t = t} {v = v} h = accepted-hands g t v (answer-is job g ∙ ap (answered g) h)
 
 pub answer-clear : (job : Job) (g : Given) → answerOf job g .work ≡ cleared (g .work)
 answer-clear job g = ap (λ (a : stage.Answer). a .work) (answer-is job g) ∙ answered-clear g (draft job (length (g .out)) (worked job g))

@@ -20,7 +20,7 @@ use Rattle.stages.proofs.Rooms.{over-front}
 use Rattle.quote.specs.Answers.{quotingOf}
 use Rattle.quote.specs.declared.Quoted.{Quoted}
 use Rattle.quote.specs.declared.Quoted.the-variants.{Len, Malformed, NoRoom}
-use Rattle.expand_add.specs.Answers.{Holds}
+use Rattle.table_store.specs.Holding.{Holds}
 use Rattle.table.specs.Around.{among}
 use Rattle.expand_line.specs.Answers.{lineOutcome, LineReady, IsLine, LineSays}
 use Rattle.expand_line.specs.declared.LineExpanded.{LineExpanded}

@@ -117,12 +117,11 @@ module _ {job : Job} {g : Given} (p : Passed job g) {room : ℕ} (same : room �
       pub left-within : left ≤ length copy₂
       left-within = made .holds .inside
 
-      pub accept-ready : length (take left copy₂) ≤ length (g .vars)
-      accept-ready = omega (arith, length-take-le left copy₂ left-within, made .holds .fits)
+      pub accept-ready : (length (take left copy₂) ≤ length (g .vars)) × (g .varsUsed ≤ length (g .vars))
+      accept-ready = (omega (arith, length-take-le left copy₂ left-within, made .holds .fits), p .tables .inside)
 
-      pub call-accepted : {r : Answer} {vars : Text} → Bytes copy₂ → Accepts n (take left copy₂) (g .vars) r vars → Hands (answerOf job g) r
+      pub call-accepted : {r : Answer} {vars : Text} → Bytes copy₂ → Accepts n (g .varsUsed) (take left copy₂) (g .vars) r vars → Hands (answerOf job g) r
           vars out₁ (g .message)
       call-accepted b a =
-          let c =
-          table-canonical isName (take left copy₂) (vars-of (take left copy₂) (made .holds .formed)) (bytes-take left copy₂ b) in
-          draft-accepted job g (made .is) (a .is) (made .long) (ap length c) (a .variables ∙ ap (λ (t : Text). over t (g .vars)) c) (made .stands)
+          draft-accepted job g (made .is) a (made .long) (made .stands)
+          (table-canonical isName (take left copy₂) (vars-of (take left copy₂) (made .holds .formed)) (bytes-take left copy₂ b))

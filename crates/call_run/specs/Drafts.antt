@@ -13,7 +13,8 @@ use Rattle.stages.specs.Syntax.{Word}
 use Rattle.stages.specs.Read.{readLine}
 use Rattle.stages.specs.Line.{Fields}
 use Rattle.stages.specs.Call.{over}
-use Rattle.expand_add.specs.Answers.{Holds, Waits}
+use Rattle.table_store.specs.Holding.{Holds}
+use Rattle.expand_add.specs.Answers.{Waits}
 use Rattle.table.specs.Around.{among}
 use Rattle.expand_line.specs.Answers.{lineOutcome}
 use Rattle.call_check.specs.Calls.{outputOf}

@@ -162,7 +162,7 @@ fn on_copy(
             call_deliver::refuse_with(numbers::REFUSED_DEMAND, place, used, at, len)
         }
         Delivered::Done { out_len, vars_used } => {
-            let answer = call_deliver::accept(out_len, &copy[..vars_used], vars);
+            let answer = call_deliver::accept(out_len, &copy[..vars_used], vars, used);
             Draft {
                 answer: answer,
                 at: 0,

@@ -18,9 +18,10 @@ pub struct QuoteAnswer {
     pub out_len: usize,
 }
 
-// The expander: the line's fields, an image, to `out`. The variables are an image in the first `vars_used` bytes of their buffer, and may change. On refusal
-// the variables and the output hold their old bytes; the work area is zero throughout after every call. On 13 the message that the line demands comes to the
-// front of `message`, cut to it; every other byte of that buffer stays, as all of them do on every other answer.
+// The expander: the line's fields, an image, to `out`. The variables are an image in the first `vars_used` bytes of their buffer, and may change. Their new
+// image may be shorter than the one before: bytes behind it are zero up to the used length that was given. On refusal the variables and the output hold their
+// old bytes; the work area is zero throughout after every call. On 13 the message that the line demands comes to the front of `message`, cut to it; every
+// other byte of that buffer stays, as all of them do on every other answer.
 pub fn expand(
     line: &[u8],
     vars: &mut [u8],
@@ -82,9 +83,9 @@ pub fn normalise(
     )
 }
 
-// The assigner: a line "whose every word is a name, a bare `=` and a value" changes the variables from left to right, or on refusal not at all. Their new
-// image may be shorter than the one before: bytes behind it are zero up to the used length that was given. The output length is 0; work area and message as
-// in the expander. The job takes neither paths nor output: its stage does not look at them, and they stand as empty texts here.
+// The assigner: a line "whose every word is a name, a bare `=` and a value" changes the variables from left to right, or on refusal not at all. The output
+// length is 0; the bytes behind the variables' new image, work area and message as in the expander. The job takes neither paths nor output: its stage does
+// not look at them, and they stand as empty texts here.
 pub fn assign(
     line: &[u8],
     vars: &mut [u8],

@@ -8,9 +8,10 @@ ghost use Rattle.drunquill.specs.Hands.{Quotes};
 use call_deliver::Answer;
 use drunquill::QuoteAnswer;
 
-// The expander: the line's fields, an image, to `out`. The variables are an image in the first `vars_used` bytes of their buffer, and may change. On refusal
-// the variables and the output hold their old bytes; the work area is zero throughout after every call. On 13 the message that the line demands comes to the
-// front of `message`, cut to it; every other byte of that buffer stays, as all of them do on every other answer.
+// The expander: the line's fields, an image, to `out`. The variables are an image in the first `vars_used` bytes of their buffer, and may change. Their new
+// image may be shorter than the one before: bytes behind it are zero up to the used length that was given. On refusal the variables and the output hold their
+// old bytes; the work area is zero throughout after every call. On 13 the message that the line demands comes to the front of `message`, cut to it; every
+// other byte of that buffer stays, as all of them do on every other answer.
 #[no_mangle]
 pub extern "C" fn drunquill_expand(
     line: &[u8],
@@ -70,9 +71,9 @@ pub extern "C" fn drunquill_normalise(
     )
 }
 
-// The assigner: a line "whose every word is a name, a bare `=` and a value" changes the variables from left to right, or on refusal not at all. Their new
-// image may be shorter than the one before: bytes behind it are zero up to the used length that was given. The output length is 0; work area and message as
-// in the expander. The job takes neither paths nor output: its stage does not look at them, and they stand as empty texts here.
+// The assigner: a line "whose every word is a name, a bare `=` and a value" changes the variables from left to right, or on refusal not at all. The output
+// length is 0; the bytes behind the variables' new image, work area and message as in the expander. The job takes neither paths nor output: its stage does
+// not look at them, and they stand as empty texts here.
 #[no_mangle]
 pub extern "C" fn drunquill_assign(
     line: &[u8],

@@ -13,7 +13,7 @@ use Rattle.stages.specs.Bytes.{Text, text}
 use Rattle.stages.specs.Images.{Pairs, flat, image}
 use Rattle.stages.specs.Outcome.{Placed, refusedAt, demandsAt, doneAt, _then_}
 use Rattle.stages.specs.Units.{decimal}
-use Rattle.stages.specs.Call.{Given, over, shown, expanded, answered, quotedIn, normaliser}
+use Rattle.stages.specs.Call.{Given, over, padded, shown, expanded, answered, quotedIn, normaliser}
 use Rattle.stages.specs.Call as stage
 use Rattle.stages.specs.Program.{Variables, givenLine, said, told, saidOf, toldOf, afterLine, afterLines}
 use Rattle.stages.proofs.Bools.{either}
@@ -55,7 +55,8 @@ answered-alike g h (demandsAt t place) v u m = record {
 answered-alike g h (doneAt r) v u m = record {
   words = ap (λ (x : Text). text "ok " ++ (x ++ text "\n")) (over-front (r .0) (g .out) ∙ sym (over-front (r .0) (h .out)));
   messages = λ k. refl;
-  variables = ap (λ (x : Text). over (image (flat (r .1))) x) v;
+  variables =
+      ap (λ (n : ℕ). over (padded n (image (flat (r .1)))) (g .vars)) u ∙ ap (λ (x : Text). over (padded (h .varsUsed) (image (flat (r .1)))) x) v;
   varsUsed = refl;
 }
 

@@ -21,6 +21,24 @@ two [] x y l = absurd (omega arith)
 two (a ∷ []) x y l = absurd (omega arith)
 two (a ∷ b ∷ s) x y l = refl
 
+-- a unit has a byte at the most, and takes two
+pub unit-byte : (b m : ℕ) (r : Row) → length (bytes (unitOf b m ∷ r)) ≤ suc (length (bytes r))
+unfolding bytes unitOf
+unit-byte b m r = go (eqb m 1) (eqb m 2) (eqb m 3) (eqb m 4)
+  where
+    go : (x y z w : Bool) → length (bytes (pick x (cell L b) (pick y (cell E b) (pick z (cell Q b) (pick w B N))) ∷ r)) ≤ suc (length (bytes r))
+    go true y z w = omega arith
+    go false true z w = omega arith
+    go false false true w = omega arith
+    go false false false true = omega arith
+    go false false false false = omega arith
+
+pub bytes-half : (t : Text) → 2 * length (bytes (rowOf t)) ≤ length t
+unfolding bytes rowOf
+bytes-half [] = omega arith
+bytes-half (a ∷ []) = omega arith
+bytes-half (a ∷ b ∷ t) = omega (arith, unit-byte a b (rowOf t), bytes-half t)
+
 -- A text of which i bytes stand as units at the front of w: one more.
 
 pub marked-length : (m : Mark) (t : Text) → length (rowBytes (marked m t)) ≡ 2 * length t

@@ -1,10 +1,11 @@
-// Runs one case of the assigner, as calls.rt does those of the other jobs. Its answer has no output, and the bytes behind a shorter image are zero.
+// Runs one case of the assigner, as calls.rt does those of the other jobs. Its answer has no output.
 use crate::laying::MESSAGE_FILL;
 use crate::laying::VARS_FILL;
 use crate::laying::WORK_JUNK;
 use crate::laying::WORK_ZERO;
 use crate::laying::cut_to_bytes;
 use crate::laying::cut_to_size;
+use crate::laying::hold_variables;
 use crate::laying::hold_word;
 use crate::laying::lay;
 use crate::laying::lay_word;
@@ -15,7 +16,6 @@ use crate::words;
 use crate::words::number;
 use crate::words::word;
 use call_deliver::Answer;
-ghost use Rattle.io.specs.Counts.{Counts};
 
 // Holds the numbers that the job gave against the case's.
 fn hold_numbers(told: Told, case: &[u8], answer: Answer) -> Told {
@@ -44,50 +44,15 @@ fn hold_numbers(told: Told, case: &[u8], answer: Answer) -> Told {
     )
 }
 
-// Holds the variables' bytes from `end` on against those that stood there before the call.
-fn hold_behind(told: Told, kept: &[u8], end: usize, before: &[u8]) -> Told {
-    if end < before.len() / 2 {
-        let from = end * 2;
-        return hold_bytes(
-            told,
-            b"kept variables",
-            kept,
-            b"-",
-            &before[from..],
-            VARS_FILL,
-        );
-    }
-    hold_bytes(told, b"kept variables", kept, b"-", b"-", VARS_FILL)
-}
-
-// Where the bytes end that an accepted call changes: at the new image's end, or at the used length that was given if that is greater.
-fn changed(case: &[u8], vars: &[u8]) -> usize
-    ensures { λ r. ⌜ Counts r (now (vars .entry)) ⌝ }
-{
-    let image = cut_to_bytes(case, words::ASSIGN_VARS_BYTES, vars);
-    let used = cut_to_size(case, words::USED, vars);
-    if image < used {
-        return used;
-    }
-    image
-}
-
-// Holds the variables against the case: the new image, zeros behind it up to the used length that was given, and what was there before; on a refusal all
-// that was there before.
-fn hold_variables(told: Told, case: &[u8], vars: &[u8]) -> Told {
-    let before = word(case, words::VARS);
-    if number(word(case, words::ASSIGN_NUMBER)) != 0 {
-        return hold_behind(told, vars, 0, before);
-    }
-    let image = word(case, words::ASSIGN_VARS_BYTES);
-    let end = changed(case, vars);
-    let told = hold_bytes(told, b"variables", &vars[..end], image, b"-", 0);
-    hold_behind(told, &vars[end..], end, before)
-}
-
 // Holds what the job left in the buffers against the case.
 fn hold_buffers(told: Told, case: &[u8], vars: &[u8], work: &[u8], message: &[u8]) -> Told {
-    let told = hold_variables(told, case, vars);
+    let told = hold_variables(
+        told,
+        case,
+        words::ASSIGN_NUMBER,
+        words::ASSIGN_VARS_BYTES,
+        vars,
+    );
     let told = hold_bytes(told, b"work area", work, b"-", b"-", WORK_ZERO);
     hold_bytes(
         told,

@@ -63,6 +63,53 @@ pub(crate) fn hold_word(told: Told, what: &[u8], given: usize, case: &[u8], n: u
     hold_number(told, what, given, number(word(case, n)))
 }
 
+// Holds the variables' bytes from `end` on against those that stood there before the call.
+fn hold_behind(told: Told, kept: &[u8], end: usize, before: &[u8]) -> Told {
+    if end < before.len() / 2 {
+        let from = end * 2;
+        return hold_bytes(
+            told,
+            b"kept variables",
+            kept,
+            b"-",
+            &before[from..],
+            VARS_FILL,
+        );
+    }
+    hold_bytes(told, b"kept variables", kept, b"-", b"-", VARS_FILL)
+}
+
+// Where the bytes end that an accepted call changes: at the new image's end, or at the used length that was given if that is greater.
+fn changed(case: &[u8], bytes: usize, vars: &[u8]) -> usize
+    ensures { λ r. ⌜ Counts r (now (vars .entry)) ⌝ }
+{
+    let image = cut_to_bytes(case, bytes, vars);
+    let used = cut_to_size(case, words::USED, vars);
+    if image < used {
+        return used;
+    }
+    image
+}
+
+// Holds the variables against the case, whose number and new image stand at these places: the image, zeros behind it up to the used length that was given,
+// and what was there before; on a refusal all that was there before.
+pub(crate) fn hold_variables(
+    told: Told,
+    case: &[u8],
+    answer: usize,
+    bytes: usize,
+    vars: &[u8],
+) -> Told {
+    let before = word(case, words::VARS);
+    if number(word(case, answer)) != 0 {
+        return hold_behind(told, vars, 0, before);
+    }
+    let image = word(case, bytes);
+    let end = changed(case, bytes, vars);
+    let told = hold_bytes(told, b"variables", &vars[..end], image, b"-", 0);
+    hold_behind(told, &vars[end..], end, before)
+}
+
 // Holds what a job left in the buffers against the case.
 pub(crate) fn hold_buffers(
     told: Told,
@@ -80,14 +127,7 @@ pub(crate) fn hold_buffers(
         b"-",
         OUT_FILL,
     );
-    let told = hold_bytes(
-        told,
-        b"variables",
-        vars,
-        word(case, words::VARS_BYTES),
-        word(case, words::VARS),
-        VARS_FILL,
-    );
+    let told = hold_variables(told, case, words::NUMBER, words::VARS_BYTES, vars);
     let told = hold_bytes(told, b"work area", work, b"-", b"-", WORK_ZERO);
     hold_bytes(
         told,

@@ -57,14 +57,13 @@ pub struct Given {
 /// What it must give back: output and variables' image, or the refusal.
 pub type Wanted = Result<(Vec<u8>, Vec<u8>), Refusal>;
 
-/// What stands at the front of the variables' buffer then: their image and, after assignments, zeros up to the used length that was given.
-fn left(job: Job, given: &Given, wanted: &Wanted) -> Vec<u8> {
+/// What stands at the front of the variables' buffer then: their image, and zeros up to the used length that was given.
+fn left(given: &Given, wanted: &Wanted) -> Vec<u8> {
     match wanted {
-        Ok((_, image)) if job == Job::Assign => {
+        Ok((_, image)) => {
             let zeros = given.used.saturating_sub(image.len());
             [image.as_slice(), &vec![0; zeros]].concat()
         }
-        Ok((_, image)) => image.clone(),
         Err(_) => Vec::new(),
     }
 }
@@ -91,7 +90,7 @@ pub fn differs(job: Job, given: &Given, wanted: &Wanted) -> Option<String> {
     let checks = [
         ("result", result == wanted.clone().map(|(out, _)| out)),
         ("used length", used == if wanted.is_ok() { image.len() } else { given.used }),
-        ("variables", vars.0 == vars_before.with(&left(job, given, wanted)).0),
+        ("variables", vars.0 == vars_before.with(&left(given, wanted)).0),
         ("output", out.0 == out_before.with(&front).0),
         ("work area", work.0 == Buffer::new(&[], given.work_len, |_| 0).0),
     ];

@@ -202,6 +202,26 @@ fn a_shorter_value_leaves_zeros() {
     assigns(&Given { vars_len: full.used, ..full }, &[(b"job", b"s")]);
 }
 
+fn counts(given: &Given, field: &[u8], records: &[(&[u8], &[u8])]) {
+    accepted(Job::Expand, given, &image(&[field]), &changed(records));
+    accepted(Job::Normalise, given, field, &changed(records));
+}
+
+#[test]
+fn arithmetic_counts() {
+    counts(&given(b"P$((n=n+1))-$((n+=1))-$n"), b"P1-2-2", &[(b"n", b"2")]);
+    counts(&given(b"$((job=note=3))"), b"3", &[(b"job", b"3"), (b"note", b"3")]);
+    counts(&given(b"$((job=7))$((job*=12345678901))"), b"786419752307", &[(b"job", b"86419752307")]);
+    let full = given(b"$((job=3))");
+    counts(&Given { vars_len: full.used, ..full }, b"3", &[(b"job", b"3")]);
+    assigns(&given(b"job=$((n=12)) n=$((n/=5))"), &[(b"job", b"12"), (b"n", b"2")]);
+    refused(&given(b"a $((job=3))$((1/0))"), Number::ZeroDivisor, 2);
+    refused(&given(b"$((job+=1))"), Number::NotNumber, 0);
+    refused(&given(b"$(((note)=1))"), Number::ArithmeticSyntax, 0);
+    let longer = given(b"a $((n=1))");
+    refused(&Given { vars_len: longer.used + 5, ..longer }, Number::VariableRoom, 2);
+}
+
 #[test]
 fn assignments_are_refused() {
     let lines: [(&[u8], Number, usize); 12] = [

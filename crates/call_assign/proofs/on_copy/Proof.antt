@@ -8,7 +8,7 @@ use Rattle.stages.specs.Bytes.{Text}
 use Rattle.call_deliver.specs.declared.Answer.{Answer}
 use Rattle.call_deliver.proofs.Copying.{copy-fits}
 use Rattle.call_deliver.proofs.Awaiting.{untold-awaits, awaits-as}
-use Rattle.call_assign.proofs.Assigning.{line-ready, call-refused, message-within, call-demands, left-within, settle-ready, call-settled}
+use Rattle.call_assign.proofs.Assigning.{line-ready, call-refused, message-within, call-demands, left-within, accept-ready, call-accepted}
 use borrow.Author.Needs.{needs}
 use Rattle.call_assign.proofs.on_copy.Statement.{statement}
 use Rattle.call_assign.proofs.on_copy.Tie as tie
@@ -87,22 +87,20 @@ refuse-with-requires-2 c κs = search needs
 enum-known-got-3 : tie.Need-enum-known-got-3
 enum-known-got-3 c = search needs
 
-slice-reshare-prefix-settle : tie.Need-slice-reshare-prefix-settle
-slice-reshare-prefix-settle c = within (c .before)
+slice-reshare-prefix-accept : tie.Need-slice-reshare-prefix-accept
+slice-reshare-prefix-accept c = within (c .before)
 
-slice-aggregate-settle : tie.Need-slice-aggregate-settle
-slice-aggregate-settle c = sym (length-take-le _ _ (within (c .before .before)))
+slice-aggregate-accept : tie.Need-slice-aggregate-accept
+slice-aggregate-accept c = sym (length-take-le _ _ (within (c .before .before)))
 
-settle-requires : tie.Need-settle-requires
-settle-requires c κs =
+accept-requires : tie.Need-accept-requires
+accept-requires c κs =
     let g = c .before .before .before in
     let w = accepting g in
     let k = copying w in
-    let s = entry k in (
-      settle-ready (s .pre .0 []) (s .pre .1 .0) (s .args .copy .now) (s .pre .1 .1) (copied k) (k .copy-in .ensures)
-          (drawn w) (working w) (w .assign-line .result) (w .assign-line .ensures) (g .got3 .given .1),
-      s .pre .0 [] .tables .inside,
-    )
+    let s = entry k in
+    accept-ready (s .pre .0 []) (s .pre .1 .0) (s .args .copy .now) (s .pre .1 .1) (copied k) (k .copy-in .ensures)
+    (drawn w) (working w) (w .assign-line .result) (w .assign-line .ensures) (g .got3 .given .1)
 
 same-length : tie.Need-same-length
 same-length c = search needs
@@ -162,10 +160,10 @@ returns-3 c =
     let w = accepting g in
     let k = copying w in
     let s = entry k in
-    untold-awaits (ap (λ (x : Answer). x .«message_len») (a .settle .ensures .is)) (working w) _ λ m.
-    call-settled (s .pre .0 m) (s .pre .1 .0) (s .args .copy .now) (s .pre .1 .1) (copied k) (k .copy-in .ensures)
+    untold-awaits (ap (λ (x : Answer). x .«message_len») (a .accept .ensures .is)) (working w) _ λ m.
+    call-accepted (s .pre .0 m) (s .pre .1 .0) (s .args .copy .now) (s .pre .1 .1) (copied k) (k .copy-in .ensures)
     (drawn w) (working w) (w .assign-line .result) (w .assign-line .ensures) (g .got3 .given .1)
-    (λ i. g .before .before .before .before .slice-known5 .given i .fits) (a .settle .ensures)
+    (λ i. g .before .before .before .before .slice-known5 .given i .fits) (a .accept .ensures)
 
 pub on-copy-spec : {M : Type 1} → statement M
 on-copy-spec =
@@ -180,9 +178,9 @@ on-copy-spec =
     enum-known-got-2
     refuse-with-requires-2
     enum-known-got-3
-    slice-reshare-prefix-settle
-    slice-aggregate-settle
-    settle-requires
+    slice-reshare-prefix-accept
+    slice-aggregate-accept
+    accept-requires
     same-length
     same-length-2
     same-length-3
