@@ -17,9 +17,9 @@ enum Token {
 }
 
 /// The longer signs stand first, so that the longest one is taken.
-const SIGNS: [&str; 24] = [
-    "<<", ">>", "<=", ">=", "==", "!=", "&&", "||", "<", ">", "&", "^", "|", "!", "~", "?", ":", "+", "-", "*", "/",
-    "%", "(", ")",
+const SIGNS: [&str; 30] = [
+    "<<", ">>", "<=", ">=", "==", "!=", "&&", "||", "+=", "-=", "*=", "/=", "%=", "<", ">", "&", "^", "|", "!", "~",
+    "?", ":", "=", "+", "-", "*", "/", "%", "(", ")",
 ];
 
 /// The binary operators from the loosest to the tightest level.
@@ -39,6 +39,9 @@ pub const LEVELS: [&[&str]; 10] = [
 /// The signs that stand before one operand.
 pub const UNARY: [&str; 4] = ["+", "-", "!", "~"];
 
+/// The signs that store, each behind a bare name: `=`, and the binary operators that take the name's number first.
+pub const ASSIGNMENTS: [&str; 6] = ["=", "+=", "-=", "*=", "/=", "%="];
+
 #[derive(Debug)]
 pub enum Tree {
     Constant(i64),
@@ -47,10 +50,12 @@ pub enum Tree {
     Binary(&'static str, Box<Tree>, Box<Tree>),
     /// The condition, the side for all numbers but 0, the side for 0.
     Conditional(Box<Tree>, Box<Tree>, Box<Tree>),
+    /// The sign, the name it stores under, the right side.
+    Assignment(&'static str, Vec<u8>, Box<Tree>),
 }
 
-/// What the text comes to, or its first fault.
-pub fn result(text: &[u8], variables: &Variables) -> Result<i64, Number> {
+/// What the text comes to, or its first fault; its assignments are stored as far as it comes.
+pub fn result(text: &[u8], variables: &mut Variables) -> Result<i64, Number> {
     work_out(&read(text)?, variables)
 }
 
@@ -58,10 +63,21 @@ pub fn result(text: &[u8], variables: &Variables) -> Result<i64, Number> {
 pub fn read(text: &[u8]) -> Result<Tree, Number> {
     let mut parser = Parser { rest: text, next: Token::End, open: 0 };
     parser.advance()?;
-    let tree = parser.conditional()?;
+    let tree = parser.expression()?;
     match parser.next {
         Token::End => Ok(tree),
         _ => Err(Number::ArithmeticSyntax),
+    }
+}
+
+/// How far a text is read that is no tree: the text up to the token that may not stand there, and that token if it is a sign. It decides nothing here, but
+/// lets the generator count its cases.
+pub fn read_up_to(text: &[u8]) -> (&[u8], Option<&'static str>) {
+    let mut parser = Parser { rest: text, next: Token::End, open: 0 };
+    let _ = parser.advance().and_then(|()| parser.expression());
+    match parser.next {
+        Token::Sign(sign) => (&text[..text.len() - parser.rest.len() - sign.len()], Some(sign)),
+        _ => (&text[..text.len() - parser.rest.len()], None),
     }
 }
 
@@ -75,11 +91,26 @@ struct Parser<'a> {
 impl Parser<'_> {
     /// Takes the next token; a constant is judged here, before the grammar asks for it.
     fn advance(&mut self) -> Result<(), Number> {
-        let text = behind_blanks(self.rest);
-        let (token, length) = token(text)?;
+        self.next = Token::End;
+        self.rest = behind_blanks(self.rest);
+        let (token, length) = token(self.rest)?;
         self.next = token;
-        self.rest = &text[length..];
+        self.rest = &self.rest[length..];
         Ok(())
+    }
+
+    /// A conditional, or an assignment, whose right side is an expression again. Only a bare name may stand before the sign: what begins with a name
+    /// and is one has nothing else in it, no parenthesis either.
+    fn expression(&mut self) -> Result<Tree, Number> {
+        let bare = matches!(self.next, Token::Name(_));
+        let left = self.conditional()?;
+        match (left, &self.next) {
+            (Tree::Name(name), &Token::Sign(sign)) if bare && ASSIGNMENTS.contains(&sign) => {
+                self.advance()?;
+                Ok(Tree::Assignment(sign, name, Box::new(self.expression()?)))
+            }
+            (left, _) => Ok(left),
+        }
     }
 
     /// C's grammar: a whole expression stands between `?` and `:`, and a conditional behind the `:`.
@@ -89,7 +120,7 @@ impl Parser<'_> {
             return Ok(condition);
         }
         self.advance()?;
-        let if_true = self.conditional()?;
+        let if_true = self.expression()?;
         self.pass(":")?;
         let if_zero = self.conditional()?;
         Ok(Tree::Conditional(Box::new(condition), Box::new(if_true), Box::new(if_zero)))
@@ -126,7 +157,7 @@ impl Parser<'_> {
     }
 
     fn parenthesis(&mut self) -> Result<Tree, Number> {
-        let tree = self.conditional()?;
+        let tree = self.expression()?;
         self.pass(")")?;
         Ok(tree)
     }

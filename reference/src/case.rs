@@ -164,7 +164,7 @@ fn lines_answer(job: Job, lent: &Lent) -> Result<(Answer, String), String> {
     }
     check_behind(&out, answer.length, &vec![OUT_FILL; lent.out])?;
     let changed = if answer.number == ACCEPTED { answer.used } else { 0 };
-    if job == Job::Assign && answer.number == ACCEPTED && changed < *used {
+    if answer.number == ACCEPTED && changed < *used {
         given[changed..*used].fill(0);
     }
     check_behind(&variables, changed, &given)?;

@@ -43,7 +43,7 @@ pub struct SeenDemand {
     pub stored: bool,
 }
 
-/// An arithmetic text, and the variables it was worked out with.
+/// An arithmetic text, and the variables as they were before it was worked out.
 #[derive(Debug)]
 pub struct SeenSum {
     pub text: Vec<u8>,
@@ -109,9 +109,9 @@ impl Expander<'_> {
             Part::List { list, quoted } => self.list(*list, *quoted),
             Part::Arithmetic { text, quoted } => {
                 let text = bytes(self.row(text)?.units());
-                let result = arithmetic::result(&text, &self.variables);
-                self.seen.sums.push(SeenSum { text, variables: self.variables.clone() });
-                marked(result?.to_string().as_bytes(), mark(*quoted)).into()
+                self.seen.sums.push(SeenSum { text: text.clone(), variables: self.variables.clone() });
+                let result = arithmetic::result(&text, &mut self.variables)?;
+                marked(result.to_string().as_bytes(), mark(*quoted)).into()
             }
         };
         self.add(row, &given)

@@ -1,18 +1,18 @@
-//! Prints cases made from a seed with the reference's answers, or hostile ones, or those about `?` and its message or about assignment lines alone, or how
-//! often each number and each edge comes up in the cases of one seed or more.
+//! Prints cases made from a seed with the reference's answers, or hostile ones, or those about `?` and its message, about assignment lines or about assignments
+//! in arithmetic alone, or how often each number and each edge comes up in the cases of one seed or more.
 
 use std::io::{stdout, BufWriter, Write};
 use std::ops::RangeInclusive;
 use std::process::ExitCode;
 
 use reference::case::{case, Call};
-use reference::generate::{assignments, call, demands, hostile, tally::Tally};
+use reference::generate::{assignments, call, counting, demands, hostile, tally::Tally};
 
 fn main() -> ExitCode {
     let words: Vec<String> = std::env::args().skip(1).collect();
     let words: Vec<&str> = words.iter().map(String::as_str).collect();
     let (seeds, count) = match words[..] {
-        ["--tally" | "--hostile" | "--messages" | "--assignments", seeds, count] | [seeds, count] => {
+        ["--tally" | "--hostile" | "--messages" | "--assignments" | "--counting", seeds, count] | [seeds, count] => {
             (range(seeds), count.parse())
         }
         _ => return usage(),
@@ -28,6 +28,7 @@ fn main() -> ExitCode {
         "--hostile" => print_cases(hostile::call, seeds, count),
         "--messages" => print_cases(demands::call, seeds, count),
         "--assignments" => print_cases(assignments::call, seeds, count),
+        "--counting" => print_cases(counting::call, seeds, count),
         _ => print_cases(call, seeds, count),
     };
     match printed {
@@ -40,7 +41,7 @@ fn main() -> ExitCode {
 }
 
 fn usage() -> ExitCode {
-    eprintln!("usage: cases [--hostile|--messages|--assignments|--tally] SEED[-SEED] COUNT");
+    eprintln!("usage: cases [--hostile|--messages|--assignments|--counting|--tally] SEED[-SEED] COUNT");
     ExitCode::FAILURE
 }
 

@@ -1,4 +1,5 @@
-//! Compares the reference with dash and bash on lines, arithmetic texts, demanded messages and assignment lines where documents 01 and 02 and POSIX agree.
+//! Compares the reference with dash and bash on lines, arithmetic texts, demanded messages, assignment lines and lines that count where documents 01 and 02 and
+//! the shells agree.
 
 use std::process::ExitCode;
 
@@ -6,7 +7,8 @@ use reference::generate::random::Random;
 use reference::shells::script::is_harmless;
 use reference::shells::sums::{self, Sum, Sums};
 use reference::shells::{
-    assignments, differences, lines, messages, positional, reference, Folder, Given, Outcome, Shell, Table, Taken,
+    assignments, counting, differences, lines, messages, positional, reference, Folder, Given, Outcome, Shell, Table,
+    Taken, NAMES,
 };
 
 fn main() -> ExitCode {
@@ -14,7 +16,7 @@ fn main() -> ExitCode {
     let words: Vec<&str> = words.iter().map(String::as_str).collect();
     let compared = match words[..] {
         ["--differences", ref names @ ..]
-        | ["--parameters" | "--arithmetic" | "--messages" | "--assignments", _, _, ref names @ ..]
+        | ["--parameters" | "--arithmetic" | "--messages" | "--assignments" | "--counting", _, _, ref names @ ..]
             if !names.is_empty() =>
         {
             names.iter().map(|name| Shell::named(name)).collect()
@@ -55,6 +57,7 @@ fn compared_by(words: &[&str], shells: &[Shell]) -> Option<std::io::Result<usize
         "--arithmetic" => compare_sums(seed, count, shells),
         "--messages" => compare_messages(seed, count, shells),
         "--assignments" => compare_assignments(seed, count, shells),
+        "--counting" => compare_counting(seed, count, shells),
         _ if words.len() == 2 => compare(seed, count, false, shells),
         _ => return None,
     })
@@ -69,7 +72,7 @@ fn show_differences(shells: &[Shell]) -> std::io::Result<usize> {
 
 fn usage() -> ExitCode {
     eprintln!(
-        "usage: shells SEED COUNT, shells --parameters|--arithmetic|--messages|--assignments SEED COUNT [SHELL...], or shells --differences [SHELL...]"
+        "usage: shells SEED COUNT, shells --parameters|--arithmetic|--messages|--assignments|--counting SEED COUNT [SHELL...], or shells --differences [SHELL...]"
     );
     ExitCode::FAILURE
 }
@@ -182,25 +185,65 @@ fn compare_assignments(seed: u64, count: usize, shells: &[Shell]) -> std::io::Re
     Ok(differ)
 }
 
+/// Compares so many accepted lines with assignments in arithmetic, for each shell those that it takes alike, and says how many differ.
+fn compare_counting(seed: u64, count: usize, shells: &[Shell]) -> std::io::Result<usize> {
+    let folder = Folder::new()?;
+    let (mut compared, mut differ, mut refused, mut left_out) = (vec![0; shells.len()], 0, 0, 0);
+    for case in 0.. {
+        if compared.iter().all(|compared| *compared == count) {
+            break;
+        }
+        let random = &mut Random::new(seed, case);
+        let given = counting::given(random);
+        let line = counting::line(random);
+        let Ok(wanted) = reference(&line, &given, Taken::Fields) else {
+            refused += 1;
+            continue;
+        };
+        let known = |name: &Vec<u8>| NAMES.iter().any(|known| known.as_bytes() == name);
+        if !is_harmless(&line) || wanted.variables == given.variables || !wanted.variables.keys().all(known) {
+            left_out += 1;
+            continue;
+        }
+        for (shell, compared) in shells.iter().zip(&mut compared) {
+            if *compared == count || !shell.is_alike(&line, &given) || !shell.counts_alike(&line, &given) {
+                continue;
+            }
+            *compared += 1;
+            let said = shell.outcome(&folder, &line, &given, Taken::Fields)?;
+            if said.as_ref() != Some(&wanted) {
+                differ += 1;
+                report(*shell, &line, &given, &wanted, said.as_ref());
+            }
+        }
+    }
+    println!("not compared: {refused} lines refused by the reference, {left_out} left out for all shells");
+    println!("{count} lines of each shell, {differ} differ");
+    Ok(differ)
+}
+
 /// Compares so many different arithmetic texts that are accepted, and says how many differ, and how many more were made but not compared.
 fn compare_sums(seed: u64, count: usize, shells: &[Shell]) -> std::io::Result<usize> {
     let folder = Folder::new()?;
     let Sums { sums, refused, left_out } = Sums::of(seed, count);
     let mut differ = 0;
     for shell in shells {
-        let results = sums::results(*shell, &folder, &sums)?;
-        for (Sum { text, variables, result }, said) in sums.iter().zip(results) {
-            if said.as_ref() != Some(result) {
+        let alike: Vec<&Sum> = sums.iter().filter(|sum| shell.assigns_alike(&sum.text)).collect();
+        let results = sums::results(*shell, &folder, &alike)?;
+        for (sum, said) in alike.iter().zip(results) {
+            if said.as_ref() != Some(&sum.said()) {
                 differ += 1;
                 let said = said.map_or("fails".to_string(), |said| said.escape_ascii().to_string());
-                println!("{}: {}", shell.name(), text.escape_ascii());
-                println!("  variables {}", shown(variables));
-                println!("  reference {}\n  shell     {said}", result.escape_ascii());
+                println!("{}: {}", shell.name(), sum.text.escape_ascii());
+                println!("  variables {}", shown(&sum.variables));
+                println!("  reference {}\n  shell     {said}", sum.said().escape_ascii());
             }
         }
+        println!("{}: {} texts", shell.name(), alike.len());
     }
+    let stored = sums.iter().filter(|sum| sum.after != sum.variables).count();
     println!("not compared: {refused} texts refused by the reference, {left_out} left out");
-    println!("{} texts, {differ} differ", sums.len());
+    println!("{} texts, {stored} that change a variable, {differ} differ", sums.len());
     Ok(differ)
 }
 

@@ -4,7 +4,7 @@
 use super::random::Random;
 use super::tables::{self, filled, image, Kind, Table, LOGINS};
 use super::tildes::tilde;
-use super::{damage, demands, finished, grammar, lists, malformed, ordinary, unserved};
+use super::{counting, damage, demands, finished, grammar, lists, malformed, ordinary, unserved};
 use crate::case::{Call, Job, Lent};
 use crate::image::of_texts;
 use crate::limits;
@@ -19,11 +19,11 @@ const QUOTES: [&str; 16] = [
     "'a b'", "\"a  b\"", "''", "\"\"", "'~'", "\"~\"", "':~'", "\":~\"", "\\:~", "\\~", ":\\~", "\\ ", "'*'", "\"$x\"",
     "\"${x}:~\"", "\\=",
 ];
-const EXPANSIONS: [&str; 34] = [
+const EXPANSIONS: [&str; 36] = [
     "$x", "$x", "$y", "$u", "$e", "${out}", "${base}", "${#x}", "${x%:*}", "${x##*/}", "${x#?}", "${y%%[a-c]*}",
     "${u-~}", "${u-a:~}", "${x+~/b}", "${w-$x:$y}", "\"${u-~}\"", "${w='c d'}", "${e:=$x}", "${u=~}", "$((n+1))",
-    "$((${#x}*2))", "$((x))", "$1", "$#", "${2}", "${99-none}", "$HOME", "${HOME=/}", "${w:=longer and longer}",
-    "${x-unused}", "${x:+$x$x}", "$x$x", "${y#\"$x\"}",
+    "$((n+=1))", "$((x=12))", "$((${#x}*2))", "$((x))", "$1", "$#", "${2}", "${99-none}", "$HOME", "${HOME=/}",
+    "${w:=longer and longer}", "${x-unused}", "${x:+$x$x}", "$x$x", "${y#\"$x\"}",
 ];
 /// Words that are no assignment, or whose value cannot be read, and some beside them that are good.
 const WORDS: [&str; 76] = [
@@ -45,12 +45,13 @@ pub fn call(seed: u64, case: u64) -> Call {
 /// An assignment line over tables for it.
 pub fn made(random: &mut Random) -> Call {
     let mut lent = ordinary(random);
-    match random.below(100) {
+    match random.below(110) {
         0..=8 => return spoiled(random),
         9..=20 => shrinking(random, &mut lent),
         21..=27 => rows(random, &mut lent),
         28..=31 => images(random, &mut lent),
         32..=35 => lent.line = if random.once_in(2) { grammar::line(random) } else { damage::random_bytes(random) },
+        36..=45 => counting::values(random, &mut lent),
         _ => {
             lend(random, &mut lent);
             lent.line = line(random);
@@ -92,7 +93,7 @@ fn value_before(random: &mut Random) -> Vec<u8> {
 }
 
 /// Bytes behind the image that are not those of an unused buffer.
-fn leave_behind(random: &mut Random, lent: &mut Lent) {
+pub fn leave_behind(random: &mut Random, lent: &mut Lent) {
     let room = lent.variables_buffer.saturating_sub(lent.variables.len());
     if room > 0 && lent.used == lent.variables.len() {
         let count = random.between(1, room.min(30));

@@ -25,6 +25,7 @@ const OPERATORS: [&str; 18] =
     ["*", "/", "%", "+", "-", "<", "<=", ">", ">=", "==", "!=", "<<", ">>", "&", "^", "|", "&&", "||"];
 const BAD_OPERATORS: [&str; 17] =
     ["=", "!", "&&&", "|||", "**", "<<=", "?", ":", ",", "", "@", "~", "===", "\\", "'", "\"", "$'"];
+const ASSIGNMENTS: [&str; 8] = ["=", "=", "=", "+=", "-=", "*=", "/=", "%="];
 const BLANKS: [&str; 8] = ["", "", "", "", " ", "  ", "\t", "\n"];
 
 /// A text for `$((...))`, at this depth of open expansions.
@@ -40,6 +41,7 @@ pub fn text(random: &mut Random, depth: usize) -> Vec<u8> {
         4 => many(random),
         7 => resumed(random),
         5..=6 => random.text(&EDGES),
+        13..=16 => assignment(random, depth, 3),
         _ => sum(random, depth, 3),
     }
 }
@@ -71,6 +73,12 @@ fn conditional(random: &mut Random, depth: usize) -> Vec<u8> {
     [condition, b"?".to_vec(), first, b":".to_vec(), last].concat()
 }
 
+/// A name that is assigned to.
+fn assignment(random: &mut Random, depth: usize, size: usize) -> Vec<u8> {
+    let sign = [random.text(&BLANKS), random.text(&ASSIGNMENTS), random.text(&BLANKS)].concat();
+    [grammar::name(random), sign, sum(random, depth, size)].concat()
+}
+
 fn sum(random: &mut Random, depth: usize, size: usize) -> Vec<u8> {
     let mut text = operand(random, depth, size);
     for _ in 0..random.below(size + 1) {
@@ -85,6 +93,9 @@ fn sum(random: &mut Random, depth: usize, size: usize) -> Vec<u8> {
 fn operand(random: &mut Random, depth: usize, size: usize) -> Vec<u8> {
     match random.below(20) {
         0..=1 => [random.text(&["-", "+", "- ", "--", "!", "~"]), operand(random, depth, size)].concat(),
+        2..=4 if size > 0 && random.once_in(8) => {
+            [b"(".to_vec(), assignment(random, depth, size - 1), b")".to_vec()].concat()
+        }
         2..=4 if size > 0 => [b"(".to_vec(), sum(random, depth, size - 1), b")".to_vec()].concat(),
         5..=7 => grammar::name(random),
         8 => [b"$".to_vec(), grammar::name(random)].concat(),

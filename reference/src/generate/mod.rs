@@ -4,6 +4,9 @@ pub mod assigned;
 pub mod assignments;
 pub mod brackets;
 pub mod classes;
+pub mod counted;
+pub mod counters;
+pub mod counting;
 mod crowds;
 mod damage;
 pub mod demands;
@@ -23,12 +26,13 @@ pub mod season;
 mod sizes;
 mod stars;
 pub mod steps;
+pub(crate) mod stored;
 pub mod sums;
 pub mod tables;
 pub mod tally;
 mod tildes;
 mod unserved;
-mod walk;
+pub(crate) mod walk;
 
 use self::random::Random;
 use self::tables::Kind;
@@ -48,21 +52,22 @@ pub fn call(seed: u64, case: u64) -> Call {
         let call = assignments::made(random);
         return finished(random, call);
     }
-    let call = match random.below(326) {
+    let call = match random.below(392) {
         0..=11 => sizes::call(random),
         12..=18 => quoting::call(random),
         19..=25 => malformed(random),
         26..=32 => storing(random),
         33..=43 => focused(random, focus::patterns),
         44..=50 => focused(random, focus::splitting),
-        51..=70 => focused(random, tildes::case),
-        71..=73 => lone(random, quoting::fed_again),
-        74..=107 => focused(random, classes::case),
-        108..=125 => focused(random, stars::case),
-        126..=135 => focused(random, crowds::case),
-        136..=195 => lone(random, lists::case),
-        196..=221 => focused(random, operators::case),
-        222..=305 => focused(random, demands::case),
+        51..=74 => focused(random, tildes::case),
+        75..=77 => lone(random, quoting::fed_again),
+        78..=119 => focused(random, classes::case),
+        120..=142 => focused(random, stars::case),
+        143..=153 => focused(random, crowds::case),
+        154..=216 => lone(random, lists::case),
+        217..=242 => focused(random, operators::case),
+        243..=331 => focused(random, demands::case),
+        332..=371 => counting::words(random),
         _ => lines(random),
     };
     finished(random, call)

@@ -58,7 +58,7 @@ const SHIFTED: [i128; 16] = [
 const COUNTS: [i128; 16] = [-1, 0, 1, 2, 31, 32, 33, 61, 62, 63, 64, 65, 128, 1 << 32, (1 << 63) - 1, -(1 << 63)];
 
 /// What is repeated, and what stands behind it; then what closes it, as often as it was repeated.
-const CHAINS: [(&str, &str, &str); 22] = [
+const CHAINS: [(&str, &str, &str); 24] = [
     ("1||", "0", ""),
     ("0||", "1", ""),
     ("1||", "1/0", ""),
@@ -74,6 +74,8 @@ const CHAINS: [(&str, &str, &str); 22] = [
     ("1?0?", "2", ":3:4"),
     ("0?", "0", ""),
     ("1?", "1:2", ""),
+    ("1?n=", "2", ""),
+    ("n=1?", "2", ""),
     ("1|", "2", ""),
     ("3&", "1", ""),
     ("1^", "1", ""),

@@ -1,12 +1,12 @@
 //! What stands in the arithmetic texts of lines: the operators of E6, sides that are not needed, shifts at the edges, and how much is open.
 
-use std::collections::BTreeMap;
+use std::collections::{BTreeMap, BTreeSet};
 use std::fmt;
 
 use crate::arithmetic::{read, Tree};
 use crate::expand::SeenSum;
 use crate::number::Number;
-use crate::operation::work_out;
+use crate::operation::{binary, unary, work_out};
 use crate::variables::Variables;
 
 /// What a text may have.
@@ -46,7 +46,7 @@ pub const KINDS: [&str; 34] = [
     "2,000 bytes of ?:",
     "2,000 bytes and 16 for a ? without its :",
 ];
-const LONG: usize = 2_000;
+pub const LONG: usize = 2_000;
 
 #[derive(Debug, Default)]
 pub struct Sums {
@@ -57,42 +57,55 @@ pub struct Sums {
 }
 
 impl Sums {
-    pub fn add(&mut self, sum: &SeenSum) {
-        let mut walk = Walk { variables: &sum.variables, kinds: [false; KINDS.len()] };
-        match read(&sum.text) {
-            Ok(tree) => walk.text(&sum.text, &tree),
-            Err(number) => walk.refused(&sum.text, number),
-        }
-        self.texts += usize::from(walk.kinds[..10].contains(&true));
-        for (kind, here) in KINDS.into_iter().zip(walk.kinds) {
-            *self.kinds.entry(kind).or_default() += usize::from(here);
+    pub fn add(&mut self, met: &Met) {
+        self.texts += usize::from(KINDS[..10].iter().any(|sign| met.kinds.contains(sign)));
+        for kind in KINDS {
+            *self.kinds.entry(kind).or_default() += usize::from(met.kinds.contains(kind));
         }
     }
 }
 
-fn has(text: &[u8], sign: &str) -> bool {
+pub fn has(text: &[u8], sign: &str) -> bool {
     text.windows(sign.len()).any(|here| here == sign.as_bytes())
 }
 
-/// The kinds found in one text over these variables.
-struct Walk<'a> {
-    variables: &'a Variables,
-    kinds: [bool; KINDS.len()],
+/// What is met in a text: its kinds, those of its assignments too, the names it stored under in order, the longest image on the way, and whether it came to
+/// a number. Its assignments change the variables.
+pub struct Met {
+    pub variables: Variables,
+    pub kinds: BTreeSet<&'static str>,
+    pub stored: Vec<Vec<u8>>,
+    pub longest: usize,
+    pub worked_out: bool,
 }
 
-impl Walk<'_> {
-    fn found(&mut self, kind: &str) {
-        let at = KINDS.iter().position(|known| *known == kind).expect("a kind that is listed");
-        self.kinds[at] = true;
+impl Met {
+    pub fn of(sum: &SeenSum) -> Met {
+        let variables = sum.variables.clone();
+        let mut met = Met { variables, kinds: BTreeSet::new(), stored: Vec::new(), longest: 0, worked_out: false };
+        match read(&sum.text) {
+            Ok(tree) => met.text(&sum.text, &tree),
+            Err(number) => {
+                met.refused(&sum.text, number);
+                met.refused_assignment(&sum.text, number);
+            }
+        }
+        met
+    }
+
+    pub fn found(&mut self, kind: &'static str) {
+        self.kinds.insert(kind);
     }
 
     fn text(&mut self, text: &[u8], tree: &Tree) {
-        self.tree(tree);
-        match work_out(tree, self.variables) {
+        let result = self.tree(tree);
+        self.worked_out = result.is_ok();
+        match result {
             Ok(i64::MIN) => self.found("the smallest number as result"),
             Ok(i64::MAX) => self.found("the largest number as result"),
             _ => (),
         }
+        self.long_assignments(text);
         let open = text.iter().take_while(|byte| b"(+-!~".contains(byte));
         if open.clone().count() == 32 && open.clone().any(|byte| b"!~".contains(byte)) {
             self.found("32 open, ! or ~ among them");
@@ -120,43 +133,35 @@ impl Walk<'_> {
         }
     }
 
-    fn value(&self, tree: &Tree) -> Option<i64> {
-        work_out(tree, self.variables).ok()
-    }
-
-    /// A tree that is worked out, up to its first fault.
-    fn tree(&mut self, tree: &Tree) {
+    /// What a tree comes to, and what is met up to its first fault.
+    pub fn tree(&mut self, tree: &Tree) -> Result<i64, Number> {
+        self.around_assignments(tree);
         match tree {
-            Tree::Constant(_) | Tree::Name(_) => (),
+            Tree::Constant(_) | Tree::Name(_) => work_out(tree, &mut self.variables),
             Tree::Unary(sign, operand) => {
                 if matches!(*sign, "!" | "~") {
                     self.found(sign);
                 }
-                self.tree(operand);
+                unary(sign, self.tree(operand)?)
             }
             Tree::Binary(sign @ ("&&" | "||"), left, right) => {
                 self.found(sign);
-                self.tree(left);
-                if let Some(left) = self.value(left) {
-                    self.side(right, (left != 0) == (*sign == "&&"));
-                }
+                let decided = (self.tree(left)? == 0) == (*sign == "&&");
+                let right = self.side(sign, right, !decided).transpose()?;
+                Ok(right.map_or(i64::from(*sign == "||"), |right| i64::from(right != 0)))
             }
-            Tree::Binary(sign, left, right) => self.binary(sign, left, right),
+            Tree::Binary(sign, left, right) => {
+                if KINDS[..10].contains(sign) {
+                    self.found(sign);
+                }
+                let (left, right) = (self.tree(left)?, self.tree(right)?);
+                if let "<<" | ">>" = *sign {
+                    self.shift(sign, left, right);
+                }
+                binary(sign, left, right)
+            }
             Tree::Conditional(condition, if_true, if_zero) => self.conditional(condition, if_true, if_zero),
-        }
-    }
-
-    fn binary(&mut self, sign: &str, left: &Tree, right: &Tree) {
-        if KINDS[..10].contains(&sign) {
-            self.found(sign);
-        }
-        self.tree(left);
-        let Some(number) = self.value(left) else {
-            return;
-        };
-        self.tree(right);
-        if let (Some(count), "<<" | ">>") = (self.value(right), sign) {
-            self.shift(sign, number, count);
+            Tree::Assignment(sign, name, right) => self.assignment(sign, name, right),
         }
     }
 
@@ -181,7 +186,7 @@ impl Walk<'_> {
         }
     }
 
-    fn conditional(&mut self, condition: &Tree, if_true: &Tree, if_zero: &Tree) {
+    fn conditional(&mut self, condition: &Tree, if_true: &Tree, if_zero: &Tree) -> Result<i64, Number> {
         self.found("?:");
         if matches!(if_true, Tree::Conditional(..)) {
             self.found("a conditional between ? and :");
@@ -189,24 +194,25 @@ impl Walk<'_> {
         if matches!(if_zero, Tree::Conditional(..)) {
             self.found("a conditional behind :");
         }
-        self.tree(condition);
-        if let Some(condition) = self.value(condition) {
-            self.side(if_true, condition != 0);
-            self.side(if_zero, condition == 0);
-        }
+        let holds = self.tree(condition)? != 0;
+        let (first, last) = (self.side("?:", if_true, holds), self.side("?:", if_zero, !holds));
+        first.or(last).expect("one side is needed")
     }
 
-    fn side(&mut self, tree: &Tree, needed: bool) {
+    /// What a side comes to if it is needed; of one that is not, which number would have come.
+    fn side(&mut self, of: &str, tree: &Tree, needed: bool) -> Option<Result<i64, Number>> {
+        self.assignments_in_side(of, tree, needed);
         if needed {
-            return self.tree(tree);
+            return Some(self.tree(tree));
         }
         self.found("a side that is not needed");
-        match work_out(tree, self.variables) {
+        match work_out(tree, &mut self.variables.clone()) {
             Err(Number::NotANumber) => self.found("15 in such a side"),
             Err(Number::Overflow) => self.found("17 in such a side"),
             Err(Number::ZeroDivisor) => self.found("18 in such a side"),
             _ => (),
         }
+        None
     }
 }
 

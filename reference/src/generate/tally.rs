@@ -7,16 +7,17 @@ use std::ops::RangeInclusive;
 use super::assigned::Assigned;
 use super::brackets::Brackets;
 use super::call;
+use super::counted::Counted;
 use super::messages::Messages;
 use super::operands::Tildes;
 use super::patterns::Patterns;
 use super::positional::Positional;
 use super::quoting::Quoting;
-use super::sums::Sums;
+use super::sums::{Met, Sums};
 use super::walk::walk;
 use crate::calls::Answer;
 use crate::case::{Call, Job, Lent};
-use crate::expand::SeenRow;
+use crate::expand::{Seen, SeenRow};
 use crate::image;
 use crate::limits;
 use crate::number::{Number, ACCEPTED, LAST_NUMBER};
@@ -45,6 +46,7 @@ pub struct Tally {
     pub positional: Positional,
     pub messages: Messages,
     pub assigned: Assigned,
+    pub counted: Counted,
 }
 
 impl Tally {
@@ -69,10 +71,8 @@ impl Tally {
             Call::Lines(Job::Assign, _) => &mut self.assign,
             Call::Quote { .. } => &mut self.quote,
         } += 1;
-        match call {
-            Call::Lines(Job::Assign, lent) if is_walked(answer.number) => self.assigned.add(lent, &answer),
-            Call::Lines(Job::Expand | Job::Normalise, lent) => self.add_line(lent, &answer),
-            _ => (),
+        if let Call::Lines(job, lent) = call {
+            self.add_line(*job, lent, &answer);
         }
         match call {
             Call::Lines(Job::Expand | Job::Assign, _) => (),
@@ -81,13 +81,28 @@ impl Tally {
         }
     }
 
-    /// A line of the expander or the normaliser, and what it came across if it was walked.
-    fn add_line(&mut self, lent: &Lent, answer: &Answer) {
-        self.positional.add(lent, answer.number);
+    /// A line, and what it came across if it was walked.
+    fn add_line(&mut self, job: Job, lent: &Lent, answer: &Answer) {
+        if job != Job::Assign {
+            self.positional.add(lent, answer.number);
+        }
+        if !is_expanded(answer.number) {
+            return;
+        }
+        let seen = walk(job, lent);
+        let texts: Vec<Met> = seen.sums.iter().map(Met::of).collect();
+        self.counted.add(job, lent, answer, &texts);
         if !is_walked(answer.number) {
             return;
         }
-        let seen = walk(Job::Expand, lent);
+        match job {
+            Job::Assign => self.assigned.add(lent, answer),
+            _ => self.add_words(lent, answer, seen, &texts),
+        }
+    }
+
+    /// A line of the expander or the normaliser that was walked.
+    fn add_words(&mut self, lent: &Lent, answer: &Answer, seen: Seen, texts: &[Met]) {
         self.messages.add(lent, answer, &seen);
         self.full_lines += usize::from(lent.line.len() == limits::LINE);
         self.tildes.add(lent);
@@ -96,7 +111,7 @@ impl Tally {
         self.brackets.add(&seen, &paths);
         self.patterns.add(&seen, paths.len());
         self.sums += seen.sums.len();
-        seen.sums.iter().for_each(|sum| self.kinds_of_sums.add(sum));
+        texts.iter().for_each(|met| self.kinds_of_sums.add(met));
         self.different_sums.extend(seen.sums.into_iter().map(|sum| sum.text));
         for SeenRow { units, .. } in seen.rows {
             if (limits::ROW - 1..=limits::ROW + 1).contains(&units) {
@@ -106,10 +121,14 @@ impl Tally {
     }
 }
 
-/// Whether the call came to all that the walk over its line comes to: not where it stopped before reading, and not where its output had no room.
+/// Whether the call came to read its line.
+fn is_expanded(number: u8) -> bool {
+    number == ACCEPTED || number > Number::ZeroByte as u8 && number != Number::Parameters as u8
+}
+
+/// Whether the call came to all that the walk over its line comes to: not where its output had no room.
 fn is_walked(number: u8) -> bool {
-    let stopped = [Number::NoRoomForOutput as u8, Number::Parameters as u8];
-    number == ACCEPTED || number > Number::ZeroByte as u8 && !stopped.contains(&number)
+    is_expanded(number) && number != Number::NoRoomForOutput as u8
 }
 
 impl fmt::Display for Tally {
@@ -119,13 +138,23 @@ impl fmt::Display for Tally {
         }
         let Tally { expand, normalise, quote, bytes, sums, different_sums, full_lines, rows, .. } = self;
         let Tally {
-            tildes, quoting, brackets, patterns, positional, kinds_of_sums, messages, assigned, assign, ..
+            tildes,
+            quoting,
+            brackets,
+            patterns,
+            positional,
+            kinds_of_sums,
+            messages,
+            assigned,
+            counted,
+            assign,
+            ..
         } = self;
         writeln!(out, "expand {expand}, normalise {normalise}, quote {quote}, assign {assign}")?;
         writeln!(out, "{bytes} bytes")?;
         writeln!(out, "arithmetic texts {sums}, different ones {}", different_sums.len())?;
         writeln!(out, "lines of 2048 bytes {full_lines}")?;
         writeln!(out, "rows of 2047 units {}, of 2048 {}, refused at 2049 {}", rows[0], rows[1], rows[2])?;
-        write!(out, "{tildes}{quoting}{brackets}{patterns}{positional}{kinds_of_sums}{messages}{assigned}")
+        write!(out, "{tildes}{quoting}{brackets}{patterns}{positional}{kinds_of_sums}{messages}{assigned}{counted}")
     }
 }

@@ -36,6 +36,7 @@ const EXPANDING: &[Difference] = &[
     ("Empty login means HOME", "~/x", &[]),
     ("Empty login means HOME (even if empty)", "~ ~/x", &[("HOME", "")]),
     ("The operand is always expanded", "${u%${w=a}}", &[]),
+    ("The operand is always expanded, then the value is read", "${n#$((n=77))}b", &[("n", "7")]),
     ("An unused operand is not expanded", "${x-~${u-a}}b", &[("x", "c")]),
     (
         "holds at most 2,048 units",
@@ -47,7 +48,6 @@ const EXPANDING: &[Difference] = &[
 
 const ARITHMETIC: &[Difference] = &[
     ("Signs are single tokens", "$((--x))", &[("x", "5")]),
-    ("parentheses, unary `+ -`, then `* / %`, then `+ -`, then [...]", "$((x=5))", &[]),
     ("its value must be an optional sign and a constant", "$((x))", &[("x", "1+1")]),
     ("its value must be an optional sign and a constant", "$((x))", &[("x", "y"), ("y", "3")]),
     ("nothing more, else 15", "$((x))", &[("x", " 1")]),
@@ -59,6 +59,11 @@ const ARITHMETIC: &[Difference] = &[
     ("A constant is the longest run of letters, digits, `_`", "$((2#11))", &[]),
     ("`0x` or `0X` and a digit or more hexadecimal, else 15", "$((0x))", &[]),
     ("Add `! ~`, `<< >>`, `& ^ |`, `&& ||` and `?:`", "$((2**3))", &[]),
+    ("Add `=`, `+=`, `-=`, `*=`, `/=`, `%=`", "$((n<<=1))", &[("n", "7")]),
+    ("Add `=`, `+=`, `-=`, `*=`, `/=`, `%=`", "$((n++))", &[("n", "7")]),
+    ("lowest in precedence", "$((n=1,n+1))", &[]),
+    ("The right side is worked out first, then the name is read", "$((n+=n=5))", &[("n", "7")]),
+    ("Results out of range are 17", "$((n+=1))", &[("n", "9223372036854775807")]),
     ("A shift count outside 0 to 63 [...] is 17", "$((1<<64))", &[]),
     ("A shift count outside 0 to 63 [...] is 17", "$((1>>-1))", &[]),
     ("a left shift whose exact product leaves the 64-bit signed range, is 17", "$((1<<63))", &[]),

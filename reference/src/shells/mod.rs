@@ -1,6 +1,7 @@
 //! The reference beside dash and bash: the same line, variables, parameters and paths, and whether all give the same.
 
 pub mod assignments;
+pub mod counting;
 pub mod differences;
 pub mod lines;
 pub mod messages;

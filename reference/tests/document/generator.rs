@@ -6,13 +6,13 @@ use std::sync::OnceLock;
 use reference::case::{case, replay, Call, Job};
 use reference::generate::random::Random;
 use reference::generate::{
-    assigned, assignments, brackets::KINDS, call, classes::BORDERS, demands, hostile, messages, operands::SIGNS,
-    ordinary, positional, quoting, season::Season, steps::steps, sums, tally::Tally, MOST_STEPS,
+    assigned, assignments, brackets::KINDS, call, classes::BORDERS, counted, counting, demands, hostile, messages,
+    operands::SIGNS, ordinary, positional, quoting, season::Season, steps::steps, sums, tally::Tally, MOST_STEPS,
 };
 use reference::{image, limits};
 
 const SEED: u64 = 2_001;
-const CASES: u64 = 38_000;
+const CASES: u64 = 42_000;
 
 fn tally() -> &'static Tally {
     static TALLY: OnceLock<Tally> = OnceLock::new();
@@ -143,6 +143,19 @@ fn assignment_lines_come_up() {
     for case in 0..1_000 {
         assert!(matches!(assignments::call(SEED, case), Call::Lines(Job::Assign, _)));
     }
+}
+
+/// Assignments in arithmetic: stores that are accepted, each sign, each wrong left side, the number of each step, and every way in which a used length moves.
+#[test]
+fn counting_comes_up() {
+    let found = &tally().counted;
+    assert!(found.accepted >= CASES as usize / 50, "{found}");
+    for kind in counted::KINDS {
+        assert!(found.kinds[kind] >= 5, "{kind}: {found}");
+    }
+    let answers =
+        (0..1_000).map(|case| counting::call(SEED, case).answer().expect("buffers kept as promised").0.number);
+    assert!(answers.filter(|number| *number == 0).count() >= 250);
 }
 
 /// Demand 3 on made fields: their quoted line gives them again and is its own quoted line, under tables that were not asked for.

@@ -7,6 +7,8 @@ mod bare_fields;
 mod calls;
 mod class_names;
 mod classes;
+mod counted;
+mod counting;
 mod expansion;
 mod generator;
 mod messages;

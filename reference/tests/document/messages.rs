@@ -252,7 +252,7 @@ fn stores_of_the_message_are_undone() {
         assert_eq!((left.answer.number, left.answer.length, left.answer.used), (MISSING, 0, variables.len()));
         assert_eq!(&left.message[..left.answer.message], message.as_bytes(), "{line}");
         assert_eq!(&left.variables[..variables.len()], variables);
-        assert!(left.variables[variables.len()..].iter().all(|&byte| byte == 0));
+        assert!(left.variables[variables.len()..].iter().all(|&byte| byte == b'.'));
         assert!(left.out.iter().all(|&byte| byte == 0));
     }
 }

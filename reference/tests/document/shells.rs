@@ -3,7 +3,7 @@
 use reference::generate::random::Random;
 use reference::shells::script::{is_harmless, script};
 use reference::shells::sums::Sums;
-use reference::shells::{assignments, lines, messages, positional, reference, Given, Taken};
+use reference::shells::{assignments, counting, lines, messages, positional, reference, Given, Shell, Taken};
 
 #[test]
 fn lines_that_could_run_something() {
@@ -34,6 +34,45 @@ fn arithmetic_texts_run_nothing() {
         let result = std::str::from_utf8(&sum.result).expect("digits");
         assert_eq!(result.parse::<i64>().expect("a number").to_string(), result);
     }
+}
+
+/// Bash reads the name of an assignment before its right side, and `++` as one token; dash does neither.
+#[test]
+fn assignments_that_a_shell_takes_otherwise() {
+    for (text, alike) in [
+        ("n+=1", true),
+        ("n=n=5", true),
+        ("n=n+=5", true),
+        ("n+=x=5", true),
+        ("n+=n+1", true),
+        ("n+=n=5", false),
+        ("x=n-=x+(n=1)", false),
+        ("0&&(n*=n/=2)", false),
+        ("1?n%=n=2:3", false),
+    ] {
+        assert_eq!(Shell::Bash.assigns_alike(text.as_bytes()), alike, "{text}");
+        assert!(Shell::Dash.assigns_alike(text.as_bytes()), "{text}");
+        let line = format!("$(({text}))");
+        assert_eq!(Shell::Bash.counts_alike(line.as_bytes(), &Given::default()), alike, "{text}");
+    }
+    assert!(!Shell::Bash.counts_alike(b"$((n=1++1))", &Given::default()));
+    assert!(Shell::Dash.counts_alike(b"$((n=1++1))", &Given::default()));
+}
+
+/// Of the lines that store from arithmetic, about a third is accepted, and they run nothing.
+#[test]
+fn counting_lines_run_nothing() {
+    let mut stored = 0;
+    for case in 0..1_000 {
+        let random = &mut Random::new(2_001, case);
+        let given = counting::given(random);
+        let line = counting::line(random);
+        let accepted = reference(&line, &given, Taken::Fields);
+        let stores = accepted.is_ok_and(|outcome| outcome.variables != given.variables);
+        assert!(!stores || is_harmless(&line), "{}", line.escape_ascii());
+        stored += usize::from(stores);
+    }
+    assert!(stored >= 250, "{stored} stored");
 }
 
 fn given(random: &mut Random) -> Given {

@@ -116,10 +116,11 @@ impl World {
         shown(&out[..answer.length])
     }
 
+    /// What the expander or the normaliser answers. The buffer behind the variables' image holds `.`.
     pub fn call(&self, job: Job, line: &[u8]) -> Left {
         let mut variables = self.variables_image();
         let used = variables.len();
-        variables.resize(self.variables_buffer, 0);
+        variables.resize(self.variables_buffer, b'.');
         let mut out = vec![0; self.out];
         let mut message = self.message.clone();
         let (homes, paths) = (pairs(&self.homes), of_texts(&self.paths.iter().collect::<Vec<_>>()));
@@ -197,13 +198,50 @@ pub fn assigns(world: &World, line: impl AsRef<[u8]>, changed: &[(&str, &str)]) 
     let line = line.as_ref();
     let left = world.assign(line);
     assert_eq!((left.answer.number, left.answer.place, left.answer.message), (ACCEPTED, 0, 0), "{}", shown(line));
-    let variables = image::variables(&left.variables[..left.answer.used]).expect("a variables image");
+    changes(world, &left, line, changed);
+}
+
+/// These are the variables that have another value than before. Behind their image stand zeros up to the used length that was given, and the old bytes beyond it.
+#[track_caller]
+fn changes(world: &World, left: &Left, line: &[u8], changed: &[(&str, &str)]) {
+    let (image, behind) = left.variables.split_at(left.answer.used);
+    let variables = image::variables(image).expect("a variables image");
     let other = variables.iter().filter(|(name, value)| world.variables.get(name) != Some(value));
     let other: Vec<(String, String)> = other.map(|(name, value)| (shown(name), shown(value))).collect();
     let changed: Vec<(String, String)> =
         changed.iter().map(|(name, value)| (name.to_string(), value.to_string())).collect();
     assert_eq!(other, changed, "{}", shown(line));
     assert!(world.variables.keys().all(|name| variables.iter().any(|(known, _)| known == name)), "{}", shown(line));
+    let zeros = world.variables_image().len().saturating_sub(image.len());
+    assert!(behind[..zeros].iter().all(|&byte| byte == 0), "{}", shown(line));
+    assert!(behind[zeros..].iter().all(|&byte| byte == b'.'), "{}", shown(line));
+}
+
+/// The line is accepted, these are its fields, and these the variables that have another value than before; the normaliser leaves the same.
+#[track_caller]
+pub fn leaves(world: &World, line: impl AsRef<[u8]>, fields: &[&str], changed: &[(&str, &str)]) {
+    let line = line.as_ref();
+    gives(world, line, fields);
+    for job in [reference::expand as Job, reference::normalise] {
+        let left = world.call(job, line);
+        assert_eq!((left.answer.number, left.answer.place, left.answer.message), (ACCEPTED, 0, 0), "{}", shown(line));
+        changes(world, &left, line, changed);
+    }
+}
+
+/// The line is refused with this number at this place, by the normaliser too, and every byte of the variables is as it was.
+#[track_caller]
+pub fn undoes(world: &World, line: impl AsRef<[u8]>, number: Number, place: usize) {
+    let line = line.as_ref();
+    let mut before = world.variables_image();
+    let used = before.len();
+    before.resize(world.variables_buffer, b'.');
+    for job in [reference::expand as Job, reference::normalise] {
+        let Left { answer, variables, .. } = world.call(job, line);
+        assert_eq!((answer.number, answer.place), (number as u8, place), "{}", shown(line));
+        assert_eq!((answer.length, answer.used), (0, used), "{}", shown(line));
+        assert!(variables == before, "{}", shown(line));
+    }
 }
 
 /// The assignment line is refused with this number at this place, and leaves every byte as it was.
