@@ -194,6 +194,32 @@ def arithmetic():
     yield "? in parentheses", "their number", lambda n: Given(b"$((" + (b"(1?" * 31 + b"2" + b":3)" * 31 + b"+") * n(10) + b"1))"), 1
 
 
+def counting():
+    """Assignments in arithmetic, which nest as deep as the text is long, and each of which finds its place among the variables. Every line leaves the variables
+    as they were, or is refused at its end, so that it can be asked again."""
+    far, first = filled(b"z", b"1", room=8150), {b"A": b"1", **filled(b"z", b"1", room=8000)}
+    yield "a chain of assignments", "their number", lambda n: Given(b"$((" + b"z=" * n(1020) + b"1))", far), 1
+    yield "a chain of assignments before all others", "their number", lambda n: Given(b"$((" + b"A=" * n(1020) + b"1))", first), 1
+    yield "a chain of sums that are assigned", "their number", lambda n: Given(b"$((" + b"z+=" * n(680) + b"0))", {**far, b"z": b"0"}), 1
+    yield "a chain of long numbers that are assigned", "their number", lambda n: Given(b"$((" + b"z=" * n(1000) + b"-9223372036854775807))${u?}", far), 1
+    yield "a chain of assignments with a bad end", "their number", lambda n: Given(b"$((" + b"z=" * n(1020) + b"08))", far), 1
+    yield "a chain of assignments without an end", "their number", lambda n: Given(b"$((" + b"z=" * n(1020) + b"))", far), 1
+    yield "? and assignments, taken", "their number", lambda n: Given(b"$((" + b"1?z=" * n(340) + b"1" + b":2" * n(340) + b"))", far), 1
+    yield "? and assignments, not taken", "their number", lambda n: Given(b"$((" + b"0?z=" * n(340) + b"1" + b":2" * n(340) + b"))", far), 1
+    yield "? and assignments behind the colon", "their number", lambda n: Given(b"$((" + b"0?z=2:" * n(340) + b"1))", far), 1
+    yield "? and assignments without a colon", "their number", lambda n: Given(b"$((" + b"1?z=" * n(510) + b"1))", far), 1
+    yield "assignments in parentheses", "their number", lambda n: Given(b"$((" + b"(z=1)+" * n(340) + b"1))", far), 1
+    yield "assignments before all others, in parentheses", "their number", lambda n: Given(b"$((" + b"(A=12)+(A=1)+" * n(155) + b"1))", first), 1
+    yield "assignments in deep parentheses", "their number", lambda n: Given(b"$((" + (b"(z=" * 31 + b"1" + b")" * 31 + b"+") * n(16) + b"1))", far), 1
+    yield "assignments that are not needed", "their number", lambda n: Given(b"$((" + b"0&&(z=2)||" * n(200) + b"1))", far), 1
+    yield "assignments of new names in arithmetic", "their number", lambda n: Given(
+        b"$((" + b"".join(b"(%c%c=1)+" % (65 + i // 26, 65 + i % 26) for i in range(n(280))) + b"1/0))", filled(b"z", b"1", b"", 6100)), 1
+    yield "numbers that go up and down", "their number", lambda n: Given(b"$((z+=1))$((z-=1))" * n(113), far), 226
+    yield "a long name that is assigned to", "the line", lambda n: Given(b"$((" + b"a" * n(2030) + b"=1))", {b"a" * n(2030): b"1"}), 1
+    yield "blanks in an assignment", "the line", lambda n: Given(b"$((z" + b" " * n(1015) + b"=" + b" " * n(1015) + b"1))", far), 1
+    yield "a long number that is replaced", "the value", lambda n: Given(b"$(((v=1)+1/0))", {b"v": b"0" * n(8000)}), 1
+
+
 def others():
     far, homes = filled(b"z", b"1"), filled(b"z", b"/")
     yield "names", "their number", lambda n: Given(b"$u" * n(1020), far), 1020
@@ -269,6 +295,7 @@ def assignments():
     yield ("assignments of new names", "their number",
            lambda n: Given(b"".join(b"%c%c= " % (65 + i // 26, 65 + i % 26) for i in range(n(270))), filled(b"z", b"1", b"", 6500)), 270)
     yield "assignments that see each other", "their number", lambda n: Given(b"z=$((z+1)) " * n(180), far), 180
+    yield "assignments of assignments", "their number", lambda n: Given(b"z=$((A=z+=1)) " * n(145), {b"A": b"", **far}), 145
     yield "tildes of values", "their number", lambda n: Given(b"a=~z " * n(400), homes=homes), 400
     yield "tildes of one value", "their number", lambda n: Given(b"a=" + b"~z:" * n(680), homes=homes), 680
     yield "tildes that are not found", "their number", lambda n: Given(b"a=" + b"~zz:" * n(510), homes=homes), 510
@@ -296,8 +323,8 @@ def scaled(make):
 
 def cases():
     """All cases, in order."""
-    groups = {"removal": removals, "field": fields, "arithmetic": arithmetic, "parameter": parameters, "message": messages, "other": others,
-              "line": one_of_each, ASSIGNMENT: assignments, UNBOUND: dearest}
+    groups = {"removal": removals, "field": fields, "arithmetic": arithmetic, "counting": counting, "parameter": parameters, "message": messages,
+              "other": others, "line": one_of_each, ASSIGNMENT: assignments, UNBOUND: dearest}
     for kind, group in groups.items():
         for name, grows, make, parts in group():
             yield Case(name, kind, grows, scaled(make), parts)

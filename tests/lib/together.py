@@ -24,7 +24,7 @@ HOMES = {b"anna": b"/a b", b"crew": b"/home/crew 7/*"}
 PARAMETERS = [b"p q", b"", b"*", b"7", b"IFS", b"it's", b"~", b"a:b", b"?", b"[a-c]", b"eleven 11"]
 UNSET = [b"u%d" % number for number in range(20)]
 NUMBERS = [b"n", b"m", b"k", b"zero", b"IFSN"]
-SHOWN = sorted([*VARIABLES, *UNSET])
+SHOWN = sorted({*VARIABLES, *UNSET, *NUMBERS})
 HOSTILE = b" \t\n" + bytes(sorted(set(LETTERS + SIGNS) - set(b" \t"))) + b"defghijklmnopqrstuvw'\"$"
 PATHS = [b"*", b"?", b"[a-c]", b"a", b"ab", b"abc", b"b", b"north", b"north field", b"p q", b"x", b"~", b"~crew"]
 SETS = {"IFS unset": (None, []), "IFS of everything": (HOSTILE, PATHS), "IFS empty": (b"", PATHS[2::3])}
@@ -34,14 +34,14 @@ OTHERS = {
     "a bare `$`": [b"$base", b'"$base"$blank', b"${u0-a b}", b"$((n+3))"],
     "a bare `*`, `?` or `[`": [b"*", b'"$e"?', b"[a-c]"],
     "a `@` or `*` parameter": [b'"$@"', b'"a${u0-$*}"'],
-    "IFS": [b'"$IFS"', b'"${#IFS}"', b'"${base%%["$IFS"]*}"', b'"a${u1%${u0:=$IFS}}"', b'"$((IFS+1))"'],
+    "IFS": [b'"$IFS"', b'"${#IFS}"', b'"${base%%["$IFS"]*}"', b'"a${u1%${u0:=$IFS}}"', b'"$((IFS+1))"', b'"$((IFS+=1))"'],
     "a `$` within an arithmetic text": [b'"$(($name))"', b'"$((${5}+1))"'],
 }
 
 # how many words are made, how many are fed to the program at a time, and how many there must be of each kind
 COUNT, GROUP = 5000, 100
-LEAST = {"different": 4500, "accepted": 4500, "with a store": 300, "with a removal": 1000, "with a sum": 800, "with a tilde's home": 500,
-         "whose field has a blank": 1000, "whose field has a `*`, `?` or `[`": 1000, "whose field is empty": 50}
+LEAST = {"different": 4500, "accepted": 4500, "with a store": 300, "with a removal": 1000, "with a sum": 800, "with a sum that stores": 300,
+         "with a tilde's home": 500, "whose field has a blank": 1000, "whose field has a `*`, `?` or `[`": 1000, "whose field is empty": 50}
 
 
 class Words:
@@ -118,7 +118,7 @@ class Words:
 
     def sum(self, depth):
         """An arithmetic text without a `$`."""
-        kind = self.random.randrange(8) if depth else self.random.randrange(2)
+        kind = self.random.randrange(9) if depth else self.random.randrange(2)
         if kind == 0:
             return self.random.choice(NUMBERS)
         if kind == 1:
@@ -129,6 +129,8 @@ class Words:
             return b"(" + self.sum(depth - 1) + b")?" + self.sum(depth - 1) + b": " + self.sum(depth - 1)
         if kind == 4:
             return b"(" + self.sum(depth - 1) + b")" + self.random.choice([b"/3", b"%5", b"<<2", b" >> 1"])
+        if kind == 5:
+            return b"(" + self.random.choice(NUMBERS) + self.random.choice([b"=", b" = ", b"+=", b"-="]) + self.sum(depth - 1) + b")"
         sign = self.random.choice([b"+", b"-", b" * ", b"<", b">=", b"==", b"!=", b"&", b"^", b"|", b"&&", b"||"])
         return b"(" + self.sum(depth - 1) + b")" + sign + b"(" + self.sum(depth - 1) + b")"
 
@@ -188,6 +190,7 @@ def counted(words, fields):
         "with a store": sum(re.search(rb"\$\{u[0-9]+:?=", word) is not None for word in words),
         "with a removal": sum(re.search(rb"\$\{[A-Za-z0-9]+[%#]", word) is not None for word in words),
         "with a sum": sum(b"$((" in word for word in words),
+        "with a sum that stores": sum(re.search(rb"\((?:n|m|k|zero|IFSN) ?[-+]?= ?[^=]", word) is not None for word in words),
         "with a tilde's home": sum(word.startswith((b"~/", b"~crew/")) for word in words),
         "whose field has a blank": sum(b" " in field for field in fields),
         "whose field has a `*`, `?` or `[`": sum(any(sign in field for sign in b"*?[") for field in fields),
