@@ -55,3 +55,7 @@ pub mod Assignments  -- E9: the assignments of a line
 pub mod Assigns  -- E9: the assigner's answer is well formed
 pub mod AssignLines  -- E9: lines of assignments
 pub mod CountLines  -- E10: lines that count
+pub mod PathLists  -- E11: a list of paths with one more, or one less
+pub mod PathMatches  -- E11: the matches of a pattern in such a list
+pub mod Updates  -- E11: the answers of both jobs
+pub mod UpdateCalls  -- E11: which number, and insertion and deletion one behind the other

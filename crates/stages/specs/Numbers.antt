@@ -99,6 +99,10 @@ badFields = 22
 abbrev pub badParameters : ℕ
 badParameters = 23
 
+-- E11: "A path already there, or one not there to delete, is new refusal 24"
+abbrev pub badPath : ℕ
+badPath = 24
+
 -- "work area below 65,536 bytes"
 abbrev pub workLeast : ℕ
 workLeast = 65536
