@@ -15,8 +15,10 @@ use Rattle.stages.specs.Bytes.{Text, eqText, ltText}
 use Rattle.stages.specs.Outcome.{Outcome, refused, demands, done, pick}
 use Rattle.stages.specs.Images.{Pairs, image, imageLength, flat, lookup, stored, held, heldTexts}
 use Rattle.stages.specs.Call.{over}
-use Rattle.stages.proofs.Bools.{no, and-both, either, or-neither}
+use Rattle.stages.specs.Updates as update
+use Rattle.stages.proofs.Bools.{no, and-both, either}
 use Rattle.stages.proofs.Stores.{lookup-here, lookup-later, store-before, store-later}
+use Rattle.stages.proofs.PathLists.{added-before, added-later, there-here, there-later, not-there}
 use Rattle.table.specs.Kinds.{keyFits, inTwos}
 use Rattle.table.specs.Places.{Table, Looked}
 use Rattle.table.specs.declared.Kind.{Kind}
@@ -29,7 +31,7 @@ use Rattle.table_store.specs.declared.Stored.{Stored}
 use Rattle.table_store.specs.declared.Stored.the-variants.{Used, Full}
 use Rattle.table_store.proofs.Callers.{Grown, store-used, store-full}
 use Rattle.table_store.proofs.StoredImages.{store-by}
-use Rattle.table_insert.specs.Added.{Column, hasText, withText, Adding, twice, full, holds, addingBy, adding, answerOf, leftOf, Adds}
+use Rattle.table_insert.specs.Added.{Column, Adding, twice, full, holds, addingBy, adding, answerOf, leftOf, Adds}
 use Rattle.table_insert.specs.declared.Added.{Added}
 use Rattle.table_insert.specs.declared.Added.the-variants as added
 use Rattle.tab_escape.specs.Escapes.{Reading, good, readText, Reads, reads, fails, upTo}
@@ -132,22 +134,23 @@ module _ {kind : Kind} {line : Text} {e : ℕ} (k : Keyed kind line e) where
 
 -- `enter_path`
 
-pub lookup-alone : (x : Text) (l : List Text) → lookup x (alone l) ≡ pick (hasText x l) (some []) none
-unfolding lookup
+pub lookup-alone : (x : Text) (l : List Text) → lookup x (alone l) ≡ pick (update.isThere x l) (some []) none
+unfolding lookup update.isThere
 lookup-alone x [] = refl
 lookup-alone x (k ∷ l) =
     either (eqText x k)
-    (λ e. lookup-here x (k, []) (alone l) e ∙ sym (rw e))
-    (λ e. lookup-later x (k, []) (alone l) e ∙ lookup-alone x l ∙ sym (rw e))
+    (λ e. lookup-here x (k, []) (alone l) e ∙ sym (rw (there-here x k l e)))
+    (λ e. lookup-later x (k, []) (alone l) e ∙ lookup-alone x l ∙ sym (rw (there-later x k l e)))
 
-pub stored-alone : (x : Text) (l : List Text) → hasText x l ≡ false → stored x [] (alone l) ≡ alone (withText x l)
-unfolding stored
+pub stored-alone : (x : Text) (l : List Text) → update.isThere x l ≡ false → stored x [] (alone l) ≡ alone (update.added x l)
+unfolding stored update.added
 stored-alone x [] h = refl
 stored-alone x (k ∷ l) h =
-    let n : (eqText x k ≡ false) × (hasText x l ≡ false) = or-neither (eqText x k) (hasText x l) h in
+    let n : (eqText x k ≡ false) × (update.isThere x l ≡ false) = not-there x k l h in
     either (ltText x k)
-    (λ e. store-before x [] (k, []) (alone l) e ∙ sym (rw e))
-    (λ e. store-later x [] (k, []) (alone l) e (n .0) ∙ ap (λ (v : Pairs). (k, []) ∷ v) (stored-alone x l (n .1)) ∙ sym (rw e))
+    (λ e. store-before x [] (k, []) (alone l) e ∙ sym (ap alone (added-before x k l e)))
+    (λ e. store-later x [] (k, []) (alone l) e (n .0) ∙ ap (λ (v : Pairs). (k, []) ∷ v) (stored-alone x l (n .1))
+    ∙ sym (ap alone (added-later x k l e)))
 
 -- the record of a path, by what adding it gives
 stepOf : Adding → Step
@@ -157,15 +160,15 @@ stepOf (holds l) = go (alone l)
 
 entered-alone : (x : Text) (l : List Text) → entered false (entry x []) (alone l) ≡ stepOf (adding pathsLimit x l)
 unfolding entered adding stepOf
-entered-alone x l = either (hasText x l) there new
+entered-alone x l = either (update.isThere x l) there new
   where
-    there : hasText x l ≡ true → entered false (entry x []) (alone l) ≡ stepOf (adding pathsLimit x l)
+    there : update.isThere x l ≡ true → entered false (entry x []) (alone l) ≡ stepOf (adding pathsLimit x l)
     there e = rw (lookup-alone x l, e)
 
-    new : hasText x l ≡ false → entered false (entry x []) (alone l) ≡ stepOf (adding pathsLimit x l)
-    new e = rw (lookup-alone x l, e, stored-alone x l e, keys-alone (withText x l)) (by (leb (imageLength (withText x l)) pathsLimit))
+    new : update.isThere x l ≡ false → entered false (entry x []) (alone l) ≡ stepOf (adding pathsLimit x l)
+    new e = rw (lookup-alone x l, e, stored-alone x l e, keys-alone (update.added x l)) (by (leb (imageLength (update.added x l)) pathsLimit))
       where
-        by : (b : Bool) → enteredBy none b (alone (withText x l)) ≡ stepOf (addingBy false b (withText x l))
+        by : (b : Bool) → enteredBy none b (alone (update.added x l)) ≡ stepOf (addingBy false b (update.added x l))
         by true = refl
         by false = refl
 

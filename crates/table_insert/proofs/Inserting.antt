@@ -14,13 +14,14 @@ use Rattle.stages.specs.Numbers.{pathsLimit}
 use Rattle.stages.specs.Bytes.{Text, part}
 use Rattle.stages.specs.Outcome.{Outcome}
 use Rattle.stages.specs.Images.{framed, written, image, imageLength, heldTexts}
+use Rattle.stages.specs.Updates.{added}
 use Rattle.stages.proofs.Bools.{either}
 use Rattle.stages.proofs.Images.{written-append, length-image}
 use Rattle.table_store.specs.Answers.{recordIn, Writes}
 use Rattle.table_store.specs.Splice.{spliced, placed}
 use Rattle.table_store.proofs.Splices.{spliced-length, put-placed, splice-is}
 use Rattle.table_store.proofs.StoredImages.{drop-take}
-use Rattle.table_insert.specs.Added.{withText, Gap, Free, free, taken, Inserts, adding, Adds}
+use Rattle.table_insert.specs.Added.{Gap, Spot, Free, free, taken, Inserts, adding, Adds}
 use Rattle.table_insert.specs.declared.Place.{Place}
 use Rattle.table_insert.specs.declared.Place.the-variants.{At, Taken}
 use Rattle.table_insert.specs.declared.Added.{Added}
@@ -53,24 +54,27 @@ module _ (b path : Text) (used at limit : ℕ) (h : (at ≤ used) × (used ≤ l
       }
 
 -- `add`
-pub add-taken : {t x : Text} {r : Place} → Free t x r → (limit : ℕ) (old : Text) → r ≡ Taken → Adds (adding limit x (heldTexts t)) old old Twice
-unfolding adding
-add-taken {t} {x} s limit old e = of-taken (rw e at s)
-  where
-    of-taken : Free t x Taken → Adds (adding limit x (heldTexts t)) old old Twice
-    of-taken (taken h) = rw h (record { answers = refl; leaves = refl })
-
 pub is-free : {t x : Text} {r : Place} → Free t x r → (at : ℕ) → r ≡ At at → Gap t x at
 is-free {t} {x} s at e = of-free (rw e at s)
   where
     of-free : Free t x (At at) → Gap t x at
     of-free (free g) = g
 
+pub is-taken : {t x : Text} {r : Place} → Free t x r → (at end : ℕ) → r ≡ Taken at end → Spot t x at end
+is-taken {t} {x} s at end e = of-taken (rw e at s)
+  where
+    of-taken : Free t x (Taken at end) → Spot t x at end
+    of-taken (taken p) = p
+
+pub add-taken : {t x : Text} {at end : ℕ} → Spot t x at end → (limit : ℕ) (old : Text) → Adds (adding limit x (heldTexts t)) old old Twice
+unfolding adding
+add-taken p limit old = rw (p .there) (record { answers = refl; leaves = refl })
+
 module _ (b x : Text) (used at : ℕ) (l : used ≤ length b) (g : Gap (take used b) x at) where
   pub gap-within : at ≤ used
   gap-within = omega (arith, g .within, length-take-le used b l)
 
-  with-is : spliced b used at at (framed x) ≡ image (withText x (heldTexts (take used b)))
+  with-is : spliced b used at at (framed x) ≡ image (added x (heldTexts (take used b)))
   unfolding spliced image written
   with-is =
       let front : take at b ≡ image (g .front) = sym (take-take at used b gap-within) ∙ g .low in
@@ -84,7 +88,7 @@ module _ (b x : Text) (used at : ℕ) (l : used ≤ length b) (g : Gap (take use
   add-inserts {limit} {left} {r} w = either (leb (imageLength more) limit) yes none
     where
       more : List Text
-      more = withText x (heldTexts (take used b))
+      more = added x (heldTexts (take used b))
 
       here : Inserts limit (image more) b left r
       here = rw with-is at w

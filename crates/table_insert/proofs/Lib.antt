@@ -1,3 +1,4 @@
 pub mod Placing
 pub mod Inserting
+pub mod Removing
 pub mod Determined

@@ -1,16 +1,17 @@
 -- The walk to the place of a path: those passed are below it, and what is left of the image is those ahead.
-use Prim.Native.Nat.{ℕ, _+_, _-_}
+use Prim.Native.Nat.{ℕ, _+_, _-_, _≤_}
 use native.Mathlib.Omega.{arith}
 use mathlib.Core.Path.{_≡_, refl, sym, ap, _∙_}
-use mathlib.Core.Bool.{true, false}
+use mathlib.Core.Bool.{true}
 use mathlib.Core.List.{List, [], _∷_, _++_, append-assoc, append-nil}
 use lib.ListN.{length, take, drop, length-drop}
 use lib.Seq.{take-add, take-at, length-take-le}
-use Rattle.stages.specs.Bytes.{Text, part}
+use Rattle.stages.specs.Bytes.{Text, part, eqText}
 use Rattle.stages.specs.Images.{rising, framed, written, image, heldTexts}
-use Rattle.stages.proofs.Texts.{ltText-other}
+use Rattle.stages.specs.Updates.{added, without, isThere}
 use Rattle.stages.proofs.Images.{Bytes, image-canonical, written-append}
-use Rattle.stages.proofs.Stores.{rising-tail, Under, under-next}
+use Rattle.stages.proofs.Stores.{rising-tail, Under}
+use Rattle.stages.proofs.PathLists.{added-later, without-here, without-later, there-here, there-later, under-first, under-none}
 use Rattle.text.specs.Orders.{orderOf}
 use Rattle.text.specs.declared.Order.the-variants.{Less, Same, More}
 use Rattle.text.proofs.Orders.{order-below, order-equal, above-not-equal, above-not-below}
@@ -19,17 +20,8 @@ use Rattle.table.specs.declared.Piece.{Piece}
 use Rattle.table.specs.declared.Piece.the-variants as piece
 use Rattle.table.proofs.Pieces.{Ahead, Next, ahead-first, ahead-end, ahead-bad, ahead-text}
 use Rattle.table_find.proofs.Frames.{Frame, frame}
-use Rattle.table_insert.specs.Added.{Column, hasText, withText, Free, free, taken}
+use Rattle.table_insert.specs.Added.{Column, Free, free, taken}
 use Rattle.table_insert.specs.declared.Place.the-variants.{At, Taken}
-
--- a text below all others is not there, and comes first
-below-none : (x : Text) (l : List Text) → Under x l → rising l ≡ true → hasText x l ≡ false
-below-none x [] u r = refl
-below-none x (k ∷ l) u r = rw (ltText-other x k u) (below-none x l (under-next x k l u r) (rising-tail k l r))
-
-below-first : (x : Text) (l : List Text) → Under x l → withText x l ≡ x ∷ l
-below-first x [] u = refl
-below-first x (k ∷ l) u = rw u
 
 pub record Walking (t x : Text) (at : ℕ) : Type 0 where
   pub passed : List Text
@@ -37,8 +29,9 @@ pub record Walking (t x : Text) (at : ℕ) : Type 0 where
   pub ahead : Ahead t at rest
   pub front : take at t ≡ image passed
   pub back : drop at t ≡ written rest
-  pub with : withText x (heldTexts t) ≡ passed ++ withText x rest
-  pub has : hasText x (heldTexts t) ≡ hasText x rest
+  pub with : added x (heldTexts t) ≡ passed ++ added x rest
+  pub less : without x (heldTexts t) ≡ passed ++ without x rest
+  pub has : isThere x (heldTexts t) ≡ isThere x rest
   pub rises : rising rest ≡ true
 
 -- the walk where a text stands at its place, up to `end`
@@ -57,6 +50,7 @@ starts t x w h =
       front = ap (take 1) e;
       back = ap (drop 1) e;
       with = refl;
+      less = refl;
       has = refl;
       rises = w .rises;
     }
@@ -78,8 +72,8 @@ module _ {t x : Text} {at : ℕ} (s : Walking t x at) where
         within = s .ahead .within;
         low = s .front;
         high = s .back;
-        is = s .with ∙ ap (λ (l : List Text). s .passed ++ l) (below-first x (s .rest) u);
-        new = s .has ∙ below-none x (s .rest) u (s .rises);
+        is = s .with ∙ ap (λ (l : List Text). s .passed ++ l) (under-first x (s .rest) u);
+        new = s .has ∙ under-none x (s .rest) u (s .rises);
       })
 
   module _ {r : Piece} (p : r ≡ pieceAt t at) where
@@ -104,9 +98,6 @@ module _ {t x : Text} {at end : ℕ} (f : Facing t x at end) where
 
   pub place-less : orderOf x key ≡ Less → Free t x (At at)
   place-less o = here s (rw (next .is) (order-below x key o))
-
-  pub place-same : orderOf x key ≡ Same → Free t x Taken
-  place-same o = taken (s .has ∙ ap (hasText x) (next .is) ∙ rw (order-equal x key o))
 
   framing : Frame t at key (written (next .more))
   framing = frame t at key (written (next .more)) (s .back ∙ ap written (next .is) ∙ unfolded)
@@ -133,19 +124,40 @@ module _ {t x : Text} {at end : ℕ} (f : Facing t x at end) where
       one : length (written (key ∷ [])) ≡ 2 + length key
       one = unfold written in omega (arith, ap length (append-nil key))
 
+  behind : drop end t ≡ written (next .more)
+  behind = ap (λ (n : ℕ). drop n t) end-is ∙ framing .next
+
+  pub place-same : orderOf x key ≡ Same → Free t x (Taken at end)
+  place-same o =
+      let e : eqText x key ≡ true = order-equal x key o in
+      let n : at ≤ end = omega (arith, next .low) in
+      taken {end = end} (record {
+        front = s .passed;
+        back = next .more;
+        low = n;
+        high = next .ahead .within;
+        begins = s .front;
+        ends = behind;
+        is = s .less ∙ ap (λ (l : List Text). s .passed ++ without x l) (next .is)
+            ∙ ap (λ (l : List Text). s .passed ++ l) (without-here x key (next .more) e);
+        there = s .has ∙ ap (isThere x) (next .is) ∙ there-here x key (next .more) e;
+      })
+
   pub place-more : orderOf x key ≡ More → Walking t x end
   place-more o = record {
     passed = s .passed ++ (key ∷ []);
     rest = next .more;
     ahead = next .ahead;
     front = passes;
-    back = ap (λ (n : ℕ). drop n t) end-is ∙ framing .next;
+    back = behind;
     with =
-        s .with ∙ ap (λ (l : List Text). s .passed ++ withText x l) (next .is)
-        ∙ ap (λ (l : List Text). s .passed ++ l) later ∙ sym (append-assoc (s .passed) (key ∷ []) (withText x (next .more)));
-    has = s .has ∙ ap (hasText x) (next .is) ∙ rw (above-not-equal x key o);
+        s .with ∙ ap (λ (l : List Text). s .passed ++ added x l) (next .is)
+        ∙ ap (λ (l : List Text). s .passed ++ l) (added-later x key (next .more) (above-not-below x key o))
+        ∙ sym (append-assoc (s .passed) (key ∷ []) (added x (next .more)));
+    less =
+        s .less ∙ ap (λ (l : List Text). s .passed ++ without x l) (next .is)
+        ∙ ap (λ (l : List Text). s .passed ++ l) (without-later x key (next .more) (above-not-equal x key o))
+        ∙ sym (append-assoc (s .passed) (key ∷ []) (without x (next .more)));
+    has = s .has ∙ ap (isThere x) (next .is) ∙ there-later x key (next .more) (above-not-equal x key o);
     rises = rising-tail key (next .more) (ap rising (sym (next .is)) ∙ s .rises);
   }
-    where
-      later : withText x (key ∷ next .more) ≡ key ∷ withText x (next .more)
-      later = rw (above-not-below x key o)

@@ -1,10 +1,12 @@
-// A path into an image of paths: one walk finds its place, what stands behind moves up, and its record is written.
+// A path into an image of paths, and out of it: one walk finds its place, what stands behind moves, and its record is written or gone.
 ghost use Prim.Native.Nat.{_≤_};
+ghost use mathlib.Core.List.{[]};
 ghost use lib.ListN.{length, take};
 ghost use Rattle.stages.specs.Numbers.{pathsLimit};
 ghost use Rattle.stages.specs.Images.{framed, heldTexts};
 ghost use Rattle.table_store.specs.Splice.{spliced};
 ghost use Rattle.table_insert.specs.Added.{Column, Free, Inserts, adding, Adds};
+ghost use Rattle.table_insert.specs.Removed.{Cuts, removing, Removes};
 use table::Piece;
 use text::Order;
 
@@ -18,13 +20,21 @@ pub enum Added {
     Full,
 }
 
-// The place of a path that is not there, or that it is there.
-enum Place {
-    At(usize),
-    Taken,
+// What removing answers.
+pub enum Removed {
+    // The length of the image without the path.
+    Used(usize),
+    // The path is not there.
+    Missing,
 }
 
-// Where the path belongs: the walk stops at the first that is not below it.
+// The place of a path that is not there, or its record.
+enum Place {
+    At(usize),
+    Taken { at: usize, end: usize },
+}
+
+// Where the path is or belongs: the walk stops at the first that is not below it.
 fn place_of(image: &[u8], path: &[u8]) -> Place
     requires { ⌜ Column (now image) ⌝ }
     ensures { λ r. ⌜ Free (now (image .entry)) (now (path .entry)) r ⌝ }
@@ -40,7 +50,7 @@ fn place_of(image: &[u8], path: &[u8]) -> Place
                 let order = text::compare(path, &image[start..end]);
                 match order {
                     Order::Less => return Place::At(at),
-                    Order::Same => return Place::Taken,
+                    Order::Same => return Place::Taken { at: at, end: end },
                     Order::More => {
                         at = end;
                     }
@@ -78,7 +88,36 @@ pub fn add(image: &mut [u8], used: usize, path: &[u8], limit: usize) -> Added
 {
     let place = place_of(&image[..used], path);
     match place {
-        Place::Taken => Added::Twice,
+        Place::Taken { at: _, end: _ } => Added::Twice,
         Place::At(at) => insert(image, used, at, path, limit),
+    }
+}
+
+// Takes the bytes from `at` to `end` out of the first `used`: what stands behind them moves down, and zeros come behind it up to `used`. Answers what is left
+// of the first `used` bytes.
+fn cut(image: &mut [u8], used: usize, at: usize, end: usize) -> usize
+    requires { ⌜ (at ≤ end) × (end ≤ used) × (used ≤ length (now image)) ⌝ }
+    ensures { λ r. ⌜ Cuts used (spliced (now (image .entry)) used at end []) (now (image .entry)) (now (image .exit)) r ⌝ }
+{
+    text_copy::shift(image, end, at, used - end);
+    let left = used - (end - at);
+    text_copy::fill_zero(&mut image[left..used]);
+    left
+}
+
+// Removes a path from the image that the first `used` bytes are, if it is there; if not, all bytes stay. Zeros come behind the new image up to `used`, and
+// the bytes from there on stay.
+pub fn remove(image: &mut [u8], used: usize, path: &[u8]) -> Removed
+    requires { ⌜ used ≤ length (now image) ⌝ }
+    requires { ⌜ Column (take used (now image)) ⌝ }
+    ensures { λ r. ⌜ Removes used (removing (now (path .entry)) (heldTexts (take used (now (image .entry))))) (now (image .entry)) (now (image .exit)) r ⌝ }
+{
+    let place = place_of(&image[..used], path);
+    match place {
+        Place::At(_) => Removed::Missing,
+        Place::Taken { at, end } => {
+            let left = cut(image, used, at, end);
+            Removed::Used(left)
+        }
     }
 }

@@ -72,6 +72,9 @@ pub const REFUSED_FIELDS: u8 = 22;
 // "A malformed or too long list" of positional parameters
 pub const REFUSED_PARAMETERS: u8 = 23;
 
+// "A path already there, or one not there to delete"
+pub const REFUSED_PATH: u8 = 24;
+
 // "work area below 65,536 bytes"
 pub const WORK_LEAST: usize = 65536;
 

@@ -5,7 +5,7 @@ use lib.Seq.{length-take-le}
 use borrow.Author.Needs.{needs}
 use lib.ListN.{take}
 use Rattle.table_insert.specs.Added.{Gap}
-use Rattle.table_insert.proofs.Inserting.{add-taken, is-free, gap-within, add-inserts}
+use Rattle.table_insert.proofs.Inserting.{add-taken, is-free, is-taken, gap-within, add-inserts}
 use Rattle.table_insert.proofs.add.Statement.{statement}
 use Rattle.table_insert.proofs.add.Tie as tie
 
@@ -45,7 +45,7 @@ same-length c = search needs
 returns : tie.Need-returns
 returns c =
     let a = c .before .before .before .before .before .before .args in
-    add-taken (c .before .before .place-of .ensures) (a .limit) (a .image .now) (c .enum-told .given .1)
+    add-taken (is-taken (c .before .before .place-of .ensures) _ _ (c .enum-told .given .1)) (a .limit) (a .image .now)
 
 same-length-2 : tie.Need-same-length-2
 same-length-2 c = search needs
