@@ -1,4 +1,4 @@
-/* Drunquill: POSIX words expanded, fields quoted, variables assigned. Four functions over buffers that the caller lends.
+/* Drunquill: POSIX words expanded, fields quoted, variables assigned, paths kept. Six functions over buffers that the caller lends.
  *
  * The functions are proved to answer as docs/01-scope.md says, with the requests of docs/02-change-requests.md that have landed, for any bytes in any
  * buffers: they call nothing but memcpy and memset, keep nothing between calls, use no heap, always return, and may run in several threads at once on
@@ -7,7 +7,8 @@
  * Link target/staticlib/libdrunquill_c.a, which `rt staticlib drunquill_c` builds (x86-64 Linux).
  *
  * BUFFERS. Each is a pointer and a length in bytes.
- *  - No pointer may be NULL, also where the length is 0. Each must have that many bytes, readable; `vars`, `work`, `out` and `message` writable too.
+ *  - No pointer may be NULL, also where the length is 0. Each must have that many bytes, readable; `vars`, `work`, `out` and `message` writable too,
+ *    and `paths` in the two functions that change it.
  *  - `vars`, `work`, `out` and `message` may overlap neither each other nor any other buffer of the call. `line`, `homes`, `params` and `paths` are
  *    only read.
  *  - Nothing else may read or write the buffers during the call.
@@ -74,7 +75,8 @@ enum {
     DRUNQUILL_VARIABLE_ROOM = 20,     /* a store, in arithmetic too, makes the variables longer than their buffer or DRUNQUILL_IMAGE_MAX */
     DRUNQUILL_OUTPUT_ROOM = 21,       /* the output is longer than its buffer or its limit */
     DRUNQUILL_BAD_FIELDS = 22,        /* the quoter's fields malformed or above their limit */
-    DRUNQUILL_BAD_PARAMETERS = 23     /* positional parameters malformed or above their limit */
+    DRUNQUILL_BAD_PARAMETERS = 23,    /* positional parameters malformed or above their limit */
+    DRUNQUILL_BAD_PATH = 24           /* a path to insert that is there, or one to delete that is not */
 };
 
 /* What the expander, the normaliser and the assigner answer. */
@@ -92,6 +94,13 @@ struct drunquill_quote_answer {
     uint8_t number; /* 0, 21 or 22 */
     size_t place;
     size_t out_len; /* bytes written to the front of `out`; 0 on a refusal */
+};
+
+/* What the insertion and the deletion of a path answer. Their place is always 0. */
+struct drunquill_updated {
+    uint8_t number; /* 0, 4, 21 (from the insertion) or 24 */
+    size_t place;
+    size_t used;    /* the paths' used length now: that of the new image, or on a refusal `paths_used` as it was given */
 };
 
 /* The expander: the fields of the line's words, an image, to `out`.
@@ -143,6 +152,18 @@ struct drunquill_answer drunquill_assign(const uint8_t *line, size_t line_len, u
  * DRUNQUILL_LINE_MAX bytes or `out_len` the number is 21. Bytes of `out` after the line are unchanged, on a refusal all of them.
  */
 struct drunquill_quote_answer drunquill_quote(const uint8_t *fields, size_t fields_len, uint8_t *out, size_t out_len);
+
+/* A path inserted: `paths` holds an image of paths in its first `paths_used` of `paths_len` bytes, and `path` is added to it in its order. The bytes before its
+ * place and those after the new image are unchanged. Faults are met in this order: DRUNQUILL_BAD_PATHS for an image that is malformed or above its limit, or a
+ * used length beyond the buffer; the same for a path that is empty or holds a zero byte; DRUNQUILL_BAD_PATH for one that is there; DRUNQUILL_OUTPUT_ROOM if
+ * the new image is longer than the buffer or DRUNQUILL_PATHS_MAX. On a refusal every byte of `paths` is unchanged. `path` may not overlap `paths`.
+ */
+struct drunquill_updated drunquill_insert_path(uint8_t *paths, size_t paths_len, size_t paths_used, const uint8_t *path, size_t path_len);
+
+/* A path deleted from such an image. The bytes before its place are unchanged, those after the new image are zero up to the `paths_used` that was given, and
+ * unchanged beyond it. DRUNQUILL_BAD_PATHS as in the insertion, then DRUNQUILL_BAD_PATH for a path that is not there; a refusal changes nothing.
+ */
+struct drunquill_updated drunquill_delete_path(uint8_t *paths, size_t paths_len, size_t paths_used, const uint8_t *path, size_t path_len);
 
 #ifdef __cplusplus
 }

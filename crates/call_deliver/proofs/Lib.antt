@@ -1,5 +1,4 @@
 pub mod Handing
-pub mod Settling
 pub mod Copying
 pub mod Awaiting
 pub mod Determined

@@ -1,4 +1,4 @@
--- The contracts of the four jobs determine every value of the answer and every byte of every lent buffer: two outcomes that a contract allows for one
+-- The contracts of the six jobs determine every value of the answer and every byte of every lent buffer: two outcomes that a contract allows for one
 -- call are equal.
 use Prim.Native.Nat.{ℕ}
 use mathlib.Core.Path.{_≡_, sym, ap, _∙_}
@@ -9,6 +9,10 @@ use Rattle.call_deliver.specs.Hands.{Gives}
 use Rattle.call_deliver.specs.declared.Answer.{Answer}
 use Rattle.call_deliver.proofs.Determined.{gives-determined}
 use Rattle.call_assign.proofs.Determined.{answer-assign-determined}
+use Rattle.stages.specs.Updates as update
+use Rattle.call_update.specs.Hands.{Hands}
+use Rattle.call_update.specs.declared.Updated.{Updated}
+use Rattle.call_update.proofs.Determined.{hands-determined}
 use Rattle.drunquill.specs.Hands.{Quotes}
 use Rattle.drunquill.specs.declared.QuoteAnswer.{QuoteAnswer}
 
@@ -34,3 +38,10 @@ quote-determined fields old r s out out' g h = (
       ∙ ap (λ (n : ℕ). record { number = s .number; place = s .place; «out_len» = n }) (g .outLength ∙ sym (h .outLength)),
   g .output ∙ sym (h .output),
 )
+
+module _ (g : update.Updating) (r s : Updated) (paths paths' : Text) where
+  pub insert-path-determined : Hands g (update.inserter g) r paths → Hands g (update.inserter g) s paths' → (r ≡ s) × (paths ≡ paths')
+  insert-path-determined = hands-determined g (update.inserter g) r s paths paths'
+
+  pub delete-path-determined : Hands g (update.deleter g) r paths → Hands g (update.deleter g) s paths' → (r ≡ s) × (paths ≡ paths')
+  delete-path-determined = hands-determined g (update.deleter g) r s paths paths'

@@ -1,13 +1,16 @@
-// Drunquill's four jobs. Each takes any bytes in any buffers and answers by document 01's numbers. Inside, a line is worked on in copies of the
+// Drunquill's six jobs. Each takes any bytes in any buffers and answers by document 01's numbers. Inside, a line is worked on in copies of the
 // variables and the output, which are handed over at the end, so that a refusal has touched neither.
 use call_check::Job;
 use call_deliver::Answer;
+use call_update::Updated;
 use quote::Quoted;
 use text::numbers;
 ghost use mathlib.Core.List.{[]};
 ghost use Rattle.stages.specs.Call.{expander, normaliser, assigner, quoter};
+ghost use Rattle.stages.specs.Updates.{inserter, deleter};
 ghost use Rattle.call_check.specs.Calls.{given};
 ghost use Rattle.call_deliver.specs.Hands.{Gives};
+ghost use Rattle.call_update.specs.Hands.{updating, Hands};
 ghost use Rattle.drunquill.specs.Hands.{Quotes};
 
 // The quoter's answer: "The quoter has neither variables nor work area." Laid out as C lays it out.
@@ -124,4 +127,22 @@ pub fn quote(fields: &[u8], out: &mut [u8]) -> QuoteAnswer
             out_len: 0,
         },
     }
+}
+
+// A path inserted: in its order into the image that the first `paths_used` bytes of a buffer are. Bytes before its place and behind the new image stay; on
+// refusal all bytes do. Every answer gives the used length.
+pub fn insert_path(paths: &mut [u8], paths_used: usize, path: &[u8]) -> Updated
+    ensures { λ r. ⌜ Hands (updating (now (paths .entry)) «paths_used» (now (path .entry)))
+        (inserter (updating (now (paths .entry)) «paths_used» (now (path .entry)))) r (now (paths .exit)) ⌝ }
+{
+    call_update::insert_path(paths, paths_used, path)
+}
+
+// A path deleted: bytes before its place stay, behind the new image come zeros up to the used length that was given, and bytes beyond it stay; on refusal all
+// bytes do.
+pub fn delete_path(paths: &mut [u8], paths_used: usize, path: &[u8]) -> Updated
+    ensures { λ r. ⌜ Hands (updating (now (paths .entry)) «paths_used» (now (path .entry)))
+        (deleter (updating (now (paths .entry)) «paths_used» (now (path .entry)))) r (now (paths .exit)) ⌝ }
+{
+    call_update::delete_path(paths, paths_used, path)
 }

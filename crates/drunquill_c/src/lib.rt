@@ -1,11 +1,14 @@
-// The four jobs under C's calling convention: include/drunquill.h declares them for C. Each lent buffer comes as a pointer and a length, and a job's
+// The six jobs under C's calling convention: include/drunquill.h declares them for C. Each lent buffer comes as a pointer and a length, and a job's
 // answer is a struct that C lays out the same way.
 ghost use mathlib.Core.List.{[]};
 ghost use Rattle.stages.specs.Call.{expander, normaliser, assigner, quoter};
+ghost use Rattle.stages.specs.Updates.{inserter, deleter};
 ghost use Rattle.call_check.specs.Calls.{given};
 ghost use Rattle.call_deliver.specs.Hands.{Gives};
+ghost use Rattle.call_update.specs.Hands.{updating, Hands};
 ghost use Rattle.drunquill.specs.Hands.{Quotes};
 use call_deliver::Answer;
+use call_update::Updated;
 use drunquill::QuoteAnswer;
 
 // The expander: the line's fields, an image, to `out`. The variables are an image in the first `vars_used` bytes of their buffer, and may change. Their new
@@ -97,4 +100,24 @@ pub extern "C" fn drunquill_quote(fields: &[u8], out: &mut [u8]) -> QuoteAnswer
     ensures { λ r. ⌜ Quotes (quoter (now (fields .entry)) (now (out .entry))) r (now (out .exit)) ⌝ }
 {
     drunquill::quote(fields, out)
+}
+
+// A path inserted: in its order into the image that the first `paths_used` bytes of a buffer are. Bytes before its place and behind the new image stay; on
+// refusal all bytes do. Every answer gives the used length.
+#[no_mangle]
+pub extern "C" fn drunquill_insert_path(paths: &mut [u8], paths_used: usize, path: &[u8]) -> Updated
+    ensures { λ r. ⌜ Hands (updating (now (paths .entry)) «paths_used» (now (path .entry)))
+        (inserter (updating (now (paths .entry)) «paths_used» (now (path .entry)))) r (now (paths .exit)) ⌝ }
+{
+    drunquill::insert_path(paths, paths_used, path)
+}
+
+// A path deleted: bytes before its place stay, behind the new image come zeros up to the used length that was given, and bytes beyond it stay; on refusal all
+// bytes do.
+#[no_mangle]
+pub extern "C" fn drunquill_delete_path(paths: &mut [u8], paths_used: usize, path: &[u8]) -> Updated
+    ensures { λ r. ⌜ Hands (updating (now (paths .entry)) «paths_used» (now (path .entry)))
+        (deleter (updating (now (paths .entry)) «paths_used» (now (path .entry)))) r (now (paths .exit)) ⌝ }
+{
+    drunquill::delete_path(paths, paths_used, path)
 }

@@ -1,7 +1,7 @@
 -- The image is copied to the front of the variables' buffer, and zeros come behind it where it is shorter than the one before.
 use mathlib.Core.Path.{refl}
 use Rattle.stages.specs.Call.{over}
-use Rattle.call_deliver.proofs.Settling.{settled-long, settled-short}
+use Rattle.text_copy.proofs.Settling.{settled-long, settled-short}
 use borrow.Author.Needs.{needs}
 use Rattle.call_deliver.proofs.accept.Statement.{statement}
 use Rattle.call_deliver.proofs.accept.Tie as tie
@@ -34,7 +34,7 @@ returns c =
       is = refl;
       variables =
           settled-short (s .args .vars-used) (s .args .image .now) (s .args .vars .now) _ (a .copy-in .ensures) (s .pre .0) (s .pre .1)
-          (f .before .before .if1 .taken) _ (f .fill-zero .ensures);
+          _ (f .fill-zero .ensures);
     }
 
 same-length-2 : tie.Need-same-length-2
