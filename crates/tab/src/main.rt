@@ -1,19 +1,23 @@
 // The table tool: `tab show KIND` reads an image from standard input and writes its lines, `tab pack KIND` reads lines and writes their image, `tab assign`
-// reads assignment lines and writes the image of the current folder's variables after them. What it cannot do it tells on standard error, and writes nothing
-// else then. The work is that of `tab_show`, `tab_pack`, `tab_list` and `tab_assign`.
+// reads assignment lines and writes the image of the current folder's variables after them, `tab insert PATH` and `tab delete PATH` read an image of paths and
+// write it with that path or without it. What it cannot do it tells on standard error, and writes nothing else then. The work is that of `tab_show`,
+// `tab_pack`, `tab_list`, `tab_assign`, and of the jobs themselves.
+mod telling;
+
 ghost use mathlib.Core.Path.{_≡_};
 ghost use Prim.Native.Nat.{_+_, _*_, _≤_};
 ghost use lib.ListN.{length};
 ghost use Rattle.stages.specs.Numbers.{imageLimit, pathsLimit};
-use libc::STDERR_FILENO;
+use call_update::Updated;
 use libc::STDIN_FILENO;
 use libc::STDOUT_FILENO;
 use recipe_load::Loaded;
 use tab_assign::Assigned;
-use tab_escape::Fault;
 use tab_pack::Packed;
 use tab_show::Shown;
 use table::Kind;
+use telling::say;
+use telling::say_refusal;
 use text::numbers;
 
 // The longest image, and a byte more to see that one is longer.
@@ -40,10 +44,6 @@ fn lines_room() -> [u8; numbers::SHOWN_ROOM]
 // A row's bytes, so that no message is cut.
 fn message_room() -> [u8; numbers::ROW_LIMIT] {
     [0; numbers::ROW_LIMIT]
-}
-
-fn say(text: &[u8]) {
-    io::write_all(STDERR_FILENO, text);
 }
 
 // Reading stopped: could the input be read to its end, or to the end of the buffer?
@@ -104,28 +104,6 @@ fn show(kind: Kind) {
     show_input(kind, &mut image, &mut out);
 }
 
-// A line without a key: of paths it is empty. Fields have no keys: nothing is said of them.
-fn say_no_key(kind: Kind) {
-    match kind {
-        Kind::Variables => say(b": no name before its `=`\n"),
-        Kind::Homes => say(b": no login before its `=`\n"),
-        Kind::Paths => say(b": an empty line is no path\n"),
-        Kind::Fields => {}
-    }
-}
-
-// Why a line is no record.
-fn say_fault(kind: Kind, fault: Fault) {
-    match fault {
-        Fault::NoEquals => say(b": no `=` in it\n"),
-        Fault::NoKey => say_no_key(kind),
-        Fault::BadEscape => say(b": an unknown escape\n"),
-        Fault::ZeroByte => say(b": a zero byte\n"),
-        Fault::Twice => say(b": the key of an earlier line\n"),
-        Fault::TooLong => say(b": with it the table is too long\n"),
-    }
-}
-
 // Packs lines: records by their keys, fields as they stand.
 fn pack_lines(kind: Kind, text: &[u8], image: &mut [u8], work: &mut [u8]) -> Packed
     requires { ⌜ (pathsLimit + 1 ≡ length (now image)) × (length (now text) ≤ length (now work)) ⌝ }
@@ -149,11 +127,7 @@ fn pack_input(kind: Kind, text: &mut [u8], image: &mut [u8], work: &mut [u8])
     let packed = pack_lines(kind, &text[..n], image, work);
     match packed {
         Packed::Len(m) => write_out(image, m),
-        Packed::Bad { line, fault } => {
-            say(b"tab: line ");
-            io::print_decimal(STDERR_FILENO, line as u64);
-            say_fault(kind, fault);
-        }
+        Packed::Bad { line, fault } => telling::say_bad_line(line, kind, fault),
     }
 }
 
@@ -162,21 +136,6 @@ fn pack(kind: Kind) {
     let mut image = image_room();
     let mut work = lines_room();
     pack_input(kind, &mut text, &mut image, &mut work);
-}
-
-// Why an assignment line is refused, and the message that it demands.
-fn say_refusal(line: usize, number: u8, place: usize, demanded: &[u8]) {
-    say(b"tab: line ");
-    io::print_decimal(STDERR_FILENO, line as u64);
-    say(b": refused with ");
-    io::print_decimal(STDERR_FILENO, number as u64);
-    say(b" at ");
-    io::print_decimal(STDERR_FILENO, place as u64);
-    if number == numbers::REFUSED_DEMAND {
-        say(b": ");
-        say(demanded);
-    }
-    say(b"\n");
 }
 
 // Applies assignment lines to variables and writes their image. There are no positional parameters.
@@ -234,10 +193,32 @@ fn assign() {
     assign_input(&mut text, &mut vars, &mut homes, &mut work, &mut message);
 }
 
-fn usage() {
-    say(b"usage: tab show vars|homes|paths|fields < image > text\n");
-    say(b"       tab pack vars|homes|paths|fields < text > image\n");
-    say(b"       tab assign < settings.txt > new.tab && mv new.tab vars.tab\n");
+// Inserts a path into an image of n bytes, or deletes it.
+fn update(job: &[u8], image: &mut [u8], n: usize, path: &[u8]) -> Updated {
+    if text::same(job, b"insert") {
+        drunquill::insert_path(image, n, path)
+    } else {
+        drunquill::delete_path(image, n, path)
+    }
+}
+
+// Does so in the image that is read, and writes what it is then.
+fn update_input(job: &[u8], path: &[u8], image: &mut [u8]) {
+    let n = io::read_full(STDIN_FILENO, image);
+    if !was_read(n, image.len()) {
+        return;
+    }
+    let updated = update(job, image, n, path);
+    if updated.number == numbers::ACCEPTED {
+        write_out(image, updated.used);
+    } else {
+        telling::say_not_updated(updated.number);
+    }
+}
+
+fn update_paths(job: &[u8], path: &[u8]) {
+    let mut image = image_room();
+    update_input(job, path, &mut image);
 }
 
 fn pack_named(word: &[u8]) {
@@ -257,7 +238,7 @@ fn pack_named(word: &[u8]) {
         pack(Kind::Fields);
         return;
     }
-    usage();
+    telling::usage();
 }
 
 fn show_named(word: &[u8]) {
@@ -277,7 +258,7 @@ fn show_named(word: &[u8]) {
         show(Kind::Fields);
         return;
     }
-    usage();
+    telling::usage();
 }
 
 fn assign_named(job: &[u8]) {
@@ -285,7 +266,7 @@ fn assign_named(job: &[u8]) {
         assign();
         return;
     }
-    usage();
+    telling::usage();
 }
 
 fn main() {
@@ -295,10 +276,10 @@ fn main() {
         assign_named(&job[..n]);
         return;
     }
-    let mut word = io::buffer();
+    let mut word = lines_room();
     let m = os::arg(2, &mut word);
     if os::arg_count() != 3 {
-        usage();
+        telling::usage();
         return;
     }
     if text::same(&job[..n], b"show") {
@@ -309,5 +290,9 @@ fn main() {
         pack_named(&word[..m]);
         return;
     }
-    usage();
+    if text::same(&job[..n], b"insert") || text::same(&job[..n], b"delete") {
+        update_paths(&job[..n], &word[..m]);
+        return;
+    }
+    telling::usage();
 }
