@@ -16,7 +16,8 @@ use crate::split::split;
 use crate::tree::Word;
 
 /// What a call gives back. `message` is the length of the message that was written, 0 on every number but 13. The quoter's used length and message
-/// length are always 0, as it has neither variables nor a message buffer, and the output length of assignments is, as they have no output.
+/// length are always 0, as it has neither variables nor a message buffer, and the output length of assignments is, as they have no output. Insertion and
+/// deletion give the used length of the paths in place of the variables', and neither an output nor a message.
 #[derive(Clone, Copy, Debug, PartialEq, Eq)]
 pub struct Answer {
     pub number: u8,

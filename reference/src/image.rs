@@ -4,6 +4,9 @@ use crate::limits;
 
 const VERSION: u8 = 1;
 
+/// The bytes of a text's length.
+pub const LENGTH: usize = 2;
+
 /// A record of two texts: a name and a value, or a login and a directory.
 pub type Pair = (Vec<u8>, Vec<u8>);
 
@@ -101,7 +104,7 @@ fn texts(image: &[u8], limit: usize) -> Option<Vec<Vec<u8>>> {
 
 /// The first text and what stands behind it, or `None` if it is cut short or holds a zero byte.
 fn text(bytes: &[u8]) -> Option<(&[u8], &[u8])> {
-    let (length, rest) = bytes.split_first_chunk::<2>()?;
+    let (length, rest) = bytes.split_first_chunk::<LENGTH>()?;
     let (text, behind) = rest.split_at_checked(usize::from(u16::from_be_bytes(*length)))?;
     (!text.contains(&0)).then_some((text, behind))
 }

@@ -25,6 +25,8 @@ mod row;
 pub mod shells;
 mod split;
 mod tree;
+mod updates;
 mod variables;
 
 pub use calls::{assign, expand, normalise, quote, Answer, Tables};
+pub use updates::{delete, insert};

@@ -1,20 +1,19 @@
-//! Prints cases made from a seed with the reference's answers, or hostile ones, or those about `?` and its message, about assignment lines or about assignments
-//! in arithmetic alone, or how often each number and each edge comes up in the cases of one seed or more.
+//! Prints cases made from a seed with the reference's answers, or hostile ones, or those about `?` and its message, about assignment lines, about assignments
+//! in arithmetic or about insertion and deletion alone, or how often each number and each edge comes up in the cases of one seed or more.
 
 use std::io::{stdout, BufWriter, Write};
 use std::ops::RangeInclusive;
 use std::process::ExitCode;
 
 use reference::case::{case, Call};
-use reference::generate::{assignments, call, counting, demands, hostile, tally::Tally};
+use reference::generate::{assignments, call, counting, demands, hostile, tally::Tally, updates};
 
 fn main() -> ExitCode {
     let words: Vec<String> = std::env::args().skip(1).collect();
     let words: Vec<&str> = words.iter().map(String::as_str).collect();
     let (seeds, count) = match words[..] {
-        ["--tally" | "--hostile" | "--messages" | "--assignments" | "--counting", seeds, count] | [seeds, count] => {
-            (range(seeds), count.parse())
-        }
+        ["--tally" | "--hostile" | "--messages" | "--assignments" | "--counting" | "--updates", seeds, count]
+        | [seeds, count] => (range(seeds), count.parse()),
         _ => return usage(),
     };
     let (Some(seeds), Ok(count)) = (seeds, count) else {
@@ -29,6 +28,7 @@ fn main() -> ExitCode {
         "--messages" => print_cases(demands::call, seeds, count),
         "--assignments" => print_cases(assignments::call, seeds, count),
         "--counting" => print_cases(counting::call, seeds, count),
+        "--updates" => print_cases(updates::call, seeds, count),
         _ => print_cases(call, seeds, count),
     };
     match printed {
@@ -41,7 +41,7 @@ fn main() -> ExitCode {
 }
 
 fn usage() -> ExitCode {
-    eprintln!("usage: cases [--hostile|--messages|--assignments|--counting|--tally] SEED[-SEED] COUNT");
+    eprintln!("usage: cases [--hostile|--messages|--assignments|--counting|--updates|--tally] SEED[-SEED] COUNT");
     ExitCode::FAILURE
 }
 

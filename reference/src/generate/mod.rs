@@ -32,6 +32,8 @@ pub mod tables;
 pub mod tally;
 mod tildes;
 mod unserved;
+pub mod updated;
+pub mod updates;
 pub(crate) mod walk;
 
 use self::random::Random;
@@ -51,6 +53,9 @@ pub fn call(seed: u64, case: u64) -> Call {
     if random.once_in(5) {
         let call = assignments::made(random);
         return finished(random, call);
+    }
+    if random.once_in(10) {
+        return updates::made(random);
     }
     let call = match random.below(392) {
         0..=11 => sizes::call(random),
@@ -82,7 +87,7 @@ fn finished(random: &mut Random, call: Call) -> Call {
             demands::lend_room(random, job, &mut lent);
             Call::Lines(job, lent)
         }
-        quote => quote,
+        other => other,
     }
 }
 

@@ -1,4 +1,4 @@
-//! How often each number, each of the three calls, and each edge comes up among the cases of seeds.
+//! How often each number, each kind of call, and each edge comes up among the cases of seeds.
 
 use std::collections::BTreeSet;
 use std::fmt;
@@ -14,9 +14,10 @@ use super::patterns::Patterns;
 use super::positional::Positional;
 use super::quoting::Quoting;
 use super::sums::{Met, Sums};
+use super::updated::Updated;
 use super::walk::walk;
 use crate::calls::Answer;
-use crate::case::{Call, Job, Lent};
+use crate::case::{Call, Job, Lent, Update};
 use crate::expand::{Seen, SeenRow};
 use crate::image;
 use crate::limits;
@@ -29,6 +30,8 @@ pub struct Tally {
     pub normalise: usize,
     pub assign: usize,
     pub quote: usize,
+    pub insert: usize,
+    pub delete: usize,
     /// The bytes the cases take in a file.
     pub bytes: usize,
     /// The arithmetic texts that were worked out or refused, and how many different ones.
@@ -47,6 +50,7 @@ pub struct Tally {
     pub messages: Messages,
     pub assigned: Assigned,
     pub counted: Counted,
+    pub updated: Updated,
 }
 
 impl Tally {
@@ -70,6 +74,8 @@ impl Tally {
             Call::Lines(Job::Normalise, _) => &mut self.normalise,
             Call::Lines(Job::Assign, _) => &mut self.assign,
             Call::Quote { .. } => &mut self.quote,
+            Call::Paths(Update::Insert, _) => &mut self.insert,
+            Call::Paths(Update::Delete, _) => &mut self.delete,
         } += 1;
         if let Call::Lines(job, lent) = call {
             self.add_line(*job, lent, &answer);
@@ -78,6 +84,7 @@ impl Tally {
             Call::Lines(Job::Expand | Job::Assign, _) => (),
             Call::Lines(Job::Normalise, lent) => self.quoting.add_line(lent),
             Call::Quote { fields, .. } => self.quoting.add_image(fields),
+            Call::Paths(update, lent) => self.updated.add(*update, lent, &answer),
         }
     }
 
@@ -147,14 +154,21 @@ impl fmt::Display for Tally {
             messages,
             assigned,
             counted,
+            updated,
             assign,
+            insert,
+            delete,
             ..
         } = self;
         writeln!(out, "expand {expand}, normalise {normalise}, quote {quote}, assign {assign}")?;
+        writeln!(out, "insert {insert}, delete {delete}")?;
         writeln!(out, "{bytes} bytes")?;
         writeln!(out, "arithmetic texts {sums}, different ones {}", different_sums.len())?;
         writeln!(out, "lines of 2048 bytes {full_lines}")?;
         writeln!(out, "rows of 2047 units {}, of 2048 {}, refused at 2049 {}", rows[0], rows[1], rows[2])?;
-        write!(out, "{tildes}{quoting}{brackets}{patterns}{positional}{kinds_of_sums}{messages}{assigned}{counted}")
+        write!(
+            out,
+            "{tildes}{quoting}{brackets}{patterns}{positional}{kinds_of_sums}{messages}{assigned}{counted}{updated}"
+        )
     }
 }

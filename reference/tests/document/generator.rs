@@ -7,7 +7,8 @@ use reference::case::{case, replay, Call, Job};
 use reference::generate::random::Random;
 use reference::generate::{
     assigned, assignments, brackets::KINDS, call, classes::BORDERS, counted, counting, demands, hostile, messages,
-    operands::SIGNS, ordinary, positional, quoting, season::Season, steps::steps, sums, tally::Tally, MOST_STEPS,
+    operands::SIGNS, ordinary, positional, quoting, season::Season, steps::steps, sums, tally::Tally, updated, updates,
+    MOST_STEPS,
 };
 use reference::{image, limits};
 
@@ -32,7 +33,8 @@ fn every_number_comes_up() {
         assert!(*count >= 20, "{number} comes up {count} times");
     }
     assert!(tally.expand.min(tally.normalise).min(tally.quote).min(tally.assign) > 500);
-    assert!(tally.bytes < 2_000 * CASES as usize);
+    assert!(tally.insert.min(tally.delete) > 500);
+    assert!(tally.bytes < 2_200 * CASES as usize);
     assert!(tally.sums >= 1_000 && tally.different_sums.len() >= 500);
     assert!(tally.full_lines >= 20 && tally.rows.iter().all(|count| *count >= 20));
 }
@@ -158,6 +160,20 @@ fn counting_comes_up() {
     assert!(answers.filter(|number| *number == 0).count() >= 250);
 }
 
+/// Insertion and deletion: at every place of a list, with every room, and each number of each cause.
+#[test]
+fn updates_come_up() {
+    let tally = tally();
+    let found = &tally.updated;
+    assert!(tally.insert + tally.delete >= CASES as usize / 15, "{found}");
+    for kind in updated::KINDS {
+        assert!(found.kinds.get(kind).is_some_and(|count| *count >= 5), "{kind}: {found}");
+    }
+    for case in 0..1_000 {
+        assert!(matches!(updates::call(SEED, case), Call::Paths(..)));
+    }
+}
+
 /// Demand 3 on made fields: their quoted line gives them again and is its own quoted line, under tables that were not asked for.
 #[test]
 fn quoted_lines_come_back() {
@@ -194,6 +210,7 @@ fn limits_come_up() {
                 parameters.insert(lent.parameters.len());
             }
             Call::Quote { fields: image, .. } => drop(fields.insert(image.len())),
+            Call::Paths(_, lent) => assert!(lent.paths.len() <= lent.paths_buffer),
         }
     }
     for about in 0..3 {

@@ -28,4 +28,5 @@ mod stars;
 mod support;
 mod tables;
 mod unserved;
+mod updates;
 mod vectors;

@@ -1,12 +1,11 @@
-//! A case: one call with its answer, on one line of text in the format of tests/vectors/README.md.
+//! The calls that take a line: what they are given, and their answers.
 
-use crate::calls::{assign, expand, normalise, quote, Answer, Tables};
+use super::{check_behind, head, OUT_FILL};
+use crate::calls::{assign, expand, normalise, Answer, Tables};
 use crate::hex;
 use crate::image;
 use crate::number::ACCEPTED;
 
-/// What stands in the buffers where the case says nothing.
-const OUT_FILL: u8 = 0xa5;
 const VARIABLES_FILL: u8 = 0x5a;
 const MESSAGE_FILL: u8 = 0xc3;
 const WORK_FILL: u8 = 0xc3;
@@ -19,9 +18,9 @@ pub enum Job {
 }
 
 impl Job {
-    const ALL: [Job; 3] = [Job::Expand, Job::Normalise, Job::Assign];
+    pub const ALL: [Job; 3] = [Job::Expand, Job::Normalise, Job::Assign];
 
-    fn name(self) -> &'static str {
+    pub fn name(self) -> &'static str {
         match self {
             Job::Expand => "expand",
             Job::Normalise => "normalise",
@@ -51,7 +50,7 @@ impl Lent {
     }
 
     /// The words of a job's call behind its name.
-    fn words(&self, job: Job) -> Vec<String> {
+    pub fn words(&self, job: Job) -> Vec<String> {
         let number = |number: usize| number.to_string();
         let mut words = vec![hex::write(&self.line), hex::write(&self.variables), number(self.used)];
         words.extend([number(self.variables_buffer), hex::write(&self.homes)]);
@@ -64,7 +63,7 @@ impl Lent {
     }
 
     /// What such words lend, or `None` if they are not in the format.
-    fn of_words(job: Job, words: &[&str]) -> Option<Lent> {
+    pub fn of_words(job: Job, words: &[&str]) -> Option<Lent> {
         let (&[line, variables, used, variables_buffer, homes], rest) = words.split_first_chunk()?;
         let (paths, work, out, parameters, message) = match (job, rest) {
             (Job::Assign, &[work, parameters, message]) => (image::empty(), work, 0, parameters, message),
@@ -88,65 +87,8 @@ impl Lent {
     }
 }
 
-#[derive(Clone, Debug)]
-pub enum Call {
-    Lines(Job, Lent),
-    Quote { fields: Vec<u8>, out: usize },
-}
-
-impl Call {
-    /// The words before the `=`.
-    pub fn words(&self) -> String {
-        match self {
-            Call::Lines(job, lent) => format!("{} {}", job.name(), lent.words(*job).join(" ")),
-            Call::Quote { fields, out } => format!("quote {} {out}", hex::write(fields)),
-        }
-    }
-
-    /// The call before the `=` of a case, or `None` if it is not in the format.
-    pub fn of_words(words: &str) -> Option<Call> {
-        let words: Vec<&str> = words.split(' ').collect();
-        if let ["quote", fields, out] = words[..] {
-            return Some(Call::Quote { fields: hex::read(fields)?, out: out.parse().ok()? });
-        }
-        let (name, words) = words.split_first()?;
-        let job = Job::ALL.into_iter().find(|job| job.name() == *name)?;
-        Lent::of_words(job, words).map(|lent| Call::Lines(job, lent))
-    }
-
-    /// The answer of the call and its words behind the `=`, or what was wrong in a buffer.
-    pub fn answer(&self) -> Result<(Answer, String), String> {
-        match self {
-            Call::Lines(job, lent) => lines_answer(*job, lent),
-            Call::Quote { fields, out } => {
-                let mut buffer = vec![OUT_FILL; *out];
-                let answer = quote(fields, &mut buffer);
-                check_behind(&buffer, answer.length, &vec![OUT_FILL; *out])?;
-                let out = hex::write(&buffer[..answer.length]);
-                Ok((answer, head(&answer, &out)))
-            }
-        }
-    }
-}
-
-/// The case as a line of text with the answer, or what was wrong in a buffer.
-pub fn case(call: &Call) -> Result<String, String> {
-    let (_, words) = call.answer()?;
-    Ok(format!("{} = {words}", call.words()))
-}
-
-/// Whether a line of a case file holds; what differs otherwise.
-pub fn replay(text: &str) -> Result<(), String> {
-    let (words, wanted) = text.split_once(" = ").ok_or("no answer in the line")?;
-    let call = Call::of_words(words).ok_or("not in the format")?;
-    let (_, given) = call.answer()?;
-    if given == wanted {
-        return Ok(());
-    }
-    Err(format!("{words}\n  wanted {wanted}\n  given  {given}"))
-}
-
-fn lines_answer(job: Job, lent: &Lent) -> Result<(Answer, String), String> {
+/// The answer of a job and its words behind the `=`, or what was wrong in a buffer.
+pub fn answer(job: Job, lent: &Lent) -> Result<(Answer, String), String> {
     let mut variables = lent.variables.clone();
     variables.resize(lent.variables_buffer, VARIABLES_FILL);
     let mut given = variables.clone();
@@ -176,17 +118,4 @@ fn lines_answer(job: Job, lent: &Lent) -> Result<(Answer, String), String> {
     let variables = hex::write(&variables[..changed]);
     let message = hex::write(&message[..answer.message]);
     Ok((answer, format!("{head} {} {variables} {} {message}", answer.used, answer.message)))
-}
-
-fn head(answer: &Answer, out: &str) -> String {
-    format!("{} {} {} {out}", answer.number, answer.place, answer.length)
-}
-
-/// Every byte behind the new length must be the one that is to stand there.
-fn check_behind(buffer: &[u8], length: usize, given: &[u8]) -> Result<(), String> {
-    if buffer[length..] == given[length..] {
-        Ok(())
-    } else {
-        Err("a byte behind the new length has changed".to_string())
-    }
 }
