@@ -1,6 +1,6 @@
 //! The functions of include/drunquill.h, each called with the pointers and lengths of slices. All that is unsafe stands here.
 
-use crate::{Tables, Variables};
+use crate::{Paths, Tables, Variables};
 
 /// `struct drunquill_answer`
 #[repr(C)]
@@ -18,6 +18,14 @@ pub struct QuoteAnswer {
     pub number: u8,
     pub place: usize,
     pub out_len: usize,
+}
+
+/// `struct drunquill_updated`
+#[repr(C)]
+pub struct Updated {
+    pub number: u8,
+    pub place: usize,
+    pub used: usize,
 }
 
 /// Declares the two jobs that expand a line, which differ in their names alone, and defines each over slices.
@@ -130,4 +138,22 @@ pub fn assign(line: &[u8], vars: &mut Variables, tables: Tables, work: &mut [u8]
 pub fn quote(fields: &[u8], out: &mut [u8]) -> QuoteAnswer {
     // SAFETY: as above.
     unsafe { drunquill_quote(fields.as_ptr(), fields.len(), out.as_mut_ptr(), out.len()) }
+}
+
+/// Declares the two jobs that change paths, which differ in their names alone, and defines each over slices.
+macro_rules! updates {
+    ($($job:ident is $name:ident;)*) => {
+        extern "C" {
+            $(fn $job(paths: *mut u8, paths_len: usize, paths_used: usize, path: *const u8, path_len: usize) -> Updated;)*
+        }
+        $(pub fn $name(paths: &mut Paths, path: &[u8]) -> Updated {
+            // SAFETY: as above, of the one that is written.
+            unsafe { $job(paths.buffer.as_mut_ptr(), paths.buffer.len(), paths.used, path.as_ptr(), path.len()) }
+        })*
+    };
+}
+
+updates! {
+    drunquill_insert_path is insert_path;
+    drunquill_delete_path is delete_path;
 }

@@ -1,4 +1,5 @@
-//! Drunquill for Rust: a POSIX shell line expanded into fields, fields quoted as a line, both in one call; and lines of assignments, which change variables.
+//! Drunquill for Rust: a POSIX shell line expanded into fields, fields quoted as a line, both in one call; lines of assignments, which change variables; and
+//! paths inserted and deleted.
 //!
 //! The functions are the proved ones of include/drunquill.h, for x86-64 Linux; this crate turns slices into pointers, numbers into names and a refusal with
 //! its message into an error, and nothing else.
@@ -8,7 +9,7 @@
 //! Lines, images and numbers are those of docs/01-scope.md, and of docs/02-change-requests.md as far as it has landed; man/drunquill.3 has them in short.
 //!
 //! ```
-//! use drunquill::{assign, normalise, Number, Tables, Variables};
+//! use drunquill::{assign, delete_path, insert_path, normalise, Number, Paths, Tables, Variables};
 //!
 //! let mut buffer = [0; 64];
 //! let image = b"\x01\0\x03job\0\x03a b";
@@ -33,6 +34,13 @@
 //!
 //! assign(b"job=c out=/jobs:$job", &mut variables, Tables::NONE, &mut work).expect("two assignments");
 //! assert_eq!(&variables.buffer[..variables.used], b"\x01\0\x03job\0\x01c\0\x03out\0\x07/jobs:c");
+//!
+//! let mut buffer = [1; drunquill::PATHS_MAX];
+//! let mut paths = Paths { buffer: &mut buffer, used: 1 };
+//! insert_path(&mut paths, b"p1.raw").expect("a new path");
+//! assert_eq!(insert_path(&mut paths, b"p1.raw").unwrap_err().number, Number::BadPath);
+//! delete_path(&mut paths, b"p1.raw").expect("the path that is there");
+//! assert_eq!(paths.used, 1);
 //! ```
 
 mod archive;
@@ -64,6 +72,13 @@ pub const STACK: usize = 524_288;
 /// beyond are as before. On a refusal all of them are.
 #[derive(Debug)]
 pub struct Variables<'a> {
+    pub buffer: &'a mut [u8],
+    pub used: usize,
+}
+
+/// Paths that change: an image in the first `used` bytes of a buffer. An accepted call leaves the new image and its length here; a refusal changes nothing.
+#[derive(Debug)]
+pub struct Paths<'a> {
     pub buffer: &'a mut [u8],
     pub used: usize,
 }
@@ -124,6 +139,25 @@ pub fn quote<'o>(fields: &[u8], out: &'o mut [u8]) -> Result<&'o [u8], Refusal> 
     let answer = archive::quote(fields, out);
     Refusal::unless_accepted(answer.number, answer.place, &[])?;
     Ok(&out[..answer.out_len])
+}
+
+/// A path inserted in its order. Bytes before its place and behind the new image are as before. One that is there is [`Number::BadPath`].
+pub fn insert_path(paths: &mut Paths, path: &[u8]) -> Result<(), Refusal> {
+    let answer = archive::insert_path(paths, path);
+    updated(answer, paths)
+}
+
+/// A path deleted. Bytes before its place are as before, those behind the new image are zero up to the used length that was given and as before beyond it. One
+/// that is not there is [`Number::BadPath`].
+pub fn delete_path(paths: &mut Paths, path: &[u8]) -> Result<(), Refusal> {
+    let answer = archive::delete_path(paths, path);
+    updated(answer, paths)
+}
+
+fn updated(answer: archive::Updated, paths: &mut Paths) -> Result<(), Refusal> {
+    Refusal::unless_accepted(answer.number, answer.place, &[])?;
+    paths.used = answer.used;
+    Ok(())
 }
 
 fn given<'o>(

@@ -31,11 +31,12 @@ pub enum Number {
     OutputRoom = 21,
     BadFields = 22,
     BadParameters = 23,
+    BadPath = 24,
 }
 
 impl Number {
     /// All of them, in order.
-    pub const ALL: [Number; 23] = [
+    pub const ALL: [Number; 24] = [
         Number::WorkTooSmall,
         Number::BadVariables,
         Number::BadHomes,
@@ -59,6 +60,7 @@ impl Number {
         Number::OutputRoom,
         Number::BadFields,
         Number::BadParameters,
+        Number::BadPath,
     ];
 
     /// The refusal of that number, if there is one: 0 is the acceptance.
@@ -66,7 +68,7 @@ impl Number {
         Number::ALL.into_iter().find(|known| *known as u8 == number)
     }
 
-    /// What docs/01-scope.md says of the number; of 23, what E5 of docs/02-change-requests.md adds.
+    /// What docs/01-scope.md says of the number; of 23 and 24, what E5 and E11 of docs/02-change-requests.md add.
     pub fn words(self) -> &'static str {
         match self {
             Number::WorkTooSmall => "work area below 65,536 bytes",
@@ -92,12 +94,13 @@ impl Number {
             Number::OutputRoom => "no room for output",
             Number::BadFields => "fields image malformed or too long",
             Number::BadParameters => "parameters malformed or too long",
+            Number::BadPath => "path already there, or not there to delete",
         }
     }
 }
 
 /// A number, and the place: the offset in the line of the first byte of the word at fault, or of the operator itself if no word is open; 0 for numbers 1 to 6,
-/// 22 and 23, and for 21 from quoting. `{}` and `{:?}` show the message as text.
+/// 22, 23 and 24, and for 21 from quoting. `{}` and `{:?}` show the message as text.
 #[derive(Clone, PartialEq, Eq, Hash)]
 pub struct Refusal {
     pub number: Number,
@@ -110,7 +113,7 @@ impl Refusal {
     /// What a call's number, place and message say.
     ///
     /// # Panics
-    /// On a number above 23: the functions are proved to give none.
+    /// On a number above 24: the functions are proved to give none.
     pub(crate) fn unless_accepted(number: u8, place: usize, message: &[u8]) -> Result<(), Refusal> {
         match number {
             0 => Ok(()),

@@ -1,6 +1,6 @@
 //! Lent buffers with guard bytes around them, and a call with all that it is given, checked against all that it must give back.
 
-use drunquill::{assign, expand, normalise, quote, Refusal, Tables, Variables};
+use drunquill::{assign, delete_path, expand, insert_path, normalise, quote, Paths, Refusal, Tables, Variables};
 
 const GUARD: usize = 64;
 const GUARD_BYTE: u8 = 0xee;
@@ -110,6 +110,41 @@ pub fn quote_differs(
     let result = quote(fields, out.lent()).map(<[u8]>::to_vec);
     let front = wanted.clone().unwrap_or_default();
     (result != *wanted || out.0 != before.with(&front).0).then(|| format!("{result:?}"))
+}
+
+#[derive(Clone, Copy, Debug, PartialEq, Eq)]
+pub enum Update {
+    Insert,
+    Delete,
+}
+
+/// Paths in a buffer of some length.
+#[derive(Clone, Debug)]
+pub struct Lent {
+    pub paths: Vec<u8>,
+    pub used: usize,
+    pub length: usize,
+    /// What stands behind them.
+    pub fill: fn(usize) -> u8,
+}
+
+/// The same of the insertion or the deletion of a path: the image that must be left, or the refusal.
+pub fn update_differs(update: Update, lent: &Lent, path: &[u8], wanted: &Result<Vec<u8>, Refusal>) -> Option<String> {
+    let mut buffer = Buffer::new(&lent.paths, lent.length, lent.fill);
+    let before = Buffer(buffer.0.clone());
+    let mut paths = Paths { buffer: buffer.lent(), used: lent.used };
+    let result = match update {
+        Update::Insert => insert_path(&mut paths, path),
+        Update::Delete => delete_path(&mut paths, path),
+    };
+    let used = paths.used;
+    let mut front = wanted.clone().unwrap_or_default();
+    let new_used = if wanted.is_ok() { front.len() } else { lent.used };
+    if wanted.is_ok() {
+        front.resize(front.len().max(lent.used), 0);
+    }
+    let good = result == wanted.clone().map(|_| ()) && used == new_used && buffer.0 == before.with(&front).0;
+    (!good).then(|| format!("{result:?} with {used} used"))
 }
 
 /// An image of texts.

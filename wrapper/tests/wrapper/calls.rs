@@ -315,5 +315,5 @@ fn a_refusal_says_itself() {
     let shown = r#"Refusal { number: Demanded, place: 5, message: b"no \"b\xc3\xa4se\"\n" }"#;
     assert_eq!(format!("{refusal:?}"), shown);
     assert_eq!(Number::of(0), None);
-    assert_eq!(Number::of(24), None);
+    assert_eq!(Number::of(25), None);
 }

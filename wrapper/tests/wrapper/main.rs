@@ -3,4 +3,5 @@
 mod buffers;
 mod calls;
 mod header;
+mod updates;
 mod vectors;

@@ -5,7 +5,7 @@ use std::path::Path;
 
 use drunquill::{Number, Refusal};
 
-use crate::buffers::{differs, quote_differs, Given, Job, Wanted};
+use crate::buffers::{differs, quote_differs, update_differs, Given, Job, Lent, Update, Wanted};
 
 fn bytes(word: &str) -> Vec<u8> {
     let digits = word.trim_end_matches('-');
@@ -62,6 +62,13 @@ fn line_case(job: Job, call: &[&str], answer: &[&str]) -> Option<String> {
     differs(job, &given, &wanted)
 }
 
+/// A case of the insertion or the deletion of a path.
+fn update_case(update: Update, call: &[&str], answer: &[&str]) -> Option<String> {
+    let lent = Lent { paths: bytes(call[1]), used: count(call[2]), length: count(call[3]), fill: |_| 0x3c };
+    let wanted = outcome(answer, bytes(answer[3]), Vec::new());
+    update_differs(update, &lent, &bytes(call[4]), &wanted)
+}
+
 /// What differs in a case, if anything.
 fn case(line: &str) -> Option<String> {
     let (call, answer) = line.split_once(" = ").expect("an answer");
@@ -74,6 +81,8 @@ fn case(line: &str) -> Option<String> {
         }
         "expand" => line_case(Job::Expand, &call, &answer),
         "assign" => line_case(Job::Assign, &call, &answer),
+        "insert" => update_case(Update::Insert, &call, &answer),
+        "delete" => update_case(Update::Delete, &call, &answer),
         _ => line_case(Job::Normalise, &call, &answer),
     }
 }
