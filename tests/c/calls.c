@@ -98,6 +98,7 @@ static void counting(void) {
     counts("setups are numbered", "P1-2-2", (const char *const[]){"HOME", "/home/crew", "job", "north field", "n", "2", "note", "", NULL});
     set("$((job=note=3))");
     counts("a shorter value", "3", (const char *const[]){"HOME", "/home/crew", "job", "3", "note", "3", NULL});
+    set("$((note=job=3))");
     vars_len = used;
     counts("a shorter value in a buffer that the variables fill", "3", (const char *const[]){"HOME", "/home/crew", "job", "3", "note", "3", NULL});
     set("$((job=7))$((job*=12345678901))");

@@ -76,9 +76,9 @@ def agrees(command, cases):
 
 
 def shown(call):
-    """The comment above a named call: its job, its line or fields as text, its number and place."""
+    """The comment above a named call: its job, its line, fields or path as text, its number and place."""
     words = call.split()
-    text = read(words[1])
+    text = read(words[4 if words[0] in ("insert", "delete") else 1])
     plain = "".join("\\\\" if byte == 92 else chr(byte) if 32 <= byte < 127 else f"\\x{byte:02X}" for byte in text[:SHOWN])
     rest = f".. ({len(text)} bytes)" if len(text) > SHOWN else ""
     given = words.index("=") + 1

@@ -7,6 +7,8 @@ pub enum Job {
     Line,
     Assigner,
     Quoter,
+    // The insertion's of a path, or the deletion's.
+    Update,
     None,
 }
 
@@ -58,6 +60,26 @@ fn is_quote_case(case: &[u8]) -> bool {
         && words::agrees(case, words::QUOTE_LENGTH, words::QUOTE_BYTES)
 }
 
+// Is the case one of the insertion of a path, by its job?
+pub(crate) fn is_insertion(case: &[u8]) -> bool {
+    text::same(words::word(case, words::JOB), b"insert")
+}
+
+// Is the case one of the insertion or the deletion of a path: words of the right kinds, paths that their buffer holds, bytes as many as told? On a refusal
+// there are none.
+fn is_update_case(case: &[u8]) -> bool {
+    if !words::has_shape(case, b"jhdsh=dddh")
+        || !words::fits(case, words::UPDATE_PATHS, words::UPDATE_BUFFER)
+    {
+        return false;
+    }
+    if words::number(words::word(case, words::UPDATE_NUMBER)) == 0 {
+        words::agrees(case, words::UPDATE_USED_LENGTH, words::UPDATE_PATHS_BYTES)
+    } else {
+        words::byte_count(words::word(case, words::UPDATE_PATHS_BYTES)) == 0
+    }
+}
+
 // The job of a case that is sound and that there is room for.
 pub(crate) fn job_of(case: &[u8]) -> Job {
     let job = words::word(case, words::JOB);
@@ -66,6 +88,10 @@ pub(crate) fn job_of(case: &[u8]) -> Job {
     }
     if text::same(job, b"assign") && is_assign_case(case) {
         return Job::Assigner;
+    }
+    let updates = text::same(job, b"delete") || is_insertion(case);
+    if updates && is_update_case(case) {
+        return Job::Update;
     }
     let has_line = text::same(job, b"expand") || is_normaliser(case);
     if has_line && is_line_case(case) {

@@ -15,6 +15,9 @@ pub const OUT_FILL: u8 = 0xa5;
 
 pub const VARS_FILL: u8 = 0x5a;
 
+// What stands behind the paths in a buffer that a path is inserted into or deleted from.
+pub const PATHS_FILL: u8 = 0x3c;
+
 // What stands in the message's buffer before a call.
 pub const MESSAGE_FILL: u8 = 0xc3;
 
@@ -63,36 +66,57 @@ pub(crate) fn hold_word(told: Told, what: &[u8], given: usize, case: &[u8], n: u
     hold_number(told, what, given, number(word(case, n)))
 }
 
-// Holds the variables' bytes from `end` on against those that stood there before the call.
-fn hold_behind(told: Told, kept: &[u8], end: usize, before: &[u8]) -> Told {
+// A buffer with a used length: where the case has what stood in it, its used length, the answer's number and the new image; and what stood behind.
+pub struct Kept {
+    pub before: usize,
+    pub used: usize,
+    pub number: usize,
+    pub image: usize,
+    pub fill: u8,
+}
+
+// Holds the bytes from `end` on against those that stood there before the call.
+fn hold_behind(told: Told, what: &[u8], kept: &[u8], end: usize, before: &[u8], fill: u8) -> Told {
     if end < before.len() / 2 {
         let from = end * 2;
-        return hold_bytes(
-            told,
-            b"kept variables",
-            kept,
-            b"-",
-            &before[from..],
-            VARS_FILL,
-        );
+        return hold_bytes(told, what, kept, b"-", &before[from..], fill);
     }
-    hold_bytes(told, b"kept variables", kept, b"-", b"-", VARS_FILL)
+    hold_bytes(told, what, kept, b"-", b"-", fill)
 }
 
 // Where the bytes end that an accepted call changes: at the new image's end, or at the used length that was given if that is greater.
-fn changed(case: &[u8], bytes: usize, vars: &[u8]) -> usize
-    ensures { λ r. ⌜ Counts r (now (vars .entry)) ⌝ }
+fn changed(case: &[u8], image: usize, used: usize, area: &[u8]) -> usize
+    ensures { λ r. ⌜ Counts r (now (area .entry)) ⌝ }
 {
-    let image = cut_to_bytes(case, bytes, vars);
-    let used = cut_to_size(case, words::USED, vars);
-    if image < used {
-        return used;
+    let end = cut_to_bytes(case, image, area);
+    let old = cut_to_size(case, used, area);
+    if end < old {
+        return old;
     }
-    image
+    end
 }
 
-// Holds the variables against the case, whose number and new image stand at these places: the image, zeros behind it up to the used length that was given,
-// and what was there before; on a refusal all that was there before.
+// Holds a buffer against the case: the new image, zeros behind it up to the used length that was given, and what was there before; on a refusal all that was
+// there before.
+pub(crate) fn hold_image(
+    told: Told,
+    what: &[u8],
+    behind: &[u8],
+    case: &[u8],
+    kept: Kept,
+    area: &[u8],
+) -> Told {
+    let before = word(case, kept.before);
+    if number(word(case, kept.number)) != 0 {
+        return hold_behind(told, behind, area, 0, before, kept.fill);
+    }
+    let image = word(case, kept.image);
+    let end = changed(case, kept.image, kept.used, area);
+    let told = hold_bytes(told, what, &area[..end], image, b"-", 0);
+    hold_behind(told, behind, &area[end..], end, before, kept.fill)
+}
+
+// Holds the variables against the case, whose number and new image stand at these places.
 pub(crate) fn hold_variables(
     told: Told,
     case: &[u8],
@@ -100,14 +124,14 @@ pub(crate) fn hold_variables(
     bytes: usize,
     vars: &[u8],
 ) -> Told {
-    let before = word(case, words::VARS);
-    if number(word(case, answer)) != 0 {
-        return hold_behind(told, vars, 0, before);
-    }
-    let image = word(case, bytes);
-    let end = changed(case, bytes, vars);
-    let told = hold_bytes(told, b"variables", &vars[..end], image, b"-", 0);
-    hold_behind(told, &vars[end..], end, before)
+    let kept = Kept {
+        before: words::VARS,
+        used: words::USED,
+        number: answer,
+        image: bytes,
+        fill: VARS_FILL,
+    };
+    hold_image(told, b"variables", b"kept variables", case, kept, vars)
 }
 
 // Holds what a job left in the buffers against the case.

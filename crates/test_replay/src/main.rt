@@ -1,4 +1,4 @@
-// Runs the cases of standard input, or of the file that its first argument names, through Drunquill's four jobs: a case to a line, as
+// Runs the cases of standard input, or of the file that its first argument names, through Drunquill's six jobs: a case to a line, as
 // tests/vectors/README.md has them. Tells each case that differs, and at the end how many were run and how many differ.
 mod assigns;
 mod blocks;
@@ -6,6 +6,7 @@ mod calls;
 mod kinds;
 mod laying;
 mod telling;
+mod updates;
 mod words;
 
 use kinds::Job;
@@ -63,6 +64,7 @@ fn try_case(
             assigns::try_assign(told, case, line, vars, homes, params, work, message)
         }
         Job::Quoter => calls::try_quote(told, case, line, out),
+        Job::Update => updates::try_update(told, case, paths, line),
         Job::None => telling::tell(told, b"not a case, or too large for its buffers here"),
     }
 }

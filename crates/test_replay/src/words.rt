@@ -78,6 +78,23 @@ pub const QUOTE_LENGTH: usize = 6;
 
 pub const QUOTE_BYTES: usize = 7;
 
+// Those of the insertion and the deletion of a path; `=` stands at 5.
+pub const UPDATE_PATHS: usize = 1;
+
+pub const UPDATE_USED: usize = 2;
+
+pub const UPDATE_BUFFER: usize = 3;
+
+pub const UPDATE_PATH: usize = 4;
+
+pub const UPDATE_NUMBER: usize = 6;
+
+pub const UPDATE_PLACE: usize = 7;
+
+pub const UPDATE_USED_LENGTH: usize = 8;
+
+pub const UPDATE_PATHS_BYTES: usize = 9;
+
 const BLANK: u8 = b' ';
 
 // The place behind the n-th blank, or the line's end.
