@@ -105,7 +105,7 @@ unfit =
 -- behind the `=` the usual faults; "`$@` and `$*` in values are 10"; "19 only from removals"
 faults : List Case
 faults =
-    refuses "a=1;" 8 0 ∷ refuses "a=`" 9 0 ∷ refuses "a='" 7 0 ∷ refuses "a=\\" 7 0 ∷ refuses "a=$'b'" 10 0 ∷ refuses "a=${b!}" 11 0
+    refuses "a=1;" 8 0 ∷ refuses "a=`" 9 0 ∷ refuses "a='" 7 0 ∷ refuses "a=\\" 7 0 ∷ refuses "a=$'\\c'" 11 0 ∷ refuses "a=${b!}" 11 0
     ∷ refuses "a=$@" 10 0 ∷ refuses "a=\"$*\"" 10 0 ∷ refuses "a=${y-$@}" 10 0 ∷ refuses "a=1 b=\"${1+$@}\"" 10 4
     ∷ refuses "a=1 b=$((a/0))" 18 4 ∷ refuses "a=1 b=$((base))" 15 4 ∷ refuses "a=${base%[[.b.]]}" 19 0 ∷ sets "x=[[.b.]]" "x" "[[.b.]]"
     ∷ record { line = "a=1 b=${y?no $a}"; vars = crew; homes = []; paths = []; params = []; answer = demandsAt (text "no 1") 4 }

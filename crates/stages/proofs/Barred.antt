@@ -16,9 +16,11 @@ use Rattle.stages.specs.Syntax.{Param, Counted, Spread, Lists, served, b
 use Rattle.stages.specs.Syntax.{Side, suffix, prefix, Form, plain, minus, equals, query, plus, removal, shortest, longest, fresh}
 use Rattle.stages.specs.Syntax.{Parts, end, lit, quo, par, len, lst, ari, til, Mode, word, value, bare, single, double, quotedOperand, arith}
 use Rattle.stages.specs.Items.{Item, fault, stop, byte, paren, quote, valueOf, count, spread, inner, sum, homeOf, item, ended, itemOf, sort, Sort}
-use Rattle.stages.specs.Items.{backquote, closes, operator, quotes, quotes2, backslash, dollar, bad, opening, closing, tilde, literal}
-use Rattle.stages.specs.Items.{wrong, quotable, notServed, behindBackslash, listsIn, both, letBy, operandMode, signForm, isNumbered, behindSign}
+use Rattle.stages.specs.Items.{backquote, closes, operator, quotes, quotes2, backslash, escape, dollar, bad, opening, closing, tilde, literal}
+use Rattle.stages.specs.Items.{wrong, quotable, notServed, isBareText, behindBackslash, saidItem}
+use Rattle.stages.specs.Items.{listsIn, both, letBy, operandMode, signForm, isNumbered, behindSign}
 use Rattle.stages.specs.Items.{behindColon}
+use Rattle.stages.specs.Escapes.{Said, says, unsaid, escapeAt}
 use Rattle.stages.specs.Items.{behindRemoval, behindName, behindLength, isFirstDigit, nameThen, behindHash, spreadAt, behindListColon, behindList}
 use Rattle.stages.specs.Items.{bracedList, braced, parenthesis, expansion, outer, opened, closed, endsLogin, behindTilde, onward, behindByte}
 use Rattle.stages.specs.Read.{Taken, put, nest, readItem, Ask, askSize, askStep, parts}
@@ -87,7 +89,7 @@ data Lawful (m : Mode) : Item → Type 0 where
   a-stop : {k : ℕ} → Lawful m (stop k)
   a-byte : {q : Escape} {b k : ℕ} → Lawful m (byte q b k)
   a-paren : {b n : ℕ} → Lawful m (paren b n)
-  a-quote : {n : Mode} → (listsIn n ≡ served → listsIn m ≡ served) → Lawful m (quote n)
+  a-quote : {n : Mode} {k : ℕ} → (listsIn n ≡ served → listsIn m ≡ served) → Lawful m (quote n k)
   a-value : {x : Param} {k : ℕ} → Lawful m (valueOf x k)
   a-count : {x : Counted} {k : ℕ} → Lawful m (count x k)
   a-spread : {s : Spread} {k : ℕ} → listsIn m ≡ served → Lawful m (spread s k)
@@ -104,7 +106,7 @@ unfolding listsIn operandMode
 operand-lists (word s) k e = (refl, e)
 operand-lists (value s) k e = clash e
 operand-lists (bare s l) k e = both-served l k e
-operand-lists single k e = clash e
+operand-lists (single x) k e = clash e
 operand-lists (double l) k e = both-served l k e
 operand-lists (quotedOperand l) k e = both-served l k e
 operand-lists (arith n) k e = clash e
@@ -208,7 +210,7 @@ module _ (m : Mode) where
   parenthesis-law (suc d) (b ∷ t) = pick-law (eqb b (code "(")) a-sum a-fault
 
   expansion-law : (d : ℕ) (t : Text) → Lawful m (expansion m d t)
-  unfolding expansion
+  unfolding expansion listsIn
   expansion-law d [] = a-byte
   expansion-law d (b ∷ t) =
       pick-law (isNameStart b) a-value
@@ -216,7 +218,13 @@ module _ (m : Mode) where
       (pick-law (eqb b (code "{")) (braced-law d t)
       (pick-law (isFirstDigit b) a-value
       (pick-law (eqb b (code "#")) a-count
-      (pick-law (isIn b (text "@*")) (spread-law (listsIn m) refl b 1) (pick-law (notServed m b) a-fault a-byte))))))
+      (pick-law (isIn b (text "@*")) (spread-law (listsIn m) refl b 1)
+      (pick-law (notServed b) a-fault (pick-law (isBareText m && eqb b (code "'")) (a-quote (λ e. clash e)) a-byte)))))))
+
+  said-law : (o : Said) → Lawful m (saidItem o)
+  unfolding saidItem
+  said-law (says b k) = a-byte
+  said-law (unsaid n) = a-fault
 
   escaped-law : (t : Text) → Lawful m (behindBackslash m t)
   unfolding behindBackslash
@@ -237,7 +245,7 @@ unfolding opened
 opened-law (word s) b = a-byte
 opened-law (value s) b = a-byte
 opened-law (bare s l) b = a-byte
-opened-law single b = a-byte
+opened-law (single e) b = a-byte
 opened-law (double l) b = a-byte
 opened-law (quotedOperand l) b = a-byte
 opened-law (arith n) b = a-paren
@@ -247,7 +255,7 @@ unfolding closed
 closed-law (word s) b t = a-byte
 closed-law (value s) b t = a-byte
 closed-law (bare s l) b t = a-byte
-closed-law single b t = a-byte
+closed-law (single e) b t = a-byte
 closed-law (double l) b t = a-byte
 closed-law (quotedOperand l) b t = a-byte
 closed-law (arith zero) b t = outer-law (arith zero) t
@@ -258,7 +266,7 @@ unfolding ended
 ended-law (word s) = a-stop
 ended-law (value s) = a-stop
 ended-law (bare s l) = a-fault
-ended-law single = a-fault
+ended-law (single e) = a-fault
 ended-law (double l) = a-fault
 ended-law (quotedOperand l) = a-fault
 ended-law (arith n) = a-fault
@@ -271,6 +279,7 @@ of-law operator m d b t = a-fault
 of-law quotes m d b t = a-quote (λ e. clash e)
 of-law quotes2 m d b t = a-quote (λ e. e)
 of-law backslash m d b t = escaped-law m t
+of-law escape m d b t = said-law m (escapeAt t)
 of-law dollar m d b t = expansion-law m d t
 of-law bad m d b t = a-fault
 of-law opening m d b t = opened-law m b
@@ -288,7 +297,7 @@ item-law m d (b ∷ t) = of-law (sort m b) m d b t
 -- what holds of a recursion's escape and is kept by its step holds of it, whatever is smaller
 module _ {A R : Type 0} (size : A → ℕ) (stuck : R) (step : (A → R) → A → R) (P : A → R → Type 0) (s : (a : A) → P a stuck)
     (h : (rec : A → R) → ((b : A) → P b (rec b)) → (a : A) → P a (step rec a)) where
-  by-run : (n : ℕ) (a : A) → P a (run size stuck step n a)
+  pub by-run : (n : ℕ) (a : A) → P a (run size stuck step n a)
   unfolding run
   by-run zero a = s a
   by-run (suc n) a = h (below size stuck (size a) (λ b. run size stuck step n b)) (λ b. go b (by-run n b) (ltb (size b) (size a)) refl) a
@@ -317,7 +326,7 @@ unfolding listsIn onward
 onward-lists (word s) = refl
 onward-lists (value s) = refl
 onward-lists (bare s l) = refl
-onward-lists single = refl
+onward-lists (single e) = refl
 onward-lists (double l) = refl
 onward-lists (quotedOperand l) = refl
 onward-lists (arith n) = refl
@@ -327,7 +336,7 @@ unfolding listsIn behindByte
 byte-lists (word s) q b = refl
 byte-lists (value s) q b = refl
 byte-lists (bare s l) q b = refl
-byte-lists single q b = refl
+byte-lists (single e) q b = refl
 byte-lists (double l) q b = refl
 byte-lists (quotedOperand l) q b = refl
 byte-lists (arith n) q b = refl
@@ -345,9 +354,9 @@ module _ (rec : Ask → Taken) (ih : (b : Ask) → Reads (listsIn (b .0)) (rec b
   reads-item m d t (a-paren {b = b} {n = n}) =
       put-reads (listsIn (arith n)) (listsIn m) (lit unescaped b) (λ p a. allowed-in (listsIn (arith n)) (listsIn m) (λ e. unfold listsIn in clash e) p a)
       (ih (arith n, d, drop 1 t))
-  reads-item m d t (a-quote {n = n} h) =
+  reads-item m d t (a-quote {n = n} {k = k} h) =
       nest-reads (listsIn n) (listsIn m) quo (λ u. rec (onward m, d, u)) (λ q p a b. (allowed-in (listsIn n) (listsIn m) h q a, b))
-      (ih (n, d, drop 1 t)) (λ u. on-reads m d u)
+      (ih (n, d, drop (suc k) t)) (λ u. on-reads m d u)
   reads-item m d t (a-value {x = x} {k = k}) = put-reads (listsIn m) (listsIn m) (par x plain end) (λ p a. (tt, a)) (on-reads m d (drop (suc k) t))
   reads-item m d t (a-count {x = x} {k = k}) = put-reads (listsIn m) (listsIn m) (len x) (λ p a. a) (on-reads m d (drop (suc k) t))
   reads-item m d t (a-spread {s = s} {k = k} h) = put-reads (listsIn m) (listsIn m) (lst s) (λ p a. (h, a)) (on-reads m d (drop (suc k) t))

@@ -51,7 +51,7 @@ unfolding readItem onward behindByte
 item-begins d t (faults e) = refuses
 item-begins d t (a-byte {q = q} {b = b} {k = k} _) = put-begins (lit q b) (λ p. tt) (parts (word begun) d (drop (suc k) t))
 item-begins d t (a-paren {b = b} {n = n} _) = put-begins (lit unescaped b) (λ p. tt) (parts (sums n) d (drop 1 t))
-item-begins d t (a-quote {m = m}) = nest-begins quo (λ q p. tt) (parts m d (drop 1 t)) (parts (word begun) d)
+item-begins d t (a-quote {m = m} {k = k}) = nest-begins quo (λ q p. tt) (parts m d (drop (suc k) t)) (parts (word begun) d)
 item-begins d t (a-value {x = x} {k = k} _) = put-begins (par x plain end) (λ p. tt) (parts (word begun) d (drop (suc k) t))
 item-begins d t (a-count {x = x} {k = k} _) = put-begins (len x) (λ p. tt) (parts (word begun) d (drop (suc k) t))
 item-begins d t (a-spread {j = j} {k = k}) = put-begins (lst j) (λ p. tt) (parts (word begun) d (drop (suc k) t))

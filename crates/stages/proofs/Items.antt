@@ -1,5 +1,5 @@
 -- Laws of items: a fault's number is from 7 to 12, a text ends only where its mode lets it end, names are names, and bytes are bytes of the text but
--- for a literal `$` or backslash.
+-- for a literal `$` or backslash, and what an escape says.
 use Prim.Native.Nat.{ℕ, zero, suc, _+_, _-_, _*_, _≤_}
 use Prim.Native.Char.{code}
 use mathlib.Core.Path.{_≡_, refl}
@@ -12,18 +12,22 @@ use Rattle.stages.specs.Numbers.{unended, unserved, badSyntax, tooDeep}
 use Rattle.stages.specs.Bytes.{Text, text, between, isIn, isBlank, isOperator, isNameStart, isNameByte, isDigit, isLoginByte, span}
 use Rattle.stages.specs.Outcome.{pick}
 use Rattle.stages.specs.Images.{isName}
+use Rattle.stages.specs.Escapes.{Said, escapeAt}
 use Rattle.stages.specs.Syntax.{Param, var, nth, Counted, bytesOf, parameters, Spread, Lists, served, barred}
 use Rattle.stages.specs.Syntax.{Colon, withColon, noColon, Escape, Side, suffix, prefix, Form, Start, Mode, word, value, bare, single, double}
 use Rattle.stages.specs.Syntax.{quotedOperand, arith}
 use Rattle.stages.specs.Items.{Item, fault, stop, byte, paren, quote, valueOf, count, spread, inner, sum, homeOf, item, ended, itemOf, sort, Sort}
-use Rattle.stages.specs.Items.{backquote, closes, operator, quotes, quotes2, backslash, dollar, bad, opening, closing, tilde, literal}
-use Rattle.stages.specs.Items.{wrong, quotable, notServed, behindBackslash, isNumbered, behindSign, behindColon, behindRemoval, behindName}
+use Rattle.stages.specs.Items.{backquote, closes, operator, quotes, quotes2, backslash, escape, dollar, bad, opening, closing, tilde, literal}
+use Rattle.stages.specs.Items.{wrong, quotable, notServed, isBareText, behindBackslash, saidItem}
+use Rattle.stages.specs.Items.{isNumbered, behindSign, behindColon, behindRemoval, behindName}
 use Rattle.stages.specs.Items.{behindLength, isFirstDigit, numberOf, nameThen, behindHash, listsIn, spreadAt, behindListColon, behindList}
 use Rattle.stages.specs.Items.{bracedList, braced}
 use Rattle.stages.specs.Items.{parenthesis, expansion, outer, opened, closed, endsLogin, behindTilde, beginsTilde}
 use Rattle.stages.proofs.Bools.{and-both, between-bounds, between-true}
 use Rattle.stages.proofs.Texts.{span-all, span-more, span-stop, start-name-byte}
 use Rattle.stages.proofs.Outcomes.{Each}
+use Rattle.stages.proofs.Escapes.{Sayable, escape-says}
+use Rattle.stages.proofs.Escapes as escapes
 
 -- a name is a name, and a number is from 1 on
 abbrev pub IsParam : Param → Type 0
@@ -40,7 +44,7 @@ pub data Fair (P : ℕ → Type 0) : Bool → Item → Type 0 where
   stops : {k : ℕ} → Fair P true (stop k)
   a-byte : {s : Bool} {q : Escape} {b k : ℕ} → P b → Fair P s (byte q b k)
   a-paren : {s : Bool} {b n : ℕ} → P b → Fair P s (paren b n)
-  a-quote : {s : Bool} {m : Mode} → Fair P s (quote m)
+  a-quote : {s : Bool} {m : Mode} {k : ℕ} → Fair P s (quote m k)
   a-value : {s : Bool} {x : Param} {k : ℕ} → IsParam x → Fair P s (valueOf x k)
   a-count : {s : Bool} {x : Counted} {k : ℕ} → IsCounted x → Fair P s (count x k)
   a-spread : {s : Bool} {j : Spread} {k : ℕ} → Fair P s (spread j k)
@@ -177,7 +181,7 @@ module _ (P : ℕ → Type 0) (s : Bool) where
   opened-fair (word s) b p = a-byte p
   opened-fair (value s) b p = a-byte p
   opened-fair (bare s l) b p = a-byte p
-  opened-fair single b p = a-byte p
+  opened-fair (single e) b p = a-byte p
   opened-fair (double l) b p = a-byte p
   opened-fair (quotedOperand l) b p = a-byte p
   opened-fair (arith n) b p = a-paren p
@@ -192,7 +196,7 @@ unfolding closed
 closed-fair P (word s) b t p = a-byte p
 closed-fair P (value s) b t p = a-byte p
 closed-fair P (bare s l) b t p = a-byte p
-closed-fair P single b t p = a-byte p
+closed-fair P (single e) b t p = a-byte p
 closed-fair P (double l) b t p = a-byte p
 closed-fair P (quotedOperand l) b t p = a-byte p
 closed-fair P (arith zero) b t p = outer-fair P t
@@ -212,23 +216,29 @@ tilde-fair : (P : ℕ → Type 0) (s : Bool) (m : Mode) (b : ℕ) (t : Text) →
 unfolding behindTilde
 tilde-fair P s m b t h = pick-fair (endsLogin m (span isLoginByte t .1)) (a-home (run-each P isLoginByte t (h .1))) (a-byte (h .0))
 
--- P holds of the two bytes that may stand for themselves
-module _ (P : ℕ → Type 0) (p : P (code "$")) (q : P (code "\\")) where
+-- P holds of every byte that may stand for itself without being one of the text
+module _ (P : ℕ → Type 0) (p : (b : ℕ) → between 1 b 255 ≡ true → P b) where
   escaped-fair : (s : Bool) (m : Mode) (t : Text) → Each P t → Fair P s (behindBackslash m t)
   unfolding behindBackslash
   escaped-fair s m [] h = faults refl
-  escaped-fair s m (b ∷ t) h = pick-fair (eqb b (code "\n")) (faults refl) (pick-fair (quotable m b) (a-byte (h .0)) (a-byte q))
+  escaped-fair s m (b ∷ t) h = pick-fair (eqb b (code "\n")) (faults refl) (pick-fair (quotable m b) (a-byte (h .0)) (a-byte (p (code "\\") refl)))
+
+  said-fair : (s : Bool) {o : Said} → Sayable o → Fair P s (saidItem o)
+  unfolding saidItem
+  said-fair s (escapes.a-byte {b = b} e) = a-byte (p b e)
+  said-fair s (escapes.a-fault e) = faults e
 
   expansion-fair : (s : Bool) (m : Mode) (d : ℕ) (t : Text) → Fair P s (expansion m d t)
   unfolding expansion
-  expansion-fair s m d [] = a-byte p
+  expansion-fair s m d [] = a-byte (p (code "$") refl)
   expansion-fair s m d (b ∷ t) =
       pick-where (isNameStart b) (λ e. a-value (span-name b t e))
       (pick-fair (eqb b (code "(")) (parenthesis-fair P s d t)
       (pick-fair (eqb b (code "{")) (braced-fair P s m d t)
       (pick-where (isFirstDigit b) (λ e. a-value (let h = first-bounds b e in omega (omegas, h .0)))
       (pick-fair (eqb b (code "#")) (a-count tt)
-      (pick-fair (isIn b (text "@*")) (spread-fair P s (listsIn m) b 1) (pick-fair (notServed m b) (faults refl) (a-byte p)))))))
+      (pick-fair (isIn b (text "@*")) (spread-fair P s (listsIn m) b 1)
+      (pick-fair (notServed b) (faults refl) (pick-fair (isBareText m && eqb b (code "'")) a-quote (a-byte (p (code "$") refl)))))))))
 
   of-fair : (s : Sort) (m : Mode) (d b : ℕ) (t : Text) → Each P (b ∷ t) → Fair P true (itemOf s m d b t)
   unfolding itemOf
@@ -238,6 +248,7 @@ module _ (P : ℕ → Type 0) (p : P (code "$")) (q : P (code "\\")) where
   of-fair quotes m d b t h = a-quote
   of-fair quotes2 m d b t h = a-quote
   of-fair backslash m d b t h = escaped-fair true m t (h .1)
+  of-fair escape m d b t h = said-fair true (escape-says t)
   of-fair dollar m d b t h = expansion-fair true m d t
   of-fair bad m d b t h = faults refl
   of-fair opening m d b t h = opened-fair P true m b (h .0)
@@ -258,7 +269,7 @@ any-bytes [] = tt
 any-bytes (b ∷ t) = (tt, any-bytes t)
 
 pub item-fair : (m : Mode) (d b : ℕ) (t : Text) → Fair AnyByte true (item m d (b ∷ t))
-item-fair m d b t = item-passes AnyByte tt tt m d b t (any-bytes (b ∷ t))
+item-fair m d b t = item-passes AnyByte (λ b e. tt) m d b t (any-bytes (b ∷ t))
 
 -- an item ends its text or goes on
 pub data View (P : ℕ → Type 0) : Item → Type 0 where
@@ -284,7 +295,7 @@ Named (fault n) = Unit {0}
 Named (stop k) = Unit {0}
 Named (byte q b k) = Unit {0}
 Named (paren b n) = Unit {0}
-Named (quote m) = Unit {0}
+Named (quote m k) = Unit {0}
 Named (valueOf x k) = IsParam x
 Named (count x k) = IsCounted x
 Named (spread s k) = Unit {0}
@@ -310,7 +321,7 @@ unfolding ended
 ended-named (word s) = tt
 ended-named (value s) = tt
 ended-named (bare s l) = tt
-ended-named single = tt
+ended-named (single e) = tt
 ended-named (double l) = tt
 ended-named (quotedOperand l) = tt
 ended-named (arith n) = tt
@@ -335,8 +346,8 @@ faulty-goes = (
   goes (λ u d b t. faults refl),
   goes (λ u d b t. a-quote),
   goes (λ u d b t. a-quote),
-  goes (λ u d b t. escaped-fair AnyByte tt tt false (word u) t (any-bytes t)),
-  goes (λ u d b t. expansion-fair AnyByte tt tt false (word u) d t),
+  goes (λ u d b t. escaped-fair AnyByte (λ b e. tt) false (word u) t (any-bytes t)),
+  goes (λ u d b t. expansion-fair AnyByte (λ b e. tt) false (word u) d t),
   goes (λ u d b t. a-byte tt),
   goes (λ u d b t. tilde-fair AnyByte false (word u) b t (any-bytes (b ∷ t))),
 )

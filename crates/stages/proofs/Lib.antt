@@ -7,6 +7,7 @@ pub mod Texts
 pub mod Images
 pub mod Tables
 pub mod Stores
+pub mod Escapes  -- E12: what escapes say
 pub mod Items
 pub mod Read
 pub mod Pieces
@@ -24,6 +25,7 @@ pub mod Answers
 pub mod Program
 pub mod Files
 pub mod Plain
+pub mod Dollared  -- E12: how `$'...'` is read
 pub mod Quoted
 pub mod Quiet
 pub mod RoundTrip
@@ -55,6 +57,8 @@ pub mod Assignments  -- E9: the assignments of a line
 pub mod Assigns  -- E9: the assigner's answer is well formed
 pub mod AssignLines  -- E9: lines of assignments
 pub mod CountLines  -- E10: lines that count
+pub mod Shown  -- E12: a quoted line holds no control byte
+pub mod EscapeLines  -- E12: lines with `$'...'`
 pub mod PathLists  -- E11: a list of paths with one more, or one less
 pub mod PathMatches  -- E11: the matches of a pattern in such a list
 pub mod Updates  -- E11: the answers of both jobs

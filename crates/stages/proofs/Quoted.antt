@@ -1,24 +1,27 @@
 -- Demand 3 over the stages, its reading: a quoted line is read as one word for each field, whatever its length, and two lists have one quoted line only if
--- they are the same list. E2: whichever way a field is written, it is one word of that field, and so lines that mix the ways need no law of their own. A
--- field in single quotes goes by induction on its bytes, its quotes told apart. The byte 39 is `'`, 92 a backslash, 32 a blank, 35 a `#`.
+-- they are the same list. E2 and E12: whichever way a field is written, it is one word of that field, and so lines that mix the ways need no law of their own.
+-- A field in single quotes goes by induction on its bytes, its quotes told apart. The byte 39 is `'`, 92 a backslash, 32 a blank, 35 a `#`, 36 a `$`.
 use Prim.Native.Nat.{ℕ, suc, _+_, _-_}
 use native.Mathlib.Omega.{arith}
 use mathlib.Core.Path.{_≡_, refl, sym, ap, _∙_}
 use mathlib.Core.Bool.{Bool, true, false, _||_}
-use mathlib.Core.List.{List, [], _∷_, _++_, append-assoc}
+use mathlib.Core.List.{List, [], _∷_, _++_, append-assoc, append-nil}
 use lib.Dec.{eqb, eqb→eq}
 use lib.ListN.{length, length-append}
 use Rattle.stages.specs.Numbers.{depthLimit}
-use Rattle.stages.specs.Bytes.{Text, text, all, isBareByte, isBlank, isOperator}
+use Rattle.stages.specs.Bytes.{Text, text, all, notZero, isBareByte, isBlank, isOperator}
 use Rattle.stages.specs.Outcome.{done, doneAt, pick}
-use Rattle.stages.specs.Syntax.{escaped, unescaped, Parts, Word, end, lit, quo, par, len, lst, ari, til, Start, fresh, begun, word, single}
+use Rattle.stages.specs.Syntax.{escaped, unescaped, Parts, Word, end, lit, quo, Start, fresh, begun, word, single, noEscapes, withEscapes}
 use Rattle.stages.specs.Items.{item, itemOf, sort, beginsTilde, byte}
 use Rattle.stages.specs.Read.{parts, put, nest, readItem, pieceAt, aWord, wordOf, words, readLine}
-use Rattle.stages.specs.Quote.{Way, bare, singled, isBare, wayOf, quotedBytes, written, quotedField, quotedLine, blanked}
+use Rattle.stages.specs.Quote.{Way, bare, singled, dollared, isBare, hasControl, wayOf}
+use Rattle.stages.specs.Quote.{quotedByte, quotedBytes, enclosed, written, quotedField, quotedLine, blanked}
 use Rattle.stages.proofs.Bools.{apart, either, and-left, and-right}
+use Rattle.stages.proofs.Images.{Fine}
 use Rattle.stages.proofs.Read.{parts-item}
 use Rattle.stages.proofs.Words.{words-end, words-blank, words-word}
 use Rattle.stages.proofs.Plain.{Plain, bare-plain}
+use Rattle.stages.proofs.Dollared.{escapeParts, bytes-say, plainBytes, escape-bytes}
 
 -- induction on a text whose quotes are told apart from its other bytes
 module _ (P : Text → Type 0) (none : P []) (quote : (t : Text) → P t → P (39 ∷ t))
@@ -46,19 +49,24 @@ bareParts (b ∷ t) = lit unescaped b (bareParts t)
 abbrev pub wayParts : Way → Text → Parts
 wayParts bare t = bareParts t
 wayParts singled t = quo (runs t .0) (runs t .1)
+wayParts dollared t = quo (escapeParts t) end
 
 abbrev pub fieldParts : Text → Parts
 fieldParts t = wayParts (wayOf t) t
 
--- the ways that a field may be written in: bare where `isBare` says so, in single quotes whatever it holds
+-- the ways that a field may be written in: bare where `isBare` says so, in single quotes whatever it holds, and by E12 in `$'...'` if it holds no zero byte,
+-- which no escape says
 pub data Allows : Way → Text → Type 0 where
   as-bare : {t : Text} → isBare t ≡ true → Allows bare t
   as-singled : {t : Text} → Allows singled t
+  as-dollared : {t : Text} → all notZero t ≡ true → Allows dollared t
 
 -- the quoter's way is allowed
-pub allowed : (t : Text) → Allows (wayOf t) t
+pub allowed : (t : Text) → all notZero t ≡ true → Allows (wayOf t) t
 unfolding wayOf
-allowed t = either (isBare t) (λ e. rw e (as-bare e)) (λ e. rw e as-singled)
+allowed t z =
+    either (isBare t) (λ e. rw e (as-bare e)) λ e.
+    either (hasControl t) (λ h. rw (e, h) (as-dollared z)) (λ h. rw (e, h) as-singled)
 
 -- the words that a quoted line is read as, the first one's place given: a blank stands between two
 abbrev pub fieldWords : ℕ → List Text → List Word
@@ -68,17 +76,17 @@ fieldWords place (t ∷ l) = record { place = place; parts = fieldParts t } ∷ 
 -- READING A FIELD IN SINGLE QUOTES
 
 -- a byte of a run
-run-byte : (b : ℕ) (t : Text) (d : ℕ) → eqb b 39 ≡ false → parts single d (b ∷ t) ≡ put (lit unescaped b) (parts single d t)
+run-byte : (b : ℕ) (t : Text) (d : ℕ) → eqb b 39 ≡ false → parts (single noEscapes) d (b ∷ t) ≡ put (lit unescaped b) (parts (single noEscapes) d t)
 unfolding item readItem
-run-byte b t d e = parts-item single d (b ∷ t) {i = byte unescaped b 0} (rw (e, item))
+run-byte b t d e = parts-item (single noEscapes) d (b ∷ t) {i = byte unescaped b 0} (rw (e, item))
 
 -- the quote that closes a run
-run-end : (t : Text) (d : ℕ) → parts single d (39 ∷ t) ≡ done (end, t)
+run-end : (t : Text) (d : ℕ) → parts (single noEscapes) d (39 ∷ t) ≡ done (end, t)
 unfolding item readItem
-run-end t d = parts-item single d (39 ∷ t) refl
+run-end t d = parts-item (single noEscapes) d (39 ∷ t) refl
 
 -- the quote that opens one
-run-opens : (s : Start) (t : Text) (d : ℕ) → parts (word s) d (39 ∷ t) ≡ nest quo (parts single d t) (parts (word begun) d)
+run-opens : (s : Start) (t : Text) (d : ℕ) → parts (word s) d (39 ∷ t) ≡ nest quo (parts (single noEscapes) d t) (parts (word begun) d)
 unfolding item readItem
 run-opens fresh t d = parts-item (word fresh) d (39 ∷ t) refl
 run-opens begun t d = parts-item (word begun) d (39 ∷ t) refl
@@ -99,38 +107,38 @@ word-end t d line = parts-item (word begun) d [] refl
 word-end t d (blank u) = parts-item (word begun) d (32 ∷ u) refl
 
 -- a field in single quotes in front of a text
-singled-append : (t rest : Text) → written singled t ++ rest ≡ 39 ∷ quotedBytes t ++ 39 ∷ rest
-unfolding written
-singled-append t rest = ap {B = Text} (λ u. 39 ∷ u) (append-assoc (quotedBytes t) (39 ∷ []) rest)
+singled-append : (t rest : Text) → written singled t ++ rest ≡ 39 ∷ quotedBytes singled t ++ 39 ∷ rest
+unfolding written enclosed
+singled-append t rest = ap {B = Text} (λ u. 39 ∷ u) (append-assoc (quotedBytes singled t) (39 ∷ []) rest)
 
 -- the text behind the first run of a field in single quotes
 abbrev behind : Text → Text → Text
 behind [] rest = rest
-behind (b ∷ t) rest = pick (eqb b 39) (text "\\''" ++ quotedBytes t ++ 39 ∷ rest) (behind t rest)
+behind (b ∷ t) rest = pick (eqb b 39) (text "\\''" ++ quotedBytes singled t ++ 39 ∷ rest) (behind t rest)
 
 module _ (rest : Text) (d : ℕ) (ends : EndsField rest) where
   record Run (t : Text) : Type 0 where
-    first : parts single d (quotedBytes t ++ 39 ∷ rest) ≡ done (runs t .0, behind t rest)
+    first : parts (single noEscapes) d (quotedBytes singled t ++ 39 ∷ rest) ≡ done (runs t .0, behind t rest)
     others : parts (word begun) d (behind t rest) ≡ done (runs t .1, rest)
 
   -- a field whose runs are read is read
-  whole : (s : Start) (t : Text) → Run t → parts (word s) d (39 ∷ quotedBytes t ++ 39 ∷ rest) ≡ done (wayParts singled t, rest)
-  whole s t r = run-opens s (quotedBytes t ++ 39 ∷ rest) d ∙ rw (r .first, r .others)
+  whole : (s : Start) (t : Text) → Run t → parts (word s) d (39 ∷ quotedBytes singled t ++ 39 ∷ rest) ≡ done (wayParts singled t, rest)
+  whole s t r = run-opens s (quotedBytes singled t ++ 39 ∷ rest) d ∙ rw (r .first, r .others)
 
   run-quote : (t : Text) → Run t → Run (39 ∷ t)
-  unfolding quotedBytes
+  unfolding quotedBytes quotedByte
   run-quote t r = record {
-    first = run-end (text "\\''" ++ quotedBytes t ++ 39 ∷ rest) d;
-    others = escaped-quote (39 ∷ quotedBytes t ++ 39 ∷ rest) d ∙ rw (whole begun t r);
+    first = run-end (text "\\''" ++ quotedBytes singled t ++ 39 ∷ rest) d;
+    others = escaped-quote (39 ∷ quotedBytes singled t ++ 39 ∷ rest) d ∙ rw (whole begun t r);
   }
 
   run-other : (b : ℕ) (t : Text) → eqb b 39 ≡ false → Run t → Run (b ∷ t)
-  unfolding quotedBytes
-  run-other b t e r = record { first = rw (e, quotedBytes, run-byte b (quotedBytes t ++ 39 ∷ rest) d e, r .first); others = rw (e, r .others) }
+  unfolding quotedBytes quotedByte
+  run-other b t e r = record { first = rw (e, quotedBytes, run-byte b (quotedBytes singled t ++ 39 ∷ rest) d e, r .first); others = rw (e, r .others) }
 
   -- a field in single quotes is one word
   singled-reads : (t : Text) → parts (word fresh) d (written singled t ++ rest) ≡ done (wayParts singled t, rest)
-  unfolding quotedBytes
+  unfolding quotedBytes quotedByte
   singled-reads t =
       ap (parts (word fresh) d) (singled-append t rest)
       ∙ whole fresh t (by-quotes Run (record { first = run-end rest d; others = word-end rest d ends }) run-quote run-other t)
@@ -159,16 +167,20 @@ bare-reads b t rest d ends e =
     bare-byte fresh d b (t ++ rest) (bare-plain b (and-left (isBareByte b) (all isBareByte t) e))
     ∙ rw (bare-rest t rest d ends (and-right (isBareByte b) (all isBareByte t) e))
 
--- THE BYTES OF PARTS in which nothing is expanded
-abbrev pub plainBytes : Parts → Text
-plainBytes end = []
-plainBytes (lit q b p) = b ∷ plainBytes p
-plainBytes (quo q p) = plainBytes q ++ plainBytes p
-plainBytes (par x f q p) = []
-plainBytes (len x p) = []
-plainBytes (lst s p) = []
-plainBytes (ari q p) = []
-plainBytes (til x p) = []
+-- READING A FIELD IN `$'...'`
+
+dollar-opens : (t : Text) (d : ℕ) → parts (word fresh) d (36 ∷ 39 ∷ t) ≡ nest quo (parts (single withEscapes) d t) (parts (word begun) d)
+unfolding item readItem
+dollar-opens t d = parts-item (word fresh) d (36 ∷ 39 ∷ t) refl
+
+dollared-reads : (t rest : Text) (d : ℕ) → EndsField rest → all notZero t ≡ true
+    → parts (word fresh) d (written dollared t ++ rest) ≡ done (wayParts dollared t, rest)
+unfolding written enclosed
+dollared-reads t rest d ends z =
+    ap (λ u. parts (word fresh) d (36 ∷ 39 ∷ u)) (append-assoc (quotedBytes dollared t) (39 ∷ []) rest)
+    ∙ dollar-opens (quotedBytes dollared t ++ 39 ∷ rest) d ∙ rw (bytes-say t rest d z, word-end rest d ends)
+
+-- THE BYTES OF A FIELD'S PARTS
 
 bare-bytes : (t : Text) → plainBytes (bareParts t) ≡ t
 bare-bytes [] = refl
@@ -178,6 +190,9 @@ singled-bytes : (t : Text) → plainBytes (wayParts singled t) ≡ t
 singled-bytes t =
     by-quotes (λ u. plainBytes (wayParts singled u) ≡ u) refl (λ u h. ap {B = Text} (λ s. 39 ∷ s) h)
     (λ b u e h. rw e (ap {B = Text} (λ s. b ∷ s) h)) t
+
+dollared-bytes : (t : Text) → plainBytes (wayParts dollared t) ≡ t
+dollared-bytes t = append-nil (plainBytes (escapeParts t)) ∙ escape-bytes t
 
 -- THE WORD: the field t is written as w, whose first byte begins a word of the line; before a blank or the line's end w is read as the parts p, whatever
 -- else follows, and these have the field's bytes.
@@ -192,15 +207,24 @@ pub record OneWord (t w : Text) (p : Parts) : Type 0 where
 
 -- whichever way a field is written, it is one word of that field
 pub one-word : {way : Way} {t : Text} → Allows way t → OneWord t (written way t) (wayParts way t)
-unfolding written isBlank isOperator isBare
+unfolding written enclosed isBlank isOperator isBare
 one-word {t = t} as-singled = record {
   first = 39;
-  others = quotedBytes t ++ 39 ∷ [];
+  others = quotedBytes singled t ++ 39 ∷ [];
   whole = refl;
   blank = refl;
   operator = refl;
   reads = λ rest d ends. singled-reads rest d ends t;
   bytes = singled-bytes t;
+}
+one-word {t = t} (as-dollared z) = record {
+  first = 36;
+  others = 39 ∷ quotedBytes dollared t ++ 39 ∷ [];
+  whole = refl;
+  blank = refl;
+  operator = refl;
+  reads = λ rest d ends. dollared-reads t rest d ends z;
+  bytes = dollared-bytes t;
 }
 one-word {t = []} (as-bare e) = absurd (apart refl e)
 one-word {t = b ∷ t} (as-bare e) =
@@ -215,9 +239,9 @@ one-word {t = b ∷ t} (as-bare e) =
       bytes = bare-bytes (b ∷ t);
     }
 
-field-word : (t : Text) → OneWord t (quotedField t) (fieldParts t)
+pub field-word : (t : Text) → all notZero t ≡ true → OneWord t (quotedField t) (fieldParts t)
 unfolding quotedField
-field-word t = one-word (allowed t)
+field-word t z = one-word (allowed t z)
 
 -- READING THE LINE
 
@@ -238,21 +262,21 @@ unfolding blanked
 blanked-ends [] = line
 blanked-ends (t ∷ l) = blank (quotedField t ++ blanked l)
 
-blanked-reads : (place : ℕ) (l : List Text) → words (place, blanked l) ≡ doneAt (fieldWords (suc place) l)
+blanked-reads : (place : ℕ) (l : List Text) → Fine l → words (place, blanked l) ≡ doneAt (fieldWords (suc place) l)
 unfolding blanked isBlank
-blanked-reads place [] = words-end place
-blanked-reads place (t ∷ l) =
+blanked-reads place [] f = words-end place
+blanked-reads place (t ∷ l) f =
     words-blank place 32 (quotedField t ++ blanked l) refl
-    ∙ word-words (field-word t) (suc place) (blanked l) (fieldWords (suc (suc place + length (quotedField t))) l) (blanked-ends l)
-    (blanked-reads (suc place + length (quotedField t)) l)
+    ∙ word-words (field-word t (f .0)) (suc place) (blanked l) (fieldWords (suc (suc place + length (quotedField t))) l) (blanked-ends l)
+    (blanked-reads (suc place + length (quotedField t)) l (f .1))
 
 -- THE READING: a quoted line is read as its fields' words
-pub quoted-reads : (l : List Text) → readLine (quotedLine l) ≡ doneAt (fieldWords 0 l)
+pub quoted-reads : (l : List Text) → Fine l → readLine (quotedLine l) ≡ doneAt (fieldWords 0 l)
 unfolding readLine quotedLine
-quoted-reads [] = words-end 0
-quoted-reads (t ∷ l) =
-    word-words (field-word t) 0 (blanked l) (fieldWords (suc (0 + length (quotedField t))) l) (blanked-ends l)
-    (blanked-reads (0 + length (quotedField t)) l)
+quoted-reads [] f = words-end 0
+quoted-reads (t ∷ l) f =
+    word-words (field-word t (f .0)) 0 (blanked l) (fieldWords (suc (0 + length (quotedField t))) l) (blanked-ends l)
+    (blanked-reads (0 + length (quotedField t)) l (f .1))
 
 -- TWO LISTS, ONE LINE
 
@@ -260,13 +284,13 @@ abbrev wordTexts : List Word → List Text
 wordTexts [] = []
 wordTexts (w ∷ ws) = plainBytes (w .parts) ∷ wordTexts ws
 
-words-texts : (place : ℕ) (l : List Text) → wordTexts (fieldWords place l) ≡ l
-words-texts place [] = refl
-words-texts place (t ∷ l) = rw (field-word t .bytes, words-texts (suc (place + length (quotedField t))) l)
+words-texts : (place : ℕ) (l : List Text) → Fine l → wordTexts (fieldWords place l) ≡ l
+words-texts place [] f = refl
+words-texts place (t ∷ l) f = rw (field-word t (f .0) .bytes, words-texts (suc (place + length (quotedField t))) l (f .1))
 
--- "Two lists of fields have one quoted line only when they are the same list."
-pub quoted-injective : (l m : List Text) → quotedLine l ≡ quotedLine m → l ≡ m
-quoted-injective l m e =
-    let h : doneAt (fieldWords 0 l) ≡ doneAt (fieldWords 0 m) = sym (quoted-reads l) ∙ ap readLine e ∙ quoted-reads m in
+-- "Two lists of fields have one quoted line only when they are the same list.", whichever ways their fields are written in. No field has a zero byte
+pub quoted-injective : (l m : List Text) → Fine l → Fine m → quotedLine l ≡ quotedLine m → l ≡ m
+quoted-injective l m f g e =
+    let h : doneAt (fieldWords 0 l) ≡ doneAt (fieldWords 0 m) = sym (quoted-reads l f) ∙ ap readLine e ∙ quoted-reads m g in
     let k : fieldWords 0 l ≡ fieldWords 0 m = cc in
-    sym (words-texts 0 l) ∙ ap wordTexts k ∙ words-texts 0 m
+    sym (words-texts 0 l f) ∙ ap wordTexts k ∙ words-texts 0 m g

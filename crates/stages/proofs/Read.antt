@@ -62,7 +62,9 @@ module _ (k : ℕ) (rec : Reader) (g : (m : Mode) (d : ℕ) (t : Text) → lengt
   going-good m d b t (faults w) h = stays w
   going-good m d b t (a-byte {q = q} {b = c} {k = n} _) h = let e = drop-short n t in put-good (lit q c) (g (behindByte m q c) d (drop n t) (omega arith)) e
   going-good m d b t (a-paren {n = n} _) h = put-good _ (g (sums n) d t h) (omega arith)
-  going-good m d b t (a-quote {m = n}) h = nest-good quo (onward m) d (length t) (length t) (g n d t h) h (omega arith)
+  going-good m d b t (a-quote {m = n} {k = j}) h =
+      let e = drop-short j t in
+      nest-good quo (onward m) d (length (drop j t)) (length t) (g n d (drop j t) (omega arith)) (omega arith) e
   going-good m d b t (a-value {k = n} _) h = let e = drop-short n t in put-good _ (g (onward m) d (drop n t) (omega arith)) e
   going-good m d b t (a-count {k = n} _) h = let e = drop-short n t in put-good _ (g (onward m) d (drop n t) (omega arith)) e
   going-good m d b t (a-spread {k = n}) h = let e = drop-short n t in put-good _ (g (onward m) d (drop n t) (omega arith)) e
@@ -82,7 +84,7 @@ module _ (k : ℕ) (rec : Reader) (g : (m : Mode) (d : ℕ) (t : Text) → lengt
   item-good (word s) d [] h = leaves {p = (end, [])} (omega arith)
   item-good (value s) d [] h = leaves {p = (end, [])} (omega arith)
   item-good (bare s l) d [] h = stays refl
-  item-good single d [] h = stays refl
+  item-good (single e) d [] h = stays refl
   item-good (double l) d [] h = stays refl
   item-good (quotedOperand l) d [] h = stays refl
   item-good (sums n) d [] h = stays refl
@@ -140,7 +142,7 @@ module _ (m : Mode) (d b : ℕ) (t : Text) where
   by-item (stop n) = refl
   by-item (byte q c n) = put-ok (lit q c) (behindByte m q c) n
   by-item (paren c n) = ap (put (lit unescaped c)) (shorter-ok _ (sums n) d t (omega arith))
-  by-item (quote n) = nested-ok quo n d 0
+  by-item (quote n k) = nested-ok quo n d k
   by-item (valueOf x n) = put-ok (par x plain end) (onward m) n
   by-item (count x n) = put-ok (len x) (onward m) n
   by-item (spread s n) = put-ok (lst s) (onward m) n
@@ -153,7 +155,7 @@ unfolding readItem item ended
 by-ended (word s) d = refl
 by-ended (value s) d = refl
 by-ended (bare s l) d = refl
-by-ended single d = refl
+by-ended (single e) d = refl
 by-ended (double l) d = refl
 by-ended (quotedOperand l) d = refl
 by-ended (sums n) d = refl
@@ -215,9 +217,10 @@ module _ (text : Text) (at : ℕ) where
     unfolding readItem
     at-home x next h l = parts-item m d (drop at text) h ∙ ap (λ (t : Text). put (til x) (parts (onward m) d t)) (place next l)
 
-    pub at-quote : (n : Mode) → item m d (drop at text) ≡ quote n → here (nest quo (parts n d (drop (at + 1) text)) (parts (onward m) d))
+    pub at-quote : (n : Mode) (next : ℕ) → item m d (drop at text) ≡ quote n (next - suc at) → at < next → here
+        (nest quo (parts n d (drop next text)) (parts (onward m) d))
     unfolding readItem
-    at-quote n h = parts-item m d (drop at text) h ∙ ap (λ (t : Text). nest quo (parts n d t) (parts (onward m) d)) (drop-drop 1 at text)
+    at-quote n next h l = parts-item m d (drop at text) h ∙ ap (λ (t : Text). nest quo (parts n d t) (parts (onward m) d)) (place next l)
 
     pub at-inner : (x : Param) (f : Form) (n : Mode) (next : ℕ) → item m d (drop at text) ≡ inner x f n (next - suc at) → at < next
         → here (nest (par x f) (parts n (d - 1) (drop next text)) (parts (onward m) d))

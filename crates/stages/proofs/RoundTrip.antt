@@ -19,15 +19,17 @@ use Rattle.stages.specs.Params.{Lent}
 use Rattle.stages.specs.Expand.{expand, inQuotes}
 use Rattle.stages.specs.Split.{fieldsOfRow}
 use Rattle.stages.specs.Paths.{textsOfFields}
-use Rattle.stages.specs.Quote.{Way, singled, isBare, quotedBytes, written, quotedField, quotedLine, blanked}
+use Rattle.stages.specs.Quote.{Way, singled, dollared, isBare, hasControl, wayOf, quotedByte, quotedBytes, enclosed, written, quotedField, quotedLine}
+use Rattle.stages.specs.Quote.{blanked}
 use Rattle.stages.specs.Line.{Around, Fields, wordFields, expandWords, expandLine, outFits}
-use Rattle.stages.proofs.Bools.{apart, and-left, and-right, and-both}
+use Rattle.stages.proofs.Bools.{apart, either, and-left, and-right, and-both}
 use Rattle.stages.proofs.Texts.{all-append}
 use Rattle.stages.proofs.Images.{Fine}
 use Rattle.stages.proofs.Rooms.{fit-ok}
 use Rattle.stages.proofs.Quoted.{by-quotes, runs, bareParts, wayParts, fieldParts, fieldWords, quoted-reads}
-use Rattle.stages.proofs.Quoted.{Allows, as-bare, as-singled, allowed}
-use Rattle.stages.proofs.Quiet.{Quiet, no-units, a-mark, a-byte, quiet-fields, bare-quiet, marked-bytes}
+use Rattle.stages.proofs.Quoted.{Allows, as-bare, as-singled, as-dollared, allowed}
+use Rattle.stages.proofs.Dollared.{dollared-expands, dollared-longer, dollared-length, dollared-fine}
+use Rattle.stages.proofs.Quiet.{Quiet, no-units, a-mark, a-byte, quiet-fields, bare-quiet, marked-quiet, marked-bytes}
 
 -- THE ROW OF A FIELD
 
@@ -91,21 +93,21 @@ rows-bytes t =
 
 -- how long a field is in its quotes: longer than its bytes, and than its row
 record Lengths (t : Text) : Type 0 where
-  bytes-fit : length t ≤ length (quotedBytes t)
-  row-fits : length (rows t .0 ++ rows t .1) ≤ length (quotedBytes t)
+  bytes-fit : length t ≤ length (quotedBytes singled t)
+  row-fits : length (rows t .0 ++ rows t .1) ≤ length (quotedBytes singled t)
 
 lengths-other : (b : ℕ) (t : Text) → eqb b 39 ≡ false → Lengths t → Lengths (b ∷ t)
-unfolding quotedBytes
+unfolding quotedBytes quotedByte
 lengths-other b t e r = record { bytes-fit = rw (e, quotedBytes) (omega (arith, r .bytes-fit)); row-fits = rw (e, quotedBytes) (omega (arith, r .row-fits)) }
 
 lengths : (t : Text) → Lengths t
-unfolding quotedBytes
+unfolding quotedBytes quotedByte
 lengths t =
     by-quotes Lengths (record { bytes-fit = omega arith; row-fits = omega arith })
     (λ u r. record { bytes-fit = omega (arith, r .bytes-fit); row-fits = omega (arith, r .row-fits) }) lengths-other t
 
-singled-length : (t : Text) → length (written singled t) ≡ suc (length (quotedBytes t) + 1)
-unfolding written
+singled-length : (t : Text) → length (written singled t) ≡ suc (length (quotedBytes singled t) + 1)
+unfolding written enclosed
 singled-length t = simp length-append (omega arith)
 
 -- THE FIELD
@@ -117,18 +119,16 @@ unfolding wordFields
 word-steps a p v w r l e f = rw (e, f)
 
 -- no zero byte comes into quotes
-bytes-fine : (t : Text) → all notZero t ≡ true → all notZero (quotedBytes t) ≡ true
-unfolding quotedBytes
+bytes-fine : (t : Text) → all notZero t ≡ true → all notZero (quotedBytes singled t) ≡ true
+unfolding quotedBytes quotedByte
 bytes-fine t =
-    by-quotes (λ u. all notZero u ≡ true → all notZero (quotedBytes u) ≡ true) (λ e. refl) (λ u h e. h e)
+    by-quotes (λ u. all notZero u ≡ true → all notZero (quotedBytes singled u) ≡ true) (λ e. refl) (λ u h e. h e)
     (λ b u n h e. rw (n, quotedBytes) (and-both (and-left (notZero b) (all notZero u) e) (h (and-right (notZero b) (all notZero u) e)))) t
 
--- A field t that is written as w and read as the parts p becomes that one field under any tables, and nothing is stored. It brings no zero byte into the line,
--- and has at most three bytes in an image for two in the line, its blank among them: a bare field of one byte has just these.
+-- A field t that is written as w and read as the parts p becomes that one field under any tables, and nothing is stored. It brings no zero byte into the line.
 pub record OneField (t w : Text) (p : Parts) : Type 0 where
   pub expands : (a : Around) (v : Pairs) → length w ≤ lineLimit → wordFields a p v ≡ done (t ∷ [], v)
   pub clean : all notZero t ≡ true → all notZero w ≡ true
-  pub long : 2 * (2 + length t) ≤ 3 * suc (length w)
 
 module _ (a : Around) (v : Pairs) where
   singled-row : (t : Text) → length (written singled t) ≤ lineLimit → expand (a .lent) (wayParts singled t) L 0 v ≡ done (singledRow t, v, false)
@@ -148,20 +148,43 @@ module _ (a : Around) (v : Pairs) where
       (bare-expands (a .lent) v (b ∷ t) 0 (omega arith))
       (quiet-fields (a .paths) v (bare-quiet (b ∷ t) e) ∙ rw (marked-bytes L (b ∷ t)))
 
+  dollared-becomes : (t : Text) → length (written dollared t) ≤ lineLimit → wordFields a (wayParts dollared t) v ≡ done (t ∷ [], v)
+  unfolding bytes
+  dollared-becomes t h =
+      word-steps a (wayParts dollared t) v v (N ∷ marked Q t) (t ∷ [])
+      (dollared-expands (a .lent) v t (omega (arith, dollared-length t, dollared-longer t)))
+      (quiet-fields (a .paths) v (a-mark (marked-quiet t)) ∙ rw (marked-bytes Q t))
+
 -- whichever way a field is written, it becomes that field
 pub one-field : {way : Way} {t : Text} → Allows way t → OneField t (written way t) (wayParts way t)
-unfolding written isBare
+unfolding written enclosed isBare
 one-field {t = t} as-singled = record {
   expands = λ a v h. singled-becomes a v t h;
-  clean = λ e. all-append notZero (quotedBytes t) (39 ∷ []) (bytes-fine t e) refl;
-  long = omega (arith, singled-length t, lengths t .bytes-fit);
+  clean = λ e. all-append notZero (quotedBytes singled t) (39 ∷ []) (bytes-fine t e) refl;
+}
+one-field {t = t} (as-dollared z) = record {
+  expands = λ a v h. dollared-becomes a v t h;
+  clean = λ e. all-append notZero (quotedBytes dollared t) (39 ∷ []) (dollared-fine t e) refl;
 }
 one-field {t = []} (as-bare e) = absurd (apart refl e)
-one-field {t = b ∷ t} (as-bare e) = record { expands = λ a v h. bare-becomes a v b t e h; clean = λ k. k; long = omega arith }
+one-field {t = b ∷ t} (as-bare e) = record { expands = λ a v h. bare-becomes a v b t e h; clean = λ k. k }
 
-field-becomes : (t : Text) → OneField t (quotedField t) (fieldParts t)
+field-becomes : (t : Text) → all notZero t ≡ true → OneField t (quotedField t) (fieldParts t)
 unfolding quotedField
-field-becomes t = one-field (allowed t)
+field-becomes t z = one-field (allowed t z)
+
+-- It has at most three bytes in an image for two in the line, its blank among them: a bare field of one byte has just these.
+way-long : (t : Text) → isBare t ≡ true → 2 * (2 + length t) ≤ 3 * suc (length t)
+unfolding isBare
+way-long [] e = absurd (apart refl e)
+way-long (b ∷ t) e = omega arith
+
+field-long : (t : Text) → 2 * (2 + length t) ≤ 3 * suc (length (quotedField t))
+unfolding quotedField wayOf
+field-long t =
+    either (isBare t) (λ e. rw e (unfold written in way-long t e)) λ e.
+    either (hasControl t) (λ h. rw (e, h) (omega (arith, dollared-length t, dollared-longer t)))
+    (λ h. rw (e, h) (omega (arith, singled-length t, lengths t .bytes-fit)))
 
 -- THE LINE
 
@@ -177,12 +200,12 @@ unfolding blanked
 blanked-length t l = ap suc (length-append (quotedField t) (blanked l))
 
 -- the words of the fields expand, behind an image of n bytes
-words-expand : (a : Around) (l : List Text) (place n : ℕ) (v : Pairs) → length (blanked l) ≤ suc lineLimit → n + recordBytes l ≤ a .out →
+words-expand : (a : Around) (l : List Text) (place n : ℕ) (v : Pairs) → Fine l → length (blanked l) ≤ suc lineLimit → n + recordBytes l ≤ a .out →
     n + recordBytes l ≤ imageLimit
     → expandWords a (fieldWords place l) n v ≡ doneAt (l, v)
 unfolding expandWords recordBytes
-words-expand a [] place n v b h k = refl
-words-expand a (t ∷ l) place n v b h k =
+words-expand a [] place n v f b h k = refl
+words-expand a (t ∷ l) place n v f b h k =
     let c : length (quotedField t) ≤ lineLimit = omega (arith, blanked-length t l) in
     let d : length (blanked l) ≤ suc lineLimit = omega (arith, blanked-length t l) in
     let i : n + (2 + length t + 0) ≤ a .out = omega arith in
@@ -190,9 +213,9 @@ words-expand a (t ∷ l) place n v b h k =
     let i′ : n + (2 + length t + 0) + recordBytes l ≤ a .out = omega arith in
     let j′ : n + (2 + length t + 0) + recordBytes l ≤ imageLimit = omega arith in
     rw (
-      field-becomes t .expands a v c,
+      field-becomes t (f .0) .expands a v c,
       out-ok a (n + (2 + length t + 0)) i j,
-      words-expand a l (suc (place + length (quotedField t))) (n + (2 + length t + 0)) v d i′ j′,
+      words-expand a l (suc (place + length (quotedField t))) (n + (2 + length t + 0)) v (f .1) d i′ j′,
     )
 
 -- no zero byte comes into the line
@@ -204,7 +227,7 @@ no-zero (b ∷ t) e =
     rw (ne-eqb 0 b (λ z. omega arith)) (no-zero t (and-right (notZero b) (all notZero t) e))
 
 field-fine : (t rest : Text) → all notZero t ≡ true → all notZero rest ≡ true → all notZero (quotedField t ++ rest) ≡ true
-field-fine t rest e h = all-append notZero (quotedField t) rest (field-becomes t .clean e) h
+field-fine t rest e h = all-append notZero (quotedField t) rest (field-becomes t e .clean e) h
 
 blanked-fine : (l : List Text) → Fine l → all notZero (blanked l) ≡ true
 unfolding blanked
@@ -220,7 +243,7 @@ quoted-fine (t ∷ l) f = field-fine t (blanked l) (f .0) (blanked-fine l (f .1)
 blanked-image : (l : List Text) → 2 * recordBytes l ≤ 3 * length (blanked l)
 unfolding recordBytes blanked
 blanked-image [] = omega arith
-blanked-image (t ∷ l) = rw (blanked-length t l) (omega (arith, field-becomes t .long, blanked-image l))
+blanked-image (t ∷ l) = rw (blanked-length t l) (omega (arith, field-long t, blanked-image l))
 
 blanked-line : (l : List Text) → length (blanked l) ≤ suc (length (quotedLine l))
 unfolding blanked quotedLine
@@ -243,5 +266,5 @@ pub quoted-expands : (a : Around) (l : List Text) (v : Pairs) → Fine l → len
     → expandLine a (quotedLine l) v ≡ doneAt (l, v)
 unfolding imageLength
 quoted-expands a l v f h o =
-    line-steps a (quotedLine l) v (fieldWords 0 l) h (no-zero (quotedLine l) (quoted-fine l f)) (quoted-reads l) (omega arith)
-    ∙ words-expand a l 0 1 v (omega (arith, blanked-line l)) o (omega (arith, quoted-image l))
+    line-steps a (quotedLine l) v (fieldWords 0 l) h (no-zero (quotedLine l) (quoted-fine l f)) (quoted-reads l f) (omega arith)
+    ∙ words-expand a l 0 1 v f (omega (arith, blanked-line l)) o (omega (arith, quoted-image l))

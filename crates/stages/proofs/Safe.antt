@@ -4,6 +4,7 @@ use native.Mathlib.Omega.{arith}
 use mathlib.Core.Path.{_≡_, refl}
 use mathlib.Core.Bool.{true}
 use mathlib.Core.List.{[], _∷_}
+use lib.Dec.{leb}
 use lib.ListN.{length, drop}
 use Rattle.stages.specs.Numbers.{unended, tooDeep, tooManyUnits, variableRoom}
 use Rattle.stages.specs.Bytes.{between, Text, all, notZero}
@@ -82,7 +83,7 @@ module _ (b : ℕ) (u : Text) (rec : Ask → Taken)
   read-safe m d y (stops {k = k}) = gives (record { clean = tt; behind = all-drop notZero k (b ∷ u) (and-both y z); short = drop-short k (b ∷ u) })
   read-safe m d y (a-byte {q = q} {b = c} {k = k} e) = next-safe (lit q c) (behindByte m q c) d k (λ p s. (e, s))
   read-safe m d y (a-paren {b = c} {n = n} e) = next-safe (lit unescaped c) (sums n) d 0 (λ p s. (e, s))
-  read-safe m d y (a-quote {m = n}) = nest-safe quo n d 0 (onward m) d (λ q p r s. (r, s))
+  read-safe m d y (a-quote {m = n} {k = k}) = nest-safe quo n d k (onward m) d (λ q p r s. (r, s))
   read-safe m d y (a-value {x = x} {k = k} e) = next-safe (par x plain end) (onward m) d k (λ p s. (e, tt, s))
   read-safe m d y (a-count {x = x} {k = k} e) = next-safe (len x) (onward m) d k (λ p s. (e, s))
   read-safe m d y (a-spread {j = j} {k = k}) = next-safe (lst j) (onward m) d k (λ p s. s)
@@ -95,7 +96,7 @@ unfolding readItem ended
 ended-read rec (word s) d = gives {a = (end, [])} (record { clean = tt; behind = refl; short = omega arith })
 ended-read rec (value s) d = gives {a = (end, [])} (record { clean = tt; behind = refl; short = omega arith })
 ended-read rec (bare s l) d = refuses refl
-ended-read rec single d = refuses refl
+ended-read rec (single e) d = refuses refl
 ended-read rec (double l) d = refuses refl
 ended-read rec (quotedOperand l) d = refuses refl
 ended-read rec (sums n) d = refuses refl
@@ -106,7 +107,7 @@ unfolding askStep item
 step-safe (m, d, []) rec ih z = ended-read (λ m d t. rec (m, d, t)) m d
 step-safe (m, d, b ∷ u) rec ih z =
     read-safe b u rec ih (and-right (notZero b) (all notZero u) z) m d (and-left (notZero b) (all notZero u) z)
-    (item-passes NotZero refl refl m d b u (each-byte (b ∷ u) z))
+    (item-passes NotZero (λ c e. and-left (notZero c) (leb c 255) e) m d b u (each-byte (b ∷ u) z))
 
 pub parts-safe : (m : Mode) (d : ℕ) (t : Text) → NoZero t → Safe (SafeTaken t) (parts m d t)
 unfolding parts

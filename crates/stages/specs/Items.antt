@@ -1,4 +1,4 @@
--- Document 01, "Reading a line", and document 02, E1, E5 and E9: what stands at the head of a text. Every rule of reading is here, and nothing here recurs.
+-- Document 01, "Reading a line", and document 02, E1, E5, E9 and E12: what stands at the head of a text. Every rule of reading is here, nothing recurs.
 use Prim.Native.Nat.{ℕ, zero, suc, _+_, _-_, _*_}
 use Prim.Native.Char.{code}
 use mathlib.Core.Bool.{Bool, true, false, _&&_, _||_}
@@ -8,14 +8,16 @@ use lib.ListN.{length}
 use Rattle.stages.specs.Numbers.{unended, bareOperator, substitution, unserved, badSyntax, tooDeep}
 use Rattle.stages.specs.Bytes.{Text, text, isIn, between, span, isNameStart, isNameByte, isDigit, isLoginByte, isBlank, isOperator}
 use Rattle.stages.specs.Outcome.{pick}
+use Rattle.stages.specs.Escapes.{Said, says, unsaid, escapeAt}
 use Rattle.stages.specs.Syntax.{Start, fresh, begun, Mode, word, value, bare, single, double, quotedOperand, arith, Escape, escaped, unescaped}
+use Rattle.stages.specs.Syntax.{noEscapes, withEscapes}
 use Rattle.stages.specs.Syntax.{Colon, withColon, noColon, Side, suffix, prefix, shortest, longest}
 use Rattle.stages.specs.Syntax.{Form, minus, equals, query, plus, removal}
 use Rattle.stages.specs.Syntax.{Param, var, nth, Counted, bytesOf, parameters, Spread, apart, joint, Lists, served, barred}
 
 -- what a byte is where it stands
 pub data Sort : Type 0 where
-  backquote closes operator quotes quotes2 backslash dollar bad opening closing tilde literal : Sort
+  backquote closes operator quotes quotes2 backslash escape dollar bad opening closing tilde literal : Sort
 
 -- 01: "a bare `~` starting a word of the line"; 02: "a bare `~` that begins an operand read as bare text is looked at too"; E9: "after the `=` and after each
 -- bare literal `:`"
@@ -30,7 +32,8 @@ wordSort s b =
     (pick (eqb b (code "\"")) quotes2 (pick (eqb b (code "\\")) backslash (pick (eqb b (code "$")) dollar literal)))))))
 
 -- "A backquote outside single quotes .. is 9 before any other fault there." "`'` runs to the next `'`." "The operand ends at the first `}` not quoted or in an
--- inner expansion." "a plain `"` is 11"; "a quote or backslash anywhere in the text outside operands, is 11". "All other bare bytes are literal."
+-- inner expansion." "a plain `"` is 11"; "a quote or backslash anywhere in the text outside operands, is 11". "All other bare bytes are literal." E12: "any
+-- other byte in it, a backquote too, is itself"
 unfoldable pub sort : Mode → ℕ → Sort
 unfolding beginsTilde isBlank isOperator
 sort (word s) b = wordSort s b
@@ -38,7 +41,8 @@ sort (value s) b = wordSort s b
 sort (bare s l) b =
     pick (beginsTilde s b) tilde (pick (eqb b (code "`")) backquote (pick (eqb b (code "}")) closes (pick (eqb b (code "'")) quotes
     (pick (eqb b (code "\"")) quotes2 (pick (eqb b (code "\\")) backslash (pick (eqb b (code "$")) dollar literal))))))
-sort single b = pick (eqb b (code "'")) closes literal
+sort (single noEscapes) b = pick (eqb b (code "'")) closes literal
+sort (single withEscapes) b = pick (eqb b (code "'")) closes (pick (eqb b (code "\\")) escape literal)
 sort (double l) b =
     pick (eqb b (code "`")) backquote (pick (eqb b (code "\"")) closes
     (pick (eqb b (code "\\")) backslash (pick (eqb b (code "$")) dollar literal)))
@@ -55,7 +59,7 @@ pub data Item : Type 0 where
   stop : ℕ → Item  -- the text ends here, and so many bytes are taken
   byte : Escape → ℕ → ℕ → Item  -- a byte that stands for itself
   paren : ℕ → ℕ → Item  -- a parenthesis of an arithmetic text; how many are open behind it
-  quote : Mode → Item  -- a quote opens
+  quote : Mode → ℕ → Item  -- a quote opens
   valueOf : Param → ℕ → Item  -- $name, ${name}
   count : Counted → ℕ → Item  -- ${#name}, $#, ${#}
   spread : Spread → ℕ → Item  -- $@, ${@}, $*, ${*}
@@ -74,7 +78,7 @@ unfoldable pub quotable : Mode → ℕ → Bool
 quotable (word s) b = true
 quotable (value s) b = true
 quotable (bare s l) b = true
-quotable single b = false
+quotable (single e) b = false
 quotable (double l) b = isIn b (text "$`\"\\")
 quotable (quotedOperand l) b = isIn b (text "$`\"\\}")
 quotable (arith n) b = false
@@ -85,12 +89,17 @@ unfolding quotable
 behindBackslash m [] = fault unended
 behindBackslash m (b ∷ t) = pick (eqb b (code "\n")) (fault badSyntax) (pick (quotable m b) (byte escaped b 1) (byte unescaped (code "\\") 0))
 
+-- E12: behind a backslash in `$'...'`, what an escape says
+unfoldable pub saidItem : Said → Item
+saidItem (says b k) = byte escaped b k
+saidItem (unsaid n) = fault n
+
 -- E5: whether `$@` and `$*` may stand in a text; E9: "`$@` and `$*` in values are 10"
 unfoldable pub listsIn : Mode → Lists
 listsIn (word s) = served
 listsIn (value s) = barred
 listsIn (bare s l) = l
-listsIn single = barred
+listsIn (single e) = barred
 listsIn (double l) = l
 listsIn (quotedOperand l) = l
 listsIn (arith n) = barred
@@ -111,7 +120,7 @@ unfolding both
 operandMode (word s) k = bare fresh k
 operandMode (value s) k = bare fresh barred
 operandMode (bare s l) k = bare fresh (both l k)
-operandMode single k = bare fresh barred
+operandMode (single e) k = bare fresh barred
 operandMode (double l) k = quotedOperand (both l k)
 operandMode (quotedOperand l) k = quotedOperand (both l k)
 operandMode (arith n) k = quotedOperand barred
@@ -231,19 +240,23 @@ parenthesis d [] = fault substitution
 parenthesis zero (b ∷ t) = pick (eqb b (code "(")) (fault tooDeep) (fault substitution)
 parenthesis (suc d) (b ∷ t) = pick (eqb b (code "(")) sum (fault substitution)
 
--- 01: "`$` before a digit or one of `@*#?-$!` is 10, and so is `$'` in bare text", but for what E5 serves. Never asked of '...', where a `$` is literal
-unfoldable pub notServed : Mode → ℕ → Bool
-notServed (word s) b = isIn b (text "0?-$!'")
-notServed (value s) b = isIn b (text "0?-$!'")
-notServed (bare s l) b = isIn b (text "0?-$!'")
-notServed single b = false
-notServed (double l) b = isIn b (text "0?-$!")
-notServed (quotedOperand l) b = isIn b (text "0?-$!")
-notServed (arith n) b = isIn b (text "0?-$!")
+-- 01: "`$` before a digit or one of `@*#?-$!` is 10", but for what E5 serves
+unfoldable pub notServed : ℕ → Bool
+notServed b = isIn b (text "0?-$!")
+
+-- 01: "and so is `$'` in bare text"; E12: "Serve `$'...'` where 10 was given". Never asked of '...', where a `$` is literal
+unfoldable pub isBareText : Mode → Bool
+isBareText (word s) = true
+isBareText (value s) = true
+isBareText (bare s l) = true
+isBareText (single e) = false
+isBareText (double l) = false
+isBareText (quotedOperand l) = false
+isBareText (arith n) = false
 
 -- behind `$`: "`$` before a letter or `_` takes the longest name." "Any other `$` is literal." E5: "`$1` to `$9`, .. `$#`, `$@`, `$*`"
 unfoldable pub expansion : Mode → ℕ → Text → Item
-unfolding isNameStart isNameByte span parenthesis braced isFirstDigit listsIn spreadAt notServed
+unfolding isNameStart isNameByte span parenthesis braced isFirstDigit listsIn spreadAt notServed isBareText
 expansion m d [] = byte unescaped (code "$") 0
 expansion m d (b ∷ t) =
     pick (isNameStart b) (valueOf (var (span isNameByte (b ∷ t) .0)) (length (span isNameByte (b ∷ t) .0)))
@@ -252,7 +265,8 @@ expansion m d (b ∷ t) =
     (pick (isFirstDigit b) (valueOf (nth (b - code "0")) 1)
     (pick (eqb b (code "#")) (count parameters 1)
     (pick (isIn b (text "@*")) (spreadAt (listsIn m) b 1)
-    (pick (notServed m b) (fault unserved) (byte unescaped (code "$") 0)))))))
+    (pick (notServed b) (fault unserved)
+    (pick (isBareText m && eqb b (code "'")) (quote (single withEscapes) 1) (byte unescaped (code "$") 0))))))))
 
 -- behind an outer `)`: "ends at `))`; an outer `)` followed by another byte or the line's end .. is 11"
 unfoldable pub outer : Text → Item
@@ -264,7 +278,7 @@ unfoldable pub opened : Mode → ℕ → Item
 opened (word s) b = byte unescaped b 0
 opened (value s) b = byte unescaped b 0
 opened (bare s l) b = byte unescaped b 0
-opened single b = byte unescaped b 0
+opened (single e) b = byte unescaped b 0
 opened (double l) b = byte unescaped b 0
 opened (quotedOperand l) b = byte unescaped b 0
 opened (arith n) b = paren b (suc n)
@@ -275,7 +289,7 @@ unfolding outer
 closed (word s) b t = byte unescaped b 0
 closed (value s) b t = byte unescaped b 0
 closed (bare s l) b t = byte unescaped b 0
-closed single b t = byte unescaped b 0
+closed (single e) b t = byte unescaped b 0
 closed (double l) b t = byte unescaped b 0
 closed (quotedOperand l) b t = byte unescaped b 0
 closed (arith zero) b t = outer t
@@ -286,7 +300,7 @@ unfoldable pub closerLength : Mode → ℕ
 closerLength (word s) = 0
 closerLength (value s) = 0
 closerLength (bare s l) = 1
-closerLength single = 1
+closerLength (single e) = 1
 closerLength (double l) = 1
 closerLength (quotedOperand l) = 1
 closerLength (arith n) = 1
@@ -296,7 +310,7 @@ unfoldable pub ended : Mode → Item
 ended (word s) = stop 0
 ended (value s) = stop 0
 ended (bare s l) = fault unended
-ended single = fault unended
+ended (single e) = fault unended
 ended (double l) = fault unended
 ended (quotedOperand l) = fault unended
 ended (arith n) = fault unended
@@ -306,7 +320,7 @@ unfoldable pub loginEnds : Mode → Text
 loginEnds (word s) = text "/"
 loginEnds (value s) = text "/:"
 loginEnds (bare s l) = text "/"
-loginEnds single = text "/"
+loginEnds (single e) = text "/"
 loginEnds (double l) = text "/"
 loginEnds (quotedOperand l) = text "/"
 loginEnds (arith n) = text "/"
@@ -319,6 +333,7 @@ isCloser operator = false
 isCloser quotes = false
 isCloser quotes2 = false
 isCloser backslash = false
+isCloser escape = false
 isCloser dollar = false
 isCloser bad = false
 isCloser opening = false
@@ -339,13 +354,14 @@ behindTilde m b t =
     pick (endsLogin m (span isLoginByte t .1)) (homeOf (span isLoginByte t .0) (length (span isLoginByte t .0))) (byte unescaped b 0)
 
 unfoldable pub itemOf : Sort → Mode → ℕ → ℕ → Text → Item
-unfolding closerLength behindBackslash expansion opened closed behindTilde listsIn
+unfolding closerLength behindBackslash saidItem escapeAt expansion opened closed behindTilde listsIn
 itemOf backquote m d b t = fault substitution
 itemOf closes m d b t = stop (closerLength m)
 itemOf operator m d b t = fault bareOperator
-itemOf quotes m d b t = quote single
-itemOf quotes2 m d b t = quote (double (listsIn m))
+itemOf quotes m d b t = quote (single noEscapes) 0
+itemOf quotes2 m d b t = quote (double (listsIn m)) 0
 itemOf backslash m d b t = behindBackslash m t
+itemOf escape m d b t = saidItem (escapeAt t)
 itemOf dollar m d b t = expansion m d t
 itemOf bad m d b t = fault badSyntax
 itemOf opening m d b t = opened m b
@@ -364,7 +380,7 @@ unfoldable pub onward : Mode → Mode
 onward (word s) = word begun
 onward (value s) = value begun
 onward (bare s l) = bare begun l
-onward single = single
+onward (single e) = single e
 onward (double l) = double l
 onward (quotedOperand l) = quotedOperand l
 onward (arith n) = arith n
@@ -380,7 +396,7 @@ unfolding startBehind onward
 behindByte (word s) q b = onward (word s)
 behindByte (value s) q b = value (startBehind q b)
 behindByte (bare s l) q b = onward (bare s l)
-behindByte single q b = onward single
+behindByte (single e) q b = onward (single e)
 behindByte (double l) q b = onward (double l)
 behindByte (quotedOperand l) q b = onward (quotedOperand l)
 behindByte (arith n) q b = onward (arith n)

@@ -5,6 +5,7 @@ pub mod Outcome  -- what a stage answers: a result, or the number that refuses i
 pub mod Recur  -- recursion on what is shorter
 pub mod Images  -- "Tables": images, their records, look-up and store
 pub mod Syntax  -- what a word is read as
+pub mod Escapes  -- E12: what an escape of `$'...'` says
 pub mod Items  -- "Reading a line": what stands at the head of a text, every rule of reading
 pub mod Read  -- "Reading a line": a text's parts item by item, a line's words
 pub mod Units  -- "Units and expansion": rows of marked bytes, and decimal texts

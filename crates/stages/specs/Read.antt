@@ -1,4 +1,4 @@
--- Document 01, "Reading a line", and document 02, E1, E5 and E9: a text's parts, item by item, and the words of a line.
+-- Document 01, "Reading a line", and document 02, E1, E5, E9 and E12: a text's parts, item by item, and the words of a line.
 use Prim.Native.Nat.{ℕ, suc, _+_, _-_}
 use Prim.Native.Char.{code}
 use mathlib.Core.Bool.{_||_}
@@ -35,7 +35,7 @@ readItem rec m d t (fault n) = refused n
 readItem rec m d t (stop k) = done (end, drop k t)
 readItem rec m d t (byte q b k) = put (lit q b) (rec (behindByte m q b) d (drop (suc k) t))
 readItem rec m d t (paren b n) = put (lit unescaped b) (rec (arith n) d (drop 1 t))
-readItem rec m d t (quote n) = nest quo (rec n d (drop 1 t)) (rec (onward m) d)
+readItem rec m d t (quote n k) = nest quo (rec n d (drop (suc k) t)) (rec (onward m) d)
 readItem rec m d t (valueOf x k) = put (par x plain end) (rec (onward m) d (drop (suc k) t))
 readItem rec m d t (count x k) = put (len x) (rec (onward m) d (drop (suc k) t))
 readItem rec m d t (spread s k) = put (lst s) (rec (onward m) d (drop (suc k) t))

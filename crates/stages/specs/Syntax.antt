@@ -1,4 +1,4 @@
--- Document 01, "Reading a line", and document 02, E1, E5 and E9: what a word is read as.
+-- Document 01, "Reading a line", and document 02, E1, E5, E9 and E12: what a word is read as.
 use Prim.Native.Nat.{ℕ}
 use Rattle.stages.specs.Bytes.{Text}
 
@@ -20,7 +20,7 @@ pub data Form : Type 0 where
   minus equals query plus : Colon → Form
   removal : Side → Reach → Form
 
--- whether a backslash quotes a byte
+-- whether a backslash quotes a byte, or by E12 begins an escape that says it
 pub data Escape : Type 0 where
   escaped unescaped : Escape
 
@@ -42,7 +42,7 @@ pub data Spread : Type 0 where
 pub data Parts : Type 0 where
   end : Parts
   lit : Escape → ℕ → Parts → Parts  -- a byte that stands for itself
-  quo : Parts → Parts → Parts  -- '...' or "..."
+  quo : Parts → Parts → Parts  -- '...', "..." or by E12 $'...'
   par : Param → Form → Parts → Parts → Parts  -- $name, ${name}, ${name FORM operand}
   len : Counted → Parts → Parts  -- ${#name}, $#
   lst : Spread → Parts → Parts  -- $@, $*
@@ -57,12 +57,16 @@ pub data Start : Type 0 where
 pub data Lists : Type 0 where
   served barred : Lists
 
--- where a text stands: a word of the line, by E9 the value of an assignment, an operand read as bare text, '...', "...", an operand read as double-quoted
--- text, arithmetic with so many open parentheses
+-- E12: whether a backslash begins an escape in single quotes: not in '...', but in $'...'
+pub data Escapes : Type 0 where
+  noEscapes withEscapes : Escapes
+
+-- where a text stands: a word of the line, by E9 the value of an assignment, an operand read as bare text, '...' or by E12 $'...', "...", an operand read as
+-- double-quoted text, arithmetic with so many open parentheses
 pub data Mode : Type 0 where
   word value : Start → Mode
   bare : Start → Lists → Mode
-  single : Mode
+  single : Escapes → Mode
   double quotedOperand : Lists → Mode
   arith : ℕ → Mode
 
