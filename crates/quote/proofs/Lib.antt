@@ -1,4 +1,4 @@
-pub mod Ways
+pub mod Fields
 pub mod Lengths
 pub mod Writing
 pub mod Walks

@@ -34,7 +34,7 @@ pub record Field (t : Text) (start end : ℕ) : Type 0 where
   pub low : start ≤ end
   pub high : end ≤ length t
   pub short : length (part t start end) ≤ imageLimit
-  pub small : length (quotedField (part t start end)) ≤ 4 * imageLimit + 2
+  pub small : length (quotedField (part t start end)) ≤ 4 * imageLimit + 3
 
 field-of : (t : Text) (start end : ℕ) → length t ≤ imageLimit → start ≤ end → end ≤ length t → Field t start end
 field-of t start end n h k =
@@ -152,7 +152,7 @@ module _ {t : Text} {end : ℕ} (f : First t end) where
   pub line-length : length (quotedLine (heldTexts t)) ≡ length (quotedField (part t 3 end)) + length (blanked (textsFrom t end))
   line-length = ap length (f .is) ∙ length-append (quotedField (part t 3 end)) (blanked (textsFrom t end))
 
-  pub line-bound : length (quotedField (part t 3 end)) + length (blanked (textsFrom t end)) ≤ 8 * imageLimit + 2
+  pub line-bound : length (quotedField (part t 3 end)) + length (blanked (textsFrom t end)) ≤ 8 * imageLimit + 3
   line-bound = omega (arith, f .text .small, blanked-small (rest-ahead (f .rest)), f .rest .small)
 
   -- the first field is written

@@ -1,23 +1,31 @@
--- One field in single quotes in the buffer: a byte of it, and its quotes around its bytes. The byte 39 is `'`, 92 a backslash.
-use Prim.Native.Nat.{ℕ, _+_, _-_, _≤_}
+-- One field in the buffer: a byte of it in each way, its quotes around its bytes, and a `$` before them. The byte 39 is `'`, 92 a backslash, 36 a `$`.
+use Prim.Native.Nat.{ℕ, suc, _+_, _-_, _/_, _%_, _≤_}
 use native.Mathlib.Omega.{arith}
-use mathlib.Core.Path.{_≡_, refl}
-use mathlib.Core.List.{[], _∷_, _++_}
+use mathlib.Core.Path.{_≡_, refl, sym}
+use mathlib.Core.Bool.{true, false}
+use mathlib.Core.List.{[], _∷_, _++_, append-nil}
 use lib.ListN.{length, set}
 use borrow.Rule.Slice.PartMut.{putMid, midOf}
-use Rattle.stages.specs.Bytes.{Text, text}
-use Rattle.stages.specs.Quote.{singled, quotedBytes, written}
+use Rattle.stages.specs.Bytes.{Text, text, isIn, notControl}
+use Rattle.stages.specs.Quote.{Way, singled, dollared, octal, quotedByte, quotedBytes, enclosed}
 use Rattle.text.specs.Putting.{Puts}
-use Rattle.quote.specs.Rests.{quotedByte}
+use Rattle.quote.specs.Ways.{wayIs}
+use Rattle.quote.specs.declared.ways.Way as code
+use Rattle.quote.specs.declared.ways.Way.the-variants.{Bare}
 use Rattle.text.proofs.Filling.{Filling, fill-starts, fill-byte, fill-piece, fill-ends}
-use Rattle.quote.proofs.Lengths.{byte-quote, byte-other, singled-is}
+use Rattle.quote.proofs.Lengths.{byte-bare, byte-quote, byte-other, byte-sign, byte-plain, byte-control, enclosed-is}
 
--- `put_byte`
+-- a byte as it is
 
-pub other-put : (b : ℕ) (out : Text) → (b ≡ 39 → ⊥) → 1 ≤ length out → Puts (quotedByte b) out (set out 0 b) 1
+pub bare-byte-put : {way : code.Way} → way ≡ Bare → (b : ℕ) (out : Text) → 1 ≤ length out → Puts (quotedByte (wayIs way) b) out (set out 0 b) 1
+bare-byte-put e b out h = rw (byte-bare e b) (fill-ends (fill-byte (fill-starts (b ∷ []) out h) b [] 1 refl refl) refl)
+
+-- `put_singled`
+
+pub other-put : (b : ℕ) (out : Text) → (b ≡ 39 → ⊥) → 1 ≤ length out → Puts (quotedByte singled b) out (set out 0 b) 1
 other-put b out e h = rw (byte-other b e) (fill-ends (fill-byte (fill-starts (b ∷ []) out h) b [] 1 refl refl) refl)
 
-pub quote-put : (b : ℕ) (out : Text) → b ≡ 39 → 4 ≤ length out → Puts (quotedByte b) out (set (set (set (set out 0 b) 1 92) 2 39) 3 39) 4
+pub quote-put : (b : ℕ) (out : Text) → b ≡ 39 → 4 ≤ length out → Puts (quotedByte singled b) out (set (set (set (set out 0 b) 1 92) 2 39) 3 39) 4
 quote-put b out e h = rw (byte-quote b e) (fill-ends fourth refl)
   where
     first : Filling (b ∷ text "\\''") (text "\\''") out (set out 0 b) 1
@@ -32,14 +40,49 @@ quote-put b out e h = rw (byte-quote b e) (fill-ends fourth refl)
     fourth : Filling (b ∷ text "\\''") [] out (set (set (set (set out 0 b) 1 92) 2 39) 3 39) 4
     fourth = fill-byte third 39 [] 4 refl refl
 
--- `put_singled`: its first quote, its bytes, its last quote
-module _ (t out : Text) (h : length (written singled t) ≤ length out) where
-  pub field-opened : Filling (written singled t) (quotedBytes t ++ (39 ∷ [])) out (set out 0 39) 1
-  field-opened = fill-byte (fill-starts (written singled t) out h) 39 (quotedBytes t ++ (39 ∷ [])) 1 (singled-is t) refl
+-- `put_dollared`
 
-  module _ (ys : Text) (n : ℕ) (p : Puts (quotedBytes t) (midOf 1 (length (set out 0 39) - 1) (set out 0 39)) ys n) where
-    pub field-inside : Filling (written singled t) (39 ∷ []) out (putMid 1 (length (set out 0 39) - 1) (set out 0 39) ys) (n + 1)
-    field-inside = fill-piece field-opened (quotedBytes t) (39 ∷ []) ys n (n + 1) refl p (omega arith)
+module _ (b : ℕ) (out : Text) (s : isIn b (text "\\'") ≡ true) (h : 2 ≤ length out) where
+  pub sign-put : Puts (quotedByte dollared b) out (set (set out 0 92) 1 b) 2
+  sign-put = rw (byte-sign b s) (fill-ends (fill-byte (fill-byte (fill-starts (92 ∷ b ∷ []) out h) 92 (b ∷ []) 1 refl refl) b [] 2 refl refl) refl)
 
-    pub field-closed : Filling (written singled t) [] out (set (putMid 1 (length (set out 0 39) - 1) (set out 0 39) ys) (n + 1) 39) (n + 2)
+module _ (b : ℕ) (out : Text) (s : isIn b (text "\\'") ≡ false) where
+  pub plain-put : notControl b ≡ true → 1 ≤ length out → Puts (quotedByte dollared b) out (set out 0 b) 1
+  plain-put e h = rw (byte-plain b s e) (fill-ends (fill-byte (fill-starts (b ∷ []) out h) b [] 1 refl refl) refl)
+
+  pub control-put : notControl b ≡ false → 4 ≤ length out
+      → Puts (quotedByte dollared b) out (set (set (set (set out 0 92) 1 (48 + b / 64)) 2 (48 + b / 8 % 8)) 3 (48 + b % 8)) 4
+  control-put e h = rw (byte-control b s e) (fill-ends fourth refl)
+    where
+      first : Filling (92 ∷ octal b) (octal b) out (set out 0 92) 1
+      first = fill-byte (fill-starts (92 ∷ octal b) out h) 92 (octal b) 1 refl refl
+
+      second : Filling (92 ∷ octal b) ((48 + b / 8 % 8) ∷ (48 + b % 8) ∷ []) out (set (set out 0 92) 1 (48 + b / 64)) 2
+      second = fill-byte first (48 + b / 64) ((48 + b / 8 % 8) ∷ (48 + b % 8) ∷ []) 2 refl refl
+
+      third : Filling (92 ∷ octal b) ((48 + b % 8) ∷ []) out (set (set (set out 0 92) 1 (48 + b / 64)) 2 (48 + b / 8 % 8)) 3
+      third = fill-byte second (48 + b / 8 % 8) ((48 + b % 8) ∷ []) 3 refl refl
+
+      fourth : Filling (92 ∷ octal b) [] out (set (set (set (set out 0 92) 1 (48 + b / 64)) 2 (48 + b / 8 % 8)) 3 (48 + b % 8)) 4
+      fourth = fill-byte third (48 + b % 8) [] 4 refl refl
+
+-- `put_enclosed`: the first quote, the bytes, the last quote
+module _ (way : Way) (t out : Text) (h : length (enclosed way t) ≤ length out) where
+  pub field-opened : Filling (enclosed way t) (quotedBytes way t ++ (39 ∷ [])) out (set out 0 39) 1
+  field-opened = fill-byte (fill-starts (enclosed way t) out h) 39 (quotedBytes way t ++ (39 ∷ [])) 1 (enclosed-is way t) refl
+
+  module _ (ys : Text) (n : ℕ) (p : Puts (quotedBytes way t) (midOf 1 (length (set out 0 39) - 1) (set out 0 39)) ys n) where
+    pub field-inside : Filling (enclosed way t) (39 ∷ []) out (putMid 1 (length (set out 0 39) - 1) (set out 0 39) ys) (n + 1)
+    field-inside = fill-piece field-opened (quotedBytes way t) (39 ∷ []) ys n (n + 1) refl p (omega arith)
+
+    pub field-closed : Filling (enclosed way t) [] out (set (putMid 1 (length (set out 0 39) - 1) (set out 0 39) ys) (n + 1) 39) (n + 2)
     field-closed = fill-byte field-inside 39 [] (n + 2) refl (omega arith)
+
+-- `put_field`: a `$` before the quotes
+module _ (t out : Text) (h : suc (length t) ≤ length out) where
+  pub dollar-first : Filling (36 ∷ t) t out (set out 0 36) 1
+  dollar-first = fill-byte (fill-starts (36 ∷ t) out h) 36 t 1 refl refl
+
+  pub dollar-filled : (ys : Text) (n : ℕ) → Puts t (midOf 1 (length (set out 0 36) - 1) (set out 0 36)) ys n
+      → Filling (36 ∷ t) [] out (putMid 1 (length (set out 0 36) - 1) (set out 0 36) ys) (n + 1)
+  dollar-filled ys n p = fill-piece dollar-first t [] ys n (n + 1) (sym (append-nil t)) p (omega arith)

@@ -1,4 +1,4 @@
-// The quoter: a fields image becomes one line, each field bare or in single quotes. The line is counted first, so that nothing is written unless all of it
+// The quoter: a fields image becomes one line, each field bare, in '...' or in $'...'. The line is counted first, so that nothing is written unless all of it
 // has room; then it is written once. Counting and writing have a function for each stage of the quoted line: a byte, a field's bytes, a field, the fields
 // behind the first, the line. `way_of` alone chooses the way of a field, and `field_length` and `put_field` alone ask it.
 ghost use mathlib.Core.Path.{_≡_};
@@ -7,17 +7,20 @@ ghost use lib.ListN.{length};
 ghost use Rattle.stages.specs.Numbers.{imageLimit};
 ghost use mathlib.Core.Option.{some};
 ghost use Rattle.stages.specs.Images.{fieldsOf, heldTexts};
-ghost use Rattle.stages.specs.Quote.{singled, wayOf, quotedBytes, written, quotedField, blanked, quotedLine};
+ghost use Rattle.stages.specs.Quote.{quotedBytes, enclosed, quotedField, blanked, quotedLine};
 ghost use Rattle.stages.specs.Call.{quoter};
 ghost use Rattle.text.specs.Putting.{Puts};
 ghost use Rattle.table.specs.Pieces.{textsFrom};
 ghost use Rattle.quote.specs.Answers.{quotingOf};
 ghost use Rattle.quote.specs.Ways.{wayIs};
-ghost use Rattle.quote.specs.Rests.{quotedByte, Rest};
+ghost use Rattle.quote.specs.Rests.{Rest};
 use table::Kind;
 use table::Piece;
-use text::Class;
 use text::numbers;
+use ways::QUOTE;
+use ways::Way;
+
+mod ways;
 
 // What the quoter answers.
 pub enum Quoted {
@@ -29,50 +32,19 @@ pub enum Quoted {
     NoRoom,
 }
 
-// The ways of writing a field.
-enum Way {
-    // As it is.
-    Bare,
-    // In single quotes.
-    Singled,
-}
-
-const QUOTE: u8 = b'\'';
-
-const BACKSLASH: u8 = b'\\';
-
 const BLANK: u8 = b' ';
 
-// The way in which a field is written: bare if it is not empty and holds only letters, digits, `.`, `_`, `-` and `/`, else in single quotes.
-fn way_of(field: &[u8]) -> Way
-    ensures { λ r. ⌜ wayIs r ≡ wayOf (now (field .entry)) ⌝ }
-{
-    if field.len() == 0 {
-        return Way::Singled;
-    }
-    if text::run_end(field, 0, Class::BareByte) == field.len() {
-        Way::Bare
-    } else {
-        Way::Singled
-    }
-}
-
-// How many bytes a byte of a field takes in single quotes.
-fn byte_length(b: u8) -> usize
-    ensures { λ r. ⌜ r ≡ length (quotedByte b) ⌝ }
-{
-    if b == QUOTE { 4 } else { 1 }
-}
+const DOLLAR: u8 = b'$';
 
 // How many bytes a field takes between its quotes.
-fn bytes_length(field: &[u8]) -> usize
+fn bytes_length(way: Way, field: &[u8]) -> usize
     requires { ⌜ length (now field) ≤ imageLimit ⌝ }
-    ensures { λ r. ⌜ r ≡ length (quotedBytes (now (field .entry))) ⌝ }
+    ensures { λ r. ⌜ r ≡ length (quotedBytes (wayIs way) (now (field .entry))) ⌝ }
 {
     let mut n: usize = 0;
     let mut i: usize = 0;
     while i < field.len() {
-        n += byte_length(field[i]);
+        n += ways::byte_length(way, field[i]);
         i += 1;
     }
     n
@@ -83,10 +55,11 @@ fn field_length(field: &[u8]) -> usize
     requires { ⌜ length (now field) ≤ imageLimit ⌝ }
     ensures { λ r. ⌜ r ≡ length (quotedField (now (field .entry))) ⌝ }
 {
-    let way = way_of(field);
+    let way = ways::way_of(field);
     match way {
         Way::Bare => field.len(),
-        Way::Singled => bytes_length(field) + 2,
+        Way::Singled => bytes_length(way, field) + 2,
+        Way::Dollared => bytes_length(way, field) + 3,
     }
 }
 
@@ -124,43 +97,28 @@ fn line_length(fields: &[u8]) -> usize
     }
 }
 
-// Writes a byte of a field in single quotes: `'` as `'\''`, any other as itself.
-fn put_byte(b: u8, out: &mut [u8]) -> usize
-    requires { ⌜ length (quotedByte b) ≤ length (now out) ⌝ }
-    ensures { λ r. ⌜ Puts (quotedByte b) (now (out .entry)) (now (out .exit)) r ⌝ }
-{
-    out[0] = b;
-    if b != QUOTE {
-        return 1;
-    }
-    out[1] = BACKSLASH;
-    out[2] = QUOTE;
-    out[3] = QUOTE;
-    4
-}
-
 // Writes what stands between the quotes of a field.
-fn put_bytes(field: &[u8], out: &mut [u8]) -> usize
-    requires { ⌜ length (quotedBytes (now field)) ≤ length (now out) ⌝ }
-    ensures { λ r. ⌜ Puts (quotedBytes (now (field .entry))) (now (out .entry)) (now (out .exit)) r ⌝ }
+fn put_bytes(way: Way, field: &[u8], out: &mut [u8]) -> usize
+    requires { ⌜ length (quotedBytes (wayIs way) (now field)) ≤ length (now out) ⌝ }
+    ensures { λ r. ⌜ Puts (quotedBytes (wayIs way) (now (field .entry))) (now (out .entry)) (now (out .exit)) r ⌝ }
 {
     let mut used: usize = 0;
     let mut i: usize = 0;
     while i < field.len() {
-        let n = put_byte(field[i], &mut out[used..]);
+        let n = ways::put_byte(way, field[i], &mut out[used..]);
         used += n;
         i += 1;
     }
     used
 }
 
-// Writes a field in single quotes.
-fn put_singled(field: &[u8], out: &mut [u8]) -> usize
-    requires { ⌜ length (written singled (now field)) ≤ length (now out) ⌝ }
-    ensures { λ r. ⌜ Puts (written singled (now (field .entry))) (now (out .entry)) (now (out .exit)) r ⌝ }
+// Writes a field in its quotes.
+fn put_enclosed(way: Way, field: &[u8], out: &mut [u8]) -> usize
+    requires { ⌜ length (enclosed (wayIs way) (now field)) ≤ length (now out) ⌝ }
+    ensures { λ r. ⌜ Puts (enclosed (wayIs way) (now (field .entry))) (now (out .entry)) (now (out .exit)) r ⌝ }
 {
     out[0] = QUOTE;
-    let n = put_bytes(field, &mut out[1..]);
+    let n = put_bytes(way, field, &mut out[1..]);
     out[n + 1] = QUOTE;
     n + 2
 }
@@ -170,13 +128,18 @@ fn put_field(field: &[u8], out: &mut [u8]) -> usize
     requires { ⌜ length (quotedField (now field)) ≤ length (now out) ⌝ }
     ensures { λ r. ⌜ Puts (quotedField (now (field .entry))) (now (out .entry)) (now (out .exit)) r ⌝ }
 {
-    let way = way_of(field);
+    let way = ways::way_of(field);
     match way {
         Way::Bare => {
             text_copy::copy_in(field, out);
             field.len()
         }
-        Way::Singled => put_singled(field, out),
+        Way::Singled => put_enclosed(way, field, out),
+        Way::Dollared => {
+            out[0] = DOLLAR;
+            let n = put_enclosed(way, field, &mut out[1..]);
+            n + 1
+        }
     }
 }
 

@@ -4,6 +4,7 @@ use mathlib.Core.Bool.{Bool, true, false}
 use Rattle.stages.specs.Syntax.{Escape, escaped, unescaped}
 use Rattle.stages.specs.Pattern.{isForPaths}
 use Rattle.text.specs.Cases.{escapeOf, isEscaped, colonOf, hasColon, reachOf, isLongest, purposeOf, startOf, isFresh, spreadOf, isApart, listsOf}
+use Rattle.text.specs.Cases.{escapesOf, hasEscapes}
 use Rattle.text.specs.Cases.{isServed}
 
 pub escape-back : (b : Bool) → b ≡ isEscaped (escapeOf b)
@@ -37,3 +38,7 @@ spread-back false = refl
 pub lists-back : (b : Bool) → b ≡ isServed (listsOf b)
 lists-back true = refl
 lists-back false = refl
+
+pub escapes-back : (b : Bool) → b ≡ hasEscapes (escapesOf b)
+escapes-back true = refl
+escapes-back false = refl

@@ -6,13 +6,15 @@ use mathlib.Core.Bool.{Bool, true, false, not}
 use lib.Dec.{eqb, ltb}
 use lib.Bits.{bitAnd}
 use borrow.Author.Tests.{lt-ltb, le-ltb}
-use Rattle.stages.specs.Bytes.{isDigit, isNameStart, isNameByte, isLoginByte, isBareByte, isBlank, isOperator}
-use Rattle.stages.specs.Outcome.{pick}
+use Rattle.stages.specs.Bytes.{isDigit, isNameStart, isNameByte, isLoginByte, isBareByte, isBlank, isOperator, isControl}
+use Rattle.stages.specs.Constants.{digit, isDigitIn}
+use Rattle.stages.specs.Outcome.{pick, choose}
 use Rattle.stages.proofs.Bools.{no}
 use Rattle.text.proofs.Every.{every, every-at}
 use Rattle.text.specs.Classes.{inClass, lowBytes, highBytes, upperBytes}
 use Rattle.text.specs.declared.Class.{Class}
-use Rattle.text.specs.declared.Class.the-variants.{NotZero, Digit, NameStart, NameByte, LoginByte, BareByte, Blank, Operator}
+use Rattle.text.specs.declared.Class.the-variants.{NotZero, Digit, NameStart, NameByte, LoginByte, BareByte, Blank, Operator, NotControl}
+use Rattle.text.specs.declared.Class.the-variants.{OctalDigit, HexDigit}
 
 -- the bit of a number, as the code tests it
 abbrev pub bitAt : ℕ → ℕ → Bool
@@ -34,7 +36,7 @@ same-bools false true e = absurd (no e)
 same-bools false false e = refl
 
 right : Class → ℕ → Bool
-unfolding sameBool isDigit isNameStart isNameByte isLoginByte isBareByte isBlank isOperator
+unfolding sameBool isDigit isNameStart isNameByte isLoginByte isBareByte isBlank isOperator isControl isDigitIn digit choose
 right class b = sameBool (coded class b) (inClass class b)
 
 tested : (class : Class) → every (right class) 0 256 ≡ true
@@ -47,6 +49,9 @@ tested LoginByte = refl
 tested BareByte = refl
 tested Blank = refl
 tested Operator = refl
+tested NotControl = refl
+tested OctalDigit = refl
+tested HexDigit = refl
 
 coded-is : (class : Class) (b : ℕ) → b < 256 → coded class b ≡ inClass class b
 unfolding right

@@ -1,7 +1,7 @@
 -- The two-case types of the stages by the Booleans of the code, and back.
 use mathlib.Core.Bool.{Bool, true, false}
 use Rattle.stages.specs.Syntax.{Escape, escaped, unescaped, Colon, withColon, noColon, Side, suffix, prefix, Reach, shortest, longest, Start, fresh, begun}
-use Rattle.stages.specs.Syntax.{Spread, apart, joint, Lists, served, barred}
+use Rattle.stages.specs.Syntax.{Spread, apart, joint, Lists, served, barred, Escapes, noEscapes, withEscapes}
 use Rattle.stages.specs.Pattern.{Purpose, forPaths, forRemoval}
 
 -- whether a backslash quotes a byte
@@ -71,3 +71,12 @@ listsOf false = barred
 abbrev pub isServed : Lists → Bool
 isServed served = true
 isServed barred = false
+
+-- whether a backslash begins an escape in single quotes
+abbrev pub escapesOf : Bool → Escapes
+escapesOf true = withEscapes
+escapesOf false = noEscapes
+
+abbrev pub hasEscapes : Escapes → Bool
+hasEscapes withEscapes = true
+hasEscapes noEscapes = false

@@ -3,9 +3,11 @@ use Prim.Native.Nat.{ℕ, _≤_}
 use mathlib.Core.Path.{_≡_}
 use mathlib.Core.Bool.{Bool, true, false}
 use lib.ListN.{length, drop}
-use Rattle.stages.specs.Bytes.{Text, part, span, notZero, isDigit, isNameStart, isNameByte, isLoginByte, isBareByte, isBlank, isOperator}
+use Rattle.stages.specs.Bytes.{Text, part, span, notZero, isDigit, isNameStart, isNameByte, isLoginByte, isBareByte, isBlank, isOperator, notControl}
+use Rattle.stages.specs.Constants.{isDigitIn}
 use Rattle.text.specs.declared.Class.{Class}
-use Rattle.text.specs.declared.Class.the-variants.{NotZero, Digit, NameStart, NameByte, LoginByte, BareByte, Blank, Operator}
+use Rattle.text.specs.declared.Class.the-variants.{NotZero, Digit, NameStart, NameByte, LoginByte, BareByte, Blank, Operator, NotControl}
+use Rattle.text.specs.declared.Class.the-variants.{OctalDigit, HexDigit}
 
 -- the test that a class stands for
 abbrev pub inClass : Class → ℕ → Bool
@@ -17,6 +19,9 @@ inClass LoginByte b = isLoginByte b
 inClass BareByte b = isBareByte b
 inClass Blank b = isBlank b
 inClass Operator b = isOperator b
+inClass NotControl b = notControl b
+inClass OctalDigit b = isDigitIn 8 b
+inClass HexDigit b = isDigitIn 16 b
 
 -- the bytes of a class as the bits of two numbers: those below 64, and those from 64 to 127
 abbrev pub lowBytes : Class → ℕ
@@ -28,6 +33,9 @@ lowBytes LoginByte = 288054454291267584
 lowBytes BareByte = 288195191779622912
 lowBytes Blank = 4294968832
 lowBytes Operator = 6341071848750448640
+lowBytes NotControl = 18446744069414584320
+lowBytes OctalDigit = 71776119061217280
+lowBytes HexDigit = 287948901175001088
 
 abbrev pub highBytes : Class → ℕ
 highBytes NotZero = 18446744073709551615
@@ -38,6 +46,9 @@ highBytes LoginByte = 576460745995190270
 highBytes BareByte = 576460745995190270
 highBytes Blank = 0
 highBytes Operator = 1152921504606846976
+highBytes NotControl = 9223372036854775807
+highBytes OctalDigit = 0
+highBytes HexDigit = 541165879422
 
 -- whether all bytes from 128 on are in a class, or none
 abbrev pub upperBytes : Class → Bool
@@ -49,6 +60,9 @@ upperBytes LoginByte = false
 upperBytes BareByte = false
 upperBytes Blank = false
 upperBytes Operator = false
+upperBytes NotControl = true
+upperBytes OctalDigit = false
+upperBytes HexDigit = false
 
 -- the longest run of the class from `at` on ends at r
 pub record Runs (text : Text) (at : ℕ) (class : Class) (r : ℕ) : Type 0 where

@@ -19,6 +19,9 @@ pub enum Class {
     BareByte,
     Blank,
     Operator,
+    NotControl,
+    OctalDigit,
+    HexDigit,
 }
 
 // How a text stands to another, "ordered by unsigned value, a prefix first".
@@ -41,6 +44,9 @@ fn low_bytes(class: Class) -> u64
         Class::BareByte => 0x03ff_e000_0000_0000,
         Class::Blank => 0x0000_0001_0000_0600,
         Class::Operator => 0x5800_0340_0000_0000,
+        Class::NotControl => 0xffff_ffff_0000_0000,
+        Class::OctalDigit => 0x00ff_0000_0000_0000,
+        Class::HexDigit => 0x03ff_0000_0000_0000,
     }
 }
 
@@ -57,6 +63,9 @@ fn high_bytes(class: Class) -> u64
         Class::BareByte => 0x07ff_fffe_87ff_fffe,
         Class::Blank => 0x0000_0000_0000_0000,
         Class::Operator => 0x1000_0000_0000_0000,
+        Class::NotControl => 0x7fff_ffff_ffff_ffff,
+        Class::OctalDigit => 0x0000_0000_0000_0000,
+        Class::HexDigit => 0x0000_007e_0000_007e,
     }
 }
 
@@ -73,6 +82,9 @@ fn upper_bytes(class: Class) -> bool
         Class::BareByte => false,
         Class::Blank => false,
         Class::Operator => false,
+        Class::NotControl => true,
+        Class::OctalDigit => false,
+        Class::HexDigit => false,
     }
 }
 

@@ -1,11 +1,11 @@
--- `quote::field_length` meets its contract: a bare field is as long as it is, and two quotes stand around the bytes of another.
+-- `quote::field_length` meets its contract: a bare field is as long as it is, two quotes stand around the bytes of another, and a `$` before them in `$'...'`.
 use native.Mathlib.Omega.{arith}
-use mathlib.Core.Path.{_≡_, sym, ap}
+use mathlib.Core.Path.{sym, ap}
 use borrow.Author.Needs.{needs}
 use lib.ListN.{length}
-use Rattle.stages.specs.Quote.{singled, written, quotedField}
-use Rattle.quote.proofs.Ways.{field-bare, field-singled}
-use Rattle.quote.proofs.Lengths.{bytes-small, singled-length}
+use Rattle.quote.specs.Ways.{wayIs}
+use Rattle.quote.proofs.Fields.{field-bare, field-singled, field-dollared}
+use Rattle.quote.proofs.Lengths.{bytes-small, enclosed-length}
 use Rattle.quote.proofs.field_length.Statement.{statement}
 use Rattle.quote.proofs.field_length.Tie as tie
 
@@ -24,7 +24,18 @@ bytes-length-requires c κs = search needs
 add-result : tie.Need-add-result
 add-result c =
     let a = c .before .before .before .before .before in
-    omega (arith, c .bytes-length .ensures, bytes-small (a .args .field .now), a .pre)
+    omega (arith, c .bytes-length .ensures, bytes-small (wayIs (c .before .before .before .way-of .result)) (a .args .field .now), a .pre)
+
+enum-told-3 : tie.Need-enum-told-3
+enum-told-3 c = search needs
+
+bytes-length-requires-2 : tie.Need-bytes-length-requires-2
+bytes-length-requires-2 c κs = search needs
+
+add-result-2 : tie.Need-add-result-2
+add-result-2 c =
+    let a = c .before .before .before .before .before in
+    omega (arith, c .bytes-length2 .ensures, bytes-small (wayIs (c .before .before .before .way-of .result)) (a .args .field .now), a .pre)
 
 returns : tie.Need-returns
 returns c =
@@ -34,8 +45,22 @@ returns c =
 returns-2 : tie.Need-returns-2
 returns-2 c =
     let t = c .before .before .before .before .before .args .field .now in
-    let e : quotedField t ≡ written singled t = field-singled t (c .before .before .before .way-of .ensures) (c .before .enum-told2 .given .1) in
-    omega (arith, c .bytes-length .ensures, ap length e, singled-length t)
+    omega (
+      arith,
+      c .bytes-length .ensures,
+      ap length (field-singled t (c .before .before .before .way-of .ensures) (c .before .enum-told2 .given .1)),
+      enclosed-length (wayIs (c .before .before .before .way-of .result)) t,
+    )
+
+returns-3 : tie.Need-returns-3
+returns-3 c =
+    let t = c .before .before .before .before .before .args .field .now in
+    omega (
+      arith,
+      c .bytes-length2 .ensures,
+      ap length (field-dollared t (c .before .before .before .way-of .ensures) (c .before .enum-told3 .given .1)),
+      enclosed-length (wayIs (c .before .before .before .way-of .result)) t,
+    )
 
 pub field-length-spec : {M : Type 1} → statement M
 field-length-spec =
@@ -46,5 +71,9 @@ field-length-spec =
     enum-told-2
     bytes-length-requires
     add-result
+    enum-told-3
+    bytes-length-requires-2
+    add-result-2
     returns
-    returns-2)
+    returns-2
+    returns-3)
