@@ -1,4 +1,5 @@
-// What a text stands for: constants in three bases, read by one function over base and limit, and the values of names.
+// What a text stands for: constants in three bases, read by one function over base and limit, and the values of names. The escapes of $'...' have their
+// digits from it too.
 ghost use mathlib.Core.Path.{_≡_};
 ghost use Prim.Native.Nat.{_<_, _≤_};
 ghost use Rattle.stages.specs.Constants.{digit as digitOf, inBase, behindZero, constant, number, valued};
@@ -27,7 +28,7 @@ fn digit(b: u8) -> u64
 }
 
 // What the digits of a text stand for at a base: 15 if one is none of the base, before 17 if they pass the limit.
-fn in_base(text: &[u8], base: u64, limit: u64) -> Count
+pub fn in_base(text: &[u8], base: u64, limit: u64) -> Count
     requires { ⌜ (1 < base) × (base ≤ 16) × (16 ≤ limit) ⌝ }
     ensures { λ r. ⌜ counted r ≡ within limit (inBase base 0 (now (text .entry))) ⌝ }
 {

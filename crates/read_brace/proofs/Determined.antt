@@ -12,6 +12,7 @@ use Rattle.stages.specs.Items.{fault, stop, byte, paren, quote, valueOf, count,
 use Rattle.stages.specs.Items as items
 use Rattle.read_mode.proofs.Determined.{taken-back, modeBack, mode-back, formBack, form-back}
 use Rattle.read_mode.specs.Modes.{modeOf, formOf}
+use Rattle.read_mode.specs.declared.Mode.{Mode}
 use Rattle.read_brace.specs.Shows.{Shows, isAt, called, paramOf, isPlain, signLength}
 use Rattle.read_brace.specs.declared.Param.{Param}
 use Rattle.read_brace.specs.declared.Item.{Item}
@@ -33,7 +34,7 @@ itemBack at (fault e) = Fault e
 itemBack at (stop k) = Stop (at + k)
 itemBack at (byte q b k) = Byte (isEscaped q) b (at + suc k)
 itemBack at (paren b n) = Paren b n
-itemBack at (quote m) = Quote (modeBack m)
+itemBack at (quote m k) = Quote (modeBack m) (at + suc k)
 itemBack at (valueOf x k) =
     Value (paramBack x (pick (isPlain x k) (at + 1) (at + 2)) (pick (isPlain x k) (at + suc k) (at + k))) (at + suc k)
 itemBack at (count (bytesOf x) k) = Count (paramBack x (at + 3) (at + k)) (at + suc k)
@@ -70,6 +71,9 @@ inner-to next to at k n e f = omega arith
 byte-same : {p q : Bool} {b k n : ℕ} → p ≡ q → k ≡ n → Byte p b k ≡ Byte q b n
 byte-same p q = cc
 
+quote-same : {m n : Mode} {k j : ℕ} → m ≡ n → k ≡ j → Quote m k ≡ Quote n j
+quote-same p q = cc
+
 value-same : {p q : Param} {k n : ℕ} → p ≡ q → k ≡ n → Value p k ≡ Value q n
 value-same p q = cc
 
@@ -84,7 +88,7 @@ item-back text at d (Fault e) i h = sym (ap (itemBack at) h)
 item-back text at d (Stop next) i h = ap Stop (stop-back at next (h .1)) ∙ sym (ap (itemBack at) (h .0))
 item-back text at d (Byte q b next) i h = byte-same (escape-back q) (next-back at next (h .1 .onward)) ∙ sym (ap (itemBack at) (h .0))
 item-back text at d (Paren b n) i h = sym (ap (itemBack at) (h .0))
-item-back text at d (Quote m) i h = ap Quote (mode-back m) ∙ sym (ap (itemBack at) (h .0))
+item-back text at d (Quote m next) i h = quote-same (mode-back m) (next-back at next (h .1 .onward)) ∙ sym (ap (itemBack at) (h .0))
 item-back text at d (Value p next) i h =
     let n = next-back at next (h .1 .onward) in
     let t = value-to (isPlain (paramOf text p) (next - suc at)) next (p .to) at (next - suc at) n (h .3 .ends) in

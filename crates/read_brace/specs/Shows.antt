@@ -88,7 +88,7 @@ Shows text at depth (Fault e) i = i ≡ fault e
 Shows text at depth (Stop next) i = (i ≡ stop (next - at)) × (at ≤ next) × (next ≤ length text)
 Shows text at depth (Byte q b next) i = (i ≡ byte (escapeOf q) b (next - suc at)) × Behind text at next
 Shows text at depth (Paren b n) i = (i ≡ paren b n) × (at < length text) × (n ≤ at + 1)
-Shows text at depth (Quote m) i = (i ≡ quote (modeOf m)) × (at < length text) × (openIn m ≡ 0)
+Shows text at depth (Quote m next) i = (i ≡ quote (modeOf m) (next - suc at)) × Behind text at next × (openIn m ≡ 0)
 Shows text at depth (Value p next) i =
     (i ≡ valueOf (paramOf text p) (next - suc at)) × Behind text at next × Name text (p .from) (p .to) × ValueAt at next p (paramOf text p)
 Shows text at depth (Count p next) i =

@@ -47,8 +47,11 @@ pub enum Item {
         byte: u8,
         parens: usize,
     },
-    // a quote opens
-    Quote(Mode),
+    // a quote opens, and how the text at `next` in it is read
+    Quote {
+        mode: Mode,
+        next: usize,
+    },
     // $name, ${name}
     Value {
         param: Param,

@@ -13,6 +13,8 @@ use Rattle.stages.specs.Bytes.{Text}
 use Rattle.stages.specs.Syntax.{escaped, unescaped, Lists, double, Mode, arith as sums}
 use Rattle.stages.specs.Items.{Item, fault, stop, paren, quote, sum, item, itemOf, ended, behindBackslash, quotable, listsIn}
 use Rattle.stages.specs.Items.{wrong, expansion, parenthesis, opened, closed, outer}
+use Rattle.stages.specs.Items.{saidItem}
+use Rattle.stages.specs.Escapes.{escapeAt}
 use Rattle.text.specs.Cases.{listsOf}
 use Rattle.read_mode.specs.Modes.{modeOf, openIn, sortOf, Sorted}
 use Rattle.read_mode.specs.declared.Cursor.{Cursor}
@@ -20,6 +22,9 @@ use Rattle.read_mode.specs.declared.Mode as code-mode
 use Rattle.read_mode.specs.declared.Mode.the-variants as mode
 use Rattle.read_mode.specs.declared.Sort.{Sort}
 use Rattle.read_mode.specs.declared.Sort.the-variants as sort-of
+use Rattle.read_escape.specs.Says.{SaidAt}
+use Rattle.read_escape.specs.declared.Said as said
+use Rattle.read_escape.specs.declared.Said.the-variants as says-of
 use Rattle.read_brace.specs.Shows.{Shows, isAt}
 use Rattle.read_brace.specs.declared.Item as code-item
 use Rattle.read_brace.specs.declared.Item.the-variants.{Fault, Stop, Byte, Paren, Quote, Sum}
@@ -128,6 +133,23 @@ module _ (s : Text) (from : Cursor) (n : ℕ) where
       unfolding outer wrong
       closed-wrong e w = closed-outer ∙ ap outer (drop-cons s (from .at + 1) 0 (h .there)) ∙ rw (ne-eqb _ _ e) w
 
+-- After a backslash that begins an escape.
+
+abbrev Says : Text → Cursor → code-item.Item → Type 0
+Says s from r = Shows s (from .at) (from .depth) r (saidItem (escapeAt (drop (from .at + 1) s)))
+
+module _ (s : Text) (from : Cursor) {o : said.Said} (w : SaidAt s (from .at) o (escapeAt (drop (from .at + 1) s))) where
+  told : {k : said.Said} → o ≡ k → SaidAt s (from .at) k (escapeAt (drop (from .at + 1) s))
+  told e = subst (λ (x : said.Said). SaidAt s (from .at) x (escapeAt (drop (from .at + 1) s))) e w
+
+  pub said-byte : {b next : ℕ} → o ≡ says-of.Byte b next → Says s from (Byte true b next)
+  unfolding saidItem
+  said-byte e = let t = told e in (ap saidItem (t .0), t .1)
+
+  pub said-fault : {n : ℕ} → o ≡ says-of.Refused n → Says s from (Fault n)
+  unfolding saidItem
+  said-fault e = ap saidItem (told e)
+
 -- The item, by the sort of its first byte.
 
 -- at the end of the line
@@ -140,7 +162,7 @@ open-is : (m : code-mode.Mode) (n : ℕ) → modeOf m ≡ sums n → openIn m �
 open-is (mode.Word f) n e = absurd (let z : _≡_ {A = ℕ} 0 1 = cc in omega arith)
 open-is (mode.Value f) n e = absurd (let z : _≡_ {A = ℕ} 0 1 = cc in omega arith)
 open-is (mode.Bare f l) n e = absurd (let z : _≡_ {A = ℕ} 0 1 = cc in omega arith)
-open-is mode.Single n e = absurd (let z : _≡_ {A = ℕ} 0 1 = cc in omega arith)
+open-is (mode.Single x) n e = absurd (let z : _≡_ {A = ℕ} 0 1 = cc in omega arith)
 open-is (mode.Double l) n e = absurd (let z : _≡_ {A = ℕ} 0 1 = cc in omega arith)
 open-is (mode.Operand l) n e = absurd (let z : _≡_ {A = ℕ} 0 1 = cc in omega arith)
 open-is (mode.Arith k) n e = cc
@@ -178,13 +200,24 @@ module _ {s : Text} {from : Cursor} {r : Sort} (h : Sees s from r) where
   unfolding itemOf
   item-operator e = by-sort e
 
-  pub item-quotes : r ≡ sort-of.Quotes → ItemAt s from (Quote mode.Single)
-  unfolding itemOf
-  item-quotes e = (by-sort e, h .there, refl)
+  -- a quote of one byte
+  opens-quote : (m : code-mode.Mode) → openIn m ≡ 0 → item (modeOf (from .mode)) (from .depth) (drop (from .at) s) ≡ quote (modeOf m) 0
+      → ItemAt s from (Quote m (from .at + 1))
+  opens-quote m z e =
+      let k : from .at + 1 - suc (from .at) ≡ 0 = omega arith in
+      (e ∙ ap (quote (modeOf m)) (sym k), record { onward = omega arith; within = omega (arith, h .there) }, z)
 
-  pub item-quotes2 : r ≡ sort-of.Quotes2 → (l : Bool) → listsOf l ≡ listsIn (modeOf (from .mode)) → ItemAt s from (Quote (mode.Double l))
+  pub item-quotes : r ≡ sort-of.Quotes → ItemAt s from (Quote (mode.Single false) (from .at + 1))
   unfolding itemOf
-  item-quotes2 e l g = (by-sort e ∙ ap (λ (x : Lists). quote (double x)) (sym g), h .there, refl)
+  item-quotes e = opens-quote (mode.Single false) refl (by-sort e)
+
+  pub item-quotes2 : r ≡ sort-of.Quotes2 → (l : Bool) → listsOf l ≡ listsIn (modeOf (from .mode)) → ItemAt s from (Quote (mode.Double l) (from .at + 1))
+  unfolding itemOf
+  item-quotes2 e l g = opens-quote (mode.Double l) refl (by-sort e ∙ ap (λ (x : Lists). quote (double x) 0) (sym g))
+
+  pub item-escape : r ≡ sort-of.Escape → (i : code-item.Item) → Says s from i → ItemAt s from i
+  unfolding itemOf
+  item-escape e i q = same-item s (from .at) (from .depth) i (by-sort e) q
 
   pub item-backslash : r ≡ sort-of.Backslash → (i : code-item.Item) → Escapes s from i → ItemAt s from i
   unfolding itemOf

@@ -2,7 +2,7 @@
 use Prim.Native.Nat.{ℕ, suc, _+_, _-_, _≤_, _<_}
 use native.Mathlib.Omega.{arith}
 use mathlib.Core.Path.{_≡_, refl, sym, ap, _∙_}
-use mathlib.Core.Bool.{Bool, true, false}
+use mathlib.Core.Bool.{Bool, true, false, _&&_}
 use mathlib.Core.List.{[], _∷_}
 use borrow.Author.Tests.{eq-eqb, ne-eqb}
 use lib.ListN.{length, take, drop, getD, drop-of-length-le}
@@ -10,20 +10,21 @@ use lib.Seq.{drop-cons}
 use Rattle.stages.specs.Numbers.{unserved}
 use Rattle.stages.specs.Bytes.{Text, text, part, isIn, isNameStart}
 use Rattle.stages.specs.Syntax.{unescaped, Lists, served, barred, Spread, var, nth}
-use Rattle.stages.specs.Items.{valueOf, spread, expansion, notServed, braced, numberOf, isFirstDigit, listsIn, spreadAt, spreadOf}
+use Rattle.stages.specs.Items.{valueOf, spread, expansion, notServed, isBareText, braced, numberOf, isFirstDigit, listsIn, spreadAt, spreadOf}
 use Rattle.text.specs.Cases.{spreadOf as givenAs}
 use Rattle.text.specs.Classes.{Runs}
 use Rattle.text.specs.declared.Class.the-variants.{NameByte}
 use Rattle.text.proofs.Parts.{part-length}
 use Rattle.read_mode.specs.Modes.{modeOf}
 use Rattle.read_mode.specs.declared.Cursor.{Cursor}
+use Rattle.read_mode.specs.declared.Mode.the-variants as mode
 use Rattle.read_brace.specs.Shows.{Shows}
 use Rattle.read_brace.specs.declared.Param.{Param}
 use Rattle.read_brace.specs.declared.Item as code-item
 use Rattle.read_brace.specs.declared.Item.the-variants.{Fault, Byte, Value, Total}
 use Rattle.read_brace.specs.declared.Item.the-variants as code
 use Rattle.read_brace.proofs.Showing.{same-item, shows-byte, shows-value, shows-total, shows-spread, plain-value}
-use Rattle.read_item.specs.After.{special}
+use Rattle.read_item.specs.After.{dollarQuote, special}
 use Rattle.read_item.proofs.Class.{Second, Parens}
 
 -- After `$@` and `$*`.
@@ -47,6 +48,30 @@ module _ (s : Text) (from : Cursor) where
 
 abbrev Expands : Text → Cursor → code-item.Item → Type 0
 Expands s from r = Shows s (from .at) (from .depth) r (expansion (modeOf (from .mode)) (from .depth) (drop (from .at + 1) s))
+
+-- After `$'`.
+
+abbrev Quotes : Text → Cursor → code-item.Item → Type 0
+Quotes s from r = Shows s (from .at) (from .depth) r (dollarQuote (modeOf (from .mode)))
+
+and-true : (x : Bool) → (x && true) ≡ x
+and-true true = refl
+and-true false = refl
+
+and-false : (x : Bool) → (x && false) ≡ false
+and-false true = refl
+and-false false = refl
+
+module _ (s : Text) (from : Cursor) (h : from .at + 1 < length s) where
+  pub quote-opens : isBareText (modeOf (from .mode)) ≡ true → Quotes s from (code.Quote (mode.Single true) (from .at + 2))
+  unfolding dollarQuote
+  quote-opens e =
+      let k : from .at + 2 - suc (from .at) ≡ 1 = omega arith in
+      (rw (e, k), record { onward = omega arith; within = omega arith }, refl)
+
+  pub quote-literal : isBareText (modeOf (from .mode)) ≡ false → Quotes s from (Byte false 36 (from .at + 1))
+  unfolding dollarQuote
+  quote-literal e = shows-byte s (from .at) (from .depth) (from .at + 1) 0 (omega arith) (omega arith) unescaped 36 (rw e)
 
 -- After `$`, where no name, no parenthesis and no brace begins.
 
@@ -86,14 +111,21 @@ module _ {s : Text} {from : Cursor} (h : Second s from) where
       special-spread g r q = same-item s (from .at) (from .depth) r (rw (e, ne-eqb _ _ f, g)) q
 
       module _ (g : isIn b (text "@*") ≡ false) where
-        pub special-unserved : notServed (modeOf (from .mode)) b ≡ true → Specials s from (Fault unserved)
+        pub special-unserved : notServed b ≡ true → Specials s from (Fault unserved)
         unfolding special
         special-unserved k = rw (e, ne-eqb _ _ f, g, k)
 
-        pub special-plain : notServed (modeOf (from .mode)) b ≡ false → Specials s from (Byte false 36 (from .at + 1))
-        unfolding special
-        special-plain k =
-            shows-byte s (from .at) (from .depth) (from .at + 1) 0 (omega arith) (omega (arith, h .there)) unescaped 36 (rw (e, ne-eqb _ _ f, g, k))
+        module _ (k : notServed b ≡ false) where
+          pub special-quote : b ≡ 39 → (r : code-item.Item) → Quotes s from r → Specials s from r
+          unfolding special dollarQuote
+          special-quote q r p =
+              same-item s (from .at) (from .depth) r (rw (e, ne-eqb _ _ f, g, k, eq-eqb b 39 q, and-true (isBareText (modeOf (from .mode))))) p
+
+          pub special-plain : (b ≡ 39 → ⊥) → Specials s from (Byte false 36 (from .at + 1))
+          unfolding special
+          special-plain q =
+              shows-byte s (from .at) (from .depth) (from .at + 1) 0 (omega arith) (omega (arith, h .there)) unescaped 36
+              (rw (e, ne-eqb _ _ f, g, k, ne-eqb b 39 q, and-false (isBareText (modeOf (from .mode)))))
 
 -- no name stands after the `$`
 pub record NoName (s : Text) (from : Cursor) : Type 0 where

@@ -1,15 +1,15 @@
 -- The item where a text is read, and what comes after it.
 use Prim.Native.Nat.{ℕ, _-_}
 use Prim.Native.Char.{code}
-use mathlib.Core.Bool.{Bool, true, false}
+use mathlib.Core.Bool.{Bool, true, false, _&&_}
 use lib.Dec.{eqb}
 use lib.ListN.{drop}
 use Rattle.stages.specs.Numbers.{unserved}
 use Rattle.stages.specs.Bytes.{Text, text, isIn}
 use Rattle.stages.specs.Outcome.{pick}
-use Rattle.stages.specs.Syntax.{unescaped, nth, parameters}
+use Rattle.stages.specs.Syntax.{unescaped, nth, parameters, single, withEscapes}
 use Rattle.stages.specs.Syntax as syntax
-use Rattle.stages.specs.Items.{item, fault, byte, valueOf, count, isFirstDigit, listsIn, spreadAt, notServed}
+use Rattle.stages.specs.Items.{item, fault, byte, quote, valueOf, count, isFirstDigit, listsIn, spreadAt, notServed, isBareText}
 use Rattle.stages.specs.Items as items
 use Rattle.read_mode.specs.Modes.{modeOf, modeOnward, modeBehind}
 use Rattle.read_mode.specs.declared.Cursor.{Cursor}
@@ -23,14 +23,20 @@ use Rattle.read_brace.specs.declared.Item.the-variants.{Fault, Stop, Byte, Pare
 abbrev pub ItemAt : Text → Cursor → Item → Type 0
 ItemAt text from i = Shows text (from .at) (from .depth) i (item (modeOf (from .mode)) (from .depth) (drop (from .at) text))
 
+-- what `$'` is
+unfoldable pub dollarQuote : syntax.Mode → items.Item
+unfolding isBareText
+dollarQuote m = pick (isBareText m) (quote (single withEscapes) 1) (byte unescaped (code "$") 0)
+
 -- what `$` is before a byte that begins no name, no parenthesis and no brace
 unfoldable pub special : syntax.Mode → ℕ → items.Item
-unfolding isFirstDigit listsIn spreadAt notServed
+unfolding isFirstDigit listsIn spreadAt notServed isBareText
 special m b =
     pick (isFirstDigit b) (valueOf (nth (b - code "0")) 1)
     (pick (eqb b (code "#")) (count parameters 1)
     (pick (isIn b (text "@*")) (spreadAt (listsIn m) b 1)
-    (pick (notServed m b) (fault unserved) (byte unescaped (code "$") 0))))
+    (pick (notServed b) (fault unserved)
+    (pick (isBareText m && eqb b (code "'")) (quote (single withEscapes) 1) (byte unescaped (code "$") 0)))))
 
 -- the mode in which the text goes on: a parenthesis changes it, a byte may let a tilde begin, and behind its first item a text has begun
 abbrev pub modeAfter : Item → Mode → Mode
@@ -38,7 +44,7 @@ modeAfter (Fault e) m = modeOnward m
 modeAfter (Stop next) m = modeOnward m
 modeAfter (Byte q b next) m = modeBehind m q b
 modeAfter (Paren b n) m = Arith n
-modeAfter (Quote inner) m = modeOnward m
+modeAfter (Quote inner next) m = modeOnward m
 modeAfter (Value p next) m = modeOnward m
 modeAfter (Count p next) m = modeOnward m
 modeAfter (Total next) m = modeOnward m
@@ -53,7 +59,7 @@ isStop (Fault e) = false
 isStop (Stop next) = true
 isStop (Byte q b next) = false
 isStop (Paren b n) = false
-isStop (Quote inner) = false
+isStop (Quote inner next) = false
 isStop (Value p next) = false
 isStop (Count p next) = false
 isStop (Total next) = false

@@ -2,6 +2,7 @@
 // byte of what stands there.
 use read_brace::Item;
 use read_brace::Param;
+use read_escape::Said;
 use read_mode::Cursor;
 use read_mode::Mode;
 use read_mode::Sort;
@@ -11,10 +12,11 @@ ghost use mathlib.Core.Path.{_≡_};
 ghost use Prim.Native.Nat.{_+_, _≤_, _<_};
 ghost use lib.ListN.{length, drop, getD};
 ghost use Rattle.stages.specs.Syntax.{arith};
-ghost use Rattle.stages.specs.Items.{item, behindBackslash, expansion, parenthesis, spreadAt, listsIn, closed, behindTilde};
+ghost use Rattle.stages.specs.Escapes.{escapeAt};
+ghost use Rattle.stages.specs.Items.{item, isBareText, behindBackslash, saidItem, expansion, parenthesis, spreadAt, listsIn, closed, behindTilde};
 ghost use Rattle.read_mode.specs.Modes.{modeOf, openIn};
 ghost use Rattle.read_brace.specs.Shows.{Shows};
-ghost use Rattle.read_item.specs.After.{modeAfter, isStop, special};
+ghost use Rattle.read_item.specs.After.{modeAfter, isStop, dollarQuote, special};
 
 // What a backslash is.
 fn escaped_at(text: &[u8], from: Cursor) -> Item
@@ -42,6 +44,22 @@ fn escaped_at(text: &[u8], from: Cursor) -> Item
         quoted: false,
         byte: b'\\',
         next: at + 1,
+    }
+}
+
+// What a backslash is that begins an escape.
+fn said_at(text: &[u8], from: Cursor) -> Item
+    requires { ⌜ from .at < length (now text) ⌝ }
+    ensures { λ r. ⌜ Shows (now (text .entry)) (from .at) (from .depth) r (saidItem (escapeAt (drop (from .at + 1) (now (text .entry))))) ⌝ }
+{
+    let said = read_escape::escape_at(text, from.at);
+    match said {
+        Said::Byte { byte, next } => Item::Byte {
+            quoted: true,
+            byte: byte,
+            next: next,
+        },
+        Said::Refused(number) => Item::Fault(number),
     }
 }
 
@@ -78,6 +96,41 @@ fn spread_at(text: &[u8], from: Cursor) -> Item
     Item::Fault(numbers::REFUSED_UNSERVED)
 }
 
+// Is a text of this mode bare, so that `$'` opens a quote in it?
+fn is_bare_text(mode: Mode) -> bool
+    ensures { λ r. ⌜ r ≡ isBareText (modeOf mode) ⌝ }
+{
+    match mode {
+        Mode::Word(_) => true,
+        Mode::Value(_) => true,
+        Mode::Bare { fresh: _, lists: _ } => true,
+        Mode::Single(_) => false,
+        Mode::Double(_) => false,
+        Mode::Operand(_) => false,
+        Mode::Arith(_) => false,
+    }
+}
+
+// What `$'` is: in bare text a quote opens.
+fn quote_at(text: &[u8], from: Cursor) -> Item
+    requires { ⌜ from .at + 1 < length (now text) ⌝ }
+    ensures { λ r. ⌜ Shows (now (text .entry)) (from .at) (from .depth) r (dollarQuote (modeOf (from .mode))) ⌝ }
+{
+    let at = from.at;
+    let mode = from.mode;
+    if is_bare_text(mode) {
+        return Item::Quote {
+            mode: Mode::Single(true),
+            next: at + 2,
+        };
+    }
+    Item::Byte {
+        quoted: false,
+        byte: b'$',
+        next: at + 1,
+    }
+}
+
 // What `$` is before a byte that begins no name, no parenthesis and no brace.
 fn special_at(text: &[u8], from: Cursor) -> Item
     requires { ⌜ from .at + 1 < length (now text) ⌝ }
@@ -85,7 +138,6 @@ fn special_at(text: &[u8], from: Cursor) -> Item
         (special (modeOf (from .mode)) (getD (now (text .entry)) (from .at + 1) 0)) ⌝ }
 {
     let at = from.at;
-    let mode = from.mode;
     let b = text[at + 1];
     if read_brace::is_first_digit(b) {
         return Item::Value {
@@ -103,8 +155,11 @@ fn special_at(text: &[u8], from: Cursor) -> Item
     if text::is_in(b, b"@*") {
         return spread_at(text, from);
     }
-    if read_mode::is_not_served(mode, b) {
+    if read_mode::is_not_served(b) {
         return Item::Fault(numbers::REFUSED_UNSERVED);
+    }
+    if b == b'\'' {
+        return quote_at(text, from);
     }
     Item::Byte {
         quoted: false,
@@ -213,9 +268,16 @@ pub fn item_at(text: &[u8], from: Cursor) -> Item
         Sort::Backquote => Item::Fault(numbers::REFUSED_SUBSTITUTION),
         Sort::Closes(taken) => Item::Stop(at + taken),
         Sort::Operator => Item::Fault(numbers::REFUSED_OPERATOR),
-        Sort::Quotes => Item::Quote(Mode::Single),
-        Sort::Quotes2 => Item::Quote(Mode::Double(read_mode::lists_in(mode))),
+        Sort::Quotes => Item::Quote {
+            mode: Mode::Single(false),
+            next: at + 1,
+        },
+        Sort::Quotes2 => Item::Quote {
+            mode: Mode::Double(read_mode::lists_in(mode)),
+            next: at + 1,
+        },
         Sort::Backslash => escaped_at(text, from),
+        Sort::Escape => said_at(text, from),
         Sort::Dollar => expansion_at(text, from),
         Sort::Bad => Item::Fault(numbers::REFUSED_SYNTAX),
         Sort::Opening(parens) => Item::Paren {

@@ -136,12 +136,13 @@ module _ {text : Text} {from : Cursor} {i : Item} (h : Here text from i) where
       (on text from (h .few) (til (part text (from .at + 1) to)) to
       (at-home text (from .at) (modeOf (from .mode)) (from .depth) (part text (from .at + 1) to) to (s .0) (s .1 .onward)) (s .1))
 
-  pub item-quote : {n : Mode} → i ≡ Quote n → (got : Reading)
-      → ReadSays text (from .at + 1) (parts (modeOf n) (from .depth) (drop (from .at + 1) text)) got → ItemSays i text from got
-  item-quote {n = n} e got g =
+  pub item-quote : {n : Mode} {start : ℕ} → i ≡ Quote n start → (got : Reading)
+      → ReadSays text start (parts (modeOf n) (from .depth) (drop start text)) got → ItemSays i text from got
+  item-quote {n = n} {start = start} e got g =
+      let s = known e in
       told e got
-      (inside text from (h .few) (Quote n) refl refl quo (from .at + 1) _ (omega arith)
-      (at-quote text (from .at) (modeOf (from .mode)) (from .depth) (modeOf n) (known e .0)) got g)
+      (inside text from (h .few) (Quote n start) refl refl quo start _ (s .1 .onward)
+      (at-quote text (from .at) (modeOf (from .mode)) (from .depth) (modeOf n) start (s .0) (s .1 .onward)) got g)
 
   pub item-inner : {x : Param} {p : Form} {n : Mode} {start : ℕ} → i ≡ Inner x p n start → (got : Reading)
       → ReadSays text start (parts (modeOf n) (from .depth - 1) (drop start text)) got → ItemSays i text from got

@@ -64,10 +64,10 @@ fn read_item(item: Item, text: &[u8], from: Cursor) -> Reading
         Item::Paren { byte: _, parens: _ } => Reading::End(at + 1),
         Item::Value { param: _, next } => Reading::End(next),
         Item::Count { param: _, next } => Reading::End(next),
-        Item::Quote(inner) => read_text(
+        Item::Quote { mode: inner, next } => read_text(
             text,
             Cursor {
-                at: at + 1,
+                at: next,
                 mode: inner,
                 depth: depth,
             },

@@ -16,18 +16,19 @@ use Rattle.read_mode.specs.declared.Mode.{Mode}
 use Rattle.read_mode.specs.declared.Mode.the-variants.{Word, Value, Bare, Single, Double, Operand, Arith}
 use Rattle.read_mode.proofs.Sort as sort-type
 use Rattle.read_mode.specs.declared.Sort.{Sort}
-use Rattle.read_mode.specs.declared.Sort.the-variants.{Backquote, Closes, Operator, Quotes, Quotes2, Backslash}
+use Rattle.read_mode.specs.declared.Sort.the-variants.{Backquote, Closes, Operator, Quotes, Quotes2, Backslash, Escape}
 use Rattle.read_mode.specs.declared.Sort.the-variants.{Dollar, Bad, Opening, Closing, Tilde, Literal}
 
 -- the sorts that end no text
-pub no-closer : (s : Sort) → OneOf (0 ∷ 2 ∷ 3 ∷ 4 ∷ 5 ∷ 6 ∷ 7 ∷ 8 ∷ 9 ∷ 10 ∷ 11 ∷ []) (tagOf sort-type.the-type s) → isCloser (sortOf s) ≡ false
+pub no-closer : (s : Sort) → OneOf (0 ∷ 2 ∷ 3 ∷ 4 ∷ 5 ∷ 6 ∷ 7 ∷ 8 ∷ 9 ∷ 10 ∷ 11 ∷ 12 ∷ []) (tagOf sort-type.the-type s) → isCloser (sortOf s) ≡ false
 unfolding isCloser
 no-closer Backquote k = refl
-no-closer (Closes n) k = absurd (miss (0 ∷ 2 ∷ 3 ∷ 4 ∷ 5 ∷ 6 ∷ 7 ∷ 8 ∷ 9 ∷ 10 ∷ 11 ∷ []) 1 tt k)
+no-closer (Closes n) k = absurd (miss (0 ∷ 2 ∷ 3 ∷ 4 ∷ 5 ∷ 6 ∷ 7 ∷ 8 ∷ 9 ∷ 10 ∷ 11 ∷ 12 ∷ []) 1 tt k)
 no-closer Operator k = refl
 no-closer Quotes k = refl
 no-closer Quotes2 k = refl
 no-closer Backslash k = refl
+no-closer Escape k = refl
 no-closer Dollar k = refl
 no-closer Bad k = refl
 no-closer (Opening n) k = refl
@@ -45,7 +46,7 @@ unfolding loginEnds
 other-ends (Word s) b k = or-nothing (eqb b (code "/"))
 other-ends (Value s) b k = absurd (miss (0 ∷ 2 ∷ 3 ∷ 4 ∷ 5 ∷ 6 ∷ []) 1 tt k)
 other-ends (Bare s l) b k = or-nothing (eqb b (code "/"))
-other-ends Single b k = or-nothing (eqb b (code "/"))
+other-ends (Single e) b k = or-nothing (eqb b (code "/"))
 other-ends (Double l) b k = or-nothing (eqb b (code "/"))
 other-ends (Operand l) b k = or-nothing (eqb b (code "/"))
 other-ends (Arith n) b k = or-nothing (eqb b (code "/"))

@@ -10,8 +10,8 @@ use Rattle.stages.specs.Syntax.{Colon}
 use Rattle.stages.specs.Syntax as syntax
 use Rattle.stages.specs.Items.{ended, quotable, notServed, listsIn, letBy, wrong, fault, signForm, closerLength, endsLogin}
 use Rattle.stages.specs.Items as items
-use Rattle.text.specs.Cases.{hasColon, isLongest, isFresh, isServed, listsOf}
-use Rattle.text.proofs.Cases.{colon-back, reach-back, start-back, lists-back}
+use Rattle.text.specs.Cases.{hasColon, isLongest, isFresh, isServed, listsOf, hasEscapes}
+use Rattle.text.proofs.Cases.{colon-back, reach-back, start-back, lists-back, escapes-back}
 use Rattle.text.proofs.Determined.{one-answer}
 use Rattle.read_mode.specs.Modes.{modeOf, modeOnward, modeBehind, formOf, sortOf, Carries, Sorted, Operands, endsLine}
 use Rattle.read_mode.specs.declared.Mode.{Mode}
@@ -19,7 +19,7 @@ use Rattle.read_mode.specs.declared.Mode.the-variants.{Word, Value, Bare
 use Rattle.read_mode.specs.declared.Form.{Form}
 use Rattle.read_mode.specs.declared.Form.the-variants.{Minus, Equals, Query, Plus, Suffix, Prefix}
 use Rattle.read_mode.specs.declared.Sort.{Sort}
-use Rattle.read_mode.specs.declared.Sort.the-variants.{Backquote, Closes, Operator, Quotes, Quotes2, Backslash}
+use Rattle.read_mode.specs.declared.Sort.the-variants.{Backquote, Closes, Operator, Quotes, Quotes2, Backslash, Escape}
 use Rattle.read_mode.specs.declared.Sort.the-variants.{Dollar, Bad, Opening, Closing, Tilde, Literal}
 
 -- what a function takes back is determined by what it is taken from
@@ -30,7 +30,7 @@ abbrev pub modeBack : syntax.Mode → Mode
 modeBack (word s) = Word (isFresh s)
 modeBack (value s) = Value (isFresh s)
 modeBack (bare s l) = Bare (isFresh s) (isServed l)
-modeBack single = Single
+modeBack (single e) = Single (hasEscapes e)
 modeBack (double l) = Double (isServed l)
 modeBack (quotedOperand l) = Operand (isServed l)
 modeBack (sums n) = Arith n
@@ -42,7 +42,7 @@ pub mode-back : (m : Mode) → m ≡ modeBack (modeOf m)
 mode-back (Word s) = ap Word (start-back s)
 mode-back (Value s) = ap Value (start-back s)
 mode-back (Bare s l) = bare-same (start-back s) (lists-back l)
-mode-back Single = refl
+mode-back (Single e) = ap Single (escapes-back e)
 mode-back (Double l) = ap Double (lists-back l)
 mode-back (Operand l) = ap Operand (lists-back l)
 mode-back (Arith n) = refl
@@ -75,7 +75,7 @@ abbrev parensOf : syntax.Mode → ℕ
 parensOf (word s) = 0
 parensOf (value s) = 0
 parensOf (bare s l) = 0
-parensOf single = 0
+parensOf (single e) = 0
 parensOf (double l) = 0
 parensOf (quotedOperand l) = 0
 parensOf (sums n) = n
@@ -87,6 +87,7 @@ sortBack m items.operator = Operator
 sortBack m items.quotes = Quotes
 sortBack m items.quotes2 = Quotes2
 sortBack m items.backslash = Backslash
+sortBack m items.escape = Escape
 sortBack m items.dollar = Dollar
 sortBack m items.bad = Bad
 sortBack m items.opening = Opening (parensOf m)
@@ -101,6 +102,7 @@ sort-back m Operator c = refl
 sort-back m Quotes c = refl
 sort-back m Quotes2 c = refl
 sort-back m Backslash c = refl
+sort-back m Escape c = refl
 sort-back m Dollar c = refl
 sort-back m Bad c = refl
 sort-back m (Opening n) c = ap (λ (x : syntax.Mode). Opening (parensOf x)) (sym c)
@@ -114,8 +116,8 @@ sort-at-determined m b r s p q = sort-back m r (p .carries) ∙ ap (sortBack m) 
 pub is-quotable-determined : (m : syntax.Mode) (b : ℕ) (r s : Bool) → r ≡ quotable m b → s ≡ quotable m b → r ≡ s
 is-quotable-determined m b r s = one-answer
 
-pub is-not-served-determined : (m : syntax.Mode) (b : ℕ) (r s : Bool) → r ≡ notServed m b → s ≡ notServed m b → r ≡ s
-is-not-served-determined m b r s = one-answer
+pub is-not-served-determined : (b : ℕ) (r s : Bool) → r ≡ notServed b → s ≡ notServed b → r ≡ s
+is-not-served-determined b r s = one-answer
 
 lists-determined : (k : syntax.Lists) (r s : Bool) → listsOf r ≡ k → listsOf s ≡ k → r ≡ s
 lists-determined k r s p q = taken-back listsOf isServed lists-back r s (one-answer p q)

@@ -21,7 +21,7 @@ unfolding onward
 onward-mode (Word s) = refl
 onward-mode (Value s) = refl
 onward-mode (Bare s l) = refl
-onward-mode Single = refl
+onward-mode (Single e) = refl
 onward-mode (Double l) = refl
 onward-mode (Operand l) = refl
 onward-mode (Arith n) = refl
@@ -30,7 +30,7 @@ pub onward-open : (m : Mode) → openIn (modeOnward m) ≡ openIn m
 onward-open (Word s) = refl
 onward-open (Value s) = refl
 onward-open (Bare s l) = refl
-onward-open Single = refl
+onward-open (Single e) = refl
 onward-open (Double l) = refl
 onward-open (Operand l) = refl
 onward-open (Arith n) = refl
@@ -49,7 +49,7 @@ unfolding behindByte onward
 behind-mode (Word s) q b = refl
 behind-mode (Value s) q b = ap value (start-behind q b)
 behind-mode (Bare s l) q b = refl
-behind-mode Single q b = refl
+behind-mode (Single e) q b = refl
 behind-mode (Double l) q b = refl
 behind-mode (Operand l) q b = refl
 behind-mode (Arith n) q b = refl
@@ -58,7 +58,7 @@ pub behind-open : (m : Mode) (q : Bool) (b : ℕ) → openIn (modeBehind m q b) 
 behind-open (Word s) q b = refl
 behind-open (Value s) q b = refl
 behind-open (Bare s l) q b = refl
-behind-open Single q b = refl
+behind-open (Single e) q b = refl
 behind-open (Double l) q b = refl
 behind-open (Operand l) q b = refl
 behind-open (Arith n) q b = refl
@@ -68,7 +68,7 @@ pub other-behind : (m : Mode) (q : Bool) (b : ℕ) → OneOf (0 ∷ 2 ∷ 3 ∷ 
 other-behind (Word s) q b k = refl
 other-behind (Value s) q b k = absurd (miss (0 ∷ 2 ∷ 3 ∷ 4 ∷ 5 ∷ 6 ∷ []) 1 tt k)
 other-behind (Bare s l) q b k = refl
-other-behind Single q b k = refl
+other-behind (Single e) q b k = refl
 other-behind (Double l) q b k = refl
 other-behind (Operand l) q b k = refl
 other-behind (Arith n) q b k = refl

@@ -38,7 +38,7 @@ module _ (m : Mode) (k a : Lists) (e : a ≡ both (listsIn (modeOf m)) k) where
   unfolding listsIn both operandMode
   in-bare g = subst (AsBare k a) (sym g) (λ h. ap (bare fresh) h) e
 
-  pub in-single : m ≡ Single → bare fresh a ≡ operandMode (modeOf m) k
+  pub in-single : {x : Bool} → m ≡ Single x → bare fresh a ≡ operandMode (modeOf m) k
   unfolding listsIn both operandMode
   in-single g = subst (AsBare k a) (sym g) (λ h. ap (bare fresh) h) e
 

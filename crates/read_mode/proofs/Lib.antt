@@ -3,3 +3,4 @@ pub mod Closing
 pub mod GoingOn
 pub mod Letting
 pub mod Valued
+pub mod Escaping

@@ -6,7 +6,7 @@ use Rattle.stages.specs.Syntax.{Start, word, value}
 use Rattle.stages.specs.Items.{sort, closerLength}
 use Rattle.read_mode.specs.Modes.{Carries, Sorted}
 use Rattle.read_mode.specs.declared.Sort.{Sort}
-use Rattle.read_mode.specs.declared.Sort.the-variants.{Backquote, Closes, Operator, Quotes, Quotes2, Backslash}
+use Rattle.read_mode.specs.declared.Sort.the-variants.{Backquote, Closes, Operator, Quotes, Quotes2, Backslash, Escape}
 use Rattle.read_mode.specs.declared.Sort.the-variants.{Dollar, Bad, Opening, Closing, Tilde, Literal}
 
 carries-value : (s : Start) (r : Sort) → Carries r (word s) → Carries r (value s)
@@ -17,6 +17,7 @@ carries-value s Operator c = tt
 carries-value s Quotes c = tt
 carries-value s Quotes2 c = tt
 carries-value s Backslash c = tt
+carries-value s Escape c = tt
 carries-value s Dollar c = tt
 carries-value s Bad c = tt
 carries-value s (Opening n) c = absurd (let z : _≡_ {A = ℕ} 0 1 = cc in omega arith)

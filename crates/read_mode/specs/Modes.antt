@@ -10,20 +10,20 @@ use Rattle.stages.specs.Syntax.{word, value, bare, single, double, quotedOperan
 use Rattle.stages.specs.Syntax as syntax
 use Rattle.stages.specs.Items.{Item, fault, stop, operandMode, closerLength, sort}
 use Rattle.stages.specs.Items as items
-use Rattle.text.specs.Cases.{colonOf, reachOf, startOf, listsOf}
+use Rattle.text.specs.Cases.{colonOf, reachOf, startOf, listsOf, escapesOf}
 use Rattle.read_mode.specs.declared.Mode.{Mode}
 use Rattle.read_mode.specs.declared.Mode.the-variants.{Word, Value, Bare, Single, Double, Operand, Arith}
 use Rattle.read_mode.specs.declared.Form.{Form}
 use Rattle.read_mode.specs.declared.Form.the-variants.{Minus, Equals, Query, Plus, Suffix, Prefix}
 use Rattle.read_mode.specs.declared.Sort.{Sort}
-use Rattle.read_mode.specs.declared.Sort.the-variants.{Backquote, Closes, Operator, Quotes, Quotes2, Backslash}
+use Rattle.read_mode.specs.declared.Sort.the-variants.{Backquote, Closes, Operator, Quotes, Quotes2, Backslash, Escape}
 use Rattle.read_mode.specs.declared.Sort.the-variants.{Dollar, Bad, Opening, Closing, Tilde, Literal}
 
 abbrev pub modeOf : Mode → syntax.Mode
 modeOf (Word fresh) = word (startOf fresh)
 modeOf (Value fresh) = value (startOf fresh)
 modeOf (Bare fresh lists) = bare (startOf fresh) (listsOf lists)
-modeOf Single = single
+modeOf (Single escapes) = single (escapesOf escapes)
 modeOf (Double lists) = double (listsOf lists)
 modeOf (Operand lists) = quotedOperand (listsOf lists)
 modeOf (Arith n) = arith n
@@ -33,7 +33,7 @@ abbrev pub openIn : Mode → ℕ
 openIn (Word fresh) = 0
 openIn (Value fresh) = 0
 openIn (Bare fresh lists) = 0
-openIn Single = 0
+openIn (Single escapes) = 0
 openIn (Double lists) = 0
 openIn (Operand lists) = 0
 openIn (Arith n) = n
@@ -43,7 +43,7 @@ abbrev pub modeOnward : Mode → Mode
 modeOnward (Word fresh) = Word false
 modeOnward (Value fresh) = Value false
 modeOnward (Bare fresh lists) = Bare false lists
-modeOnward Single = Single
+modeOnward (Single escapes) = Single escapes
 modeOnward (Double lists) = Double lists
 modeOnward (Operand lists) = Operand lists
 modeOnward (Arith n) = Arith n
@@ -58,7 +58,7 @@ abbrev pub modeBehind : Mode → Bool → ℕ → Mode
 modeBehind (Word fresh) q b = Word false
 modeBehind (Value fresh) q b = Value (opensTilde q b)
 modeBehind (Bare fresh lists) q b = Bare false lists
-modeBehind Single q b = Single
+modeBehind (Single escapes) q b = Single escapes
 modeBehind (Double lists) q b = Double lists
 modeBehind (Operand lists) q b = Operand lists
 modeBehind (Arith n) q b = Arith n
@@ -78,6 +78,7 @@ sortOf Operator = items.operator
 sortOf Quotes = items.quotes
 sortOf Quotes2 = items.quotes2
 sortOf Backslash = items.backslash
+sortOf Escape = items.escape
 sortOf Dollar = items.dollar
 sortOf Bad = items.bad
 sortOf (Opening n) = items.opening
@@ -93,6 +94,7 @@ Carries Operator m = Unit {0}
 Carries Quotes m = Unit {0}
 Carries Quotes2 m = Unit {0}
 Carries Backslash m = Unit {0}
+Carries Escape m = Unit {0}
 Carries Dollar m = Unit {0}
 Carries Bad m = Unit {0}
 Carries (Opening n) m = m ≡ arith n

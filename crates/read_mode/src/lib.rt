@@ -4,7 +4,7 @@ ghost use mathlib.Core.Path.{_≡_};
 ghost use mathlib.Core.List.{[], _∷_};
 ghost use Rattle.stages.specs.Bytes.{isIn, text};
 ghost use Rattle.stages.specs.Syntax.{word, bare, single, double, quotedOperand, arith};
-ghost use Rattle.text.specs.Cases.{colonOf, startOf, listsOf};
+ghost use Rattle.text.specs.Cases.{colonOf, startOf, listsOf, escapesOf};
 ghost use Rattle.stages.specs.Items.{quotable, notServed, listsIn, both, letBy, ended, wrong, fault, signForm, beginsTilde, loginEnds, endsLogin};
 ghost use Rattle.read_mode.specs.Modes.{modeOf, formOf, modeOnward, opensTilde, modeBehind, Operands, Sorted, Shared, quotesSort, plainSort, endsLine};
 use text::numbers;
@@ -17,8 +17,8 @@ pub enum Mode {
     Value(bool),
     // an operand read as bare text; whether it is read from its first byte on, and whether `$@` and `$*` may stand in it
     Bare { fresh: bool, lists: bool },
-    // '...'
-    Single,
+    // '...', or $'...'; whether a backslash begins an escape in it
+    Single(bool),
     // "..."; whether `$@` and `$*` may stand in it
     Double(bool),
     // an operand read as double-quoted text; the same
@@ -53,6 +53,8 @@ pub enum Sort {
     Quotes,
     Quotes2,
     Backslash,
+    // a backslash that begins an escape
+    Escape,
     Dollar,
     Bad,
     // a parenthesis of an arithmetic text, and how many are open before it
@@ -132,11 +134,17 @@ fn sort_bare(fresh: bool, lists: bool, b: u8) -> Sort
     sort_quotes(b)
 }
 
-fn sort_single(b: u8) -> Sort
-    ensures { λ r. ⌜ Sorted single b r ⌝ }
+fn sort_single(escapes: bool, b: u8) -> Sort
+    ensures { λ r. ⌜ Sorted (single (escapesOf escapes)) b r ⌝ }
 {
     if b == b'\'' {
         return Sort::Closes(1);
+    }
+    if !escapes {
+        return Sort::Literal;
+    }
+    if b == b'\\' {
+        return Sort::Escape;
     }
     Sort::Literal
 }
@@ -197,7 +205,7 @@ pub fn sort_at(mode: Mode, b: u8) -> Sort
         Mode::Word(fresh) => sort_word(fresh, b),
         Mode::Value(fresh) => sort_word(fresh, b),
         Mode::Bare { fresh, lists } => sort_bare(fresh, lists, b),
-        Mode::Single => sort_single(b),
+        Mode::Single(escapes) => sort_single(escapes, b),
         Mode::Double(lists) => sort_double(lists, b),
         Mode::Operand(lists) => sort_operand(lists, b),
         Mode::Arith(parens) => sort_arith(parens, b),
@@ -212,38 +220,18 @@ pub fn is_quotable(mode: Mode, b: u8) -> bool
         Mode::Word(_) => true,
         Mode::Value(_) => true,
         Mode::Bare { fresh: _, lists: _ } => true,
-        Mode::Single => false,
+        Mode::Single(_) => false,
         Mode::Double(_) => text::is_in(b, b"$`\"\\"),
         Mode::Operand(_) => text::is_in(b, b"$`\"\\}"),
         Mode::Arith(_) => false,
     }
 }
 
-fn is_unserved(b: u8) -> bool
-    ensures { λ r. ⌜ r ≡ isIn b (text "0?-$!") ⌝ }
+// Is a `$` before the byte a parameter that is not served?
+pub fn is_not_served(b: u8) -> bool
+    ensures { λ r. ⌜ r ≡ notServed b ⌝ }
 {
     text::is_in(b, b"0?-$!")
-}
-
-fn is_unserved_bare(b: u8) -> bool
-    ensures { λ r. ⌜ r ≡ isIn b (text "0?-$!'") ⌝ }
-{
-    text::is_in(b, b"0?-$!'")
-}
-
-// Is a `$` before the byte a parameter that is not served?
-pub fn is_not_served(mode: Mode, b: u8) -> bool
-    ensures { λ r. ⌜ r ≡ notServed (modeOf mode) b ⌝ }
-{
-    match mode {
-        Mode::Word(_) => is_unserved_bare(b),
-        Mode::Value(_) => is_unserved_bare(b),
-        Mode::Bare { fresh: _, lists: _ } => is_unserved_bare(b),
-        Mode::Single => false,
-        Mode::Double(_) => is_unserved(b),
-        Mode::Operand(_) => is_unserved(b),
-        Mode::Arith(_) => is_unserved(b),
-    }
 }
 
 // May `$@` and `$*` stand in a text of this mode?
@@ -254,7 +242,7 @@ pub fn lists_in(mode: Mode) -> bool
         Mode::Word(_) => true,
         Mode::Value(_) => false,
         Mode::Bare { fresh: _, lists } => lists,
-        Mode::Single => false,
+        Mode::Single(_) => false,
         Mode::Double(lists) => lists,
         Mode::Operand(lists) => lists,
         Mode::Arith(_) => false,
@@ -296,7 +284,7 @@ pub fn operand_mode(mode: Mode, let_by_sign: bool) -> Mode
             fresh: true,
             lists: lists,
         },
-        Mode::Single => Mode::Bare {
+        Mode::Single(_) => Mode::Bare {
             fresh: true,
             lists: lists,
         },
@@ -314,7 +302,7 @@ pub fn may_end(mode: Mode) -> bool
         Mode::Word(_) => true,
         Mode::Value(_) => true,
         Mode::Bare { fresh: _, lists: _ } => false,
-        Mode::Single => false,
+        Mode::Single(_) => false,
         Mode::Double(_) => false,
         Mode::Operand(_) => false,
         Mode::Arith(_) => false,
@@ -332,7 +320,7 @@ pub fn onward(mode: Mode) -> Mode
             fresh: false,
             lists: lists,
         },
-        Mode::Single => Mode::Single,
+        Mode::Single(escapes) => Mode::Single(escapes),
         Mode::Double(lists) => Mode::Double(lists),
         Mode::Operand(lists) => Mode::Operand(lists),
         Mode::Arith(parens) => Mode::Arith(parens),

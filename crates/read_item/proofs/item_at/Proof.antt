@@ -13,6 +13,7 @@ use Rattle.read_item.proofs.Class.{
   item-quotes,
   item-quotes2,
   item-backslash,
+  item-escape,
   item-dollar,
   item-tilde,
   item-bad,
@@ -66,11 +67,17 @@ enum-told-2 c = search needs
 enum-told-3 : tie.Need-enum-told-3
 enum-told-3 c = search needs
 
+add-t18 : tie.Need-add-t18
+add-t18 c = search needs
+
 enum-told-4 : tie.Need-enum-told-4
 enum-told-4 c = search needs
 
 lists-in-requires : tie.Need-lists-in-requires
 lists-in-requires c κs = search needs
+
+add-t21 : tie.Need-add-t21
+add-t21 c = search needs
 
 enum-told-5 : tie.Need-enum-told-5
 enum-told-5 c = search needs
@@ -81,17 +88,23 @@ escaped-at-requires c κs = search needs
 enum-told-6 : tie.Need-enum-told-6
 enum-told-6 c = search needs
 
-expansion-at-requires : tie.Need-expansion-at-requires
-expansion-at-requires c κs = search needs
+said-at-requires : tie.Need-said-at-requires
+said-at-requires c κs = search needs
 
 enum-told-7 : tie.Need-enum-told-7
 enum-told-7 c = search needs
 
+expansion-at-requires : tie.Need-expansion-at-requires
+expansion-at-requires c κs = search needs
+
+enum-told-8 : tie.Need-enum-told-8
+enum-told-8 c = search needs
+
 enum-known-sort-2 : tie.Need-enum-known-sort-2
 enum-known-sort-2 c = search needs
 
-add-t20 : tie.Need-add-t20
-add-t20 c =
+add-t22 : tie.Need-add-t22
+add-t22 c =
     let s = c .before .before .before in
     omega (arith, opening-few (seen s) (s .before .before .before .before .pre .1) (c .before .sort2 .given .1), seen s .there)
 
@@ -103,17 +116,17 @@ closed-at-requires c κs =
     let s = c .before .before .before in
     (seen s .there, closing-few (seen s) (s .before .before .before .before .pre .1) (c .before .sort3 .given .1))
 
-enum-told-8 : tie.Need-enum-told-8
-enum-told-8 c = search needs
+enum-told-9 : tie.Need-enum-told-9
+enum-told-9 c = search needs
 
 tilde-at-requires : tie.Need-tilde-at-requires
 tilde-at-requires c κs = search needs
 
-enum-told-9 : tie.Need-enum-told-9
-enum-told-9 c = search needs
+enum-told-10 : tie.Need-enum-told-10
+enum-told-10 c = search needs
 
-add-t21 : tie.Need-add-t21
-add-t21 c = search needs
+add-t23 : tie.Need-add-t23
+add-t23 c = search needs
 
 returns-3 : tie.Need-returns-3
 returns-3 c = item-backquote (seen (c .before .before)) (c .enum-told .given .1)
@@ -134,24 +147,27 @@ returns-8 : tie.Need-returns-8
 returns-8 c = item-backslash (seen (c .before .before .before)) (c .before .enum-told5 .given .1) (c .escaped-at .result) (c .escaped-at .ensures)
 
 returns-9 : tie.Need-returns-9
-returns-9 c = item-dollar (seen (c .before .before .before)) (c .before .enum-told6 .given .1) (c .expansion-at .result) (c .expansion-at .ensures)
+returns-9 c = item-escape (seen (c .before .before .before)) (c .before .enum-told6 .given .1) (c .said-at .result) (c .said-at .ensures)
 
 returns-10 : tie.Need-returns-10
-returns-10 c = item-bad (seen (c .before .before)) (c .enum-told7 .given .1)
+returns-10 c = item-dollar (seen (c .before .before .before)) (c .before .enum-told7 .given .1) (c .expansion-at .result) (c .expansion-at .ensures)
 
 returns-11 : tie.Need-returns-11
-returns-11 c =
-    item-opening (seen (c .before .before .before)) (c .before .before .before .before .before .before .before .pre .1) (c .before .sort2 .given .1)
+returns-11 c = item-bad (seen (c .before .before)) (c .enum-told8 .given .1)
 
 returns-12 : tie.Need-returns-12
 returns-12 c =
-    item-closing (seen (c .before .before .before .before)) (c .before .before .sort3 .given .1) (c .closed-at .result) (c .closed-at .ensures)
+    item-opening (seen (c .before .before .before)) (c .before .before .before .before .before .before .before .pre .1) (c .before .sort2 .given .1)
 
 returns-13 : tie.Need-returns-13
-returns-13 c = item-tilde (seen (c .before .before .before)) (c .before .enum-told8 .given .1) (c .tilde-at .result) (c .tilde-at .ensures)
+returns-13 c =
+    item-closing (seen (c .before .before .before .before)) (c .before .before .sort3 .given .1) (c .closed-at .result) (c .closed-at .ensures)
 
 returns-14 : tie.Need-returns-14
-returns-14 c = item-literal (seen (c .before .before)) (c .enum-told9 .given .1)
+returns-14 c = item-tilde (seen (c .before .before .before)) (c .before .enum-told9 .given .1) (c .tilde-at .result) (c .tilde-at .ensures)
+
+returns-15 : tie.Need-returns-15
+returns-15 c = item-literal (seen (c .before .before)) (c .enum-told10 .given .1)
 
 pub item-at-spec : {M : Type 1} → statement M
 item-at-spec =
@@ -167,21 +183,25 @@ item-at-spec =
     add-t16
     enum-told-2
     enum-told-3
+    add-t18
     enum-told-4
     lists-in-requires
+    add-t21
     enum-told-5
     escaped-at-requires
     enum-told-6
-    expansion-at-requires
+    said-at-requires
     enum-told-7
+    expansion-at-requires
+    enum-told-8
     enum-known-sort-2
-    add-t20
+    add-t22
     enum-known-sort-3
     closed-at-requires
-    enum-told-8
-    tilde-at-requires
     enum-told-9
-    add-t21
+    tilde-at-requires
+    enum-told-10
+    add-t23
     returns-3
     returns-4
     returns-5
@@ -193,4 +213,5 @@ item-at-spec =
     returns-11
     returns-12
     returns-13
-    returns-14)
+    returns-14
+    returns-15)

@@ -5,7 +5,7 @@ use mathlib.Core.Bool.{false}
 use lib.ListN.{getD}
 use Rattle.stages.specs.Items.{isFirstDigit}
 use Rattle.read_item.proofs.Class.{Second}
-use Rattle.read_item.proofs.Dollars.{special-digit, special-total, special-spread, special-unserved, special-plain}
+use Rattle.read_item.proofs.Dollars.{special-digit, special-total, special-spread, special-unserved, special-quote, special-plain}
 use borrow.Author.Needs.{needs}
 use Rattle.read_item.proofs.special_at.Statement.{statement}
 use Rattle.read_item.proofs.special_at.Tie as tie
@@ -31,20 +31,20 @@ shared-slice-read-b c = search needs
 is-first-digit-requires : tie.Need-is-first-digit-requires
 is-first-digit-requires c κs = search needs
 
+add-t10 : tie.Need-add-t10
+add-t10 c = search needs
+
 add-t11 : tie.Need-add-t11
 add-t11 c = search needs
 
-add-t12 : tie.Need-add-t12
-add-t12 c = search needs
-
-add-t14 : tie.Need-add-t14
-add-t14 c = search needs
+add-t13 : tie.Need-add-t13
+add-t13 c = search needs
 
 returns : tie.Need-returns
 returns c = special-digit (second (c .before .before .before .before)) (sym (c .before .is-first-digit .ensures) ∙ c .if1 .taken)
 
-add-t16 : tie.Need-add-t16
-add-t16 c = search needs
+add-t15 : tie.Need-add-t15
+add-t15 c = search needs
 
 returns-2 : tie.Need-returns-2
 returns-2 c = special-total (second (c .before .before .before .before .before)) (no-digit (c .before)) (c .if2 .taken)
@@ -73,14 +73,26 @@ returns-4 c =
     special-unserved (second (entry i)) (no-digit (i .before .before .before)) (i .before .before .if2 .left)
     (sym (i .is-in .ensures) ∙ c .before .before .if3 .left) (sym (c .before .is-not-served .ensures) ∙ c .if4 .taken)
 
-add-t7 : tie.Need-add-t7
-add-t7 c = search needs
+quote-at-requires : tie.Need-quote-at-requires
+quote-at-requires c κs = search needs
 
 returns-5 : tie.Need-returns-5
 returns-5 c =
-    let i = c .before .before .before in
+    let e = c .before .before in
+    let i = e .before .before .before in
+    special-quote (second (entry i)) (no-digit (i .before .before .before)) (i .before .before .if2 .left)
+    (sym (i .is-in .ensures) ∙ e .before .before .if3 .left) (sym (e .before .is-not-served .ensures) ∙ e .if4 .left) (c .before .if5 .taken)
+    (c .quote-at .result) (c .quote-at .ensures)
+
+add-t6 : tie.Need-add-t6
+add-t6 c = search needs
+
+returns-6 : tie.Need-returns-6
+returns-6 c =
+    let e = c .before in
+    let i = e .before .before .before in
     special-plain (second (entry i)) (no-digit (i .before .before .before)) (i .before .before .if2 .left)
-    (sym (i .is-in .ensures) ∙ c .before .before .if3 .left) (sym (c .before .is-not-served .ensures) ∙ c .if4 .left)
+    (sym (i .is-in .ensures) ∙ e .before .before .if3 .left) (sym (e .before .is-not-served .ensures) ∙ e .if4 .left) (c .if5 .left)
 
 pub special-at-spec : {M : Type 1} → statement M
 special-at-spec =
@@ -89,11 +101,11 @@ special-at-spec =
     add-b
     shared-slice-read-b
     is-first-digit-requires
+    add-t10
     add-t11
-    add-t12
-    add-t14
+    add-t13
     returns
-    add-t16
+    add-t15
     returns-2
     slice-aggregate-is-in
     is-in-requires
@@ -101,5 +113,7 @@ special-at-spec =
     returns-3
     is-not-served-requires
     returns-4
-    add-t7
-    returns-5)
+    quote-at-requires
+    returns-5
+    add-t6
+    returns-6)

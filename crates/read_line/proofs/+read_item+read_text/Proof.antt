@@ -88,8 +88,8 @@ module _ (t : ℕ) where
   read-item-enum-told : read-item-lts.Need-enum-told (read-item-callees t) (read-item-at t) read-item.Post
   read-item-enum-told c = search needs
 
-  read-item-add-t19 : read-item-lts.Need-add-t19 (read-item-callees t) (read-item-at t) read-item.Post
-  read-item-add-t19 c = let s = stands (c .before .before .before) (c .enum-told .given .1) in omega (arith, s .1)
+  read-item-add-t20 : read-item-lts.Need-add-t20 (read-item-callees t) (read-item-at t) read-item.Post
+  read-item-add-t20 c = let s = stands (c .before .before .before) (c .enum-told .given .1) in omega (arith, s .1)
 
   read-item-enum-known-item-4 : read-item-lts.Need-enum-known-item-4 (read-item-callees t) (read-item-at t) read-item.Post
   read-item-enum-known-item-4 c = search needs
@@ -100,14 +100,11 @@ module _ (t : ℕ) where
   read-item-enum-known-item-6 : read-item-lts.Need-enum-known-item-6 (read-item-callees t) (read-item-at t) read-item.Post
   read-item-enum-known-item-6 c = search needs
 
-  read-item-add-t20 : read-item-lts.Need-add-t20 (read-item-callees t) (read-item-at t) read-item.Post
-  read-item-add-t20 c = let s = stands (c .before .before .before .before) (c .before .item6 .given .1) in omega (arith, s .1)
-
   read-item-read-text-requires : read-item-lts.Need-read-text-requires (read-item-callees t) (read-item-at t) read-item.Post
   read-item-read-text-requires c κs =
       let b = c .before .before .before .before in
       let s = stands b (c .before .item6 .given .1) in
-      omega (arith, b .pre .0, s .1, s .2)
+      omega (arith, b .pre .0, s .1 .onward, s .1 .within, s .2)
 
   read-item-enum-known-item-7 : read-item-lts.Need-enum-known-item-7 (read-item-callees t) (read-item-at t) read-item.Post
   read-item-enum-known-item-7 c = search needs
@@ -265,11 +262,10 @@ pub +read-item+read-text-spec : {M : Type 1} → statement M
     (read-item-enum-known-item-2 t)
     (read-item-enum-known-item-3 t)
     (read-item-enum-told t)
-    (read-item-add-t19 t)
+    (read-item-add-t20 t)
     (read-item-enum-known-item-4 t)
     (read-item-enum-known-item-5 t)
     (read-item-enum-known-item-6 t)
-    (read-item-add-t20 t)
     (read-item-read-text-requires t)
     (read-item-enum-known-item-7 t)
     (read-item-sub-t22 t)

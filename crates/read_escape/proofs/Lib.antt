@@ -1,0 +1,4 @@
+pub mod Letters
+pub mod Digits
+pub mod Places
+pub mod Determined
