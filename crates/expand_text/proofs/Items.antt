@@ -298,21 +298,22 @@ module _ {lent : Lent} {text : Text} {at : ℕ} {mode : Mode} {d : ℕ} {m : Mar
         (ap (λ (x : Parts). expand lent x m units u) (t .whole) ∙ expand-til lent (t .next) m units (part text (at + 1) to) u)
         to (t .read) (s .1 .onward) (s .1 .within) area g f)
 
-  module _ {n : Mode} (c : r ≡ Quote n) where
-    quote-parts : Within quo (parts (modeOf n) d (drop (at + 1) text)) (parts (onward (modeOf mode)) d) (x .ready .tree) (x .ready .rest)
-    quote-parts = within quo _ (parts (onward (modeOf mode)) d) (x .ready .tree) (x .ready .rest)
-        (sym (at-quote text at (modeOf mode) d (modeOf n) (shown text at d _ (x .shows) c .0)) ∙ x .ready .is)
+  module _ {n : Mode} {next : ℕ} (c : r ≡ Quote n next) where
+    quote-parts : Within quo (parts (modeOf n) d (drop next text)) (parts (onward (modeOf mode)) d) (x .ready .tree) (x .ready .rest)
+    quote-parts =
+        let s = shown text at d _ (x .shows) c in
+        within quo _ (parts (onward (modeOf mode)) d) (x .ready .tree) (x .ready .rest)
+        (sym (at-quote text at (modeOf mode) d (modeOf n) next (s .0) (s .1 .onward)) ∙ x .ready .is)
 
-    pub quote-place : at < length text
+    pub quote-place : Behind text at next
     quote-place = shown text at d _ (x .shows) c .1
 
-    pub quote-ready : Ready text (at + 1) n d units size
+    pub quote-ready : Ready text next n d units size
     quote-ready =
         let s = shown text at d _ (x .shows) c in
-        let l = s .1 in
         let o = s .2 in
         record {
-          start = omega arith;
+          start = s .1 .within;
           opens = omega arith;
           few = x .ready .few;
           area = x .ready .area;
@@ -322,16 +323,16 @@ module _ {lent : Lent} {text : Text} {at : ℕ} {mode : Mode} {d : ℕ} {m : Mar
           is = quote-parts .first;
         }
 
-    pub item-quote : (area vars : Text) (g : Expanded) → Says (lent .room) text (at + 1) units (λ q. quoted lent q units u)
-        (parts (modeOf n) d (drop (at + 1) text)) area vars g
+    pub item-quote : (area vars : Text) (g : Expanded) → Says (lent .room) text next units (λ q. quoted lent q units u)
+        (parts (modeOf n) d (drop next text)) area vars g
         → Said area vars g
     item-quote area vars g s =
         let t = quote-parts in
         known m (x .ready) (x .lends) c area vars g
         (own-text m (x .ready) (x .lends) (t .next) (quoted lent (t .inside) units u)
         (ap (λ (x : Parts). expand lent x m units u) (t .whole) ∙ expand-quo lent (t .next) m units (t .inside) u)
-        (at + 1) (t .mid) (t .read) (omega arith) area vars g
-        (says-known (lent .room) text (at + 1) units (λ q. quoted lent q units u) area vars g s (t .first)))
+        next (t .mid) (t .read) (shown text at d _ (x .shows) c .1 .onward) area vars g
+        (says-known (lent .room) text next units (λ q. quoted lent q units u) area vars g s (t .first)))
 
   module _ {p : Param} {f : code-form.Form} {n : Mode} {next : ℕ} (c : r ≡ Inner p f n next) where
     inner-parts : Within (par (paramOf text p) (formOf f)) (parts (modeOf n) (d - 1) (drop next text)) (parts (onward (modeOf mode)) d)

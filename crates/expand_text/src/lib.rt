@@ -297,9 +297,9 @@ fn expand_item(
             };
             give_unit(byte, row, on, work)
         }
-        Item::Quote(mode) => {
+        Item::Quote { mode, next } => {
             let inside = Cursor {
-                at: from.at + 1,
+                at: next,
                 mode: mode,
                 depth: from.depth,
             };

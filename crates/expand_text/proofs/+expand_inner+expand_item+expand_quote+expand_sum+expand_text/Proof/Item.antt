@@ -155,8 +155,8 @@ module _ (t : ℕ) where
   pub enum-known-item-4 : lts.Need-enum-known-item-4 (callees t) (expand-item-at t) expand-item.Post
   enum-known-item-4 c = search needs
 
-  pub add-t48 : lts.Need-add-t48 (callees t) (expand-item-at t) expand-item.Post
-  add-t48 c =
+  pub add-t49 : lts.Need-add-t49 (callees t) (expand-item-at t) expand-item.Post
+  add-t49 c =
       let i = c .before .before in
       omega (arith, paren-place (here (paren i)) (i .item4 .given .1))
 
@@ -169,16 +169,12 @@ module _ (t : ℕ) where
   pub enum-known-item-5 : lts.Need-enum-known-item-5 (callees t) (expand-item-at t) expand-item.Post
   enum-known-item-5 c = search needs
 
-  pub add-t51 : lts.Need-add-t51 (callees t) (expand-item-at t) expand-item.Post
-  add-t51 c =
-      let i = c .before .before in
-      omega (arith, quote-place (here (quote i)) (i .item5 .given .1))
-
   pub expand-quote-requires : lts.Need-expand-quote-requires (callees t) (expand-item-at t) expand-item.Post
   expand-quote-requires c κs =
-      let i = c .before .before .before .before in
+      let i = c .before .before .before in
       let p = quote i .pre in
-      (omega (arith, p .0, quote-place (here (quote i)) (i .item5 .given .1)), (quote-ready (here (quote i)) (i .item5 .given .1), p .1 .2, p .1 .3, p .1 .4))
+      let n = quote-place (here (quote i)) (i .item5 .given .1) in
+      (omega (arith, p .0, n .onward, n .within), (quote-ready (here (quote i)) (i .item5 .given .1), p .1 .2, p .1 .3, p .1 .4))
 
   pub enum-known-item-6 : lts.Need-enum-known-item-6 (callees t) (expand-item-at t) expand-item.Post
   enum-known-item-6 c = search needs
@@ -344,7 +340,7 @@ module _ (t : ℕ) where
   pub returns-5 : lts.Need-returns-5 (callees t) (expand-item-at t) expand-item.Post
   returns-5 c =
       let g = c .before .before .before .before in
-      let i = g .before .before .before .before .before in
+      let i = g .before .before .before .before in
       item-quote (here (quote i)) (i .item5 .given .1) _ _ (g .expand-quote .result) (g .expand-quote .ensures)
 
   pub same-length-5 : lts.Need-same-length-5 (callees t) (expand-item-at t) expand-item.Post
