@@ -9,16 +9,19 @@ use crate::tree::Assignment;
 
 /// All assignments of the line, or the first fault met from the left. `$@` and `$*` are served in none of them.
 pub fn read(line: &[u8]) -> Result<Vec<Assignment>, Refusal> {
-    let mut reader = Reader { line, at: 0, open: 0, lists: false };
-    let mut assignments = Vec::new();
-    while let Some(place) = reader.next_word() {
-        let assignment = reader.assignment(place).map_err(|number| number.at(place))?;
-        assignments.push(assignment);
-    }
-    Ok(assignments)
+    Reader::new(line, false).assignments()
 }
 
 impl Reader<'_> {
+    pub fn assignments(&mut self) -> Result<Vec<Assignment>, Refusal> {
+        let mut assignments = Vec::new();
+        while let Some(place) = self.next_word() {
+            let assignment = self.assignment(place).map_err(|number| number.at(place))?;
+            assignments.push(assignment);
+        }
+        Ok(assignments)
+    }
+
     /// The assignment that begins here. In its name all that does not fit is 11, whatever it would be elsewhere; only an operator that opens no word is 8.
     fn assignment(&mut self, place: usize) -> Result<Assignment, Number> {
         match self.peek(0) {

@@ -10,6 +10,7 @@ use crate::limits;
 use crate::matching::matching_paths;
 use crate::number::{Number, Refusal, ACCEPTED};
 use crate::pattern::{self, Element, Purpose};
+use crate::quoting::quoted_line;
 use crate::read::read;
 use crate::row::{bytes, Unit};
 use crate::split::split;
@@ -203,32 +204,4 @@ fn quoted(fields: &[u8], out_length: usize) -> Result<Vec<u8>, Refusal> {
         return Err(Number::NoRoomForOutput.at(0));
     }
     Ok(line)
-}
-
-/// The quoted line of these fields, however long.
-pub fn quoted_line(fields: &[Vec<u8>]) -> Vec<u8> {
-    let fields: Vec<Vec<u8>> = fields.iter().map(|field| quoted_field(field)).collect();
-    fields.join(&b' ')
-}
-
-/// The field as it is if it may stand bare, and else in single quotes.
-fn quoted_field(field: &[u8]) -> Vec<u8> {
-    if stands_bare(field) {
-        return field.to_vec();
-    }
-    let mut quoted = vec![b'\''];
-    for &byte in field {
-        match byte {
-            b'\'' => quoted.extend_from_slice(b"'\\''"),
-            _ => quoted.push(byte),
-        }
-    }
-    quoted.push(b'\'');
-    quoted
-}
-
-/// Whether a field is not empty and holds only bytes that mean nothing to a reader.
-pub fn stands_bare(field: &[u8]) -> bool {
-    let bare = |byte: &u8| byte.is_ascii_alphanumeric() || b"._-/".contains(byte);
-    !field.is_empty() && field.iter().all(bare)
 }

@@ -1,4 +1,4 @@
-//! Reading a `$`: a name, a positional parameter, their count or their list, `${...}`, `$((...))`, a refusal, or the byte itself.
+//! Reading a `$`: a name, a positional parameter, their count or their list, `${...}`, `$((...))`, `$'...'`, a refusal, or the byte itself.
 
 use crate::image::{begins_name, continues_name};
 use crate::number::Number;
@@ -37,7 +37,7 @@ impl Reader<'_> {
                 Ok(Part::List { list: self.list(byte)?, quoted })
             }
             Some(b'?' | b'-' | b'$' | b'!' | b'0') => Err(Number::NotServed),
-            Some(b'\'') if setting == Setting::Bare => Err(Number::NotServed),
+            Some(b'\'') if setting == Setting::Bare => self.escapes(),
             _ => {
                 self.at += 1;
                 Ok(if quoted { Part::Quoted(b'$') } else { Part::Literal(b'$') })

@@ -49,17 +49,20 @@ pub struct Reader<'a> {
     pub(crate) at: usize,
     pub(crate) open: usize,
     pub(crate) lists: bool,
+    /// Each `$'` that began a text. They decide nothing here, but let the generator count its cases.
+    pub(crate) escaped: Vec<SeenEscaped>,
+}
+
+/// The place of a `$'`, and how many expansions were open there.
+#[derive(Clone, Copy, Debug)]
+pub struct SeenEscaped {
+    pub place: usize,
+    pub open: usize,
 }
 
 /// All words of the line, or the first fault met from the left.
 pub fn read(line: &[u8]) -> Result<Vec<Word>, Refusal> {
-    let mut reader = Reader { line, at: 0, open: 0, lists: true };
-    let mut words = Vec::new();
-    while let Some(place) = reader.next_word() {
-        let parts = reader.word().map_err(|number| number.at(place))?;
-        words.push(Word { place, parts });
-    }
-    Ok(words)
+    Reader::new(line, true).words()
 }
 
 fn is_separator(byte: u8) -> bool {
@@ -71,6 +74,20 @@ pub fn is_operator(byte: u8) -> bool {
 }
 
 impl Reader<'_> {
+    /// A reader at the start of a line.
+    pub fn new(line: &[u8], lists: bool) -> Reader<'_> {
+        Reader { line, at: 0, open: 0, lists, escaped: Vec::new() }
+    }
+
+    pub fn words(&mut self) -> Result<Vec<Word>, Refusal> {
+        let mut words = Vec::new();
+        while let Some(place) = self.next_word() {
+            let parts = self.word().map_err(|number| number.at(place))?;
+            words.push(Word { place, parts });
+        }
+        Ok(words)
+    }
+
     /// The byte `ahead` of the next one, if the line has it.
     pub(crate) fn peek(&self, ahead: usize) -> Option<u8> {
         self.line.get(self.at + ahead).copied()

@@ -22,7 +22,7 @@ pub enum Part {
     Literal(u8),
     /// A byte behind a bare backslash or inside quotes.
     Quoted(u8),
-    /// Quotes, single or double: what stands between the opening one and the closing one.
+    /// Quotes, single, double or `$'...'`: what stands between the opening one and the closing one.
     Quotes(Vec<Part>),
     /// A `~` where it is looked up, and the login behind it: at the start of a word, of an operand read as bare text, of a value or behind a `:` in it.
     Tilde(Vec<u8>),

@@ -1,35 +1,31 @@
 //! Prints cases made from a seed with the reference's answers, or hostile ones, or those about `?` and its message, about assignment lines, about assignments
-//! in arithmetic or about insertion and deletion alone, or how often each number and each edge comes up in the cases of one seed or more.
+//! in arithmetic, about insertion and deletion or about `$'...'` alone, or how often each number and each edge comes up in the cases of one seed or more.
 
 use std::io::{stdout, BufWriter, Write};
 use std::ops::RangeInclusive;
 use std::process::ExitCode;
 
 use reference::case::{case, Call};
-use reference::generate::{assignments, call, counting, demands, hostile, tally::Tally, updates};
+use reference::generate::{assignments, call, counting, demands, escapes, hostile, tally::Tally, updates};
 
 fn main() -> ExitCode {
     let words: Vec<String> = std::env::args().skip(1).collect();
     let words: Vec<&str> = words.iter().map(String::as_str).collect();
-    let (seeds, count) = match words[..] {
-        ["--tally" | "--hostile" | "--messages" | "--assignments" | "--counting" | "--updates", seeds, count]
-        | [seeds, count] => (range(seeds), count.parse()),
+    let (option, seeds, count) = match words[..] {
+        [option, seeds, count] => (option, range(seeds), count.parse()),
+        [seeds, count] => ("", range(seeds), count.parse()),
         _ => return usage(),
     };
     let (Some(seeds), Ok(count)) = (seeds, count) else {
         return usage();
     };
-    let printed = match words[0] {
-        "--tally" => {
+    let printed = match (option, made(option)) {
+        ("--tally", _) => {
             print!("{}", Tally::of(seeds, count));
             Ok(())
         }
-        "--hostile" => print_cases(hostile::call, seeds, count),
-        "--messages" => print_cases(demands::call, seeds, count),
-        "--assignments" => print_cases(assignments::call, seeds, count),
-        "--counting" => print_cases(counting::call, seeds, count),
-        "--updates" => print_cases(updates::call, seeds, count),
-        _ => print_cases(call, seeds, count),
+        (_, Some(call)) => print_cases(call, seeds, count),
+        (_, None) => return usage(),
     };
     match printed {
         Ok(()) => ExitCode::SUCCESS,
@@ -40,8 +36,24 @@ fn main() -> ExitCode {
     }
 }
 
+/// What makes the cases of an option.
+fn made(option: &str) -> Option<fn(u64, u64) -> Call> {
+    match option {
+        "" => Some(call),
+        "--hostile" => Some(hostile::call),
+        "--messages" => Some(demands::call),
+        "--assignments" => Some(assignments::call),
+        "--counting" => Some(counting::call),
+        "--updates" => Some(updates::call),
+        "--escapes" => Some(escapes::call),
+        _ => None,
+    }
+}
+
 fn usage() -> ExitCode {
-    eprintln!("usage: cases [--hostile|--messages|--assignments|--counting|--updates|--tally] SEED[-SEED] COUNT");
+    eprintln!(
+        "usage: cases [--hostile|--messages|--assignments|--counting|--updates|--escapes|--tally] SEED[-SEED] COUNT"
+    );
     ExitCode::FAILURE
 }
 

@@ -1,5 +1,5 @@
-//! Compares the reference with dash and bash on lines, arithmetic texts, demanded messages, assignment lines and lines that count where documents 01 and 02 and
-//! the shells agree.
+//! Compares the reference with dash and bash on lines, arithmetic texts, demanded messages, assignment lines, lines that count and, with bash alone, lines with
+//! `$'...'` where documents 01 and 02 and the shells agree.
 
 use std::process::ExitCode;
 
@@ -7,8 +7,8 @@ use reference::generate::random::Random;
 use reference::shells::script::is_harmless;
 use reference::shells::sums::{self, Sum, Sums};
 use reference::shells::{
-    assignments, counting, differences, lines, messages, positional, reference, Folder, Given, Outcome, Shell, Table,
-    Taken, NAMES,
+    assignments, counting, differences, escapes, lines, messages, positional, reference, Folder, Given, Outcome, Shell,
+    Table, Taken, NAMES,
 };
 
 fn main() -> ExitCode {
@@ -16,11 +16,12 @@ fn main() -> ExitCode {
     let words: Vec<&str> = words.iter().map(String::as_str).collect();
     let compared = match words[..] {
         ["--differences", ref names @ ..]
-        | ["--parameters" | "--arithmetic" | "--messages" | "--assignments" | "--counting", _, _, ref names @ ..]
+        | ["--parameters" | "--arithmetic" | "--messages" | "--assignments" | "--counting" | "--escapes", _, _, ref names @ ..]
             if !names.is_empty() =>
         {
             names.iter().map(|name| Shell::named(name)).collect()
         }
+        ["--escapes", ..] => Some(Shell::SERVING_ESCAPES.to_vec()),
         _ => Some(Shell::COMPARED.to_vec()),
     };
     let Some(compared) = compared else {
@@ -58,6 +59,7 @@ fn compared_by(words: &[&str], shells: &[Shell]) -> Option<std::io::Result<usize
         "--messages" => compare_messages(seed, count, shells),
         "--assignments" => compare_assignments(seed, count, shells),
         "--counting" => compare_counting(seed, count, shells),
+        "--escapes" => compare_escapes(seed, count, shells),
         _ if words.len() == 2 => compare(seed, count, false, shells),
         _ => return None,
     })
@@ -72,7 +74,7 @@ fn show_differences(shells: &[Shell]) -> std::io::Result<usize> {
 
 fn usage() -> ExitCode {
     eprintln!(
-        "usage: shells SEED COUNT, shells --parameters|--arithmetic|--messages|--assignments|--counting SEED COUNT [SHELL...], or shells --differences [SHELL...]"
+        "usage: shells SEED COUNT, shells --parameters|--arithmetic|--messages|--assignments|--counting|--escapes SEED COUNT [SHELL...], or shells --differences [SHELL...]"
     );
     ExitCode::FAILURE
 }
@@ -219,6 +221,40 @@ fn compare_counting(seed: u64, count: usize, shells: &[Shell]) -> std::io::Resul
     }
     println!("not compared: {refused} lines refused by the reference, {left_out} left out for all shells");
     println!("{count} lines of each shell, {differ} differ");
+    Ok(differ)
+}
+
+/// Compares so many accepted lines with `$'...'`, and says how many differ.
+fn compare_escapes(seed: u64, count: usize, shells: &[Shell]) -> std::io::Result<usize> {
+    let folder = Folder::new()?;
+    let (mut compared, mut differ, mut refused, mut left_out) = (0, 0, 0, 0);
+    for case in 0.. {
+        if compared == count {
+            break;
+        }
+        let random = &mut Random::new(seed, case);
+        let given = Given { variables: lines::variables(random), parameters: Vec::new() };
+        let line = escapes::line(random);
+        let Ok(wanted) = reference(&line, &given, Taken::Fields) else {
+            refused += 1;
+            continue;
+        };
+        let alike = shells.iter().all(|shell| shell.is_alike(&line, &given));
+        if !is_harmless(&line) || !alike || !lines::stays_in_table(&wanted) {
+            left_out += 1;
+            continue;
+        }
+        compared += 1;
+        for shell in shells {
+            let said = shell.outcome(&folder, &line, &given, Taken::Fields)?;
+            if said.as_ref() != Some(&wanted) {
+                differ += 1;
+                report(*shell, &line, &given, &wanted, said.as_ref());
+            }
+        }
+    }
+    println!("not compared: {refused} lines refused by the reference, {left_out} left out");
+    println!("{compared} lines, {differ} differ");
     Ok(differ)
 }
 

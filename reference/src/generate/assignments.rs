@@ -4,7 +4,7 @@
 use super::random::Random;
 use super::tables::{self, filled, image, Kind, Table, LOGINS};
 use super::tildes::tilde;
-use super::{counting, damage, demands, finished, grammar, lists, malformed, ordinary, unserved};
+use super::{counting, damage, demands, escapes, finished, grammar, lists, malformed, ordinary, unserved};
 use crate::case::{Call, Job, Lent};
 use crate::image::of_texts;
 use crate::limits;
@@ -52,6 +52,7 @@ pub fn made(random: &mut Random) -> Call {
         28..=31 => images(random, &mut lent),
         32..=35 => lent.line = if random.once_in(2) { grammar::line(random) } else { damage::random_bytes(random) },
         36..=45 => counting::values(random, &mut lent),
+        46..=51 => escapes::values(random, &mut lent),
         _ => {
             lend(random, &mut lent);
             lent.line = line(random);
@@ -146,13 +147,14 @@ fn path(random: &mut Random) -> Vec<u8> {
 }
 
 fn piece(random: &mut Random) -> Vec<u8> {
-    match random.below(32) {
+    match random.below(33) {
         0..=9 => random.text(&TEXTS),
         10..=13 => random.text(&QUOTES),
         14..=26 => random.text(&EXPANSIONS),
         27..=28 => [b":".to_vec(), tilde(random, false)].concat(),
         29 => demands::demand(random, true),
         30 => [b"\"".to_vec(), demands::demand(random, false), b"\"".to_vec()].concat(),
+        31 => escapes::text(random),
         _ => random.text(&["$((1/0))", "$((08))", "$((1+))", "$((1<<64))", "${x#[[:a:]]}", "${y%[[.b.]]}", "\"$*\""]),
     }
 }

@@ -10,6 +10,8 @@ pub mod counting;
 mod crowds;
 mod damage;
 pub mod demands;
+pub mod escaped;
+pub mod escapes;
 mod expression;
 mod focus;
 pub mod grammar;
@@ -57,22 +59,23 @@ pub fn call(seed: u64, case: u64) -> Call {
     if random.once_in(10) {
         return updates::made(random);
     }
-    let call = match random.below(392) {
-        0..=11 => sizes::call(random),
-        12..=18 => quoting::call(random),
-        19..=25 => malformed(random),
-        26..=32 => storing(random),
-        33..=43 => focused(random, focus::patterns),
-        44..=50 => focused(random, focus::splitting),
-        51..=74 => focused(random, tildes::case),
-        75..=77 => lone(random, quoting::fed_again),
-        78..=119 => focused(random, classes::case),
-        120..=142 => focused(random, stars::case),
-        143..=153 => focused(random, crowds::case),
-        154..=216 => lone(random, lists::case),
-        217..=242 => focused(random, operators::case),
-        243..=331 => focused(random, demands::case),
-        332..=371 => counting::words(random),
+    let call = match random.below(482) {
+        0..=14 => sizes::call(random),
+        15..=21 => quoting::call(random),
+        22..=28 => malformed(random),
+        29..=35 => storing(random),
+        36..=46 => focused(random, focus::patterns),
+        47..=53 => focused(random, focus::splitting),
+        54..=85 => focused(random, tildes::case),
+        86..=88 => lone(random, quoting::fed_again),
+        89..=144 => focused(random, classes::case),
+        145..=174 => focused(random, stars::case),
+        175..=187 => focused(random, crowds::case),
+        188..=255 => lone(random, lists::case),
+        256..=285 => focused(random, operators::case),
+        286..=391 => focused(random, demands::case),
+        392..=435 => counting::words(random),
+        436..=465 => focused(random, escapes::case),
         _ => lines(random),
     };
     finished(random, call)

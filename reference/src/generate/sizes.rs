@@ -9,14 +9,14 @@ use crate::limits;
 
 pub fn call(random: &mut Random) -> Call {
     let mut lent = ordinary(random);
-    match random.below(58) {
+    match random.below(67) {
         0..=5 => lent.line = line(random),
         54..=57 | 6..=13 => row(random, &mut lent),
         14..=15 => variables(random, &mut lent),
         16..=17 => lent.homes = filled(Kind::Pairs, about(random, limits::IMAGE)),
         18..=19 => output(random, &mut lent),
         20..=21 => store(random, &mut lent),
-        22..=24 => return quoter(random),
+        58..=62 | 22..=24 => return quoter(random),
         25..=27 => {
             quoted(random, &mut lent);
             return Call::Lines(Job::Normalise, lent);
@@ -190,7 +190,8 @@ fn store(random: &mut Random, lent: &mut Lent) {
 fn quoter(random: &mut Random) -> Call {
     let out = *random.pick(&[2_047, 2_048, 2_049, 9_000, 0]);
     let length = about(random, limits::LINE);
-    let fields = match random.below(10) {
+    let fields = match random.below(12) {
+        10..=11 => of_texts(&escaped(random, length)),
         0 => of_texts(&[",".repeat(length - 2)]),
         1 => of_texts(&["x".repeat(length)]),
         2 => of_texts(&["'".to_string(), "x".repeat(length - 7)]),
@@ -208,6 +209,16 @@ fn fields(random: &mut Random, length: usize) -> Vec<u8> {
     let rest = length - count * bytes;
     let last = if random.once_in(2) { "x".repeat(rest) } else { "~".repeat(rest - 2) };
     of_texts(&[short.repeat(count), vec![&last]].concat())
+}
+
+/// A field with control bytes, quotes and backslashes, perhaps one beside it, whose quoted line is just this long.
+fn escaped(random: &mut Random, length: usize) -> Vec<Vec<u8>> {
+    let (byte, written) = *random.pick(&[(b'\r', 4), (b'\x7f', 4), (b'\'', 2), (b'\\', 2), (b'"', 1), (b'\xe9', 1)]);
+    let (first, taken) = *random.pick(&[("\n", 7), ("\x01a", 8), ("a\\\t", 10)]);
+    let beside = if random.once_in(2) { vec![b"a b".to_vec()] } else { Vec::new() };
+    let rest = length - taken - beside.len() * "'a b' ".len();
+    let field = [first.as_bytes(), &vec![byte; rest / written], &vec![b'x'; rest % written]].concat();
+    [beside, vec![field]].concat()
 }
 
 /// A field or two whose quoted line is about the limit, in quotes or bare.

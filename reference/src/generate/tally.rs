@@ -8,6 +8,7 @@ use super::assigned::Assigned;
 use super::brackets::Brackets;
 use super::call;
 use super::counted::Counted;
+use super::escaped::Escaped;
 use super::messages::Messages;
 use super::operands::Tildes;
 use super::patterns::Patterns;
@@ -51,6 +52,7 @@ pub struct Tally {
     pub assigned: Assigned,
     pub counted: Counted,
     pub updated: Updated,
+    pub escaped: Escaped,
 }
 
 impl Tally {
@@ -96,6 +98,7 @@ impl Tally {
         if !is_expanded(answer.number) {
             return;
         }
+        self.escaped.add(job, lent);
         let seen = walk(job, lent);
         let texts: Vec<Met> = seen.sums.iter().map(Met::of).collect();
         self.counted.add(job, lent, answer, &texts);
@@ -155,6 +158,7 @@ impl fmt::Display for Tally {
             assigned,
             counted,
             updated,
+            escaped,
             assign,
             insert,
             delete,
@@ -166,9 +170,7 @@ impl fmt::Display for Tally {
         writeln!(out, "arithmetic texts {sums}, different ones {}", different_sums.len())?;
         writeln!(out, "lines of 2048 bytes {full_lines}")?;
         writeln!(out, "rows of 2047 units {}, of 2048 {}, refused at 2049 {}", rows[0], rows[1], rows[2])?;
-        write!(
-            out,
-            "{tildes}{quoting}{brackets}{patterns}{positional}{kinds_of_sums}{messages}{assigned}{counted}{updated}"
-        )
+        write!(out, "{tildes}{quoting}{brackets}{patterns}{positional}{kinds_of_sums}{messages}{assigned}{counted}")?;
+        write!(out, "{updated}{escaped}")
     }
 }

@@ -3,6 +3,7 @@
 pub mod assignments;
 pub mod counting;
 pub mod differences;
+pub mod escapes;
 pub mod lines;
 pub mod messages;
 pub mod positional;
@@ -67,6 +68,8 @@ pub enum Shell {
 impl Shell {
     /// Those that generated lines are compared with, and all.
     pub const COMPARED: [Shell; 2] = [Shell::Dash, Shell::Bash];
+    /// Those of them that serve `$'...'`.
+    pub const SERVING_ESCAPES: [Shell; 1] = [Shell::Bash];
     const ALL: [Shell; 5] = [Shell::Dash, Shell::Bash, Shell::Busybox, Shell::Mksh, Shell::Yash];
 
     pub fn named(name: &str) -> Option<Shell> {

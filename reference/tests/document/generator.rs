@@ -6,14 +6,14 @@ use std::sync::OnceLock;
 use reference::case::{case, replay, Call, Job};
 use reference::generate::random::Random;
 use reference::generate::{
-    assigned, assignments, brackets::KINDS, call, classes::BORDERS, counted, counting, demands, hostile, messages,
-    operands::SIGNS, ordinary, positional, quoting, season::Season, steps::steps, sums, tally::Tally, updated, updates,
-    MOST_STEPS,
+    assigned, assignments, brackets::KINDS, call, classes::BORDERS, counted, counting, demands, escaped, escapes,
+    hostile, messages, operands::SIGNS, ordinary, positional, quoting, season::Season, steps::steps, sums,
+    tally::Tally, updated, updates, MOST_STEPS,
 };
 use reference::{image, limits};
 
 const SEED: u64 = 2_001;
-const CASES: u64 = 42_000;
+const CASES: u64 = 46_000;
 
 fn tally() -> &'static Tally {
     static TALLY: OnceLock<Tally> = OnceLock::new();
@@ -172,6 +172,22 @@ fn updates_come_up() {
     for case in 0..1_000 {
         assert!(matches!(updates::call(SEED, case), Call::Paths(..)));
     }
+}
+
+/// Texts of `$'...'`: each escape, each way in which digits end, each place, and each number of each cause; and fields that are written so.
+#[test]
+fn escapes_come_up() {
+    let tally = tally();
+    let found = &tally.escaped;
+    assert!(found.lines >= CASES as usize / 20 && found.read >= found.lines / 2, "{found}");
+    for kind in escaped::KINDS {
+        assert!(found.kinds.get(kind).is_some_and(|count| *count >= 5), "{kind}: {found}");
+    }
+    let quoting = &tally.quoting;
+    assert!(quoting.control >= 1_000 && quoting.controls >= 200 && quoting.three_ways >= 200, "{quoting}");
+    assert!(quoting.control_and_quote >= 100 && quoting.control_and_digit >= 50, "{quoting}");
+    let answers = (0..1_000).map(|case| escapes::call(SEED, case).answer().expect("buffers kept as promised").0.number);
+    assert!(answers.filter(|number| *number == 0).count() >= 400);
 }
 
 /// Demand 3 on made fields: their quoted line gives them again and is its own quoted line, under tables that were not asked for.

@@ -9,6 +9,8 @@ mod class_names;
 mod classes;
 mod counted;
 mod counting;
+mod escaped_fields;
+mod escapes;
 mod expansion;
 mod generator;
 mod messages;

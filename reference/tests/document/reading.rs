@@ -91,8 +91,6 @@ fn parameters_not_served() {
         refuses(&World::empty(), format!("\"${byte}\""), NotServed, 0);
     }
     refused(&[
-        ("$'a'", NotServed, 0),
-        ("${u-$'a'}", NotServed, 0),
         ("${}", NotServed, 0),
         ("${0}", NotServed, 0),
         (r"${\", NotServed, 0),
@@ -169,7 +167,7 @@ fn removals_are_read_bare_anywhere() {
     gives(&world, "\"${x%'}c'}\" \"${x#\"a*\"}\"", &["a*b", "b}c"]);
     gives(&world, "\"${x%${u-\"}\"}c}\"", &["a*b"]);
     gives(&world, "$((${x%%\\**}1))", &["0"]);
-    refuses(&world, "\"${x%$'a'}\"", NotServed, 0);
+    gives(&world, "\"${x%$'}c'}\"", &["a*b"]);
     gives(&world, "\"${x%${u-'}c'}}\"", &["a*b"]);
 }
 

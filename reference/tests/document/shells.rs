@@ -3,13 +3,14 @@
 use reference::generate::random::Random;
 use reference::shells::script::{is_harmless, script};
 use reference::shells::sums::Sums;
-use reference::shells::{assignments, counting, lines, messages, positional, reference, Given, Shell, Taken};
+use reference::shells::{assignments, counting, escapes, lines, messages, positional, reference, Given, Shell, Taken};
 
 #[test]
 fn lines_that_could_run_something() {
     for line in [
         "`a`", "\"`a`\"", "$(a)", "$((1)", "$((1)+1)", "$((1);a)", "a|b", "a;b", "a&", "a\nb", "<a", ">a", "(a)",
-        "\\$((a))", "$$((a))", "'\\'|a", "\\\\|a", "$(($(a)))", "$((a[1]))", "$((`a`))", "${u-$(a)}", "$((1)) ;",
+        "\\$((a))", "$$((a))", "'\\'|a", "$'\\'|a'", "$'\\\\'|a", "$'`a`'", "$'$(a)'", "\\\\|a", "$(($(a)))",
+        "$((a[1]))", "$((`a`))", "${u-$(a)}", "$((1)) ;",
     ] {
         assert!(!is_harmless(line.as_bytes()), "{line}");
     }
@@ -77,6 +78,20 @@ fn counting_lines_run_nothing() {
 
 fn given(random: &mut Random) -> Given {
     Given { variables: lines::variables(random), parameters: positional::parameters(random) }
+}
+
+/// Of the lines with `$'...'` for bash nearly all are accepted and run nothing.
+#[test]
+fn lines_with_escapes_run_nothing() {
+    let mut accepted = 0;
+    for case in 0..1_000 {
+        let random = &mut Random::new(2_001, case);
+        let given = given(random);
+        let line = escapes::line(random);
+        assert!(line.windows(2).any(|two| two == b"$'"), "{}", line.escape_ascii());
+        accepted += usize::from(is_harmless(&line) && reference(&line, &given, Taken::Fields).is_ok());
+    }
+    assert!(accepted >= 800, "{accepted} accepted");
 }
 
 /// Of the assignment lines for the shells nearly all are accepted and run nothing, and should a shell see a command in one, it would find none.
