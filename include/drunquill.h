@@ -60,7 +60,7 @@ enum {
     DRUNQUILL_UNENDED = 7,            /* the line ends inside a quote, a brace or arithmetic, or after a backslash */
     DRUNQUILL_BARE_OPERATOR = 8,      /* one of |&;<>() not quoted, or a # that begins a word */
     DRUNQUILL_SUBSTITUTION = 9,       /* a command substitution: $( or a backquote */
-    DRUNQUILL_UNSERVED = 10,          /* a parameter that is not served: $?, $0, ${01}, ${1=x}, $'..'; $@ or $* in an operand of = or ?, of a removal, in
+    DRUNQUILL_UNSERVED = 10,          /* a parameter that is not served: $?, $0, ${01}, ${1=x}; $@ or $* in an operand of = or ?, of a removal, in
                                          arithmetic, in a value that is assigned, or with an operator */
     DRUNQUILL_BAD_SYNTAX = 11,        /* other bad syntax; from the assigner, a word that does not begin with a name and a bare = */
     DRUNQUILL_TOO_DEEP = 12,          /* more than DRUNQUILL_DEPTH_MAX expansions, or DRUNQUILL_OPEN_MAX parentheses and signs */
@@ -147,9 +147,10 @@ struct drunquill_answer drunquill_assign(const uint8_t *line, size_t line_len, u
                                          size_t homes_len, const uint8_t *params, size_t params_len, uint8_t *work, size_t work_len, uint8_t *message,
                                          size_t message_len);
 
-/* The quoter: an image of fields as a line to `out`. A field that is not empty and holds only letters, digits, `.`, `_`, `-` and `/` stands there bare; any
- * other in single quotes, each ' in it written '\''. One blank between fields; no fields, no bytes. No zero byte is put after the line. Above
- * DRUNQUILL_LINE_MAX bytes or `out_len` the number is 21. Bytes of `out` after the line are unchanged, on a refusal all of them.
+/* The quoter: an image of fields as a line to `out`. A field that is not empty and holds only letters, digits, `.`, `_`, `-` and `/` stands there bare; one
+ * that holds a byte below 32 or byte 127 in $'...', a backslash before each \ and ', and each such byte as a backslash and three octal digits; any other in
+ * single quotes, each ' in it written '\''. So the line holds no newline. One blank between fields; no fields, no bytes. No zero byte is put after the line.
+ * Above DRUNQUILL_LINE_MAX bytes or `out_len` the number is 21. Bytes of `out` after the line are unchanged, on a refusal all of them.
  */
 struct drunquill_quote_answer drunquill_quote(const uint8_t *fields, size_t fields_len, uint8_t *out, size_t out_len);
 

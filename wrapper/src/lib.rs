@@ -134,7 +134,8 @@ pub fn assign(line: &[u8], variables: &mut Variables, tables: Tables, work: &mut
 }
 
 /// The quoter: an image of fields as a line of at most [`LINE_MAX`] bytes to the front of `out`, which is given back. A field that is not empty and holds only
-/// letters, digits, `.`, `_`, `-` and `/` stands there bare, any other in single quotes. On a refusal `out` is as before.
+/// letters, digits, `.`, `_`, `-` and `/` stands there bare, one that holds a byte below 32 or byte 127 in `$'...'`, any other in single quotes: the line holds no
+/// newline. On a refusal `out` is as before.
 pub fn quote<'o>(fields: &[u8], out: &'o mut [u8]) -> Result<&'o [u8], Refusal> {
     let answer = archive::quote(fields, out);
     Refusal::unless_accepted(answer.number, answer.place, &[])?;
