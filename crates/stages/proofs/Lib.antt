@@ -63,3 +63,6 @@ pub mod PathLists  -- E11: a list of paths with one more, or one less
 pub mod PathMatches  -- E11: the matches of a pattern in such a list
 pub mod Updates  -- E11: the answers of both jobs
 pub mod UpdateCalls  -- E11: which number, and insertion and deletion one behind the other
+pub mod Reaching  -- E13: the pairs that are reached
+pub mod LastPair  -- E13: a text matches just if the last pair is reached
+pub mod CostCalls  -- E13: which number, what every answer has

@@ -23,5 +23,6 @@ pub mod Line  -- a line to its fields, from its length on
 pub mod Assign  -- E9: a line of assignments to the variables behind them, from its length on
 pub mod Call  -- "What a call gives back": the four jobs
 pub mod Updates  -- E11: a path inserted, a path deleted
+pub mod Cost  -- E13: the pairs that a pattern and a text come to
 pub mod Together  -- E8: what stands in quotes stays together, its premise
 pub mod Program  -- "The program": what it writes for what it reads

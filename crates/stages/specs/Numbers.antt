@@ -133,3 +133,10 @@ countLimit = 999999999
 -- "More than 32 open parentheses and unary signs, together, is 12."
 abbrev pub openLimit : ℕ
 openLimit = 32
+
+-- E13: "more than 64 elements or 256 text bytes is 14"
+abbrev pub elementsLimit : ℕ
+elementsLimit = 64
+
+abbrev pub comparedLimit : ℕ
+comparedLimit = 256
