@@ -29,5 +29,9 @@ pub piece-at-determined : (pattern : Text) (at : ℕ) (path : Bool) (w : Width) 
     → r ≡ pieceAt w path at (signsBy w (drop at pattern)) → q ≡ pieceAt w path at (signsBy w (drop at pattern)) → r ≡ q
 piece-at-determined pattern at path w = one-answer
 
+pub search-piece-determined : (pattern : Text) (at : ℕ) (path : Bool) (w : Width) {r q : Piece}
+    → r ≡ pieceAt w path at (signsBy w (drop at pattern)) → q ≡ pieceAt w path at (signsBy w (drop at pattern)) → r ≡ q
+search-piece-determined pattern at path w = one-answer
+
 pub behind-determined : (piece : Piece) (at : ℕ) (w : Width) {r q : ℕ} → r ≡ behindOf w piece at → q ≡ behindOf w piece at → r ≡ q
 behind-determined piece at w = one-answer

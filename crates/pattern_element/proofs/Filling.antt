@@ -13,7 +13,7 @@ use Rattle.pattern_unit.specs.Widths.{size, signsBy}
 use Rattle.pattern_unit.specs.declared.Width.{Width}
 use Rattle.pattern_unit.specs.declared.Width.the-variants.{Plain, Marked}
 use Rattle.pattern_unit.proofs.Units.{scale-zero, scale-suc}
-use Rattle.pattern_element.specs.Ends.{entryOf, unitOf, endBy, Roomy, Ended, Fills}
+use Rattle.pattern_element.specs.Ends.{entryOf, unitOf, endBy, Roomy, Ended, Served, Fills}
 
 -- A PLACE AND ITS UNIT
 
@@ -57,7 +57,7 @@ module _ {w : Width} {path : Bool} {p : Text} {ends : List ℕ} {at : ℕ} (e : 
   pub ended-on : (n : ℕ) → Ended w path p ends (at + size w * n)
   ended-on n = record { roomy = e .roomy; unit = unit-on w at n (e .unit); beyond = λ q l h. e .beyond q (omega arith) h }
 
-  pub ended-behind : Ended w path p ends (at + size w)
+  ended-behind : Ended w path p ends (at + size w)
   ended-behind = let i : at + size w * 1 ≡ at + size w = omega (arith, scale-suc w 0, scale-zero w) in subst (λ (k : ℕ). Ended w path p ends k) i (ended-on 1)
 
   module _ (n : ℕ) (l : at < at + size w * n) (h : at + size w * n + size w ≤ length p) where
@@ -72,6 +72,9 @@ module _ {w : Width} {path : Bool} {p : Text} {ends : List ℕ} {at : ℕ} (e : 
         let u = unit-on w at n (e .unit) in
         e .beyond (unitOf w next) (omega (arith, u)) (omega (arith, u))
         ∙ ap (λ (k : ℕ). entryOf w k (find path false 0 (signsBy w (drop k p)))) (sym u)
+
+pub served-behind : {w : Width} {path : Bool} {p : Text} {ends : List ℕ} {at : ℕ} → Served w path p ends at → Served w path p ends (at + size w)
+served-behind s h = ended-behind (s h)
 
 -- FILLING IT
 

@@ -1,4 +1,5 @@
 pub mod Searches
 pub mod Filling
 pub mod Reading
+pub mod Standing
 pub mod Determined

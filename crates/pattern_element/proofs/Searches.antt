@@ -19,7 +19,10 @@ use Rattle.pattern_member.specs.Members.{firstMember, memberOf, isUnserved, Say
 use Rattle.pattern_member.specs.declared.Member.{Member}
 use Rattle.pattern_member.specs.declared.Member.the-variants.{Single, Range, Class, Unserved}
 use Rattle.pattern_member.proofs.Members.{member-first, member-units}
-use Rattle.pattern_element.specs.Ends.{refusingEntry, unclosedEntry, entryOf}
+use Rattle.pattern_element.specs.Ends.{refusingEntry, unclosedEntry, endOf, soughtFrom, entryOf}
+use Rattle.pattern_element.specs.declared.End.{End}
+use Rattle.pattern_element.specs.declared.End.the-variants.{Unserved, Nowhere, At}
+use Rattle.pattern_element.specs.declared.Piece.{Piece}
 use Rattle.pattern_element.specs.Pieces.{setFrom, bracketAt, pieceAt}
 use Rattle.pattern_element.specs.declared.Piece.the-variants.{Star, One, Byte, Refusing, Set}
 
@@ -36,16 +39,16 @@ find-past path zero r = refl
 find-past path (suc n) [] = sym (more-unclosed (suc n))
 find-past path (suc n) (s ∷ r) = ap oneMore (find-past path n r)
 
-one-passed : (w : Width) (k : ℕ) (f : Found) → entryOf w k (oneMore f) ≡ entryOf w (k + size w) f
+one-passed : (w : Width) (k : ℕ) (f : Found) → endOf w k (oneMore f) ≡ endOf w (k + size w) f
 one-passed w k refusing = refl
 one-passed w k unclosed = refl
 one-passed w k (closedAfter n) = let e : k + size w * suc n ≡ k + size w + size w * n = omega (arith, scale-suc w n) in rw e
 
-passed : (w : Width) (k n : ℕ) (f : Found) → entryOf w k (more n f) ≡ entryOf w (k + size w * n) f
+passed : (w : Width) (k n : ℕ) (f : Found) → endOf w k (more n f) ≡ endOf w (k + size w * n) f
 passed w k zero f = let e : k + size w * 0 ≡ k = omega (arith, scale-zero w) in rw e
 passed w k (suc n) f =
     let e : k + size w + size w * n ≡ k + size w * suc n = omega (arith, scale-suc w n) in
-    one-passed w k (more n f) ∙ passed w (k + size w) n f ∙ ap (λ (i : ℕ). entryOf w i f) e
+    one-passed w k (more n f) ∙ passed w (k + size w) n f ∙ ap (λ (i : ℕ). endOf w i f) e
 
 -- ONE STEP OF THE SEARCH
 
@@ -58,8 +61,8 @@ served Unserved = refl
 
 -- the search from a place on, in each way that the walk goes there
 module _ (w : Width) (p : Text) (path first : Bool) (k : ℕ) where
-  abbrev pub sought : ℕ
-  sought = entryOf w k (find path first 0 (signsBy w (drop k p)))
+  abbrev sought : End
+  sought = soughtFrom w path first p k
 
   abbrev closing : Bool
   closing = not first && begins 93 (signsBy w (drop k p))
@@ -67,7 +70,7 @@ module _ (w : Width) (p : Text) (path first : Bool) (k : ℕ) where
   abbrev barring : Bool
   barring = path && eqb (getD p k 0) 47
 
-  pub sought-over : length p < k + size w → sought ≡ unclosedEntry
+  pub sought-over : length p < k + size w → sought ≡ Nowhere
   unfolding find
   sought-over h = rw (none-at w p k h)
 
@@ -79,40 +82,40 @@ module _ (w : Width) (p : Text) (path first : Bool) (k : ℕ) where
     behind = signsBy w (drop (k + size w) p)
 
     -- the search where its unit is seen, by the tests there
-    seen : sought ≡ entryOf w k (chosen (endsHere first here) (slashHere path here) (search.isUnserved (member path here behind))
+    seen : sought ≡ endOf w k (chosen (endsHere first here) (slashHere path here) (search.isUnserved (member path here behind))
         (findBehind path here behind))
     seen =
-        ap (λ (r : Signs). entryOf w k (find path first 0 r)) (unit-at w p k h)
-        ∙ ap (λ (f : Found). entryOf w k f) (find-chosen path first here behind)
+        ap (λ (r : Signs). endOf w k (find path first 0 r)) (unit-at w p k h)
+        ∙ ap (λ (f : Found). endOf w k f) (find-chosen path first here behind)
 
     ended : {x : Bool} → closing ≡ x → endsHere first here ≡ x
     ended e = ap (λ (b : Bool). not first && b) (sym (live-seen w p k 93 h)) ∙ e
 
-    pub sought-close : closing ≡ true → sought ≡ k
+    pub sought-close : closing ≡ true → sought ≡ At k
     sought-close y = let e : k + size w * 0 ≡ k = omega (arith, scale-zero w) in seen ∙ rw (ended y, e)
 
     module _ (n : closing ≡ false) where
-      pub sought-bar : barring ≡ true → sought ≡ unclosedEntry
+      pub sought-bar : barring ≡ true → sought ≡ Nowhere
       sought-bar y = seen ∙ rw (ended n, y)
 
       module _ (b : barring ≡ false) {m : Member} (s : Says w p (k + size w) (firstMember path (signsBy w (drop k p))) m) where
         told : {x : Bool} → isUnserved m ≡ x → search.isUnserved (member path here behind) ≡ x
         told e = sym (served m ∙ ap search.isUnserved (member-first k path h s)) ∙ e
 
-        pub sought-unserved : isUnserved m ≡ true → sought ≡ refusingEntry
+        pub sought-unserved : isUnserved m ≡ true → sought ≡ Unserved
         sought-unserved y = seen ∙ rw (ended n, b, told y)
 
-        pub sought-on : isUnserved m ≡ false → sought ≡ entryOf w (behindOf m k w) (find path false 0 (signsBy w (drop (behindOf m k w) p)))
+        pub sought-on : isUnserved m ≡ false → sought ≡ soughtFrom w path false p (behindOf m k w)
         sought-on y =
             let u = memberLength (memberOf m) in
             let e : k + size w * suc u ≡ behindOf m k w = let f : suc u ≡ u + 1 = omega arith in rw f in
             seen
             ∙ rw (ended n, b, told y)
-            (ap (λ q. entryOf w k (oneMore (find path false (memberLength q) behind))) (sym (member-first k path h s))
-            ∙ ap (λ (f : Found). entryOf w k (oneMore f)) (find-past path u behind)
+            (ap (λ q. endOf w k (oneMore (find path false (memberLength q) behind))) (sym (member-first k path h s))
+            ∙ ap (λ (f : Found). endOf w k (oneMore f)) (find-past path u behind)
             ∙ passed w k (suc u) (find path false 0 (drop u behind))
-            ∙ ap (λ (i : ℕ). entryOf w i (find path false 0 (drop u behind))) e
-            ∙ ap (λ (r : Signs). entryOf w (behindOf m k w) (find path false 0 r)) (member-units w p k m))
+            ∙ ap (λ (i : ℕ). endOf w i (find path false 0 (drop u behind))) e
+            ∙ ap (λ (r : Signs). endOf w (behindOf m k w) (find path false 0 r)) (member-units w p k m))
 
 -- A BRACKET
 
@@ -178,24 +181,36 @@ end-inside w path first p k n h e =
     let i = units-there w (suc n) (drop k p) (found-inside path first 0 (signsBy w (drop k p)) n e) in
     omega (arith, i, length-drop k p, scale-suc w n)
 
--- what is found, as the answer for the bracket: the places of a pattern are below the other entries
-module _ (w : Width) (negative : Bool) (from : ℕ) {e : ℕ} where
+-- what is found, by its entry: the places of a pattern are below the other entries
+module _ (w : Width) (from : ℕ) {e : ℕ} where
   pub met-refusing : (f : Found) → ((n : ℕ) → f ≡ closedAfter n → from + size w * n < refusingEntry) → e ≡ entryOf w from f → e ≡ refusingEntry →
-      Refusing ≡ setFrom w negative from f
+      Unserved ≡ endOf w from f
   met-refusing refusing b i h = refl
   met-refusing unclosed b i h = absurd (omega (arith, i, h))
   met-refusing (closedAfter n) b i h = absurd (omega (arith, i, h, b n refl))
 
   pub met-none : (f : Found) → ((n : ℕ) → f ≡ closedAfter n → from + size w * n < refusingEntry) → e ≡ entryOf w from f → e ≡ unclosedEntry →
-      Byte 91 ≡ setFrom w negative from f
+      Nowhere ≡ endOf w from f
   met-none refusing b i h = absurd (omega (arith, i, h))
   met-none unclosed b i h = refl
   met-none (closedAfter n) b i h = absurd (omega (arith, i, h, b n refl))
 
-  pub met-end : (f : Found) → e ≡ entryOf w from f → (e ≡ refusingEntry → ⊥) → (e ≡ unclosedEntry → ⊥) → Set negative from e ≡ setFrom w negative from f
+  pub met-end : (f : Found) → e ≡ entryOf w from f → (e ≡ refusingEntry → ⊥) → (e ≡ unclosedEntry → ⊥) → At e ≡ endOf w from f
   met-end refusing i r u = absurd (r i)
   met-end unclosed i r u = absurd (u i)
-  met-end (closedAfter n) i r u = ap (λ (k : ℕ). Set negative from k) i
+  met-end (closedAfter n) i r u = ap At i
+
+-- and as the answer for the bracket
+module _ (w : Width) (negative : Bool) (from : ℕ) where
+  abbrev pub setOf : End → Piece
+  setOf Unserved = Refusing
+  setOf Nowhere = Byte 91
+  setOf (At to) = Set negative from to
+
+  pub set-found : (f : Found) {e : End} → e ≡ endOf w from f → setOf e ≡ setFrom w negative from f
+  set-found refusing h = ap setOf h
+  set-found unclosed h = ap setOf h
+  set-found (closedAfter n) h = ap setOf h
 
 -- the piece at a place, by the active byte that stands there
 module _ (w : Width) (path : Bool) (p : Text) (at : ℕ) (h : at + size w ≤ length p) where

@@ -8,7 +8,7 @@ ghost use Rattle.stages.specs.Pattern.{find};
 ghost use Rattle.pattern_unit.specs.Widths.{size, signsBy};
 ghost use Rattle.pattern_unit.specs.Heads.{begins};
 ghost use Rattle.pattern_member.specs.Members.{isUnserved};
-ghost use Rattle.pattern_element.specs.Ends.{entryOf, unitOf, Roomy, Ended, Fills};
+ghost use Rattle.pattern_element.specs.Ends.{soughtFrom, StepSays, entryOf, unitOf, Roomy, Ended, Served, Fills};
 ghost use Rattle.pattern_element.specs.Pieces.{setFrom, bracketAt, pieceAt, behindOf, Within};
 use pattern_member::Member;
 use pattern_unit::Width;
@@ -52,32 +52,54 @@ fn unit_of(at: usize, width: Width) -> usize
     }
 }
 
+// One step of the search for a bracket's end: it meets a member that is 19, there is no end, the end is here, or the search goes on behind a member.
+enum Step {
+    Refuses,
+    Fails,
+    Closes,
+    On(usize),
+}
+
+// The step at a place.
+fn step_at(pattern: &[u8], at: usize, first: bool, path: bool, width: Width) -> Step
+    requires { ⌜ at ≤ length (now pattern) ⌝ }
+    ensures { λ r. ⌜ StepSays width path first (now (pattern .entry)) at r ⌝ }
+{
+    if pattern.len() < at + pattern_unit::unit_size(width) {
+        return Step::Fails;
+    }
+    if closes(pattern, at, first, width) {
+        return Step::Closes;
+    }
+    if pattern_member::bars(pattern, at, path) {
+        return Step::Fails;
+    }
+    let member = pattern_member::member_at(pattern, at, path, width);
+    if is_unserved(member) {
+        return Step::Refuses;
+    }
+    let next = pattern_member::behind(member, at, width);
+    Step::On(next)
+}
+
 // What the search for a bracket's end finds that is at this place. Behind the member there the table tells it.
 fn end_at(pattern: &[u8], at: usize, first: bool, path: bool, width: Width, ends: &[u16]) -> u16
     requires { ⌜ at ≤ length (now pattern) ⌝ }
     requires { ⌜ Ended width path (now pattern) (now ends) at ⌝ }
     ensures { λ r. ⌜ r ≡ entryOf width at (find path first 0 (signsBy width (drop at (now (pattern .entry))))) ⌝ }
 {
-    let size = pattern_unit::unit_size(width);
-    if pattern.len() < at + size {
-        return UNCLOSED;
+    match step_at(pattern, at, first, path, width) {
+        Step::Refuses => REFUSING,
+        Step::Fails => UNCLOSED,
+        Step::Closes => at as u16,
+        Step::On(next) => {
+            if pattern.len() < next + pattern_unit::unit_size(width) {
+                return UNCLOSED;
+            }
+            let unit = unit_of(next, width);
+            ends[unit]
+        }
     }
-    if closes(pattern, at, first, width) {
-        return at as u16;
-    }
-    if pattern_member::bars(pattern, at, path) {
-        return UNCLOSED;
-    }
-    let member = pattern_member::member_at(pattern, at, path, width);
-    if is_unserved(member) {
-        return REFUSING;
-    }
-    let next = pattern_member::behind(member, at, width);
-    if pattern.len() < next + size {
-        return UNCLOSED;
-    }
-    let unit = unit_of(next, width);
-    ends[unit]
 }
 
 // Fills the table of ends. Each search goes on where the one of a later unit has gone before: so all are found by one walk from the last unit to the first.
@@ -108,6 +130,53 @@ pub enum Piece {
     },
 }
 
+// What the search for a bracket's end finds: a member that is 19, nothing, or the place of the `]`.
+enum End {
+    Unserved,
+    Nowhere,
+    At(usize),
+}
+
+// The end of the bracket whose members begin at a place, by a walk over them.
+fn search_end(pattern: &[u8], from: usize, path: bool, width: Width) -> End
+    requires { ⌜ from ≤ length (now pattern) ⌝ }
+    ensures { λ r. ⌜ r ≡ soughtFrom width path true (now (pattern .entry)) from ⌝ }
+{
+    let mut first = true;
+    let mut at = from;
+    while at < pattern.len() {
+        match step_at(pattern, at, first, path, width) {
+            Step::Refuses => return End::Unserved,
+            Step::Fails => return End::Nowhere,
+            Step::Closes => return End::At(at),
+            Step::On(next) => {
+                first = false;
+                at = next;
+            }
+        }
+    }
+    End::Nowhere
+}
+
+// The same, by the table of ends if there is one.
+fn end_from(pattern: &[u8], from: usize, path: bool, width: Width, ends: &[u16]) -> End
+    requires { ⌜ from ≤ length (now pattern) ⌝ }
+    requires { ⌜ Served width path (now pattern) (now ends) from ⌝ }
+    ensures { λ r. ⌜ r ≡ soughtFrom width path true (now (pattern .entry)) from ⌝ }
+{
+    if ends.len() == 0 {
+        return search_end(pattern, from, path, width);
+    }
+    let end = end_at(pattern, from, true, path, width, ends);
+    if end == REFUSING {
+        return End::Unserved;
+    }
+    if end == UNCLOSED {
+        return End::Nowhere;
+    }
+    End::At(end as usize)
+}
+
 // The bracket whose members begin at a place.
 fn set_from(
     pattern: &[u8],
@@ -118,27 +187,20 @@ fn set_from(
     ends: &[u16],
 ) -> Piece
     requires { ⌜ from ≤ length (now pattern) ⌝ }
-    requires { ⌜ Ended width path (now pattern) (now ends) from ⌝ }
+    requires { ⌜ Served width path (now pattern) (now ends) from ⌝ }
     ensures { λ r. ⌜ r ≡ setFrom width negative from (find path true 0 (signsBy width (drop from (now (pattern .entry))))) ⌝ }
 {
-    let end = end_at(pattern, from, true, path, width, ends);
-    if end == REFUSING {
-        return Piece::Refusing;
-    }
-    if end == UNCLOSED {
-        return Piece::Byte(b'[');
-    }
-    Piece::Set {
-        negative,
-        from,
-        to: end as usize,
+    match end_from(pattern, from, path, width, ends) {
+        End::Unserved => Piece::Refusing,
+        End::Nowhere => Piece::Byte(b'['),
+        End::At(to) => Piece::Set { negative, from, to },
     }
 }
 
 // The bracket that the active `[` before this place opens: "optional active `!` for all others".
 fn bracket_at(pattern: &[u8], at: usize, path: bool, width: Width, ends: &[u16]) -> Piece
     requires { ⌜ at ≤ length (now pattern) ⌝ }
-    requires { ⌜ Ended width path (now pattern) (now ends) at ⌝ }
+    requires { ⌜ Served width path (now pattern) (now ends) at ⌝ }
     ensures { λ r. ⌜ r ≡ bracketAt width path at (signsBy width (drop at (now (pattern .entry)))) ⌝ }
 {
     if pattern_unit::is_live(pattern, at, b'!', width) {
@@ -154,10 +216,10 @@ fn bracket_at(pattern: &[u8], at: usize, path: bool, width: Width, ends: &[u16])
     set_from(pattern, at, false, path, width, ends)
 }
 
-// The element at a place, by the table of ends.
+// The element at a place, by the table of ends. Without one, an empty slice, the end of a bracket is searched: so a pattern may have any length.
 pub fn piece_at(pattern: &[u8], at: usize, path: bool, width: Width, ends: &[u16]) -> Piece
     requires { ⌜ at + size width ≤ length (now pattern) ⌝ }
-    requires { ⌜ Ended width path (now pattern) (now ends) at ⌝ }
+    requires { ⌜ Served width path (now pattern) (now ends) at ⌝ }
     ensures { λ r. ⌜ r ≡ pieceAt width path at (signsBy width (drop at (now (pattern .entry)))) ⌝ }
 {
     if pattern_unit::is_live(pattern, at, b'*', width) {
@@ -176,6 +238,15 @@ pub fn piece_at(pattern: &[u8], at: usize, path: bool, width: Width, ends: &[u16
         );
     }
     Piece::Byte(pattern[at])
+}
+
+// The same without a table.
+pub fn search_piece(pattern: &[u8], at: usize, path: bool, width: Width) -> Piece
+    requires { ⌜ at + size width ≤ length (now pattern) ⌝ }
+    ensures { λ r. ⌜ r ≡ pieceAt width path at (signsBy width (drop at (now (pattern .entry)))) ⌝ }
+{
+    let none = [0u16; 0];
+    piece_at(pattern, at, path, width, &none)
 }
 
 // The place behind the element at a place.

@@ -14,6 +14,7 @@ use Rattle.stages.specs.Bytes.{Text}
 use Rattle.stages.specs.Units.{L, E, Q, cell, N, B, Row, bytes}
 use Rattle.stages.specs.Pattern.{Sign, Signs, signs, hasClass, elements, Purpose, isForPaths, pattern}
 use Rattle.stages.proofs.Bools.{either}
+use Rattle.stages.proofs.CostCalls.{pattern-refused, pattern-done}
 use Rattle.text.proofs.Rows.{rowOf-rowBytes}
 use Rattle.text.specs.Rows.{isMark, rowBytes, rowOf, unitOf, signsOf}
 use Rattle.pattern_unit.proofs.Units.{two-on}
@@ -176,28 +177,20 @@ kept-bytes t = ap bytes (kept-row t) ∙ bytes-without (rowOf t)
 pub kept-full : (t : Text) → NoEmpty (kept t)
 kept-full t = record { seen = kept-signs t ∙ sym (kept-row-signs t) }
 
--- the pattern that a row makes, by the answer for 19
+-- the pattern that a row makes
 module _ (purpose : Purpose) where
-  pattern-refused : (r : Row) → hasClass (isForPaths purpose) 0 (signs r) ≡ true → pattern purpose r ≡ refused bracketClass
-  unfolding pattern
-  pattern-refused r y = rw (y, pattern)
-
-  pattern-done : (r : Row) → hasClass (isForPaths purpose) 0 (signs r) ≡ false → pattern purpose r ≡ done (elements (isForPaths purpose) 0 (signs r))
-  unfolding pattern
-  pattern-done r n = rw (n, pattern)
-
   pub kept-pattern : (t : Text) → pattern purpose (rowOf (kept t)) ≡ pattern purpose (rowOf t)
   kept-pattern t = either (hasClass (isForPaths purpose) 0 (signs (rowOf t)))
-      (λ y. pattern-refused (rowOf (kept t)) (rw (kept-row-signs t) y) ∙ sym (pattern-refused (rowOf t) y))
-      λ n. pattern-done (rowOf (kept t)) (rw (kept-row-signs t) n) ∙ rw (kept-row-signs t) (sym (pattern-done (rowOf t) n))
+      (λ y. pattern-refused purpose (rowOf (kept t)) (rw (kept-row-signs t) y) ∙ sym (pattern-refused purpose (rowOf t) y))
+      λ n. pattern-done purpose (rowOf (kept t)) (rw (kept-row-signs t) n) ∙ rw (kept-row-signs t) (sym (pattern-done purpose (rowOf t) n))
 
   -- and that of units among which is no N
   module _ {t : Text} (f : NoEmpty t) where
     pub full-refused : hasClass (isForPaths purpose) 0 (signsOf t) ≡ true → pattern purpose (rowOf t) ≡ refused bracketClass
-    full-refused y = pattern-refused (rowOf t) (rw (← f .seen) y)
+    full-refused y = pattern-refused purpose (rowOf t) (rw (← f .seen) y)
 
     pub full-done : hasClass (isForPaths purpose) 0 (signsOf t) ≡ false → pattern purpose (rowOf t) ≡ done (elements (isForPaths purpose) 0 (signsOf t))
-    full-done n = pattern-done (rowOf t) (rw (← f .seen) n) ∙ ap (λ (s : Signs). done (elements (isForPaths purpose) 0 s)) (sym (f .seen))
+    full-done n = pattern-done purpose (rowOf t) (rw (← f .seen) n) ∙ ap (λ (s : Signs). done (elements (isForPaths purpose) 0 s)) (sym (f .seen))
 
 -- what a caller has who drops the N of a row and lends its front
 module _ {entry exit : Text} {count : ℕ} (d : Dropped entry exit count) where

@@ -1,9 +1,10 @@
 -- Whatever two outcomes a contract of this crate allows for one input, they are equal: a set is its 256 bits, and each other answer is equal to one definition.
 use Prim.Native.Nat.{ℕ, _+_, _*_, _^_, _<_}
 use mathlib.Core.Path.{_≡_, sym, _∙_, ap, ap₂}
-use mathlib.Core.Bool.{Bool}
+use mathlib.Core.Bool.{Bool, false, not, _||_}
 use mathlib.Core.List.{List}
 use native.Mathlib.Omega.{arith}
+use lib.Dec.{eqb}
 use lib.ListN.{length, drop, getD}
 use lib.Seq.{ext-getD}
 use Rattle.stages.specs.Bytes.{Text}
@@ -35,6 +36,20 @@ set-determined want r q s t e f = ap (λ (l : List ℕ). record { words = l }) (
     each i h = bits-same 64 (getD (r .words) i 0) (getD (q .words) i 0) (s .fits i) (t .fits i)
         (λ j k. sym (has-at (r .words) i j k) ∙ one-answer (e (64 * i + j) (omega (arith, s .four))) (f (64 * i + j) (omega (arith, s .four)))
         ∙ has-at (q .words) i j k)
+
+pub none-determined : (r q : ByteSet) → Typed r → Typed q
+    → ((k : ℕ) → k < 256 → has (r .words) k ≡ false) → ((k : ℕ) → k < 256 → has (q .words) k ≡ false) → r ≡ q
+none-determined = set-determined (λ k. false)
+
+pub with-byte-determined : (s : ByteSet) (b : ℕ) (r q : ByteSet) → Typed r → Typed q
+    → ((k : ℕ) → k < 256 → has (r .words) k ≡ (eqb b k || has (s .words) k))
+    → ((k : ℕ) → k < 256 → has (q .words) k ≡ (eqb b k || has (s .words) k)) → r ≡ q
+with-byte-determined s b = set-determined (λ k. eqb b k || has (s .words) k)
+
+pub others-determined : (s : ByteSet) (r q : ByteSet) → Typed r → Typed q
+    → ((k : ℕ) → k < 256 → has (r .words) k ≡ not (has (s .words) k))
+    → ((k : ℕ) → k < 256 → has (q .words) k ≡ not (has (s .words) k)) → r ≡ q
+others-determined s = set-determined (λ k. not (has (s .words) k))
 
 pub set-of-determined : (units : Text) (negative : Bool) (w : Width) (r q : ByteSet) → Typed r → Typed q
     → ((k : ℕ) → k < 256 → has (r .words) k ≡ inSet (senseOf negative) (signsBy w units) k)

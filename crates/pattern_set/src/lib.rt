@@ -22,7 +22,7 @@ pub struct ByteSet {
 }
 
 // The set without members.
-fn none() -> ByteSet
+pub fn none() -> ByteSet
     ensures { λ r. ⌜ ((k : ℕ) → k < 256 → has (r .words) k ≡ false) ⌝ }
 {
     ByteSet { words: [0; 4] }
@@ -30,7 +30,7 @@ fn none() -> ByteSet
 
 impl ByteSet {
     // The set with one byte more.
-    fn with_byte(mut self, b: u8) -> Self
+    pub fn with_byte(mut self, b: u8) -> Self
         ensures { λ r. ⌜ ((k : ℕ) → k < 256 → has (r .words) k ≡ (eqb b k || has (self .words) k)) ⌝ }
     {
         let i = b as usize;
@@ -77,7 +77,7 @@ impl ByteSet {
     }
 
     // All other bytes.
-    fn others(self) -> Self
+    pub fn others(self) -> Self
         ensures { λ r. ⌜ ((k : ℕ) → k < 256 → has (r .words) k ≡ not (has (self .words) k)) ⌝ }
     {
         let w = self.words;

@@ -1,3 +1,3 @@
-pub mod Standing
+pub mod Special
 pub mod Settling
 pub mod Determined

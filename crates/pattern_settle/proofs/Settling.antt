@@ -24,18 +24,8 @@ use Rattle.pattern_cell.specs.Cells.{Holds, Is, Shows, none, more}
 use Rattle.pattern_cell.proofs.Showing.{shown-both, shown-grown}
 use Rattle.pattern_settle.specs.Celled.{Celled, isSpecial}
 use Rattle.pattern_settle.specs.Settled.{Settles}
-use Rattle.pattern_settle.proofs.Standing.{
-  from,
-  classFrom,
-  Standing,
-  piece-inside,
-  piece-further,
-  set-inside,
-  parted,
-  class-step,
-  special-step,
-  ended-next,
-}
+use Rattle.pattern_element.proofs.Standing.{from, classFrom, Standing, piece-inside, piece-further, set-inside, parted, class-step, ended-next}
+use Rattle.pattern_settle.proofs.Special.{special-step}
 
 -- THE CELL OF AN ELEMENT
 

@@ -12,7 +12,8 @@ use lib.Seq.{drop-cons, drop-nil, take-nil, take-all}
 use Rattle.stages.proofs.Bools.{apart}
 use Rattle.stages.specs.Outcome.{pick}
 use Rattle.stages.specs.Bytes.{Text}
-use Rattle.stages.specs.Pattern.{Sign, Signs, isLive, begin}
+use Rattle.stages.specs.Units.{L, marked}
+use Rattle.stages.specs.Pattern.{Sign, Signs, signs, isLive, begin}
 use Rattle.text.specs.Rows.{signsOf}
 use Rattle.pattern_unit.specs.Widths.{size, plainSigns, signsBy, isActive}
 use Rattle.pattern_unit.specs.Heads.{begins}
@@ -192,3 +193,9 @@ module _ (w : Width) (p : Text) (k : ℕ) where
 -- a part from k to the end is what is left when k are dropped
 pub to-end : (v : Text) (k : ℕ) → take (length v - k) (drop k v) ≡ drop k v
 to-end v k = take-all (length v - k) (drop k v) (simp length-drop (omega arith))
+
+-- bytes that are all active are read as the stage reads literal units
+pub plain-signs : (p : Text) → plainSigns p ≡ signs (marked L p)
+unfolding plainSigns signs marked
+plain-signs [] = refl
+plain-signs (b ∷ p) = ap (λ (r : Signs). record { live = true; byte = b } ∷ r) (plain-signs p)

@@ -102,6 +102,11 @@ pub const DEPTH_LIMIT: usize = 8;
 // "More than 32 open parentheses and unary signs, together, is 12."
 pub const OPEN_LIMIT: usize = 32;
 
+// "more than 64 elements or 256 text bytes is 14"
+pub const ELEMENTS_LIMIT: usize = 64;
+
+pub const COMPARED_LIMIT: usize = 256;
+
 // The most bytes of a number's decimal text: those of -9223372036854775808 and of 18446744073709551615.
 pub const MOST_DIGITS: usize = 20;
 

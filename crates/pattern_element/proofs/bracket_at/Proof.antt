@@ -6,7 +6,7 @@ use lib.ListN.{length}
 use Rattle.pattern_unit.specs.Widths.{size}
 use Rattle.pattern_unit.proofs.Units.{live-inside}
 use Rattle.pattern_element.proofs.Searches.{bracket-others, bracket-plain}
-use Rattle.pattern_element.proofs.Filling.{roomy-small, ended-behind}
+use Rattle.pattern_element.proofs.Filling.{served-behind}
 use borrow.Author.Needs.{needs}
 use Rattle.pattern_element.proofs.bracket_at.Statement.{statement}
 use Rattle.pattern_element.proofs.bracket_at.Tie as tie
@@ -26,10 +26,10 @@ unit-size-requires : tie.Need-unit-size-requires
 unit-size-requires c κs = search needs
 
 add-set-from : tie.Need-add-set-from
-add-set-from c = omega (arith, c .unit-size .ensures, there (c .before), roomy-small (c .before .before .before .before .before .pre .1 .roomy))
+add-set-from c = omega (arith, c .unit-size .ensures, there (c .before))
 
 set-from-requires : tie.Need-set-from-requires
-set-from-requires c κs = rw (c .unit-size .ensures) (there (c .before), ended-behind (c .before .before .before .before .before .pre .1))
+set-from-requires c κs = rw (c .unit-size .ensures) (there (c .before), served-behind (c .before .before .before .before .before .pre .1))
 
 returns : tie.Need-returns
 returns c =

@@ -7,7 +7,7 @@ use Rattle.pattern_unit.specs.Widths.{signsBy}
 use Rattle.pattern_unit.specs.Heads.{begins}
 use Rattle.pattern_unit.proofs.Units.{size-bounds}
 use Rattle.pattern_element.proofs.Searches.{piece-star, piece-one, piece-bracket, piece-byte}
-use Rattle.pattern_element.proofs.Filling.{ended-behind}
+use Rattle.pattern_element.proofs.Filling.{served-behind}
 use borrow.Author.Needs.{needs}
 use Rattle.pattern_element.proofs.piece_at.Statement.{statement}
 use Rattle.pattern_element.proofs.piece_at.Tie as tie
@@ -52,7 +52,7 @@ add-bracket-at c = search needs
 bracket-at-requires : tie.Need-bracket-at-requires
 bracket-at-requires c κs =
     let s = c .before .before .before .before .before .before .before .before .before in
-    rw (c .unit-size .ensures) (s .pre .0, ended-behind (s .pre .1))
+    rw (c .unit-size .ensures) (s .pre .0, served-behind (s .pre .1))
 
 returns-3 : tie.Need-returns-3
 returns-3 c =

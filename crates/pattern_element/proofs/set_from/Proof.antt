@@ -1,49 +1,50 @@
--- Each entry is one answer.
-use Prim.Native.Nat.{ℕ, _+_, _*_, _<_}
-use mathlib.Core.Path.{_≡_}
+-- Each end that may be found is one answer.
+use mathlib.Core.Path.{_≡_, sym, _∙_, ap}
 use mathlib.Core.Bool.{true}
-use native.Mathlib.Omega.{arith}
 use lib.ListN.{drop}
-use Rattle.stages.specs.Pattern.{closedAfter, find}
-use Rattle.pattern_unit.specs.Widths.{size, signsBy}
-use Rattle.pattern_element.specs.Ends.{refusingEntry}
-use Rattle.pattern_element.proofs.Searches.{end-inside, met-refusing, met-none, met-end}
-use Rattle.pattern_element.proofs.Filling.{roomy-small}
+use Rattle.stages.specs.Pattern.{find}
+use Rattle.pattern_unit.specs.Widths.{signsBy}
+use Rattle.pattern_element.specs.Pieces.{setFrom}
+use Rattle.pattern_element.proofs.Searches.{setOf, set-found}
 use borrow.Author.Needs.{needs}
 use Rattle.pattern_element.proofs.set_from.Statement.{statement}
 use Rattle.pattern_element.proofs.set_from.Tie as tie
 
--- an end that is found is a place
-placed : (c : tie.Start) →
-    let a = c .args in
-    (n : ℕ) → find (a .path) true 0 (signsBy (a .width) (drop (a .from) (a .pattern .now))) ≡ closedAfter n → a .from + size (a .width) * n < refusingEntry
-placed c n e =
-    let a = c .args in
-    omega (arith, roomy-small (c .pre .1 .roomy), end-inside (a .width) (a .path) true (a .pattern .now) (a .from) n (c .pre .0) e)
+-- the bracket by the end that is found
+bracketed : (c : tie.After-end-from) →
+    let a = c .before .before .before .args in
+    setOf (a .width) (a .negative) (a .from) (c .end-from .result) ≡ setFrom (a .width) (a .negative) (a .from)
+    (find (a .path) true 0 (signsBy (a .width) (drop (a .from) (a .pattern .now))))
+bracketed c =
+    let a = c .before .before .before .args in
+    set-found (a .width) (a .negative) (a .from) (find (a .path) true 0 (signsBy (a .width) (drop (a .from) (a .pattern .now)))) (c .end-from .ensures)
 
-end-at-requires : tie.Need-end-at-requires
-end-at-requires c κs = search needs
+end-from-requires : tie.Need-end-from-requires
+end-from-requires c κs = search needs
+
+enum-told : tie.Need-enum-told
+enum-told c = search needs
+
+enum-told-2 : tie.Need-enum-told-2
+enum-told-2 c = search needs
+
+enum-known-to : tie.Need-enum-known-to
+enum-known-to c = search needs
 
 returns : tie.Need-returns
 returns c =
-    let a = c .before .before .before .before .args in
-    met-refusing (a .width) (a .negative) (a .from) (find (a .path) true 0 (signsBy (a .width) (drop (a .from) (a .pattern .now))))
-    (placed (c .before .before .before .before)) (c .before .end-at .ensures) (c .if1 .taken)
+    let a = c .before .before .before .before .before .args in
+    sym (ap (setOf (a .width) (a .negative) (a .from)) (c .enum-told .given .1)) ∙ bracketed (c .before .before)
 
 returns-2 : tie.Need-returns-2
 returns-2 c =
     let a = c .before .before .before .before .before .args in
-    met-none (a .width) (a .negative) (a .from) (find (a .path) true 0 (signsBy (a .width) (drop (a .from) (a .pattern .now))))
-    (placed (c .before .before .before .before .before)) (c .before .before .end-at .ensures) (c .if2 .taken)
-
-cast-t9 : tie.Need-cast-t9
-cast-t9 c = search needs
+    sym (ap (setOf (a .width) (a .negative) (a .from)) (c .enum-told2 .given .1)) ∙ bracketed (c .before .before)
 
 returns-3 : tie.Need-returns-3
 returns-3 c =
-    let a = c .before .before .before .before .before .args in
-    met-end (a .width) (a .negative) (a .from) (find (a .path) true 0 (signsBy (a .width) (drop (a .from) (a .pattern .now))))
-    (c .before .before .end-at .ensures) (c .before .if1 .left) (c .if2 .left)
+    let a = c .before .before .before .before .before .before .args in
+    sym (ap (setOf (a .width) (a .negative) (a .from)) (c .before .to .given .1)) ∙ bracketed (c .before .before .before)
 
 pub set-from-spec : {M : Type 1} → statement M
-set-from-spec = tie.close (tie.spec end-at-requires returns returns-2 cast-t9 returns-3)
+set-from-spec = tie.close (tie.spec end-from-requires enum-told enum-told-2 enum-known-to returns returns-2 returns-3)

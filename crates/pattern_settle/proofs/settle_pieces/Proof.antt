@@ -8,7 +8,7 @@ use Rattle.pattern_unit.proofs.Units.{size-bounds}
 use Rattle.pattern_element.specs.Pieces.{behindOf}
 use Rattle.pattern_element.proofs.Filling.{roomy-small}
 use Rattle.pattern_settle.specs.Celled.{Celled}
-use Rattle.pattern_settle.proofs.Standing.{Standing, piece-inside, piece-further, piece-within}
+use Rattle.pattern_element.proofs.Standing.{Standing, piece-inside, piece-further, piece-within}
 use Rattle.pattern_settle.proofs.Settling.{
   Settling,
   settling-start,
@@ -85,7 +85,7 @@ add-loop c =
     omega (arith, c .before .unit-size .ensures, size-bounds (c .before .before .before .before .before .args .width), s .inside, roomy-small (s .ended .roomy))
 
 piece-at-requires : tie.Need-piece-at-requires Inv-loop μ-loop
-piece-at-requires c κs = (there (c .before), so-far (c .before .before) .ended)
+piece-at-requires c κs = (there (c .before), λ _. so-far (c .before .before) .ended)
 
 cell-of-requires : tie.Need-cell-of-requires Inv-loop μ-loop
 cell-of-requires c κs =

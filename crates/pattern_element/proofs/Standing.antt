@@ -6,16 +6,13 @@ use mathlib.Core.List.{List, _∷_}
 use lib.ListN.{length, drop}
 use Rattle.stages.specs.Bytes.{Text}
 use Rattle.stages.specs.Pattern.{Element, elements, hasClass}
-use Rattle.stages.specs.Paths.{active}
 use Rattle.pattern_unit.specs.Widths.{size, signsBy}
 use Rattle.pattern_unit.specs.declared.Width.{Width}
 use Rattle.pattern_element.specs.Ends.{Ended}
 use Rattle.pattern_element.specs.Pieces.{pieceAt, behindOf, elementOf, isRefusingPiece, setsIn, Lies}
 use Rattle.pattern_element.specs.declared.Piece.{Piece}
-use Rattle.pattern_element.specs.declared.Piece.the-variants.{Star, One, Byte, Refusing, Set}
 use Rattle.pattern_element.proofs.Reading.{next-is, next-inside, next-further, elements-on, class-on, piece-lies, piece-long}
 use Rattle.pattern_element.proofs.Filling.{ended-on}
-use Rattle.pattern_settle.specs.Celled.{isSpecial}
 
 -- the elements of a pattern from a place on, and whether a class that is not served is met there
 abbrev pub from : Width → Bool → Text → ℕ → List Element
@@ -23,14 +20,6 @@ from w path p at = elements path 0 (signsBy w (drop at p))
 
 abbrev pub classFrom : Width → Bool → Text → ℕ → Bool
 classFrom w path p at = hasClass path 0 (signsBy w (drop at p))
-
-active-step : (w : Width) (p : Text) (q : Piece) (es : List Element) → active (elementOf w p q ∷ es) ≡ (isSpecial q || active es)
-unfolding active elementOf
-active-step w p Star es = refl
-active-step w p One es = refl
-active-step w p (Byte b) es = refl
-active-step w p Refusing es = refl
-active-step w p (Set negative a e) es = refl
 
 -- the piece q stands at a place of the pattern, n is the place behind it
 pub record Standing (w : Width) (path : Bool) (p : Text) (at : ℕ) (q : Piece) (n : ℕ) : Type 0 where
@@ -57,9 +46,6 @@ module _ {w : Width} {path : Bool} {p : Text} {at : ℕ} {q : Piece} {n : ℕ} (
 
   pub class-step : classFrom w path p at ≡ (isRefusingPiece q || classFrom w path p n)
   class-step = rw (s .ends, s .is) (class-on w path p at (s .there))
-
-  pub special-step : active (from w path p at) ≡ (isSpecial q || active (from w path p n))
-  special-step = ap active parted ∙ active-step w p q (from w path p n)
 
   -- the table of ends that serves this place serves the next
   pub ended-next : {ends : List ℕ} → Ended w path p ends at → Ended w path p ends n
