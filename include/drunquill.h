@@ -1,4 +1,4 @@
-/* Drunquill: POSIX words expanded, fields quoted, variables assigned, paths kept. Six functions over buffers that the caller lends.
+/* Drunquill: POSIX words expanded, fields quoted, variables assigned, paths kept, patterns priced. Seven functions over buffers that the caller lends.
  *
  * The functions are proved to answer as docs/01-scope.md says, with the requests of docs/02-change-requests.md that have landed, for any bytes in any
  * buffers: they call nothing but memcpy and memset, keep nothing between calls, use no heap, always return, and may run in several threads at once on
@@ -9,8 +9,8 @@
  * BUFFERS. Each is a pointer and a length in bytes.
  *  - No pointer may be NULL, also where the length is 0. Each must have that many bytes, readable; `vars`, `work`, `out` and `message` writable too,
  *    and `paths` in the two functions that change it.
- *  - `vars`, `work`, `out` and `message` may overlap neither each other nor any other buffer of the call. `line`, `homes`, `params` and `paths` are
- *    only read.
+ *  - `vars`, `work`, `out` and `message` may overlap neither each other nor any other buffer of the call. `line`, `homes`, `params`, `paths`, `pattern`
+ *    and `text` are only read.
  *  - Nothing else may read or write the buffers during the call.
  * The functions reach no byte outside the buffers and the stack. Bytes of a text are never changed by a locale: letters and digits are the ASCII ones.
  *
@@ -43,6 +43,8 @@ extern "C" {
 #define DRUNQUILL_MESSAGE_MAX 2048 /* no message is longer: it has at most a byte for each unit of an operand */
 #define DRUNQUILL_DEPTH_MAX 8      /* expansions open at once, "${" and "$((" together */
 #define DRUNQUILL_OPEN_MAX 32      /* parentheses and unary signs, + - ! ~, open at once in arithmetic, together */
+#define DRUNQUILL_ELEMENTS_MAX 64  /* elements of a pattern whose cost is asked for: each *, ?, closed bracket and other byte is one */
+#define DRUNQUILL_COMPARED_MAX 256 /* bytes of the text that its cost is asked for with */
 
 /* What a call may need of the stack, in bytes: well above what tests/built/c measures on the deepest lines known (docs/TRUST.md). It is measured and not
  * proved. */
@@ -101,6 +103,13 @@ struct drunquill_updated {
     uint8_t number; /* 0, 4, 21 (from the insertion) or 24 */
     size_t place;
     size_t used;    /* the paths' used length now: that of the new image, or on a refusal `paths_used` as it was given */
+};
+
+/* What the coster answers. Its place is always 0. */
+struct drunquill_costed {
+    uint8_t number; /* 0, 1, 14 or 19 */
+    size_t place;
+    size_t pairs;   /* how many pairs can be reached, from 1 to (elements + 1) * (bytes + 1); 0 on a refusal */
 };
 
 /* The expander: the fields of the line's words, an image, to `out`.
@@ -165,6 +174,15 @@ struct drunquill_updated drunquill_insert_path(uint8_t *paths, size_t paths_len,
  * unchanged beyond it. DRUNQUILL_BAD_PATHS as in the insertion, then DRUNQUILL_BAD_PATH for a path that is not there; a refusal changes nothing.
  */
 struct drunquill_updated drunquill_delete_path(uint8_t *paths, size_t paths_len, size_t paths_used, const uint8_t *path, size_t path_len);
+
+/* The coster: what a pattern may cost with a text. Of the pairs of a place in the pattern, between its elements, and a place in the text, those are counted that
+ * can be reached from the start: a star leads on to the next element, and to the next byte if there is one; another element that matches the byte leads on in
+ * both. Elements are those of the removals, as in ${name#pattern}, and every byte of `pattern` is active; both may hold any bytes. A text matches just if the
+ * last pair is reached. `work` has at least DRUNQUILL_WORK_LEAST bytes, whatever they hold; after every call all `work_len` bytes are zero.
+ * Faults are met in this order: DRUNQUILL_WORK_TOO_SMALL; DRUNQUILL_BRACKET_CLASS for a class in a bracket that is not served; DRUNQUILL_TOO_MANY_UNITS for more
+ * than DRUNQUILL_ELEMENTS_MAX elements or DRUNQUILL_COMPARED_MAX bytes of text.
+ */
+struct drunquill_costed drunquill_cost(const uint8_t *pattern, size_t pattern_len, const uint8_t *text, size_t text_len, uint8_t *work, size_t work_len);
 
 #ifdef __cplusplus
 }

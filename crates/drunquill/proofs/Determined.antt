@@ -1,4 +1,4 @@
--- The contracts of the six jobs determine every value of the answer and every byte of every lent buffer: two outcomes that a contract allows for one
+-- The contracts of the seven jobs determine every value of the answer and every byte of every lent buffer: two outcomes that a contract allows for one
 -- call are equal.
 use Prim.Native.Nat.{ℕ}
 use mathlib.Core.Path.{_≡_, sym, ap, _∙_}
@@ -13,6 +13,10 @@ use Rattle.stages.specs.Updates as update
 use Rattle.call_update.specs.Hands.{Hands}
 use Rattle.call_update.specs.declared.Updated.{Updated}
 use Rattle.call_update.proofs.Determined.{hands-determined}
+use Rattle.stages.specs.Cost as cost
+use Rattle.call_cost.specs.Hands as cost-hands
+use Rattle.call_cost.specs.declared.Costed.{Costed}
+use Rattle.call_cost.proofs.Determined as costs
 use Rattle.drunquill.specs.Hands.{Quotes}
 use Rattle.drunquill.specs.declared.QuoteAnswer.{QuoteAnswer}
 
@@ -45,3 +49,7 @@ module _ (g : update.Updating) (r s : Updated) (paths paths' : Text) where
 
   pub delete-path-determined : Hands g (update.deleter g) r paths → Hands g (update.deleter g) s paths' → (r ≡ s) × (paths ≡ paths')
   delete-path-determined = hands-determined g (update.deleter g) r s paths paths'
+
+pub cost-determined : (g : cost.Costing) (r s : Costed) (work work' : Text) → cost-hands.Hands (cost.coster g) r work
+    → cost-hands.Hands (cost.coster g) s work' → (r ≡ s) × (work ≡ work')
+cost-determined g r s work work' = costs.hands-determined (cost.coster g) r s work work'

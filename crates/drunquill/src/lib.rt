@@ -1,6 +1,7 @@
-// Drunquill's six jobs. Each takes any bytes in any buffers and answers by document 01's numbers. Inside, a line is worked on in copies of the
+// Drunquill's seven jobs. Each takes any bytes in any buffers and answers by document 01's numbers. Inside, a line is worked on in copies of the
 // variables and the output, which are handed over at the end, so that a refusal has touched neither.
 use call_check::Job;
+use call_cost::Costed;
 use call_deliver::Answer;
 use call_update::Updated;
 use quote::Quoted;
@@ -8,9 +9,11 @@ use text::numbers;
 ghost use mathlib.Core.List.{[]};
 ghost use Rattle.stages.specs.Call.{expander, normaliser, assigner, quoter};
 ghost use Rattle.stages.specs.Updates.{inserter, deleter};
+ghost use Rattle.stages.specs.Cost.{coster};
 ghost use Rattle.call_check.specs.Calls.{given};
 ghost use Rattle.call_deliver.specs.Hands.{Gives};
 ghost use Rattle.call_update.specs.Hands.{updating, Hands};
+ghost use Rattle.call_cost.specs.Hands.{costing, Hands as Reports};
 ghost use Rattle.drunquill.specs.Hands.{Quotes};
 
 // The quoter's answer: "The quoter has neither variables nor work area." Laid out as C lays it out.
@@ -145,4 +148,12 @@ pub fn delete_path(paths: &mut [u8], paths_used: usize, path: &[u8]) -> Updated
         (deleter (updating (now (paths .entry)) «paths_used» (now (path .entry)))) r (now (paths .exit)) ⌝ }
 {
     call_update::delete_path(paths, paths_used, path)
+}
+
+// The coster: how many pairs of a place in the pattern and a place in the text can be reached, which is what matching them may cost. All bytes of the pattern
+// are active. The work area is zero throughout after every call; a refusal reports 0.
+pub fn cost(pattern: &[u8], text: &[u8], work: &mut [u8]) -> Costed
+    ensures { λ r. ⌜ Reports (coster (costing (now (pattern .entry)) (now (text .entry)) (now (work .entry)))) r (now (work .exit)) ⌝ }
+{
+    call_cost::cost(pattern, text, work)
 }

@@ -1,12 +1,15 @@
-// The six jobs under C's calling convention: include/drunquill.h declares them for C. Each lent buffer comes as a pointer and a length, and a job's
+// The seven jobs under C's calling convention: include/drunquill.h declares them for C. Each lent buffer comes as a pointer and a length, and a job's
 // answer is a struct that C lays out the same way.
 ghost use mathlib.Core.List.{[]};
 ghost use Rattle.stages.specs.Call.{expander, normaliser, assigner, quoter};
 ghost use Rattle.stages.specs.Updates.{inserter, deleter};
+ghost use Rattle.stages.specs.Cost.{coster};
 ghost use Rattle.call_check.specs.Calls.{given};
 ghost use Rattle.call_deliver.specs.Hands.{Gives};
 ghost use Rattle.call_update.specs.Hands.{updating, Hands};
+ghost use Rattle.call_cost.specs.Hands.{costing, Hands as Reports};
 ghost use Rattle.drunquill.specs.Hands.{Quotes};
+use call_cost::Costed;
 use call_deliver::Answer;
 use call_update::Updated;
 use drunquill::QuoteAnswer;
@@ -120,4 +123,13 @@ pub extern "C" fn drunquill_delete_path(paths: &mut [u8], paths_used: usize, pat
         (deleter (updating (now (paths .entry)) «paths_used» (now (path .entry)))) r (now (paths .exit)) ⌝ }
 {
     drunquill::delete_path(paths, paths_used, path)
+}
+
+// The coster: how many pairs of a place in the pattern and a place in the text can be reached, which is what matching them may cost. All bytes of the pattern
+// are active. The work area is zero throughout after every call; a refusal reports 0.
+#[no_mangle]
+pub extern "C" fn drunquill_cost(pattern: &[u8], text: &[u8], work: &mut [u8]) -> Costed
+    ensures { λ r. ⌜ Reports (coster (costing (now (pattern .entry)) (now (text .entry)) (now (work .entry)))) r (now (work .exit)) ⌝ }
+{
+    drunquill::cost(pattern, text, work)
 }
