@@ -8,6 +8,7 @@ mod calls;
 pub mod case;
 mod class;
 mod constant;
+mod cost;
 mod dollar;
 mod escape;
 mod expand;
@@ -31,4 +32,5 @@ mod updates;
 mod variables;
 
 pub use calls::{assign, expand, normalise, quote, Answer, Tables};
+pub use cost::{cost, Cost};
 pub use updates::{delete, insert};

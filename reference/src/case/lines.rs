@@ -1,6 +1,6 @@
 //! The calls that take a line: what they are given, and their answers.
 
-use super::{check_behind, head, OUT_FILL};
+use super::{check_behind, head, OUT_FILL, WORK_FILL};
 use crate::calls::{assign, expand, normalise, Answer, Tables};
 use crate::hex;
 use crate::image;
@@ -8,7 +8,6 @@ use crate::number::ACCEPTED;
 
 const VARIABLES_FILL: u8 = 0x5a;
 const MESSAGE_FILL: u8 = 0xc3;
-const WORK_FILL: u8 = 0xc3;
 
 #[derive(Clone, Copy, Debug, PartialEq, Eq)]
 pub enum Job {

@@ -1,23 +1,27 @@
 //! A case: one call with its answer, on one line of text in the format of tests/vectors/README.md. Each kind of call has its words and its buffers in a file
 //! of its own.
 
+mod costs;
 mod lines;
 mod updates;
 
+pub use self::costs::LentPattern;
 pub use self::lines::{Job, Lent};
 pub use self::updates::{LentPaths, Update};
 
 use crate::calls::{quote, Answer};
 use crate::hex;
 
-/// What stands in the output where the case says nothing.
+/// What stands in the output where the case says nothing, and in the work area.
 const OUT_FILL: u8 = 0xa5;
+const WORK_FILL: u8 = 0xc3;
 
 #[derive(Clone, Debug)]
 pub enum Call {
     Lines(Job, Lent),
     Quote { fields: Vec<u8>, out: usize },
     Paths(Update, LentPaths),
+    Cost(LentPattern),
 }
 
 impl Call {
@@ -27,6 +31,7 @@ impl Call {
             Call::Lines(job, lent) => format!("{} {}", job.name(), lent.words(*job).join(" ")),
             Call::Quote { fields, out } => format!("quote {} {out}", hex::write(fields)),
             Call::Paths(update, lent) => format!("{} {}", update.name(), lent.words()),
+            Call::Cost(lent) => format!("cost {}", lent.words()),
         }
     }
 
@@ -36,6 +41,9 @@ impl Call {
         let (name, words) = words.split_first()?;
         if let ("quote", [fields, out]) = (*name, words) {
             return Some(Call::Quote { fields: hex::read(fields)?, out: out.parse().ok()? });
+        }
+        if *name == "cost" {
+            return LentPattern::of_words(words).map(Call::Cost);
         }
         if let Some(update) = Update::ALL.into_iter().find(|update| update.name() == *name) {
             return LentPaths::of_words(words).map(|lent| Call::Paths(update, lent));
@@ -56,6 +64,7 @@ impl Call {
                 Ok((answer, head(&answer, &out)))
             }
             Call::Paths(update, lent) => updates::answer(*update, lent),
+            Call::Cost(lent) => costs::answer(lent),
         }
     }
 }

@@ -4,6 +4,8 @@ pub mod assigned;
 pub mod assignments;
 pub mod brackets;
 pub mod classes;
+pub mod costly;
+pub mod costs;
 pub mod counted;
 pub mod counters;
 pub mod counting;
@@ -58,6 +60,9 @@ pub fn call(seed: u64, case: u64) -> Call {
     }
     if random.once_in(10) {
         return updates::made(random);
+    }
+    if random.once_in(12) {
+        return costs::made(random);
     }
     let call = match random.below(482) {
         0..=14 => sizes::call(random),

@@ -7,6 +7,7 @@ use std::ops::RangeInclusive;
 use super::assigned::Assigned;
 use super::brackets::Brackets;
 use super::call;
+use super::costly::Costly;
 use super::counted::Counted;
 use super::escaped::Escaped;
 use super::messages::Messages;
@@ -33,6 +34,7 @@ pub struct Tally {
     pub quote: usize,
     pub insert: usize,
     pub delete: usize,
+    pub cost: usize,
     /// The bytes the cases take in a file.
     pub bytes: usize,
     /// The arithmetic texts that were worked out or refused, and how many different ones.
@@ -53,6 +55,7 @@ pub struct Tally {
     pub counted: Counted,
     pub updated: Updated,
     pub escaped: Escaped,
+    pub costly: Costly,
 }
 
 impl Tally {
@@ -78,6 +81,7 @@ impl Tally {
             Call::Quote { .. } => &mut self.quote,
             Call::Paths(Update::Insert, _) => &mut self.insert,
             Call::Paths(Update::Delete, _) => &mut self.delete,
+            Call::Cost(_) => &mut self.cost,
         } += 1;
         if let Call::Lines(job, lent) = call {
             self.add_line(*job, lent, &answer);
@@ -87,6 +91,7 @@ impl Tally {
             Call::Lines(Job::Normalise, lent) => self.quoting.add_line(lent),
             Call::Quote { fields, .. } => self.quoting.add_image(fields),
             Call::Paths(update, lent) => self.updated.add(*update, lent, &answer),
+            Call::Cost(lent) => self.costly.add(lent, answer.number),
         }
     }
 
@@ -159,18 +164,20 @@ impl fmt::Display for Tally {
             counted,
             updated,
             escaped,
+            costly,
             assign,
             insert,
             delete,
+            cost,
             ..
         } = self;
         writeln!(out, "expand {expand}, normalise {normalise}, quote {quote}, assign {assign}")?;
-        writeln!(out, "insert {insert}, delete {delete}")?;
+        writeln!(out, "insert {insert}, delete {delete}, cost {cost}")?;
         writeln!(out, "{bytes} bytes")?;
         writeln!(out, "arithmetic texts {sums}, different ones {}", different_sums.len())?;
         writeln!(out, "lines of 2048 bytes {full_lines}")?;
         writeln!(out, "rows of 2047 units {}, of 2048 {}, refused at 2049 {}", rows[0], rows[1], rows[2])?;
         write!(out, "{tildes}{quoting}{brackets}{patterns}{positional}{kinds_of_sums}{messages}{assigned}{counted}")?;
-        write!(out, "{updated}{escaped}")
+        write!(out, "{updated}{escaped}{costly}")
     }
 }

@@ -6,14 +6,14 @@ use std::sync::OnceLock;
 use reference::case::{case, replay, Call, Job};
 use reference::generate::random::Random;
 use reference::generate::{
-    assigned, assignments, brackets::KINDS, call, classes::BORDERS, counted, counting, demands, escaped, escapes,
-    hostile, messages, operands::SIGNS, ordinary, positional, quoting, season::Season, steps::steps, sums,
+    assigned, assignments, brackets::KINDS, call, classes::BORDERS, costly, costs, counted, counting, demands, escaped,
+    escapes, hostile, messages, operands::SIGNS, ordinary, positional, quoting, season::Season, steps::steps, sums,
     tally::Tally, updated, updates, MOST_STEPS,
 };
 use reference::{image, limits};
 
 const SEED: u64 = 2_001;
-const CASES: u64 = 46_000;
+const CASES: u64 = 54_000;
 
 fn tally() -> &'static Tally {
     static TALLY: OnceLock<Tally> = OnceLock::new();
@@ -151,7 +151,7 @@ fn assignment_lines_come_up() {
 #[test]
 fn counting_comes_up() {
     let found = &tally().counted;
-    assert!(found.accepted >= CASES as usize / 50, "{found}");
+    assert!(found.accepted >= CASES as usize / 60, "{found}");
     for kind in counted::KINDS {
         assert!(found.kinds[kind] >= 5, "{kind}: {found}");
     }
@@ -188,6 +188,20 @@ fn escapes_come_up() {
     assert!(quoting.control_and_quote >= 100 && quoting.control_and_digit >= 50, "{quoting}");
     let answers = (0..1_000).map(|case| escapes::call(SEED, case).answer().expect("buffers kept as promised").0.number);
     assert!(answers.filter(|number| *number == 0).count() >= 400);
+}
+
+/// The cost of patterns: few pairs and all, patterns and texts about their limits, and each number of each cause.
+#[test]
+fn costs_come_up() {
+    let tally = tally();
+    let found = &tally.costly;
+    assert!(tally.cost >= CASES as usize / 20, "{found}");
+    for kind in costly::KINDS {
+        assert!(found.kinds.get(kind).is_some_and(|count| *count >= 5), "{kind}: {found}");
+    }
+    for case in 0..1_000 {
+        assert!(matches!(costs::call(SEED, case), Call::Cost(_)));
+    }
 }
 
 /// Demand 3 on made fields: their quoted line gives them again and is its own quoted line, under tables that were not asked for.
@@ -227,6 +241,7 @@ fn limits_come_up() {
             }
             Call::Quote { fields: image, .. } => drop(fields.insert(image.len())),
             Call::Paths(_, lent) => assert!(lent.paths.len() <= lent.paths_buffer),
+            Call::Cost(_) => (),
         }
     }
     for about in 0..3 {

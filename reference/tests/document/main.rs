@@ -7,6 +7,7 @@ mod bare_fields;
 mod calls;
 mod class_names;
 mod classes;
+mod costs;
 mod counted;
 mod counting;
 mod escaped_fields;
