@@ -28,6 +28,14 @@ pub struct Updated {
     pub used: usize,
 }
 
+/// `struct drunquill_costed`
+#[repr(C)]
+pub struct Costed {
+    pub number: u8,
+    pub place: usize,
+    pub pairs: usize,
+}
+
 /// Declares the two jobs that expand a line, which differ in their names alone, and defines each over slices.
 macro_rules! jobs {
     ($($job:ident is $name:ident;)*) => {
@@ -111,6 +119,14 @@ extern "C" {
         message_len: usize,
     ) -> Answer;
     fn drunquill_quote(fields: *const u8, fields_len: usize, out: *mut u8, out_len: usize) -> QuoteAnswer;
+    fn drunquill_cost(
+        pattern: *const u8,
+        pattern_len: usize,
+        text: *const u8,
+        text_len: usize,
+        work: *mut u8,
+        work_len: usize,
+    ) -> Costed;
 }
 
 pub fn assign(line: &[u8], vars: &mut Variables, tables: Tables, work: &mut [u8], message: &mut [u8]) -> Answer {
@@ -138,6 +154,11 @@ pub fn assign(line: &[u8], vars: &mut Variables, tables: Tables, work: &mut [u8]
 pub fn quote(fields: &[u8], out: &mut [u8]) -> QuoteAnswer {
     // SAFETY: as above.
     unsafe { drunquill_quote(fields.as_ptr(), fields.len(), out.as_mut_ptr(), out.len()) }
+}
+
+pub fn cost(pattern: &[u8], text: &[u8], work: &mut [u8]) -> Costed {
+    // SAFETY: as above, of the one that is written.
+    unsafe { drunquill_cost(pattern.as_ptr(), pattern.len(), text.as_ptr(), text.len(), work.as_mut_ptr(), work.len()) }
 }
 
 /// Declares the two jobs that change paths, which differ in their names alone, and defines each over slices.

@@ -1,5 +1,5 @@
 //! Drunquill for Rust: a POSIX shell line expanded into fields, fields quoted as a line, both in one call; lines of assignments, which change variables; and
-//! paths inserted and deleted.
+//! paths inserted and deleted, what a pattern costs with a text.
 //!
 //! The functions are the proved ones of include/drunquill.h, for x86-64 Linux; this crate turns slices into pointers, numbers into names and a refusal with
 //! its message into an error, and nothing else.
@@ -41,6 +41,7 @@
 //! assert_eq!(insert_path(&mut paths, b"p1.raw").unwrap_err().number, Number::BadPath);
 //! delete_path(&mut paths, b"p1.raw").expect("the path that is there");
 //! assert_eq!(paths.used, 1);
+//! assert_eq!(drunquill::cost(b"*a*", b"aaa", &mut work), Ok(14));
 //! ```
 
 mod archive;
@@ -64,6 +65,10 @@ pub const MESSAGE_MAX: usize = 2_048;
 pub const DEPTH_MAX: usize = 8;
 /// Parentheses and unary signs, `+ - ! ~`, open at once in arithmetic, together.
 pub const OPEN_MAX: usize = 32;
+/// Elements of a pattern whose cost is asked for: each `*`, `?`, closed bracket and other byte is one.
+pub const ELEMENTS_MAX: usize = 64;
+/// Bytes of the text that it is asked for with.
+pub const COMPARED_MAX: usize = 256;
 /// What a call may need of the stack, in bytes: measured, not proved. The main thread and the threads of std have more.
 pub const STACK: usize = 524_288;
 
@@ -153,6 +158,14 @@ pub fn insert_path(paths: &mut Paths, path: &[u8]) -> Result<(), Refusal> {
 pub fn delete_path(paths: &mut Paths, path: &[u8]) -> Result<(), Refusal> {
     let answer = archive::delete_path(paths, path);
     updated(answer, paths)
+}
+
+/// What a pattern may cost with a text: how many pairs of a place in each can be reached, from 1 to (elements + 1) times (bytes + 1). The elements are those of
+/// the removals, every byte of the pattern active. The work area has at least [`WORK_LEAST`] bytes, and is zero after every call.
+pub fn cost(pattern: &[u8], text: &[u8], work: &mut [u8]) -> Result<usize, Refusal> {
+    let answer = archive::cost(pattern, text, work);
+    Refusal::unless_accepted(answer.number, answer.place, &[])?;
+    Ok(answer.pairs)
 }
 
 fn updated(answer: archive::Updated, paths: &mut Paths) -> Result<(), Refusal> {

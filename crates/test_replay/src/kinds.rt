@@ -9,6 +9,7 @@ pub enum Job {
     Quoter,
     // The insertion's of a path, or the deletion's.
     Update,
+    Coster,
     None,
 }
 
@@ -80,6 +81,11 @@ fn is_update_case(case: &[u8]) -> bool {
     }
 }
 
+// Is the case one of the coster?
+fn is_cost_case(case: &[u8]) -> bool {
+    words::has_shape(case, b"jhhs=ddd")
+}
+
 // The job of a case that is sound and that there is room for.
 pub(crate) fn job_of(case: &[u8]) -> Job {
     let job = words::word(case, words::JOB);
@@ -92,6 +98,9 @@ pub(crate) fn job_of(case: &[u8]) -> Job {
     let updates = text::same(job, b"delete") || is_insertion(case);
     if updates && is_update_case(case) {
         return Job::Update;
+    }
+    if text::same(job, b"cost") && is_cost_case(case) {
+        return Job::Coster;
     }
     let has_line = text::same(job, b"expand") || is_normaliser(case);
     if has_line && is_line_case(case) {

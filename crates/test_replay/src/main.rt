@@ -1,8 +1,9 @@
-// Runs the cases of standard input, or of the file that its first argument names, through Drunquill's six jobs: a case to a line, as
+// Runs the cases of standard input, or of the file that its first argument names, through Drunquill's seven jobs: a case to a line, as
 // tests/vectors/README.md has them. Tells each case that differs, and at the end how many were run and how many differ.
 mod assigns;
 mod blocks;
 mod calls;
+mod costs;
 mod kinds;
 mod laying;
 mod telling;
@@ -65,6 +66,7 @@ fn try_case(
         }
         Job::Quoter => calls::try_quote(told, case, line, out),
         Job::Update => updates::try_update(told, case, paths, line),
+        Job::Coster => costs::try_cost(told, case, line, paths, work),
         Job::None => telling::tell(told, b"not a case, or too large for its buffers here"),
     }
 }

@@ -95,6 +95,19 @@ pub const UPDATE_USED_LENGTH: usize = 8;
 
 pub const UPDATE_PATHS_BYTES: usize = 9;
 
+// Those of the coster; `=` stands at 4.
+pub const COST_PATTERN: usize = 1;
+
+pub const COST_TEXT: usize = 2;
+
+pub const COST_WORK: usize = 3;
+
+pub const COST_NUMBER: usize = 5;
+
+pub const COST_PLACE: usize = 6;
+
+pub const COST_PAIRS: usize = 7;
+
 const BLANK: u8 = b' ';
 
 // The place behind the n-th blank, or the line's end.

@@ -43,6 +43,8 @@ fn limits_are_those_of_the_header() {
         ("MESSAGE_MAX", drunquill::MESSAGE_MAX),
         ("DEPTH_MAX", drunquill::DEPTH_MAX),
         ("OPEN_MAX", drunquill::OPEN_MAX),
+        ("ELEMENTS_MAX", drunquill::ELEMENTS_MAX),
+        ("COMPARED_MAX", drunquill::COMPARED_MAX),
         ("STACK", drunquill::STACK),
     ];
     let header = read("include/drunquill.h");

@@ -69,6 +69,20 @@ fn update_case(update: Update, call: &[&str], answer: &[&str]) -> Option<String>
     update_differs(update, &lent, &bytes(call[4]), &wanted)
 }
 
+/// What differs in a case of the coster, if anything.
+fn cost_case(call: &[&str], answer: &[&str]) -> Option<String> {
+    let mut work = vec![0xc3; count(call[3])];
+    let given = match drunquill::cost(&bytes(call[1]), &bytes(call[2]), &mut work) {
+        Ok(pairs) => (0, 0, pairs),
+        Err(refusal) => (refusal.number as usize, refusal.place, 0),
+    };
+    let wanted = (count(answer[0]), count(answer[1]), count(answer[2]));
+    if given != wanted {
+        return Some(format!("{given:?}, not {wanted:?}"));
+    }
+    work.iter().any(|byte| *byte != 0).then(|| "work area".to_owned())
+}
+
 /// What differs in a case, if anything.
 fn case(line: &str) -> Option<String> {
     let (call, answer) = line.split_once(" = ").expect("an answer");
@@ -83,6 +97,7 @@ fn case(line: &str) -> Option<String> {
         "assign" => line_case(Job::Assign, &call, &answer),
         "insert" => update_case(Update::Insert, &call, &answer),
         "delete" => update_case(Update::Delete, &call, &answer),
+        "cost" => cost_case(&call, &answer),
         _ => line_case(Job::Normalise, &call, &answer),
     }
 }
