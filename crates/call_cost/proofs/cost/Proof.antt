@@ -107,22 +107,16 @@ roomy : (p : tie.After-count-pairs) → workLeast ≤ length (marked p)
 roomy p = omega (arith, wide (elements p .before), long p)
 
 slice-relend-prefix-fill-zero : tie.Need-slice-relend-prefix-fill-zero
-slice-relend-prefix-fill-zero c = roomy (c .before .before)
+slice-relend-prefix-fill-zero c = omega (arith, roomy (c .before .before))
 
 slice-aggregate-fill-zero : tie.Need-slice-aggregate-fill-zero
-slice-aggregate-fill-zero c = sym (length-take-le {A = ℕ} workLeast (marked (c .before .before .before)) (roomy (c .before .before .before)))
+slice-aggregate-fill-zero c = let p = c .before .before .before in sym (length-take-le {A = ℕ} _ (marked p) (omega (arith, roomy p)))
 
 fill-zero-requires-2 : tie.Need-fill-zero-requires-2
 fill-zero-requires-2 c κs = search needs
 
 answer-requires-3 : tie.Need-answer-requires-3
 answer-requires-3 c κs = search needs
-
-same-length-3 : tie.Need-same-length-3
-same-length-3 c =
-    let p = c .before .before .before .before .before .before .before in
-    let f = c .before .before .before .fill-zero2 in
-    same-len workLeast (marked p) (f .last .0) (f .kept .0) ∙ long p
 
 -- the area when the marks are cleared
 left : (c : tie.After-answer3) →
@@ -143,6 +137,12 @@ returns-3 c =
     cost-reports (call (emptying p .before .before .before .before .before)) (left c) (wide (elements p .before)) (e .result) (e .ensures)
     (numbered (number p)) (p .before .before .if2 .left)
     (r .result) (r .ensures .counts) (c .answer3 .ensures)
+
+same-length-3 : tie.Need-same-length-3
+same-length-3 c =
+    let p = c .before .before .before .before .before .before .before in
+    let f = c .before .before .before .fill-zero2 in
+    same-len workLeast (marked p) (f .last .0) (f .kept .0) ∙ long p
 
 pub cost-spec : {M : Type 1} → statement M
 cost-spec =
