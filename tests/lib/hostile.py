@@ -10,6 +10,8 @@ LINE, ROW, IMAGE, PATHS = 2048, 2048, 8192, 32768  # the limits of document 01
 
 # what a case grows where a doubled size may take four times as long
 BOTH = "pattern and value"
+STORES = "their number, and the image that each walks over"
+TWOFOLD_TWICE = (BOTH, STORES)  # two sizes double at once
 # the kind of what is timed only, and of lines of assignments, which are calls
 UNBOUND, ASSIGNMENT = "unbound", "assignment"
 # `kind` is what is dear, `parts` how many removals, fields or arithmetic texts of the line are
@@ -212,7 +214,7 @@ def counting():
     yield "assignments before all others, in parentheses", "their number", lambda n: Given(b"$((" + b"(A=12)+(A=1)+" * n(155) + b"1))", first), 1
     yield "assignments in deep parentheses", "their number", lambda n: Given(b"$((" + (b"(z=" * 31 + b"1" + b")" * 31 + b"+") * n(16) + b"1))", far), 1
     yield "assignments that are not needed", "their number", lambda n: Given(b"$((" + b"0&&(z=2)||" * n(200) + b"1))", far), 1
-    yield "assignments of new names in arithmetic", "their number", lambda n: Given(
+    yield "assignments of new names in arithmetic", STORES, lambda n: Given(
         b"$((" + b"".join(b"(%c%c=1)+" % (65 + i // 26, 65 + i % 26) for i in range(n(280))) + b"1/0))", filled(b"z", b"1", b"", 6100)), 1
     yield "numbers that go up and down", "their number", lambda n: Given(b"$((z+=1))$((z-=1))" * n(113), far), 226
     yield "a long name that is assigned to", "the line", lambda n: Given(b"$((" + b"a" * n(2030) + b"=1))", {b"a" * n(2030): b"1"}), 1
