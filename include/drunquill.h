@@ -3,7 +3,8 @@
  * The functions are proved to answer as docs/01-scope.md says, with the requests of docs/02-change-requests.md that have landed, for any bytes in any
  * buffers: they call nothing but memcpy and memset, keep nothing between calls, use no heap, always return, and may run in several threads at once on
  * buffers of their own. How soon they return is measured and not proved: a removal costs at most its pattern times its value, a field its pattern
- * times the paths, the coster at most the square of its pattern (where many brackets are never closed), and all else is in proportion to the line
+ * times the paths, a store the image of variables that it walks over, the coster at most the square of its pattern (where many brackets are never
+ * closed), and all else is in proportion to the line
  * (docs/TRUST.md has the dearest lines known and what they take).
  * Link target/staticlib/libdrunquill_c.a, which `rt staticlib drunquill_c` builds (x86-64 Linux).
  *
