@@ -12,13 +12,13 @@ use borrow.Author.Tests.{not-true}
 use Rattle.stages.specs.Numbers.{imageLimit}
 use Rattle.stages.specs.Bytes.{Text, text, eqText}
 use Rattle.stages.specs.Outcome.{Outcome, refused, demands, done, _>>=_, choose}
-use Rattle.stages.specs.Images.{Pairs, stored, flat, imageLength}
+use Rattle.stages.specs.Images.{Pairs, lookup, stored, flat, imageLength}
 use Rattle.stages.specs.Syntax.{var}
 use Rattle.stages.specs.Units.{Row, fit}
-use Rattle.stages.specs.Constants.{nameNumber, signed}
+use Rattle.stages.specs.Constants.{valued, signed}
 use Rattle.stages.specs.Arith.{isTrue, Op, early, apply, applyAlone, Tree, constantOf, nameOf, unary, binary, choice, assign, tree}
-use Rattle.stages.specs.Arith.{Evaluated, withVariables, unless, valueOf, updated, keeping, storing, evaluate, arithmeticOf}
-use Rattle.stages.specs.Params.{Lent, holding, store, storeIn}
+use Rattle.stages.specs.Arith.{Evaluated, withVariables, unless, nameNumber, valueOf, updated, keeping, storing, evaluate, arithmeticOf}
+use Rattle.stages.specs.Params.{Lent, holding, orShout, store, storeIn}
 use Rattle.stages.specs.Expand.{Made, onto, adding}
 use Rattle.stages.specs.Together.{otherName, otherNames, otherTree}
 use Rattle.stages.proofs.Bools.{either, and-left, and-right}
@@ -93,6 +93,29 @@ pub adding-both : {C D : Row → Type 0} (n : ℕ) (r : Row) (more others : ℕ 
 unfolding fit
 adding-both n r more others f b = both-from (fit n (length r)) (λ i. onto r false (more i)) (λ i. onto r false (others i)) (λ i. onto-both r f (b i))
 
+-- the same result
+abbrev pub Same : {A : Type 0} → A → A → Type 0
+Same a b = a ≡ b
+
+pub both-same : {A : Type 0} (o : Outcome A) → Both Same o o
+both-same (refused n) = one-stops refuses
+both-same (demands t) = one-stops asks
+both-same (done a) = both-give refl
+
+pub same-bind : {A B : Type 0} {P : B → B → Type 0} {o u : Outcome A} (f g : A → Outcome B) → Both Same o u → ((a : A) → Both P (f a) (g a))
+    → Both P (o >>= f) (u >>= g)
+same-bind f g b h = both-bind f g b (λ x y e. rw e (h y))
+
+-- E14: what is looked up is the same, wherever the switches let it be
+pub shout-both : (s z : Bool) (o : Option Text) → Both Same (orShout s o) (orShout z o)
+unfolding orShout
+shout-both false false o = both-give refl
+shout-both false true none = other-stops refuses
+shout-both false true (some t) = both-give refl
+shout-both true z none = one-stops refuses
+shout-both true false (some t) = both-give refl
+shout-both true true (some t) = both-give refl
+
 -- STORES
 
 -- a buffer may be too short for one of them
@@ -111,8 +134,8 @@ pub other-name : (x : Text) → otherName x ≡ true → eqText x (text "IFS") �
 unfolding otherName
 other-name x n = not-true (eqText x (text "IFS")) n
 
-with-both : (v w : Pairs) → Alike v w → (o : Outcome ℤ) → Both (Agree Any) (withVariables v o) (withVariables w o)
-with-both v w k o = both-from o _ _ (λ z. both-give (agrees tt k))
+with-both : (v w : Pairs) → Alike v w → {o u : Outcome ℤ} → Both Same o u → Both (Agree Any) (withVariables v o) (withVariables w u)
+with-both v w k b = same-bind _ _ b (λ z. both-give (agrees tt k))
 
 unless-both : (o : Option ℤ) (v w : Pairs) (more others : Unit {0} → Evaluated) → Alike v w → Both (Agree Any) (more tt) (others tt)
     → Both (Agree Any) (unless o v more) (unless o w others)
@@ -127,14 +150,14 @@ choose-both false f g h i a b = b
 
 -- with room for more variables in one than in the other
 module _ (a b : Lent) where
-  value-both : (x : Text) → otherName x ≡ true → (v w : Pairs) → Alike v w → valueOf a v x ≡ valueOf b w x
-  unfolding valueOf holding
-  value-both x n v w k = ap nameNumber (k x (other-name x n))
+  value-both : (x : Text) → otherName x ≡ true → (v w : Pairs) → Alike v w → Both Same (valueOf a v x) (valueOf b w x)
+  unfolding valueOf nameNumber holding
+  value-both x n v w k = rw (k x (other-name x n)) (same-bind _ _ (shout-both (a .shouts) (b .shouts) (lookup x w)) (λ t. both-same (valued t)))
 
-  updated-both : (o : Option Op) (x : Text) → otherName x ≡ true → (z : ℤ) (v w : Pairs) → Alike v w → updated a v o x z ≡ updated b w o x z
+  updated-both : (o : Option Op) (x : Text) → otherName x ≡ true → (z : ℤ) (v w : Pairs) → Alike v w → Both Same (updated a v o x z) (updated b w o x z)
   unfolding updated
-  updated-both none x n z v w k = refl
-  updated-both (some o) x n z v w k = ap (λ (r : Outcome ℤ). r >>= λ y. apply o y z) (value-both x n v w k)
+  updated-both none x n z v w k = both-give refl
+  updated-both (some o) x n z v w k = same-bind _ _ (value-both x n v w k) (λ y. both-same (apply o y z))
 
   keeping-both : (x : Text) (z : ℤ) (v w : Pairs) → Alike v w → Both (Agree Any) (keeping a x v z) (keeping b x w z)
   unfolding keeping storeIn
@@ -143,17 +166,17 @@ module _ (a b : Lent) where
   storing-both : (o : Option Op) (x : Text) → otherName x ≡ true → (z : ℤ) (v w : Pairs) → Alike v w
       → Both (Agree Any) (storing a o x (z, v)) (storing b o x (z, w))
   unfolding storing
-  storing-both o x n z v w k = rw (updated-both o x n z v w k) (both-from (updated b w o x z) _ _ (λ y. keeping-both x y v w k))
+  storing-both o x n z v w k = same-bind _ _ (updated-both o x n z v w k) (λ y. keeping-both x y v w k)
 
   evaluate-both : (e : Tree) → otherNames e ≡ true → (v w : Pairs) → Alike v w → Both (Agree Any) (evaluate a v e) (evaluate b w e)
   unfolding evaluate otherNames
   evaluate-both (constantOf z) n v w k = both-give (agrees tt k)
-  evaluate-both (nameOf x) n v w k = rw (value-both x n v w k) (with-both v w k (valueOf b w x))
-  evaluate-both (unary o l) n v w k = agree-bind _ _ (evaluate-both l n v w k) (λ z i j _ m. with-both i j m (applyAlone o z))
+  evaluate-both (nameOf x) n v w k = with-both v w k (value-both x n v w k)
+  evaluate-both (unary o l) n v w k = agree-bind _ _ (evaluate-both l n v w k) (λ z i j _ m. with-both i j m (both-same (applyAlone o z)))
   evaluate-both (binary o l r) n v w k =
       agree-bind _ _ (evaluate-both l (and-left (otherNames l) (otherNames r) n) v w k)
       (λ x i j _ m. unless-both (early o x) i j _ _ m
-      (agree-bind _ _ (evaluate-both r (and-right (otherNames l) (otherNames r) n) i j m) (λ y i j _ m. with-both i j m (apply o x y))))
+      (agree-bind _ _ (evaluate-both r (and-right (otherNames l) (otherNames r) n) i j m) (λ y i j _ m. with-both i j m (both-same (apply o x y)))))
   evaluate-both (choice c l r) n v w k =
       let d : (otherNames l && otherNames r) ≡ true = and-right (otherNames c) (otherNames l && otherNames r) n in
       agree-bind _ _ (evaluate-both c (and-left (otherNames c) (otherNames l && otherNames r) n) v w k)

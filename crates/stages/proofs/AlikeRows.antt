@@ -15,14 +15,14 @@ use Rattle.stages.specs.Units.{Mark, L, E, Q, cell, N, Row, marked, byte
 use Rattle.stages.specs.Arith.{tree}
 use Rattle.stages.specs.Pattern.{pattern, forRemoval}
 use Rattle.stages.specs.Removal.{removed}
-use Rattle.stages.specs.Params.{Lent, holding, value, missing, absent, storeIn}
+use Rattle.stages.specs.Params.{Lent, holding, value, orShout, sought, missing, absent, storeIn}
 use Rattle.stages.specs.Expand.{Made, given, assigned, demand, cutBy, parameter, inQuotes, amount, directory, tildeRow, expand}
 use Rattle.stages.specs.Together.{everywhere, noLists, noIFS, plainSums, literally, otherParam, otherCount, otherTree, otherText}
 use Rattle.stages.proofs.Bools.{no, clash, some-same, either, and-left, and-right}
 use Rattle.stages.proofs.Quiet.{Quiet, no-units, a-mark, a-byte, quiet-append, marked-quiet}
 use Rattle.stages.proofs.ButIFS.{Alike}
 use Rattle.stages.proofs.Alike.{Both, one-stops, refuses, asks, both-give, Makes, makes, both-bind, both-from, agree-bind, makes-bind, makes-weaker}
-use Rattle.stages.proofs.Alike.{onto-both, adding-both, store-both, other-name, arithmetic-both}
+use Rattle.stages.proofs.Alike.{onto-both, adding-both, Same, same-bind, shout-both, store-both, other-name, arithmetic-both}
 
 -- PARTS
 
@@ -143,10 +143,14 @@ module _ (a b : Lent) (s : Shared a b) where
   unfolding value
   value-same x n v w k = ap orEmpty (holding-same x n v w k)
 
-  amount-same : (c : Counted) → otherCount c ≡ true → (v w : Pairs) → Alike v w → amount a c v ≡ amount b c w
+  sought-both : (x : Param) → otherParam x ≡ true → (v w : Pairs) → Alike v w → Both Same (sought a v x) (sought b w x)
+  unfolding sought
+  sought-both x n v w k = rw (holding-same x n v w k) (shout-both (a .shouts) (b .shouts) (holding b w x))
+
+  amount-both : (c : Counted) → otherCount c ≡ true → (v w : Pairs) → Alike v w → Both Same (amount a c v) (amount b c w)
   unfolding amount otherCount
-  amount-same (bytesOf x) n v w k = ap length (value-same x n v w k)
-  amount-same parameters n v w k = rw (s .params)
+  amount-both (bytesOf x) n v w k = same-bind _ _ (sought-both x n v w k) (λ t. both-give refl)
+  amount-both parameters n v w k = both-give (ap length (s .params))
 
   module _ (x : Param) (n : otherParam x ≡ true) where
     missing-same : (c : Colon) (v w : Pairs) → Alike v w → missing a c x v ≡ missing b c x w
@@ -177,7 +181,7 @@ module _ (a b : Lent) (s : Shared a b) where
 
       parameter-both : (f : Form) (m : Mark) (v w : Pairs) → Alike v w → Both (Makes (Within m)) (parameter a q x f m v) (parameter b p x f m w)
       unfolding parameter
-      parameter-both plain m v w k = given-both m v w k
+      parameter-both plain m v w k = same-bind _ _ (sought-both x n v w k) (λ t. both-give (makes (within-marked m t) k))
       parameter-both (minus c) m v w k =
           either (missing b c x w)
           (λ e. rw (missing-same c v w k ∙ e, parameter, e, parameter) (operand-both m v w k))
@@ -196,7 +200,8 @@ module _ (a b : Lent) (s : Shared a b) where
           either (missing b c x w)
           (λ e. rw (missing-same c v w k ∙ e, parameter, e, parameter) (both-give (makes (within-quiet m [] no-units) k)))
           (λ e. rw (missing-same c v w k ∙ e, parameter, e, parameter) (operand-both m v w k))
-      parameter-both (removal d reach) m v w k = makes-bind _ _ (h L v w k) (λ r i j _ l. cut-both d reach m r i j l)
+      parameter-both (removal d reach) m v w k =
+          same-bind _ _ (sought-both x n v w k) (λ _. makes-bind _ _ (h L v w k) (λ r i j _ l. cut-both d reach m r i j l))
 
   -- THE LAW
 
@@ -236,10 +241,9 @@ module _ (a b : Lent) (s : Shared a b) where
       (parameter-both x (h .0) (λ i v. expand a q i 0 v) (λ i w. expand b q i 0 w) (λ i v w l. expand-both q (h .1) i 0 v w l) f m v w k)
       (λ r v w c l. adding-both {C = Within m} n r _ _ (λ z d. within-append m r z c d) (λ i. expand-both p (h .2) m i v w l))
   expand-both (len c p) h m n v w k =
-      let t : Text = decimal (amount b c w) in
-      rw (amount-same c (h .0) v w k)
-      (adding-both {C = Within m} n (marked (expandedMark m) t) _ _ (λ z d. within-append m (marked (expandedMark m) t) z (within-marked m t) d)
-      (λ i. expand-both p (h .1) m i v w k))
+      same-bind _ _ (amount-both c (h .0) v w k)
+      (λ j. adding-both {C = Within m} n (marked (expandedMark m) (decimal j)) _ _
+      (λ z d. within-append m (marked (expandedMark m) (decimal j)) z (within-marked m (decimal j)) d) (λ i. expand-both p (h .1) m i v w k))
   expand-both (lst x p) h m n v w k = absurd h
   expand-both (ari q p) h m n v w k =
       makes-bind _ _ (literal-both q (h .0 .bytes) (h .0 .literal) Q 0 v w k)

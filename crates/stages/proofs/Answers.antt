@@ -12,7 +12,7 @@ use lib.ListN.{length, take, drop, replicate, length-replicate}
 use lib.Seq.{length-take-le}
 use borrow.Author.Tests.{leb-true, eqb-true}
 use Rattle.stages.specs.Numbers.{accepted, workTooSmall, badVariables, badHomes, badPaths, zeroByte, unended, tooDeep, demanded, tooManyUnits}
-use Rattle.stages.specs.Numbers.{variableRoom, outputRoom, badFields, badParameters, workLeast, lineLimit, imageLimit}
+use Rattle.stages.specs.Numbers.{variableRoom, outputRoom, badFields, badParameters, unsetName, workLeast, lineLimit, imageLimit}
 use Rattle.stages.specs.Bytes.{Text, all, notZero, between}
 use Rattle.stages.specs.Outcome.{Placed, refusedAt, demandsAt, doneAt, _then_}
 use Rattle.stages.specs.Images.{Pairs, isName, isLogin, flat, image, imageLength, held, heldTexts, variablesOf, homesOf, pathsOf, fieldsOf}
@@ -20,12 +20,13 @@ use Rattle.stages.specs.Line.{Fields}
 use Rattle.stages.specs.Quote.{quotedLine}
 use Rattle.stages.specs.Call.{Given, Answer, over, padded, orRefused, expanded, cleared, shown, answered, expander, quotedIn, normaliser}
 use Rattle.stages.specs.Call.{Quoting, quoting, quoter}
-use Rattle.stages.proofs.Bools.{no, and-left, and-right, or-cases, between-bounds}
+use Rattle.stages.proofs.Bools.{no, and-left, and-right, or-cases, or-left, or-right, between-bounds}
 use Rattle.stages.proofs.Rooms.{over-front, over-behind, over-length, padded-front, padded-behind, padded-length}
 use Rattle.stages.proofs.Images.{Fine, length-image, held-image, heldTexts-image}
 use Rattle.stages.proofs.Tables.{Table, table-of, table-fine, table-length, table-image, variables-are, Paths, paths-held, texts-held-fine}
 use Rattle.stages.proofs.Tables.{fields-held, fields-image, fields-are}
-use Rattle.stages.proofs.Outcomes.{isFault, isEarly, isLate, SafeBy, SafeAt, early, refusesAt, asksAt, givesAt, safe-then, safe-weakerAt, safe-require}
+use Rattle.stages.proofs.Outcomes.{isFault, isEarly, isLate, isListed, SafeBy, SafeAt, early, refusesAt, asksAt, givesAt, safe-then}
+use Rattle.stages.proofs.Outcomes.{safe-weakerAt, safe-require}
 use Rattle.stages.proofs.SafeRows.{Kept}
 use Rattle.stages.proofs.SafeLines.{Ready, line-safe}
 
@@ -33,7 +34,7 @@ use Rattle.stages.proofs.SafeLines.{Ready, line-safe}
 
 -- a refusal: "On refusal the output length is 0, the used length is the one given, and output and variable buffers hold their old bytes."
 pub record Refuses (g : Given) (a : Answer) : Type 0 where
-  pub listed : a .number ≤ badParameters
+  pub listed : isListed (a .number) ≡ true
   pub before : isEarly (a .number) ≡ true → a .place ≡ 0  -- 01: "it is 0 for 1 to 6"; E5: 23 has "place 0"
   pub inside : a .place ≤ length (g .line) - 1  -- else "the offset of the first byte of the word", or of the operator, or 0
   pub nothing : a .outLength ≡ 0
@@ -89,38 +90,32 @@ pub record Writes (P : Text → Type 0) (g : Given) (r : Text × Pairs) : Type 0
   pub fits : length (r .0) ≤ length (g .out)
   pub settles : Settles g (r .1)
 
-early-bounds : (n : ℕ) → isEarly n ≡ true → (1 ≤ n) × (n ≤ badParameters)
-early-bounds n e = go (or-cases (between workTooSmall n zeroByte) (eqb n badParameters) e)
-  where
-    go : (between workTooSmall n zeroByte ≡ true) ⊎ (eqb n badParameters ≡ true) → (1 ≤ n) × (n ≤ badParameters)
-    go (inl h) = let b = between-bounds workTooSmall n zeroByte h in (b .0, omega (arith, b .1))
-    go (inr h) = let k = eqb-true n badParameters h in (omega arith, omega arith)
+-- a number is no other one's
+not-demanded : (n : ℕ) → isEarly n ≡ true → n ≡ demanded → ⊥
+not-demanded n e k = no (rw k at e)
 
-early-not-demanded : (n : ℕ) → isEarly n ≡ true → n ≡ demanded → ⊥
-early-not-demanded n e k = no (rw k at e)
+late-not-demanded : (n : ℕ) → isLate n ≡ true → n ≡ demanded → ⊥
+late-not-demanded n e k = no (rw k at e)
 
--- a number that comes of the line
-late : (n : ℕ) → unended ≤ n → n ≤ outputRoom → isEarly n ≡ true → ⊥
-late n l m e = go (or-cases (between workTooSmall n zeroByte) (eqb n badParameters) e)
+-- a number that comes of the line is none of those before
+late-not-early : (n : ℕ) → isLate n ≡ true → isEarly n ≡ true → ⊥
+late-not-early n l e = go (or-cases (between workTooSmall n zeroByte) (eqb n badParameters) e)
   where
+    first : (between unended n tooDeep ≡ true) ⊎ ((between tooManyUnits n variableRoom || eqb n unsetName) ≡ true) → unended ≤ n
+    first (inl h) = between-bounds unended n tooDeep h .0
+    first (inr h) = go (or-cases (between tooManyUnits n variableRoom) (eqb n unsetName) h)
+      where
+        go : (between tooManyUnits n variableRoom ≡ true) ⊎ (eqb n unsetName ≡ true) → unended ≤ n
+        go (inl h) = let b = between-bounds tooManyUnits n variableRoom h in omega (arith, b .0)
+        go (inr h) = let k = eqb-true n unsetName h in omega arith
+
+    behind : (isFault n ≡ true) ⊎ (eqb n outputRoom ≡ true) → unended ≤ n
+    behind (inl h) = first (or-cases (between unended n tooDeep) (between tooManyUnits n variableRoom || eqb n unsetName) h)
+    behind (inr h) = let k = eqb-true n outputRoom h in omega arith
+
     go : (between workTooSmall n zeroByte ≡ true) ⊎ (eqb n badParameters ≡ true) → ⊥
-    go (inl h) = let b = between-bounds workTooSmall n zeroByte h in omega (arith, b .1)
-    go (inr h) = let k = eqb-true n badParameters h in omega arith
-
--- and is no message's
-fault-bounds : (n : ℕ) → isFault n ≡ true → (unended ≤ n) × (n ≤ outputRoom) × (n ≡ demanded → ⊥)
-fault-bounds n e = go (or-cases (between unended n tooDeep) (between tooManyUnits n variableRoom) e)
-  where
-    go : (between unended n tooDeep ≡ true) ⊎ (between tooManyUnits n variableRoom ≡ true) → (unended ≤ n) × (n ≤ outputRoom) × (n ≡ demanded → ⊥)
-    go (inl h) = let b = between-bounds unended n tooDeep h in (b .0, omega (arith, b .1), λ k. omega (arith, b .1))
-    go (inr h) = let b = between-bounds tooManyUnits n variableRoom h in (omega (arith, b .0), omega (arith, b .1), λ k. omega (arith, b .0))
-
-late-bounds : (n : ℕ) → isLate n ≡ true → (unended ≤ n) × (n ≤ outputRoom) × (n ≡ demanded → ⊥)
-late-bounds n e = go (or-cases (isFault n) (eqb n outputRoom) e)
-  where
-    go : (isFault n ≡ true) ⊎ (eqb n outputRoom ≡ true) → (unended ≤ n) × (n ≤ outputRoom) × (n ≡ demanded → ⊥)
-    go (inl h) = fault-bounds n h
-    go (inr h) = let k = eqb-true n outputRoom h in (omega arith, omega arith, λ d. omega arith)
+    go (inl h) = let b = between-bounds workTooSmall n zeroByte h in omega (arith, b .1, behind (or-cases (isFault n) (eqb n outputRoom) l))
+    go (inr h) = no (rw (eqb-true n badParameters h) at l)
 
 -- a message is cut to the buffer
 take-short : (n : ℕ) (t : Text) → length (take n t) ≤ n
@@ -133,18 +128,18 @@ module _ (g : Given) where
   unfolding cleared
   cleared-length = length-replicate (length (g .work)) 0
 
-  refuses-fits : (P : Text → Type 0) (n place : ℕ) → 1 ≤ n → n ≤ badParameters → (n ≡ demanded → ⊥) → place ≤ length (g .line) - 1
+  refuses-fits : (P : Text → Type 0) (n place : ℕ) → isListed n ≡ true → (n ≡ demanded → ⊥) → place ≤ length (g .line) - 1
       → (isEarly n ≡ true → place ≡ 0)
       → Fits P g (answered g (refusedAt n place))
   unfolding answered cleared
-  refuses-fits P n place l m d i h = record {
+  refuses-fits P n place m d i h = record {
     clear = refl;
     workKept = cleared-length;
     outKept = refl;
     varsKept = refl;
     tells = record { kept = refl; fits = omega arith; behind = refl; quiet = λ _. (refl, refl); says = λ k. absurd (d k) };
     refuses = λ _. record { listed = m; inside = i; before = h; nothing = refl; sameUsed = refl; sameOut = refl; sameVars = refl };
-    accepts = λ e. absurd (omega arith);
+    accepts = λ e. absurd (no (rw e at m));
   }
 
   module _ (t : Text) (place : ℕ) (z : all notZero t ≡ true) (i : place ≤ length (g .line) - 1) where
@@ -161,9 +156,9 @@ module _ (g : Given) where
     demand-refuses : Refuses g (answered g (demandsAt t place))
     unfolding answered
     demand-refuses = record {
-      listed = omega arith;
+      listed = refl;
       inside = i;
-      before = λ e. absurd (late demanded (omega arith) (omega arith) e);
+      before = λ e. absurd (not-demanded demanded e refl);
       nothing = refl;
       sameUsed = refl;
       sameOut = refl;
@@ -221,11 +216,9 @@ module _ (g : Given) where
 
   pub answered-fits : (P : Text → Type 0) {o : Placed (Text × Pairs)} → SafeAt (length (g .line)) (Writes P g) o → Fits P g (answered g o)
   answered-fits P (early {n = n} e) =
-      let b : (1 ≤ n) × (n ≤ badParameters) = early-bounds n e in
-      refuses-fits P n 0 (b .0) (b .1) (early-not-demanded n e) (omega arith) (λ _. refl)
+      refuses-fits P n 0 (or-left (isLate n || eqb n demanded) e) (not-demanded n e) (omega arith) (λ _. refl)
   answered-fits P (refusesAt {n = n} {place = place} e l) =
-      let b : (unended ≤ n) × (n ≤ outputRoom) × (n ≡ demanded → ⊥) = late-bounds n e in
-      refuses-fits P n place (omega (arith, b .0)) (omega (arith, b .1)) (b .2) l (λ h. absurd (late n (b .0) (b .1) h))
+      refuses-fits P n place (or-right (isEarly n) (or-left (eqb n demanded) e)) (late-not-demanded n e) l (λ h. absurd (late-not-early n e h))
   answered-fits P (asksAt {t = t} {place = place} z l) = demand-fits t place z l P
   answered-fits P (givesAt {a = r} w) = accepts-fits P r w
 
@@ -276,7 +269,7 @@ expanded-ready g out =
     (λ h f. safe-then _ (some-safe (length (g .line)) badPaths (pathsOf (g .paths)) refl)
     (λ p i. safe-then _ (some-safe (length (g .line)) badParameters (fieldsOf (g .params)) refl)
     (λ ps j. safe-weakerAt (λ r k. record { ready = k; used = leb-true (g .varsUsed) (length (g .vars)) l })
-    (line-safe (record { lent = record { room = length (g .vars); homes = h; params = ps }; out = out; paths = p })
+    (line-safe (record { lent = record { room = length (g .vars); homes = h; params = ps; shouts = g .shouts }; out = out; paths = p })
     (record { homes = homes-fine (g .homes) h f; params = fields-fine (g .params) ps j })
     (paths-fine (g .paths) p i) (g .line) v
     (vars-kept (g .vars) (g .varsUsed) v (leb-true (g .varsUsed) (length (g .vars)) l) e))))))))

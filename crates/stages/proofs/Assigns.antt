@@ -85,7 +85,7 @@ assigned-safe g =
     (λ v e. safe-then _ (some-safe (length (g .line)) badHomes (homesOf (g .homes)) refl)
     (λ h f. safe-then _ (some-safe (length (g .line)) badParameters (fieldsOf (g .params)) refl)
     (λ ps j. safe-weakerAt (λ w k. record { kept = k; used = leb-true (g .varsUsed) (length (g .vars)) l })
-    (line-assigns (record { room = length (g .vars); homes = h; params = ps })
+    (line-assigns (record { room = length (g .vars); homes = h; params = ps; shouts = g .shouts })
     (record { homes = homes-fine (g .homes) h f; params = fields-fine (g .params) ps j }) (g .line) v
     (vars-kept (g .vars) (g .varsUsed) v (leb-true (g .varsUsed) (length (g .vars)) l) e)))))))
 
@@ -169,6 +169,7 @@ elsewhere g paths out = record {
   line = g .line;
   out = out;
   message = g .message;
+  shouts = g .shouts;
 }
 
 -- .. has the same answer, but for the output, which is as it was

@@ -2,7 +2,7 @@
 use Prim.Native.Nat.{ℕ}
 use Prim.Native.String.{String}
 use mathlib.Core.Path.{_≡_, refl}
-use mathlib.Core.Bool.{Bool, true, _&&_}
+use mathlib.Core.Bool.{Bool, true, false, _&&_}
 use mathlib.Core.List.{List, [], _∷_, _++_}
 use lib.Dec.{eqb}
 use lib.ListN.{length, take, replicate}
@@ -96,6 +96,7 @@ call s n more = record {
   line = text s;
   out = replicate 20 165;
   message = [];
+  shouts = false;
 }
 
 abbrev left : Given → Text → Text → Text → Called

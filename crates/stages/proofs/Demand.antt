@@ -3,7 +3,7 @@
 use Prim.Native.Nat.{ℕ, zero, suc, _≤_}
 use native.Mathlib.Omega.{arith}
 use mathlib.Core.Path.{_≡_, refl, sym, ap, _∙_}
-use mathlib.Core.Bool.{true}
+use mathlib.Core.Bool.{Bool, true}
 use mathlib.Core.List.{[]}
 use mathlib.Core.Option.{some}
 use lib.ListN.{length, take, replicate, take-append-drop, length-replicate}
@@ -156,9 +156,10 @@ pub record Asks (h : Given) (l : Fields) : Type 0 where
   pub line : h .line ≡ quotedLine l
   pub room : length (image l) ≤ length (h .out)
 
--- For any fields whose quoted line is short enough there is such a call, with no records in its tables: no law below is empty.
-abbrev asking : Fields → Given
-asking l = record {
+-- For any fields whose quoted line is short enough there is such a call, with no records in its tables, with the switch of E14 in either position: no law
+-- below is empty.
+abbrev asking : Bool → Fields → Given
+asking shouts l = record {
   work = replicate workLeast 0;
   vars = image [];
   varsUsed = length (image []);
@@ -168,6 +169,7 @@ asking l = record {
   line = quotedLine l;
   out = replicate imageLimit 0;
   message = [];
+  shouts = shouts;
 }
 
 version-byte : Bytes (image [])
@@ -175,9 +177,9 @@ unfolding image written
 version-byte zero = omega arith
 version-byte (suc i) = omega arith
 
-pub asked : (l : Fields) → length (quotedLine l) ≤ lineLimit → Asks (asking l) l
+pub asked : (shouts : Bool) (l : Fields) → length (quotedLine l) ≤ lineLimit → Asks (asking shouts l) l
 unfolding image written variablesOf homesOf pathsOf fieldsOf
-asked l short = record {
+asked shouts l short = record {
   formed = record {
     work = omega (arith, length-replicate {A = ℕ} workLeast 0);
     used = omega arith;
@@ -219,7 +221,7 @@ module _ (l : Fields) (f : Fine l) (short : length (quotedLine l) ≤ lineLimit)
   }
 
 -- DEMAND 3: "Any accepted line's fields, written as a quoted line of at most 2,048 bytes, expand under any other well-formed tables to exactly those fields,
--- change no variable, and quote to the same bytes."
+-- change no variable, and quote to the same bytes."; E14: "with the switch in either position on either controller"
 pub demand-3 : (g : Given) → expander g .number ≡ accepted
     → (l : Fields) × (fieldsOf (output (expander g)) ≡ some l) × (length (quotedLine l) ≤ lineLimit → Returned l)
 demand-3 g e =

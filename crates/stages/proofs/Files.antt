@@ -2,7 +2,7 @@
 use Prim.Native.Nat.{ℕ, suc, _+_, _-_, _≤_, _<_}
 use native.Mathlib.Omega.{arith}
 use mathlib.Core.Path.{_≡_, refl, sym, ap, _∙_}
-use mathlib.Core.Bool.{true, false}
+use mathlib.Core.Bool.{Bool, true, false}
 use mathlib.Core.List.{List, [], _∷_, _++_, append-nil}
 use mathlib.Core.Option.{Option, none, some}
 use lib.Dec.{leb}
@@ -59,6 +59,7 @@ withTables g homes paths = record {
   line = g .line;
   out = g .out;
   message = g .message;
+  shouts = g .shouts;
 }
 
 module _ (g : Given) (homes paths : Text) where
@@ -93,9 +94,9 @@ normaliser-beyond : (g : Given) → workLeast ≤ length (g .work) → length (g
 unfolding normaliser
 normaliser-beyond g w b = rw (expanded-beyond g imageLimit w b)
 
-module _ (homes paths params buffer : Text) where
+module _ (homes paths params buffer : Text) (shouts : Bool) where
   abbrev beyond : ℕ → Variables
-  beyond used = record { buffer = buffer; varsUsed = used }
+  beyond used = record { buffer = buffer; varsUsed = used; shouts = shouts }
 
   answer-beyond : (l : Text) (used : ℕ) → length buffer < used
       → normaliser (givenLine homes paths params l (beyond used)) ≡ answered (givenLine homes paths params l (beyond used)) (refusedAt badVariables 0)
@@ -176,34 +177,38 @@ module _ (t : Text) where
       full : imageLimit < length t → take imageLimit (t ++ replicate (suc imageLimit - length t) 0) ≡ buffered t
       full l = take-append-le imageLimit t (replicate (suc imageLimit - length t) 0) (omega arith) ∙ sym (buffered-full t (omega arith))
 
-abbrev begun : Text → Variables
-begun t = record { buffer = buffered t; varsUsed = length t }
+abbrev begun : Bool → Text → Variables
+begun shouts t = record { buffer = buffered t; varsUsed = length t; shouts = shouts }
 
-module _ (homes paths params : Text) (ls : List Text) where
-  begun-cut : (t : Text) → saidOf homes paths params (begun (take (suc imageLimit) t)) ls ≡ saidOf homes paths params (begun t) ls
+module _ (homes paths params : Text) (shouts : Bool) (ls : List Text) where
+  begun-cut : (t : Text) → saidOf homes paths params (begun shouts (take (suc imageLimit) t)) ls ≡ saidOf homes paths params (begun shouts t) ls
   begun-cut t = either (leb (length t) imageLimit) short long
     where
-      short : leb (length t) imageLimit ≡ true → saidOf homes paths params (begun (take (suc imageLimit) t)) ls ≡ saidOf homes paths params (begun t) ls
+      short : leb (length t) imageLimit ≡ true → saidOf homes paths params (begun shouts (take (suc imageLimit) t)) ls
+          ≡ saidOf homes paths params (begun shouts t) ls
       short e =
           let l : length t ≤ imageLimit = leb-true (length t) imageLimit e in
-          ap (λ (u : Text). saidOf homes paths params (begun u) ls) (take-all (suc imageLimit) t (omega arith))
+          ap (λ (u : Text). saidOf homes paths params (begun shouts u) ls) (take-all (suc imageLimit) t (omega arith))
 
-      long : leb (length t) imageLimit ≡ false → saidOf homes paths params (begun (take (suc imageLimit) t)) ls ≡ saidOf homes paths params (begun t) ls
+      long : leb (length t) imageLimit ≡ false → saidOf homes paths params (begun shouts (take (suc imageLimit) t)) ls
+          ≡ saidOf homes paths params (begun shouts t) ls
       long e =
           let l : imageLimit < length t = leb-false (length t) imageLimit e in
           rw (buffered-cut t l, cut-length t l)
-          (said-beyond homes paths params (buffered t) ls (suc imageLimit) (length t) (omega (arith, buffered-short t l)) (omega (arith, buffered-short t l)))
+          (said-beyond homes paths params (buffered t) shouts ls (suc imageLimit) (length t) (omega (arith, buffered-short t l))
+          (omega (arith, buffered-short t l)))
 
-  first-cut : (vars : Option Text) → saidOf homes paths params (firstVariables (cutFile imageLimit vars)) ls
-      ≡ saidOf homes paths params (firstVariables vars) ls
+  first-cut : (vars : Option Text) → saidOf homes paths params (firstVariables shouts (cutFile imageLimit vars)) ls
+      ≡ saidOf homes paths params (firstVariables shouts vars) ls
   unfolding firstVariables
   first-cut vars = rw (table-cut imageLimit vars) (begun-cut (tableOr vars))
 
 -- the program says the same of files that are cut
-pub program-cut : (vars homes paths : Option Text) (arguments : List Text) (input : Text)
-    → program (cutFile imageLimit vars) (cutFile imageLimit homes) (cutFile pathsLimit paths) arguments input ≡ program vars homes paths arguments input
+pub program-cut : (shouts : Bool) (vars homes paths : Option Text) (arguments : List Text) (input : Text)
+    → program shouts (cutFile imageLimit vars) (cutFile imageLimit homes) (cutFile pathsLimit paths) arguments input
+    ≡ program shouts vars homes paths arguments input
 unfolding program
-program-cut vars homes paths arguments input =
+program-cut shouts vars homes paths arguments input =
     rw (table-cut imageLimit homes, table-cut pathsLimit paths)
-    (said-tables (tableOr homes) (tableOr paths) (image arguments) (firstVariables (cutFile imageLimit vars)) (linesOf input)
-    ∙ first-cut (tableOr homes) (tableOr paths) (image arguments) (linesOf input) vars)
+    (said-tables (tableOr homes) (tableOr paths) (image arguments) (firstVariables shouts (cutFile imageLimit vars)) (linesOf input)
+    ∙ first-cut (tableOr homes) (tableOr paths) (image arguments) shouts (linesOf input) vars)

@@ -66,3 +66,6 @@ pub mod UpdateCalls  -- E11: which number, and insertion and deletion one behind
 pub mod Reaching  -- E13: the pairs that are reached
 pub mod LastPair  -- E13: a text matches just if the last pair is reached
 pub mod CostCalls  -- E13: which number, what every answer has
+pub mod Shouts  -- E14: what the switch changes in an expansion
+pub mod ShoutCalls  -- E14: the law over the calls
+pub mod ShoutLines  -- E14: lines with the switch off and on

@@ -2,7 +2,7 @@
 use Prim.Native.Nat.{ℕ}
 use Prim.Native.String.{String}
 use mathlib.Core.Path.{_≡_, refl}
-use mathlib.Core.Bool.{Bool, true, _&&_}
+use mathlib.Core.Bool.{Bool, true, false, _&&_}
 use mathlib.Core.List.{List, [], _∷_}
 use lib.Dec.{eqb}
 use Rattle.stages.specs.Bytes.{Text, text, eqText}
@@ -60,8 +60,8 @@ own =
 answer : String → Text → Answer
 unfolding answered expandLine
 answer s m =
-    answered (record { work = []; vars = []; varsUsed = 0; homes = []; paths = []; params = []; line = text s; out = []; message = m })
-    (expandLine (record { lent = record { room = 8192; homes = []; params = [] }; out = 8192; paths = [] }) (text s) (pairsOf set) then λ r.
+    answered (record { work = []; vars = []; varsUsed = 0; homes = []; paths = []; params = []; line = text s; out = []; message = m; shouts = false })
+    (expandLine (record { lent = record { room = 8192; homes = []; params = []; shouts = false }; out = 8192; paths = [] }) (text s) (pairsOf set) then λ r.
     doneAt (image (r .0), r .1))
 
 -- a line, the buffer that is lent, the number that answers, the length that it gives, and the buffer then

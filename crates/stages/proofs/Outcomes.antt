@@ -5,7 +5,7 @@ use mathlib.Core.Path.{_≡_, refl}
 use mathlib.Core.Bool.{Bool, true, false, _||_}
 use mathlib.Core.List.{List, [], _∷_, _++_}
 use lib.Dec.{eqb}
-use Rattle.stages.specs.Numbers.{workTooSmall, zeroByte, unended, tooDeep, tooManyUnits, variableRoom, outputRoom, badParameters}
+use Rattle.stages.specs.Numbers.{workTooSmall, zeroByte, unended, tooDeep, demanded, tooManyUnits, variableRoom, outputRoom, badParameters, unsetName}
 use Rattle.stages.specs.Bytes.{Text, all, notZero, between}
 use Rattle.stages.specs.Recur.{below, below-ok, fix, fix-eq, by-size}
 use Rattle.stages.specs.Outcome.{
@@ -55,10 +55,10 @@ module _ {A R : Type 0} (size : A → ℕ) (stuck : R) (step : (A → R) → A �
           rw (fix-eq size stuck step a)
           (h a (below size stuck (size a) (fix size stuck step)) (λ b l. rw (below-ok size stuck (size a) (fix size stuck step) b l) (ih b l)))
 
--- the numbers from 7 to 20, with which reading and expanding refuse; 0, the answer of a recursion that is stuck, is none of them, nor is 13, which comes
--- with its message alone
+-- the numbers from 7 to 20 and E14's 25, with which reading and expanding refuse; 0, the answer of a recursion that is stuck, is none of them, nor is 13,
+-- which comes with its message alone
 abbrev pub isFault : ℕ → Bool
-isFault n = between unended n tooDeep || between tooManyUnits n variableRoom
+isFault n = between unended n tooDeep || (between tooManyUnits n variableRoom || eqb n unsetName)
 
 -- refused with one of these numbers, or with a message that has no zero byte, or done with what P holds of
 pub data Safe {A : Type 0} (P : A → Type 0) : Outcome A → Type 0 where
@@ -132,6 +132,10 @@ isEarly n = between workTooSmall n zeroByte || eqb n badParameters
 -- the numbers of a line that is read and expanded: 21 too
 abbrev pub isLate : ℕ → Bool
 isLate n = isFault n || eqb n outputRoom
+
+-- the numbers of a call that is refused: 22 and 24 are those of other jobs
+abbrev pub isListed : ℕ → Bool
+isListed n = isEarly n || (isLate n || eqb n demanded)
 
 pub fault-late : (n : ℕ) → isFault n ≡ true → isLate n ≡ true
 fault-late n e = or-left (eqb n outputRoom) e

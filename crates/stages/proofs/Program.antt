@@ -51,6 +51,7 @@ withLine g t = record {
   line = t;
   out = g .out;
   message = g .message;
+  shouts = g .shouts;
 }
 
 module _ (g : Given) (t : Text) where

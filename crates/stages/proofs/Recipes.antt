@@ -60,7 +60,7 @@ same (doneAt a) (doneAt b) = eqTexts (a .0) (textsOf (b .0)) && eqPairs (a .1) (
 
 unfoldable pub around : Case → Around
 around c = record {
-  lent = record { room = 8192; homes = pairsOf (c .homes); params = textsOf (c .params) };
+  lent = record { room = 8192; homes = pairsOf (c .homes); params = textsOf (c .params); shouts = false };
   out = 8192;
   paths = textsOf (c .paths);
 }
@@ -154,6 +154,7 @@ call c =
       line = text (c .line);
       out = replicate imageLimit 0;
       message = [];
+      shouts = false;
     }
 
 -- "C1's whole image in hexadecimal .. 32 bytes": what the expander writes to its output
@@ -183,7 +184,7 @@ verdict (doneAt r) = 100 + length (r .0)
 
 alone : Text → Pairs → ℕ
 unfolding expandLine verdict choose
-alone t v = verdict (expandLine (record { lent = record { room = 8192; homes = []; params = [] }; out = 8192; paths = [] }) t v)
+alone t v = verdict (expandLine (record { lent = record { room = 8192; homes = []; params = []; shouts = false }; out = 8192; paths = [] }) t v)
 
 record Edge : Type 0 where
   line : Text

@@ -2,11 +2,11 @@
 use Prim.Native.Nat.{ℕ, suc, _-_, _≤_, _<_}
 use native.Mathlib.Omega.{arith}
 use mathlib.Core.Path.{_≡_, refl}
-use mathlib.Core.Bool.{true}
+use mathlib.Core.Bool.{true, _||_}
 use mathlib.Core.List.{[], _∷_}
-use lib.Dec.{leb}
+use lib.Dec.{eqb, leb}
 use lib.ListN.{length, drop}
-use Rattle.stages.specs.Numbers.{unended, tooDeep, tooManyUnits, variableRoom}
+use Rattle.stages.specs.Numbers.{unended, tooDeep, tooManyUnits, variableRoom, unsetName}
 use Rattle.stages.specs.Bytes.{between, Text, all, notZero}
 use Rattle.stages.specs.Outcome.{refused, done}
 use Rattle.stages.specs.Syntax.{plain, unescaped, Parts, Mode, end, lit, quo, par}
@@ -34,7 +34,7 @@ all-bytes [] h = refl
 all-bytes (b ∷ t) h = and-both (h .0) (all-bytes t (h .1))
 
 reading-fault : (n : ℕ) → between unended n tooDeep ≡ true → isFault n ≡ true
-reading-fault n e = or-left (between tooManyUnits n variableRoom) e
+reading-fault n e = or-left (between tooManyUnits n variableRoom || eqb n unsetName) e
 
 -- parts whose bytes are not zero and whose parameters are parameters
 abbrev pub SafeParts : Parts → Type 0

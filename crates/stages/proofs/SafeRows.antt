@@ -15,11 +15,11 @@ use Rattle.stages.specs.Outcome.{done}
 use Rattle.stages.specs.Images.{Pairs, isName, keys, allTexts, rising, lookup, stored, flat, imageLength, orEmpty}
 use Rattle.stages.specs.Syntax.{Side, suffix, prefix, Reach, Form, plain, minus, equals, query, plus, removal}
 use Rattle.stages.specs.Syntax.{Parts, end, lit, quo, par, len, lst, ari, til}
-use Rattle.stages.specs.Syntax.{Param, var, nth, Spread, apart, joint}
+use Rattle.stages.specs.Syntax.{Param, var, nth, Counted, bytesOf, parameters, Spread, apart, joint}
 use Rattle.stages.specs.Units.{Mark, L, E, Q, Cell, cell, N, B, Row, marked, bytes, expandedMark, litMark, fit, decimal}
 use Rattle.stages.specs.Pattern.{Element, signs, hasClass, Purpose, forPaths, forRemoval, isForPaths, pattern, matches}
 use Rattle.stages.specs.Removal.{removed, left, cut}
-use Rattle.stages.specs.Params.{Lent, numbered, holding, value, missing, store, storeIn}
+use Rattle.stages.specs.Params.{Lent, numbered, holding, value, orShout, sought, missing, store, storeIn}
 use Rattle.stages.specs.Split.{ifsOr, ifsNow}
 use Rattle.stages.specs.Expand.{Made, plainly, given, assigned, cutBy, parameter, gap, between, listRow, ofNone, inQuotes, amount, demand}
 use Rattle.stages.specs.Expand.{directory, tildeRow, onto, adding, expand}
@@ -100,6 +100,22 @@ pub value-safe : (a : Lent) (v : Pairs) (x : Param) → SafeLent a → Fine (fla
 unfolding value
 value-safe a v x l f = or-empty-safe (holding a v x) (holding-safe a v x l f)
 
+-- E14: what is looked up, or 25
+shout-safe : (s : Bool) (o : Option Text) → If NoZero o → Safe NoZero (orShout s o)
+unfolding orShout
+shout-safe false o h = gives (or-empty-safe o h)
+shout-safe true none h = refuses refl
+shout-safe true (some t) h = gives h
+
+sought-safe : (a : Lent) (v : Pairs) (x : Param) → SafeLent a → Fine (flat v) → Safe NoZero (sought a v x)
+unfolding sought
+sought-safe a v x l f = shout-safe (a .shouts) (holding a v x) (holding-safe a v x l f)
+
+amount-safe : (a : Lent) (c : Counted) (v : Pairs) → SafeLent a → Fine (flat v) → Safe (λ (n : ℕ). Unit {0}) (amount a c v)
+unfolding amount
+amount-safe a (bytesOf x) v l f = safe-bind _ (sought-safe a v x l f) (λ t _. gives tt)
+amount-safe a parameters v l f = gives tt
+
 pub store-sure : (room : ℕ) (x t : Text) (v : Pairs) → isName x ≡ true → NoZero t → Kept room v → Sure (Kept room) (store room x t v)
 unfolding store
 store-sure room x t v n z k =
@@ -175,7 +191,7 @@ module _ (a : Lent) (l : SafeLent a) where
         (m : Mark) (v : Pairs) → Kept (a .room) v
         → Safe (SafeMade (a .room)) (parameter a q x f m v)
     unfolding parameter
-    parameter-safe q h plain m v k = given-safe m v k
+    parameter-safe q h plain m v k = safe-bind _ (sought-safe a v x l (k .fine)) (λ t z. plainly-safe t m v z k)
     parameter-safe q h (minus c) m v k =
         either (missing a c x v) (λ e. rw (e, parameter) (h (expandedMark m) v k)) (λ e. rw (e, parameter) (given-safe m v k))
     parameter-safe q h (equals c) m v k =
@@ -188,7 +204,8 @@ module _ (a : Lent) (l : SafeLent a) where
         (λ e. rw (e, parameter) (given-safe m v k))
     parameter-safe q h (plus c) m v k =
         either (missing a c x v) (λ e. rw (e, parameter) (gives (tt, k))) (λ e. rw (e, parameter) (h (expandedMark m) v k))
-    parameter-safe q h (removal s reach) m v k = safe-bind _ (h L v k) (λ p g. cut-safe s reach m p g)
+    parameter-safe q h (removal s reach) m v k =
+        safe-bind _ (sought-safe a v x l (k .fine)) (λ _ _. safe-bind _ (h L v k) (λ p g. cut-safe s reach m p g))
 
 -- `$@` and `$*`
 
@@ -265,9 +282,9 @@ module _ (a : Lent) (l : SafeLent a) where
       safe-bind _ (parameter-safe a l x (s .0) (λ j w. expand a q j 0 w) (λ j w g. expand-safe q (s .1) j 0 w g) f m v k)
       (λ r h. adding-safe (a .room) n (r .0) (r .2) _ (h .0) (λ i. expand-safe p (s .2) m i (r .1) (h .1)))
   expand-safe (len x p) s m n v k =
-      adding-safe (a .room) n (marked (expandedMark m) (decimal (amount a x v))) false _
-      (marked-safe (expandedMark m) (decimal (amount a x v)) (decimal-safe (amount a x v)))
-      (λ i. expand-safe p (s .1) m i v k)
+      safe-bind _ (amount-safe a x v l (k .fine))
+      (λ j _. adding-safe (a .room) n (marked (expandedMark m) (decimal j)) false _ (marked-safe (expandedMark m) (decimal j) (decimal-safe j))
+      (λ i. expand-safe p (s .1) m i v k))
   expand-safe (lst j p) s m n v k =
       adding-safe (a .room) n (listRow j m (a .params) v) (ofNone j (a .params)) _ (list-safe j m (a .params) v (l .params) (k .fine))
       (λ i. expand-safe p s m i v k)

@@ -16,13 +16,13 @@ use Rattle.stages.specs.Bytes.{Text, all, notZero}
 use Rattle.stages.specs.Outcome.{Outcome, done}
 use Rattle.stages.specs.Images.{Pairs, isName}
 use Rattle.stages.specs.Syntax.{var}
-use Rattle.stages.specs.Params.{Lent, holding, storeIn}
+use Rattle.stages.specs.Params.{Lent, holding, orShout, storeIn}
 use Rattle.stages.specs.Units.{digits, decimal}
-use Rattle.stages.specs.Constants.{fits, ranged, constant, minusOf, valued, nameNumber, signed}
+use Rattle.stages.specs.Constants.{fits, ranged, constant, minusOf, valued, signed}
 use Rattle.stages.specs.Arith.{isZero, isTrue, divided, shifted, operator, Op, mul, div, rem, add, sub, shl, shr, lt, le, gt, ge, eq, ne}
 use Rattle.stages.specs.Arith.{bitAnd, bitXor, bitOr, logAnd, logOr, logNot, bitNot, early, apply, applyAlone}
 use Rattle.stages.specs.Arith.{Tree, constantOf, nameOf, unary, binary, choice, assign, tree, Evaluated, withVariables, unless}
-use Rattle.stages.specs.Arith.{valueOf, updated, keeping, storing, evaluate, arithmeticOf}
+use Rattle.stages.specs.Arith.{nameNumber, valueOf, updated, keeping, storing, evaluate, arithmeticOf}
 use Rattle.stages.proofs.Bools.{and-both}
 use Rattle.stages.proofs.Texts.{all-append}
 use Rattle.stages.proofs.Outcomes.{Sure, fails, comes, sure-bind, sure-choose, Safe, sure-safe}
@@ -37,10 +37,16 @@ valued-sure [] = comes tt
 valued-sure (b ∷ t) =
     sure-choose _ _ _ (number-sure minusOf (constant t)) (sure-choose _ _ _ (number-sure pos (constant t)) (number-sure pos (constant (b ∷ t))))
 
-pub name-sure : (o : Option Text) → Numbered (nameNumber o)
+-- E14: 25, where it is unset
+pub shout-sure : (s : Bool) (o : Option Text) → Numbered (orShout s o)
+unfolding orShout
+shout-sure false o = comes tt
+shout-sure true none = fails refl
+shout-sure true (some t) = comes tt
+
+pub name-sure : (s : Bool) (o : Option Text) → Numbered (nameNumber s o)
 unfolding nameNumber
-name-sure none = comes tt
-name-sure (some t) = valued-sure t
+name-sure s o = sure-bind _ (shout-sure s o) (λ t _. valued-sure t)
 
 divided-sure : (f : ℤ → ℤ → ℤ) (a b : ℤ) → Numbered (divided f a b)
 unfolding divided
@@ -148,7 +154,7 @@ module _ (a : Lent) (K : Pairs → Type 0) (stores : Stores a K) where
 
   value-sure : (v : Pairs) (x : Text) → Numbered (valueOf a v x)
   unfolding valueOf
-  value-sure v x = name-sure (holding a v (var x))
+  value-sure v x = name-sure (a .shouts) (holding a v (var x))
 
   updated-sure : (v : Pairs) (o : Option Op) (x : Text) (z : ℤ) → Numbered (updated a v o x z)
   unfolding updated

@@ -194,7 +194,8 @@ module _ (homes paths params : Text) where
       ∙ ap suc (said-lines (afterLine homes paths params v l) ls)
 
 -- it writes as many lines as it reads
-pub program-lines : (vars homes paths : Option Text) (arguments : List Text) (input : Text)
-    → length (linesOf (program vars homes paths arguments input)) ≡ length (linesOf input)
+pub program-lines : (shouts : Bool) (vars homes paths : Option Text) (arguments : List Text) (input : Text)
+    → length (linesOf (program shouts vars homes paths arguments input)) ≡ length (linesOf input)
 unfolding program
-program-lines vars homes paths arguments input = said-lines (tableOr homes) (tableOr paths) (image arguments) (firstVariables vars) (linesOf input)
+program-lines shouts vars homes paths arguments input =
+    said-lines (tableOr homes) (tableOr paths) (image arguments) (firstVariables shouts vars) (linesOf input)

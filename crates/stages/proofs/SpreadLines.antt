@@ -161,7 +161,7 @@ same (doneAt a) (doneAt b) = eqTexts (a .0) b
 passes : Edge → Bool
 unfolding same expandLine choose
 passes e =
-    same (expandLine (record { lent = record { room = 8192; homes = []; params = e .params }; out = 8192; paths = [] }) (text (e .line))
+    same (expandLine (record { lent = record { room = 8192; homes = []; params = e .params; shouts = false }; out = 8192; paths = [] }) (text (e .line))
     ((text "v", replicate (e .size) 97) ∷ [])) (e .answer)
 
 edgesPass : List Edge → Bool

@@ -13,12 +13,13 @@ use Rattle.stages.specs.Numbers.{imageLimit}
 use Rattle.stages.specs.Images.{Pairs, stored, flat, imageLength}
 use Rattle.stages.specs.Syntax.{var}
 use Rattle.stages.specs.Params.{Lent, holding, store, storeIn}
-use Rattle.stages.specs.Constants.{fits, nameNumber, signed}
-use Rattle.stages.specs.Arith.{Op, early, isTrue, Tree, binary, choice, unless, valueOf, evaluate, arithmeticOf}
+use Rattle.stages.specs.Constants.{fits, signed}
+use Rattle.stages.specs.Arith.{Op, early, isTrue, Tree, binary, choice, unless, nameNumber, valueOf, evaluate, arithmeticOf}
 use Rattle.stages.proofs.Bools.{either}
 use Rattle.stages.proofs.Outcomes.{done-same, never}
 use Rattle.stages.proofs.Stores.{lookup-stored}
 use Rattle.stages.proofs.Digits.{signed-valued}
+use Rattle.stages.proofs.Shouts.{shout-set}
 use Rattle.stages.proofs.Recipes.{Settings, pairsOf, eqPairs}
 
 -- a text; and the number that refuses it, or its result and all variables behind it
@@ -33,7 +34,7 @@ abbrev before : Settings
 before = set "" "5" "x"
 
 lent : ℕ → Lent
-lent room = record { room = room; homes = []; params = [] }
+lent room = record { room = room; homes = []; params = []; shouts = false }
 
 same : Outcome (Text × Pairs) → Outcome (String × Settings) → Bool
 same (refused n) (refused m) = eqb n m
@@ -229,4 +230,4 @@ store-stored a x t v w e =
 
 pub stored-number : (a : Lent) (x : Text) (v w : Pairs) (z : ℤ) → fits z ≡ true → storeIn a (var x) (signed z) v ≡ done w → valueOf a w x ≡ done z
 unfolding valueOf holding nameNumber
-stored-number a x v w z f e = rw (store-stored a x (signed z) v w e, lookup-stored x (signed z) v) (signed-valued z f)
+stored-number a x v w z f e = rw (store-stored a x (signed z) v w e, lookup-stored x (signed z) v, shout-set (a .shouts) (signed z)) (signed-valued z f)

@@ -51,8 +51,8 @@ expanded-both g h m n u d =
     (λ p q _ _. table-both badParameters (fieldsOf (g .params)) (fieldsOf (h .params)) _ _
     (λ ps qs y z. rw (← d .line)
     (line-both
-    (record { lent = record { room = length (g .vars); homes = a; params = ps }; out = m; paths = p })
-    (record { lent = record { room = length (h .vars); homes = b; params = qs }; out = n; paths = q })
+    (record { lent = record { room = length (g .vars); homes = a; params = ps; shouts = g .shouts }; out = m; paths = p })
+    (record { lent = record { room = length (h .vars); homes = b; params = qs; shouts = h .shouts }; out = n; paths = q })
     (record { homes = some-same (sym i ∙ ap homesOf (d .homes) ∙ j); params = some-same (sym y ∙ ap fieldsOf (d .params) ∙ z) })
     (g .line) u v w
     (but-alike v w (rw (← variables-held (take (g .varsUsed) (g .vars)) v e, ← variables-held (take (h .varsUsed) (h .vars)) w f) (d .vars))))))))))

@@ -181,6 +181,7 @@ call ifs paths =
       line = text "\"$job\".raw";
       out = replicate imageLimit 0;
       message = [];
+      shouts = false;
     }
 
 differ : Differ (call " " []) (call "h:" ("north" ∷ "north field.raw" ∷ []))

@@ -19,7 +19,7 @@ use Rattle.stages.specs.Units.{Mark, L, Q, Cell, cell, N, B, Row, marked
 use Rattle.stages.specs.Arith.{arithmeticOf}
 use Rattle.stages.specs.Pattern.{pattern, forRemoval}
 use Rattle.stages.specs.Removal.{removed}
-use Rattle.stages.specs.Params.{Lent, value, missing, storeIn}
+use Rattle.stages.specs.Params.{Lent, value, sought, missing, storeIn}
 use Rattle.stages.specs.Expand.{Made, plainly, given, assigned, cutBy, parameter, inQuotes, directory, tildeRow, amount, onto, adding, expand, demand}
 use Rattle.stages.proofs.Bools.{either}
 use Rattle.stages.proofs.Outcomes.{Each, each-append, done-same, never}
@@ -67,7 +67,7 @@ module _ (a : Lent) where
   parameter-whole : (q : Mark → Pairs → Made) → ((m : Mark) (v : Pairs) → When Whole (q m v)) → (x : Param) (f : Form) (m : Mark) (v : Pairs)
       → When Whole (parameter a q x f m v)
   unfolding parameter assigned cutBy
-  parameter-whole q h x plain m v = given-whole x m v
+  parameter-whole q h x plain m v = when-bind _ (any-outcome (sought a v x)) (λ t _. plainly-whole t m v)
   parameter-whole q h x (minus c) m v =
       either (missing a c x v) (λ e. rw (e, parameter) (h (expandedMark m) v)) (λ e. rw (e, parameter) (given-whole x m v))
   parameter-whole q h x (equals c) m v =
@@ -82,8 +82,9 @@ module _ (a : Lent) where
   parameter-whole q h x (plus c) m v =
       either (missing a c x v) (λ e. rw (e, parameter) (is-done (tt, refl))) (λ e. rw (e, parameter) (h (expandedMark m) v))
   parameter-whole q h x (removal s reach) m v =
-      when-bind _ (h L v)
-      (λ p k. when-bind _ (any-outcome (pattern forRemoval (p .0))) (λ es l. plainly-whole (removed s reach es (value a (p .1) x)) m (p .1)))
+      when-bind _ (any-outcome (sought a v x))
+      (λ _ _. when-bind _ (h L v)
+      (λ p k. when-bind _ (any-outcome (pattern forRemoval (p .0))) (λ es l. plainly-whole (removed s reach es (value a (p .1) x)) m (p .1))))
 
   onto-whole : (r : Row) (g : Bool) {o : Made} → Each Unbroken r → g ≡ false → When Whole o → When Whole (onto r g o)
   onto-whole r g h e k = when-bind (λ p. done (r ++ p .0, p .1, g || p .2)) k (λ p l. is-done (each-append Unbroken r (p .0) h (l .0), rw e (l .1)))
@@ -117,8 +118,8 @@ module _ (a : Lent) where
       when-bind _ (parameter-whole (λ j w. expand a q j 0 w) (λ j w. expand-whole q (k .0) j 0 w) x f m v)
       (λ r h. adding-whole n (r .0) (r .2) _ (h .0) (h .1) (λ i. expand-whole p (k .1) m i (r .1)))
   expand-whole (len x p) k m n v =
-      adding-whole n (marked (expandedMark m) (decimal (amount a x v))) false _ (marked-whole (expandedMark m) (decimal (amount a x v))) refl
-      (λ i. expand-whole p k m i v)
+      when-bind _ (any-outcome (amount a x v))
+      (λ j _. adding-whole n (marked (expandedMark m) (decimal j)) false _ (marked-whole (expandedMark m) (decimal j)) refl (λ i. expand-whole p k m i v))
   expand-whole (lst s p) k m n v = clash (k .0)
   expand-whole (ari q p) k m n v =
       when-bind _ (expand-whole q (k .0) Q 0 v)

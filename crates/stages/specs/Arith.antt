@@ -1,4 +1,4 @@
--- Document 01, "Arithmetic", and document 02, E6 and E10: numbers, the table of operators, tokens, the tree that a text is read as, and what it comes to.
+-- Document 01, "Arithmetic", and document 02, E6, E10 and E14: numbers, the table of operators, tokens, the tree that a text is read as, and what it comes to.
 use Prim.Native.Nat.{ℕ, zero, suc, _+_, _*_, _/_, _%_, _^_}
 use Prim.Native.Char.{code}
 use mathlib.Core.Bool.{Bool, true, false, _&&_, _||_, not}
@@ -14,8 +14,8 @@ use Rattle.stages.specs.Bytes.{Text, text, span, isNameStart, isNameByte
 use Rattle.stages.specs.Outcome.{Outcome, refused, done, _>>=_, pick, choose, cases}
 use Rattle.stages.specs.Images.{Pairs, isSome}
 use Rattle.stages.specs.Syntax.{var}
-use Rattle.stages.specs.Params.{Lent, holding, storeIn}
-use Rattle.stages.specs.Constants.{constant, number, fits, ranged, nameNumber, signed}
+use Rattle.stages.specs.Params.{Lent, holding, orShout, storeIn}
+use Rattle.stages.specs.Constants.{constant, number, fits, ranged, valued, signed}
 
 -- NUMBERS
 
@@ -376,10 +376,14 @@ abbrev pub unless : Option ℤ → Pairs → (Unit {0} → Evaluated) → Evalua
 unless none v more = more tt
 unless (some z) v more = done (z, v)
 
--- what a name stands for
+-- what a name stands for, by what it holds: 01: "A name gives 0 if unset or empty"; E14: "a name read in arithmetic", unset
+unfoldable pub nameNumber : Bool → Option Text → Outcome ℤ
+unfolding orShout valued
+nameNumber shouts o = orShout shouts o >>= λ t. valued t
+
 unfoldable pub valueOf : Lent → Pairs → Text → Outcome ℤ
 unfolding nameNumber holding
-valueOf a v x = nameNumber (holding a v (var x))
+valueOf a v x = nameNumber (a .shouts) (holding a v (var x))
 
 -- E10: "then the name is read if the operator needs it"
 unfoldable pub updated : Lent → Pairs → Option Op → Text → ℤ → Outcome ℤ

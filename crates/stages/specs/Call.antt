@@ -1,6 +1,6 @@
--- Document 01, "What a call gives back", and document 02, E7, E9 and E10: the four jobs, from all that is given to all that comes back.
+-- Document 01, "What a call gives back", and document 02, E7, E9, E10 and E14: the four jobs, from all that is given to all that comes back.
 use Prim.Native.Nat.{ℕ, _+_, _-_}
-use mathlib.Core.Bool.{_&&_}
+use mathlib.Core.Bool.{Bool, _&&_}
 use mathlib.Core.List.{[], _++_}
 use mathlib.Core.Option.{Option, none, some}
 use lib.Dec.{leb}
@@ -25,6 +25,7 @@ pub record Given : Type 0 where
   pub line : Text
   pub out : Text
   pub message : Text  -- E7: "Lend a message buffer."
+  pub shouts : Bool  -- E14: "a switch, off by default"
 
 -- "The answer is a number, a place, the output length and the variables' used length."; and what the buffers hold then
 pub record Answer : Type 0 where
@@ -56,7 +57,7 @@ expanded g out =
     orRefused badHomes (homesOf (g .homes)) then λ h.
     orRefused badPaths (pathsOf (g .paths)) then λ p.
     orRefused badParameters (fieldsOf (g .params)) then λ ps.
-    expandLine (record { lent = record { room = length (g .vars); homes = h; params = ps }; out = out; paths = p }) (g .line) v
+    expandLine (record { lent = record { room = length (g .vars); homes = h; params = ps; shouts = g .shouts }; out = out; paths = p }) (g .line) v
 
 -- "The work area is zero throughout after every call of expander or normaliser, number 1 included."
 unfoldable pub cleared : Text → Text
@@ -134,7 +135,7 @@ assigned g =
     orRefused badVariables (variablesOf (take (g .varsUsed) (g .vars))) then λ v.
     orRefused badHomes (homesOf (g .homes)) then λ h.
     orRefused badParameters (fieldsOf (g .params)) then λ ps.
-    assignLine (record { room = length (g .vars); homes = h; params = ps }) (g .line) v
+    assignLine (record { room = length (g .vars); homes = h; params = ps; shouts = g .shouts }) (g .line) v
 
 -- E9, the answer by the variables: "A refusal undoes all."; nothing is written, and the output is as it was
 unfoldable pub settled : Given → Placed Pairs → Answer

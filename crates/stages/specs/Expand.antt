@@ -1,4 +1,4 @@
--- Document 01, "Units and expansion", and document 02, E1, E5 and E7: parts to rows, the tilde, the forms of a parameter, `$@` and `$*`.
+-- Document 01, "Units and expansion", and document 02, E1, E5, E7 and E14: parts to rows, the tilde, the forms of a parameter, `$@` and `$*`.
 use Prim.Native.Nat.{ℕ, _+_}
 use Prim.Native.Char.{code}
 use mathlib.Core.Bool.{Bool, true, false, _||_}
@@ -12,7 +12,7 @@ use Rattle.stages.specs.Syntax.{Side, Reach, Form, plain, minus, equals,
 use Rattle.stages.specs.Syntax.{Param, Counted, bytesOf, parameters, Spread, apart, joint}
 use Rattle.stages.specs.Syntax.{Parts, end, lit, quo, par, len, lst, ari, til}
 use Rattle.stages.specs.Units.{Mark, L, E, Q, cell, N, B, Row, marked, bytes, expandedMark, litMark, fit, decimal}
-use Rattle.stages.specs.Params.{Lent, value, missing, storeIn}
+use Rattle.stages.specs.Params.{Lent, value, sought, missing, storeIn}
 use Rattle.stages.specs.Arith.{arithmeticOf}
 use Rattle.stages.specs.Pattern.{pattern, forRemoval}
 use Rattle.stages.specs.Removal.{removed}
@@ -47,15 +47,15 @@ unfolding value pattern removed marked
 cutBy a side reach x m p = pattern forRemoval (p .0) >>= λ es. plainly (removed side reach es (value a (p .1) x)) m (p .1)
 
 -- one parameter in each form; `operand` expands its operand, literal bytes having the mark that it is handed. "Bare literal bytes of an operand
--- of `-` or `+` become E; Q and N stay." "An unused operand is not expanded."
+-- of `-` or `+` become E; Q and N stay." "An unused operand is not expanded." E14: "A removal is refused before its operand is expanded."
 unfoldable pub parameter : Lent → (Mark → Pairs → Made) → Param → Form → Mark → Pairs → Made
-unfolding value marked missing assigned demand cutBy
-parameter a operand x plain m v = given a x m v
+unfolding value sought marked missing assigned demand cutBy
+parameter a operand x plain m v = sought a v x >>= λ t. plainly t m v
 parameter a operand x (minus c) m v = elim (missing a c x v) [ true ↦ operand (expandedMark m) v | false ↦ given a x m v ]
 parameter a operand x (equals c) m v = elim (missing a c x v) [ true ↦ operand m v >>= (λ p. assigned a x m p) | false ↦ given a x m v ]
 parameter a operand x (query c) m v = elim (missing a c x v) [ true ↦ operand m v >>= (λ p. demand p) | false ↦ given a x m v ]
 parameter a operand x (plus c) m v = elim (missing a c x v) [ true ↦ done ([], v, false) | false ↦ operand (expandedMark m) v ]
-parameter a operand x (removal side reach) m v = operand L v >>= λ p. cutBy a side reach x m p
+parameter a operand x (removal side reach) m v = sought a v x >>= λ _. operand L v >>= λ p. cutBy a side reach x m p
 
 -- E5, what stands between two parameters: "a break mark, in quotes an empty mark after it"; "`"$*"` joins with the first byte of IFS as it then
 -- stands, a space if IFS is unset, nothing if empty."
@@ -91,10 +91,10 @@ inQuotes true [] = []
 inQuotes true (c ∷ r) = N ∷ c ∷ r
 
 -- what is counted
-unfoldable pub amount : Lent → Counted → Pairs → ℕ
-unfolding value
-amount a (bytesOf x) v = length (value a v x)
-amount a parameters v = length (a .params)
+unfoldable pub amount : Lent → Counted → Pairs → Outcome ℕ
+unfolding sought
+amount a (bytesOf x) v = sought a v x >>= λ t. done (length t)
+amount a parameters v = done (length (a .params))
 
 -- units in front of what is expanded behind them, and whether `$@` of no parameters came in them
 abbrev pub onto : Row → Bool → Made → Made
@@ -127,7 +127,7 @@ expand a (lit q b p) m n v = adding n (cell (litMark q m) b ∷ []) false λ i. 
 expand a (quo q p) m n v =
     fit n 1 >>= λ i. expand a q Q i v >>= λ r. onto (inQuotes (r .2) (r .0)) false (expand a p m (n + length (inQuotes (r .2) (r .0))) (r .1))
 expand a (par x f q p) m n v = parameter a (λ k w. expand a q k 0 w) x f m v >>= λ r. adding n (r .0) (r .2) λ i. expand a p m i (r .1)
-expand a (len x p) m n v = adding n (marked (expandedMark m) (decimal (amount a x v))) false λ i. expand a p m i v
+expand a (len x p) m n v = amount a x v >>= λ k. adding n (marked (expandedMark m) (decimal k)) false λ i. expand a p m i v
 expand a (lst s p) m n v = adding n (listRow s m (a .params) v) (ofNone s (a .params)) λ i. expand a p m i v
 expand a (ari q p) m n v =
     expand a q Q 0 v >>= λ r. arithmeticOf a (r .1) (bytes (r .0)) >>= λ s. adding n (marked (expandedMark m) (s .0)) false λ i. expand a p m i (s .1)

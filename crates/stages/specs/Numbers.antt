@@ -103,6 +103,10 @@ badParameters = 23
 abbrev pub badPath : ℕ
 badPath = 24
 
+-- E14: "refused on an unset parameter with new number 25"
+abbrev pub unsetName : ℕ
+unsetName = 25
+
 -- "work area below 65,536 bytes"
 abbrev pub workLeast : ℕ
 workLeast = 65536

@@ -1,7 +1,7 @@
--- Document 01, "The program", and document 02, E7: what it writes for what it reads.
+-- Document 01, "The program", and document 02, E7 and E14: what it writes for what it reads.
 use Prim.Native.Nat.{ℕ, suc, _+_, _-_}
 use Prim.Native.Char.{code}
-use mathlib.Core.Bool.{true, false}
+use mathlib.Core.Bool.{Bool, true, false}
 use mathlib.Core.List.{List, [], _∷_, _++_}
 use mathlib.Core.Option.{Option, none, some}
 use lib.Dec.{eqb, leb}
@@ -34,10 +34,11 @@ tableOr (some t) = t
 unfoldable pub buffered : Text → Text
 buffered t = take imageLimit t ++ replicate (imageLimit - length t) 0
 
--- the variables' buffer and its used length
+-- the variables' buffer, its used length, and whether unset ones shout, which is the same for every line
 pub record Variables : Type 0 where
   pub buffer : Text
   pub varsUsed : ℕ
+  pub shouts : Bool  -- E14: "a switch, off by default"
 
 unfoldable pub givenLine : Text → Text → Text → Text → Variables → Given
 givenLine homes paths params line v = record {
@@ -50,6 +51,7 @@ givenLine homes paths params line v = record {
   line = line;
   out = replicate imageLimit 0;
   message = replicate rowLimit 0;  -- E7: so no message is cut
+  shouts = v .shouts;
 }
 
 -- "it writes `ok `, the quoted line, newline, or `no `, number, blank, place, newline"
@@ -80,6 +82,7 @@ unfolding givenLine normaliser
 afterLine homes paths params v l = record {
   buffer = normaliser (givenLine homes paths params l v) .vars;
   varsUsed = normaliser (givenLine homes paths params l v) .varsUsed;
+  shouts = v .shouts;
 }
 
 -- and after lines, one by one
@@ -108,17 +111,19 @@ numberAfter n [] = n
 numberAfter n (l ∷ ls) = numberAfter (nextNumber n) ls
 
 -- the variables before the first line, by the file `vars.tab`
-unfoldable pub firstVariables : Option Text → Variables
+unfoldable pub firstVariables : Bool → Option Text → Variables
 unfolding tableOr buffered
-firstVariables vars = record { buffer = buffered (tableOr vars); varsUsed = length (tableOr vars) }
+firstVariables shouts vars = record { buffer = buffered (tableOr vars); varsUsed = length (tableOr vars); shouts = shouts }
 
--- what the program writes: the files `vars.tab`, `homes.tab`, `paths.tab` where they are there, its arguments, which are the positional parameters, and
--- standard input
-unfoldable pub program : Option Text → Option Text → Option Text → List Text → Text → Text
+-- what the program writes: the switch, the files `vars.tab`, `homes.tab`, `paths.tab` where they are there, the arguments that are positional parameters,
+-- and standard input
+unfoldable pub program : Bool → Option Text → Option Text → Option Text → List Text → Text → Text
 unfolding tableOr firstVariables saidOf linesOf image
-program vars homes paths arguments input = saidOf (tableOr homes) (tableOr paths) (image arguments) (firstVariables vars) (linesOf input)
+program shouts vars homes paths arguments input =
+    saidOf (tableOr homes) (tableOr paths) (image arguments) (firstVariables shouts vars) (linesOf input)
 
 -- E7: and what it writes to standard error of what the lines demand, the first one being line 1
-unfoldable pub demandsOf : Option Text → Option Text → Option Text → List Text → Text → Text
+unfoldable pub demandsOf : Bool → Option Text → Option Text → Option Text → List Text → Text → Text
 unfolding tableOr firstVariables toldOf linesOf image
-demandsOf vars homes paths arguments input = toldOf (tableOr homes) (tableOr paths) (image arguments) (firstVariables vars) 1 (linesOf input)
+demandsOf shouts vars homes paths arguments input =
+    toldOf (tableOr homes) (tableOr paths) (image arguments) (firstVariables shouts vars) 1 (linesOf input)
