@@ -2,6 +2,7 @@
 -- where a number refuses.
 use Prim.Native.Nat.{ℕ}
 use mathlib.Core.Path.{_≡_, sym, ap, _∙_}
+use mathlib.Core.Bool.{Bool}
 use mathlib.Core.List.{[]}
 use lib.IntN.{ℤ}
 use lib.ListN.{take}
@@ -44,12 +45,12 @@ module _ (a : Lent) (text : Text) (vars : Text) (used : ℕ) (left left′ : Tex
       ∙ sym (table-canonical isName (take n′ left′) (vars-held (a .room) left′ n′ (h′ .1)) b′)
 
 -- what is promised for all homes and parameters is promised for none
-module _ (room : ℕ) (text : Text) (vars : Text) (used : ℕ) (left left′ : Text) where
-  pub evaluate-text-determined : (r s : Worked) → ((homes params : Text) → ComesTo (lentOf room homes params) text vars used left r)
-      → ((homes params : Text) → ComesTo (lentOf room homes params) text vars used left′ s) → r ≡ s
-  evaluate-text-determined r s h k = one-answer (lentOf room [] []) text vars used left left′ r s (h [] []) (k [] [])
+module _ (room : ℕ) (shouts : Bool) (text : Text) (vars : Text) (used : ℕ) (left left′ : Text) where
+  pub evaluate-text-determined : (r s : Worked) → ((homes params : Text) → ComesTo (lentOf room shouts homes params) text vars used left r)
+      → ((homes params : Text) → ComesTo (lentOf room shouts homes params) text vars used left′ s) → r ≡ s
+  evaluate-text-determined r s h k = one-answer (lentOf room shouts [] []) text vars used left left′ r s (h [] []) (k [] [])
 
-  pub evaluate-text-image : (z z′ : ℤ) (n n′ : ℕ) → ((homes params : Text) → ComesTo (lentOf room homes params) text vars used left (Value z n))
-      → ((homes params : Text) → ComesTo (lentOf room homes params) text vars used left′ (Value z′ n′)) → Bytes (take n left) → Bytes (take n′ left′)
+  pub evaluate-text-image : (z z′ : ℤ) (n n′ : ℕ) → ((homes params : Text) → ComesTo (lentOf room shouts homes params) text vars used left (Value z n))
+      → ((homes params : Text) → ComesTo (lentOf room shouts homes params) text vars used left′ (Value z′ n′)) → Bytes (take n left) → Bytes (take n′ left′)
       → take n left ≡ take n′ left′
-  evaluate-text-image z z′ n n′ h k = one-image (lentOf room [] []) text vars used left left′ z z′ n n′ (h [] []) (k [] [])
+  evaluate-text-image z z′ n n′ h k = one-image (lentOf room shouts [] []) text vars used left left′ z z′ n n′ (h [] []) (k [] [])

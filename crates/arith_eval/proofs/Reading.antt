@@ -11,6 +11,7 @@ use Rattle.stages.specs.Numbers.{arithmeticSyntax}
 use Rattle.stages.specs.Bytes.{Text, part}
 use Rattle.stages.specs.Outcome.{Outcome, refused, demands, done, _>>=_}
 use Rattle.stages.specs.Images.{Pairs}
+use Rattle.stages.specs.Params.{Lent}
 use Rattle.stages.specs.Arith.{wholeLevel, isTrue, stop, shuts, colon, Token, ends, num, name, op, opens, query, gets, Lexed, token, Tree}
 use Rattle.stages.specs.Arith.{Grown, expression, grow}
 use Rattle.stages.proofs.Bools.{no}
@@ -183,12 +184,12 @@ module _ (text : Text) (at d p : ℕ) (begins : Bool) where
   skip-target q i false s e h = absurd (no e)
 
   module _ (q i : ℕ) (first : Bool) (s : Skipping text at d p begins q i first) (bare : first ≡ true → NoTarget (drop i text)) where
-    pub skip-fails : (room : ℕ) (v : Pairs) (vars left : Text) (e : ℕ) → Fails room v false (expression grow d lowest (drop i text)) e
+    pub skip-fails : (lent : Lent) (v : Pairs) (vars left : Text) (e : ℕ) → Fails lent v false (expression grow d lowest (drop i text)) e
         → Skips text at d p begins vars left (skipped.Refused e)
-    skip-fails room v vars left e f =
+    skip-fails lent v vars left e f =
         s .is ∙ pending-fails d q (ap rest (storey-above d first (drop i text) bare ∙ ap (λ (o : Grown). o >>= upstairs d) (f .reads refl)))
 
-    module _ {room : ℕ} {v w : Pairs} {z : ℤ} {n : ℕ} (c : Comes room text (suc i) v false (expression grow d lowest (drop i text)) z n w) where
+    module _ {lent : Lent} {v w : Pairs} {z : ℤ} {n : ℕ} (c : Comes lent text (suc i) v false (expression grow d lowest (drop i text)) z n w) where
       at-storey : toRead text i d q first ≡ pending d q (rest (upstairs d (c .tree, drop n text)))
       at-storey =
           ap (λ (o : Grown). pending d q (rest o)) (storey-above d first (drop i text) bare ∙ ap (λ (o : Grown). o >>= upstairs d) (c .is))
@@ -248,19 +249,19 @@ module _ (text : Text) (at d p : ℕ) (begins : Bool) where
           ∙ no-colon d q text n k h
 
 -- a whole expression that does not count
-module _ (room : ℕ) (text : Text) (at d : ℕ) (vars : Text) (used : ℕ) (left : Text) where
+module _ (lent : Lent) (text : Text) (at d : ℕ) (vars : Text) (used : ℕ) (left : Text) where
   pub whole-skipped : (e : ℕ) → Skips text at d 0 true vars left (skipped.Refused e)
-      → Says room text at vars used false (expression grow d wholeLevel (drop at text)) left (climbed.Refused e)
+      → Says lent text at vars used false (expression grow d wholeLevel (drop at text)) left (climbed.Refused e)
   unfolding pending
-  whole-skipped e h = fault room (inside vars used) false (rest-refused (expression grow d wholeLevel (drop at text)) e h)
+  whole-skipped e h = fault lent (inside vars used) false (rest-refused (expression grow d wholeLevel (drop at text)) e h)
 
-  pub whole-read : Holds room vars used → (n : ℕ) → Skips text at d 0 true vars left (skipped.Next n)
-      → Says room text at vars used false (expression grow d wholeLevel (drop at text)) left (climbed.Value (pos 0) n used)
+  pub whole-read : Holds (lent .room) vars used → (n : ℕ) → Skips text at d 0 true vars left (skipped.Next n)
+      → Says lent text at vars used false (expression grow d wholeLevel (drop at text)) left (climbed.Value (pos 0) n used)
   unfolding pending
   whole-read holds n h =
       let t = rest-done (expression grow d wholeLevel (drop at text)) (drop n text) (h .0) in (
         record { tree = t .tree; is = t .is; worth = λ c. absurd (no c); onward = h .1 .onward; within = h .1 .within },
-        record { holds = subst (λ (x : Text). Holds room x used) (sym (h .2)) holds; bytes = λ _. h .2; length = λ _. refl },
+        record { holds = subst (λ (x : Text). Holds (lent .room) x used) (sym (h .2)) holds; bytes = λ _. h .2; length = λ _. refl },
       )
 
 -- BEHIND A VALUE THAT COUNTS

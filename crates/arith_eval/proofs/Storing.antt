@@ -11,7 +11,7 @@ use Rattle.stages.specs.Numbers.{variableRoom}
 use Rattle.stages.specs.Bytes.{Text, part, all, notZero}
 use Rattle.stages.specs.Outcome.{Outcome, done, _>>=_}
 use Rattle.stages.specs.Images.{Pairs, isName}
-use Rattle.stages.specs.Params.{storeIn, holding}
+use Rattle.stages.specs.Params.{Lent, storeIn, holding}
 use Rattle.stages.specs.Constants.{signed}
 use Rattle.stages.specs.Arith.{Op, name, gets, Token, token, Evaluated, valueOf, updated, keeping, storing}
 use Rattle.stages.proofs.Outcomes.{done-same}
@@ -26,7 +26,7 @@ use Rattle.arith_token.specs.declared.Setting.{Setting}
 use Rattle.arith_int.specs.Answers.{numbered}
 use Rattle.arith_int.specs.declared.Number.{Number}
 use Rattle.arith_int.specs.declared.Number.the-variants as number
-use Rattle.arith_eval.specs.Climbs.{alone, inside}
+use Rattle.arith_eval.specs.Climbs.{inside}
 use Rattle.arith_eval.specs.Wholes.{IsTarget, Targets, SetsAt, Stacked, bottom, above, updatedIn, Leaves, Puts, Assigns, Stores}
 use Rattle.arith_eval.specs.declared.Worked.{Worked}
 use Rattle.arith_eval.specs.declared.Worked.the-variants as worked
@@ -36,9 +36,9 @@ use Rattle.arith_eval.specs.declared.marks.Target.the-variants as target
 pub leaves-shown : (room : ℕ) (e : Evaluated) (left : Text) {r s : Worked} → Leaves room e left r → r ≡ s → Leaves room e left s
 leaves-shown room e left h q = subst (Leaves room e left) q h
 
-pub assigns-shown : (room : ℕ) (text : Text) (place : ℕ) (z : ℤ) (v : Pairs) (left : Text) {r s : Worked} → Assigns room text place z v left r → r ≡ s
-    → Assigns room text place z v left s
-assigns-shown room text place z v left h e = subst (Assigns room text place z v left) e h
+pub assigns-shown : (lent : Lent) (text : Text) (place : ℕ) (z : ℤ) (v : Pairs) (left : Text) {r s : Worked} → Assigns lent text place z v left r → r ≡ s
+    → Assigns lent text place z v left s
+assigns-shown lent text place z v left h e = subst (Assigns lent text place z v left) e h
 
 -- the decimal text that was written
 pub number-told : {x : ℤ} {old left : Text} {n : ℕ} → Written.Puts (signed x) old left n → {z : ℤ} → x ≡ z → take n left ≡ signed z
@@ -83,27 +83,29 @@ same-target text p g {from} {to} {setting} {next} h s = (operator, named)
 pub no-target : (text : Text) (p : ℕ) (g : Option Op × Text) → Targets text p true target.Missing → SetsAt text p g → ⊥
 no-target text p g h s = h refl (g .1) (s .behind) (s .names) (g .0) (s .rest) (s .sets)
 
-storing-by : (room : ℕ) (o : Option Op) (x : Text) (z : ℤ) (v : Pairs)
-    → storing (alone room) o x (z, v) ≡ (updatedIn v o x z >>= λ y. keeping (alone room) x v y)
+storing-by : (lent : Lent) (o : Option Op) (x : Text) (z : ℤ) (v : Pairs)
+    → storing lent o x (z, v) ≡ (updatedIn (lent .shouts) v o x z >>= λ y. keeping lent x v y)
 unfolding storing updated valueOf holding
-storing-by room none x z v = refl
-storing-by room (some o) x z v = refl
+storing-by lent none x z v = refl
+storing-by lent (some o) x z v = refl
 
-module _ (room : ℕ) (text : Text) (place : ℕ) (z : ℤ) (v : Pairs) (left : Text) {from to : ℕ} {setting : Setting} {next : ℕ}
-    (h : IsTarget text place from to setting next) (got : Number) (e : numbered got ≡ updatedIn v (settingOf setting) (part text from to) z) where
+module _ (lent : Lent) (text : Text) (place : ℕ) (z : ℤ) (v : Pairs) (left : Text) {from to : ℕ} {setting : Setting} {next : ℕ}
+    (h : IsTarget text place from to setting next) (got : Number)
+    (e : numbered got ≡ updatedIn (lent .shouts) v (settingOf setting) (part text from to) z) where
   as-told : {k : Number} → got ≡ k → (g : Option Op × Text) → SetsAt text place g
-      → storing (alone room) (g .0) (g .1) (z, v) ≡ (numbered k >>= λ y. keeping (alone room) (part text from to) v y)
+      → storing lent (g .0) (g .1) (z, v) ≡ (numbered k >>= λ y. keeping lent (part text from to) v y)
   as-told q g s =
       let t = same-target text place g h s in
-      ap (λ (o : Option Op). storing (alone room) o (g .1) (z, v)) (t .0)
-      ∙ ap (λ (x : Text). storing (alone room) (settingOf setting) x (z, v)) (t .1)
-      ∙ storing-by room (settingOf setting) (part text from to) z v
-      ∙ ap (λ (o : Outcome ℤ). o >>= λ y. keeping (alone room) (part text from to) v y) (sym e ∙ ap numbered q)
+      ap (λ (o : Option Op). storing lent o (g .1) (z, v)) (t .0)
+      ∙ ap (λ (x : Text). storing lent (settingOf setting) x (z, v)) (t .1)
+      ∙ storing-by lent (settingOf setting) (part text from to) z v
+      ∙ ap (λ (o : Outcome ℤ). o >>= λ y. keeping lent (part text from to) v y) (sym e ∙ ap numbered q)
 
-  pub assign-refused : (n : ℕ) → got ≡ number.Refused n → Assigns room text place z v left (worked.Refused n)
+  pub assign-refused : (n : ℕ) → got ≡ number.Refused n → Assigns lent text place z v left (worked.Refused n)
   assign-refused n q g s = as-told q g s
 
-  pub assign-puts : (y : ℤ) → got ≡ number.Value y → (r : Worked) → Puts room (part text from to) y v left r → Assigns room text place z v left r
+  pub assign-puts : (y : ℤ) → got ≡ number.Value y → (r : Worked) → Puts (lent .room) (part text from to) y v left r → Assigns lent text place z v left r
+  unfolding keeping storeIn
   assign-puts y q (worked.Refused n) p = λ g s. as-told q g s ∙ p
   assign-puts y q (worked.Value x now) p = (λ g s. as-told q g s ∙ p .0, p .1)
 
@@ -132,56 +134,56 @@ none-stacked : (text : Text) (places : List ℕ) (gs : Waiting) → Stacked text
 none-stacked text places [] bottom = refl
 
 -- what is still to be stored, of what was to be stored at first
-pub record Unwound (room : ℕ) (text : Text) (places : List ℕ) (e : Evaluated) (k : ℕ) (z : ℤ) (w : Pairs) : Type 0 where
+pub record Unwound (lent : Lent) (text : Text) (places : List ℕ) (e : Evaluated) (k : ℕ) (z : ℤ) (w : Pairs) : Type 0 where
   pub names : Waiting
   pub stacked : Stacked text places k names
-  pub is : e ≡ storingAll (alone room) names (done (z, w))
+  pub is : e ≡ storingAll lent names (done (z, w))
 
-pub record Unwinding (room : ℕ) (text : Text) (places : List ℕ) (waiting : ℕ) (y : ℤ) (v : Pairs) (k : ℕ) (z : ℤ) (vars : Text) (used : ℕ) : Type 0 where
+pub record Unwinding (lent : Lent) (text : Text) (places : List ℕ) (waiting : ℕ) (y : ℤ) (v : Pairs) (k : ℕ) (z : ℤ) (vars : Text) (used : ℕ) : Type 0 where
   pub few : k ≤ waiting
-  pub holds : Holds room vars used
-  pub unwinds : (gs : Waiting) → Stacked text places waiting gs → Unwound room text places (storingAll (alone room) gs (done (y, v))) k z (inside vars used)
+  pub holds : Holds (lent .room) vars used
+  pub unwinds : (gs : Waiting) → Stacked text places waiting gs → Unwound lent text places (storingAll lent gs (done (y, v))) k z (inside vars used)
 
-module _ (room : ℕ) (text : Text) (places : List ℕ) (waiting : ℕ) (y : ℤ) (vars : Text) (used : ℕ) where
-  pub unwinding-start : Holds room vars used → Unwinding room text places waiting y (inside vars used) waiting y vars used
+module _ (lent : Lent) (text : Text) (places : List ℕ) (waiting : ℕ) (y : ℤ) (vars : Text) (used : ℕ) where
+  pub unwinding-start : Holds (lent .room) vars used → Unwinding lent text places waiting y (inside vars used) waiting y vars used
   unwinding-start h = record { few = omega arith; holds = h; unwinds = λ gs s. record { names = gs; stacked = s; is = refl } }
 
-  module _ (k : ℕ) (z : ℤ) (mid : Text) (now : ℕ) (u : Unwinding room text places waiting y (inside vars used) k z mid now) where
-    pub unwind-refused : (at : ℕ) (left : Text) (e : ℕ) → 0 < k → Assigns room text (getD places (k - 1) 0) z (inside mid now) left (worked.Refused e)
-        → Stores room text at y waiting places vars used left (climbed.Refused e)
+  module _ (k : ℕ) (z : ℤ) (mid : Text) (now : ℕ) (u : Unwinding lent text places waiting y (inside vars used) k z mid now) where
+    pub unwind-refused : (at : ℕ) (left : Text) (e : ℕ) → 0 < k → Assigns lent text (getD places (k - 1) 0) z (inside mid now) left (worked.Refused e)
+        → Stores lent text at y waiting places vars used left (climbed.Refused e)
     unfolding storingAll
     unwind-refused at left e h a gs s =
         let i = u .unwinds gs s in
         let p = popped text places k (i .names) h (i .stacked) in
-        i .is ∙ ap (λ (x : Waiting). storingAll (alone room) x (done (z, inside mid now))) (p .is)
-        ∙ ap (storingAll (alone room) (p .others)) (a (p .first) (p .sets)) ∙ storing-refused (alone room) (p .others) e
+        i .is ∙ ap (λ (x : Waiting). storingAll lent x (done (z, inside mid now))) (p .is)
+        ∙ ap (storingAll lent (p .others)) (a (p .first) (p .sets)) ∙ storing-refused lent (p .others) e
 
-    pub unwind-next : (left : Text) (x : ℤ) (last : ℕ) → 0 < k → Assigns room text (getD places (k - 1) 0) z (inside mid now) left (worked.Value x last)
-        → Unwinding room text places waiting y (inside vars used) (k - 1) x left last
+    pub unwind-next : (left : Text) (x : ℤ) (last : ℕ) → 0 < k → Assigns lent text (getD places (k - 1) 0) z (inside mid now) left (worked.Value x last)
+        → Unwinding lent text places waiting y (inside vars used) (k - 1) x left last
     unfolding storingAll
     unwind-next left x last h a =
         let f = u .few in
         record { few = omega arith; holds = a .1; unwinds = λ gs s. one (u .unwinds gs s) }
       where
-        one : {e : Evaluated} → Unwound room text places e k z (inside mid now) → Unwound room text places e (k - 1) x (inside left last)
+        one : {e : Evaluated} → Unwound lent text places e k z (inside mid now) → Unwound lent text places e (k - 1) x (inside left last)
         one i =
             let p = popped text places k (i .names) h (i .stacked) in
             record {
               names = p .others;
               stacked = p .stacked;
               is =
-                  i .is ∙ ap (λ (q : Waiting). storingAll (alone room) q (done (z, inside mid now))) (p .is)
-                  ∙ ap (storingAll (alone room) (p .others)) (a .0 (p .first) (p .sets));
+                  i .is ∙ ap (λ (q : Waiting). storingAll lent q (done (z, inside mid now))) (p .is)
+                  ∙ ap (storingAll lent (p .others)) (a .0 (p .first) (p .sets));
             }
 
-    pub unwind-last : (at : ℕ) → k ≤ 0 → Stores room text at y waiting places vars used mid (climbed.Value z at now)
+    pub unwind-last : (at : ℕ) → k ≤ 0 → Stores lent text at y waiting places vars used mid (climbed.Value z at now)
     unfolding storingAll
     unwind-last at h = (
       λ gs s.
           let i = u .unwinds gs s in
           let e : k ≡ 0 = omega arith in
           i .is
-          ∙ ap (λ (q : Waiting). storingAll (alone room) q (done (z, inside mid now)))
+          ∙ ap (λ (q : Waiting). storingAll lent q (done (z, inside mid now)))
           (none-stacked text places (i .names) (subst (λ (j : ℕ). Stacked text places j (i .names)) e (i .stacked))),
       refl,
       u .holds,

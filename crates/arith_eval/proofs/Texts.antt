@@ -12,7 +12,7 @@ use Rattle.stages.specs.Constants.{signed}
 use Rattle.stages.specs.Arith.{wholeLevel, stop, token, Tree, Grown, expression, grow, ended, upTo, tree, evaluate, arithmeticOf}
 use Rattle.stages.proofs.Outcomes.{done-same}
 use Rattle.table_store.specs.Holding.{Holds}
-use Rattle.arith_eval.specs.Climbs.{alone, inside, Fails, Says}
+use Rattle.arith_eval.specs.Climbs.{inside, Fails, Says}
 use Rattle.arith_eval.specs.Answers.{Errs, Answers, Finishes, comesTo, ComesTo}
 use Rattle.arith_eval.specs.declared.Worked.{Worked}
 use Rattle.arith_eval.specs.declared.Worked.the-variants as worked
@@ -20,11 +20,11 @@ use Rattle.arith_eval.specs.declared.answers.Climbed.the-variants as cli
 use Rattle.arith_eval.proofs.Trees.{never, bound, evaluate-alike}
 use Rattle.arith_eval.proofs.Operands.{ended-tree}
 
-pub answers-shown : (room : ℕ) (vars : Text) (used : ℕ) (counts : Bool) (o : Outcome Tree) (left : Text) {r s : Worked}
-    → Answers room vars used counts o left r → r ≡ s → Answers room vars used counts o left s
-answers-shown room vars used counts o left h e = subst (Answers room vars used counts o left) e h
+pub answers-shown : (lent : Lent) (vars : Text) (used : ℕ) (counts : Bool) (o : Outcome Tree) (left : Text) {r s : Worked}
+    → Answers lent vars used counts o left r → r ≡ s → Answers lent vars used counts o left s
+answers-shown lent vars used counts o left h e = subst (Answers lent vars used counts o left) e h
 
-module _ (room : ℕ) (text : Text) (vars : Text) (used : ℕ) (counts : Bool) where
+module _ (lent : Lent) (text : Text) (vars : Text) (used : ℕ) (counts : Bool) where
   abbrev all-of : Grown
   all-of = expression grow openLimit wholeLevel text
 
@@ -38,28 +38,28 @@ module _ (room : ℕ) (text : Text) (vars : Text) (used : ℕ) (counts : Bool) w
   unfolding tree upTo behind only-tree
   tree-is = refl
 
-  pub once-fails : (e : ℕ) → Fails room (inside vars used) counts all-of e → Errs room (inside vars used) counts (tree text) e
+  pub once-fails : (e : ℕ) → Fails lent (inside vars used) counts all-of e → Errs lent (inside vars used) counts (tree text) e
   unfolding behind only-tree
   once-fails e f = record {
     reads = λ c. tree-is ∙ ap (λ (o : Grown). (o >>= behind) >>= only-tree) (f .reads c);
     works = λ l h.
         let a = bound (all-of >>= behind) only-tree l (sym tree-is ∙ h) in
         let b = bound all-of behind (a .from) (a .first) in
-        ap (evaluate (alone room) (inside vars used))
+        ap (evaluate lent (inside vars used))
         (sym (done-same (a .then-is)) ∙ ended-tree stop (token (b .from .1)) (b .from .0) (a .from) (b .then-is))
         ∙ f .works (b .from) (b .first);
   }
 
-  pub once-says : (left : Text) (z : ℤ) (next now : ℕ) (r : Worked) → Says room text 0 vars used counts all-of left (climbed.Value z next now)
-      → Finishes text next z now r → Answers room vars used counts (tree text) left r
+  pub once-says : (left : Text) (z : ℤ) (next now : ℕ) (r : Worked) → Says lent text 0 vars used counts all-of left (climbed.Value z next now)
+      → Finishes text next z now r → Answers lent vars used counts (tree text) left r
   unfolding behind only-tree
   once-says left z next now (worked.Refused e) c h =
       let q : tree text ≡ refused e =
       tree-is ∙ ap (λ (o : Grown). (o >>= behind) >>= only-tree) (c .0 .is) ∙ ap (λ (o : Grown). o >>= only-tree) (h (c .0 .tree)) in
       record { reads = λ _. q; works = λ l k. absurd (never (sym q ∙ k)) }
   once-says left z next now (worked.Value y last) c h =
-      subst (λ (x : ℤ). Answers room vars used counts (tree text) left (worked.Value x last)) (sym (h .0))
-      (subst (λ (n : ℕ). Answers room vars used counts (tree text) left (worked.Value z n)) (sym (h .1)) (
+      subst (λ (x : ℤ). Answers lent vars used counts (tree text) left (worked.Value x last)) (sym (h .0))
+      (subst (λ (n : ℕ). Answers lent vars used counts (tree text) left (worked.Value z n)) (sym (h .1)) (
         record {
           tree = c .0 .tree;
           is = tree-is ∙ ap (λ (o : Grown). (o >>= behind) >>= only-tree) (c .0 .is) ∙ ap (λ (o : Grown). o >>= only-tree) (h .2 (c .0 .tree));
@@ -69,35 +69,35 @@ module _ (room : ℕ) (text : Text) (vars : Text) (used : ℕ) (counts : Bool) w
       ))
 
 -- the two runs
-module _ (room : ℕ) (text : Text) (vars : Text) (used : ℕ) where
+module _ (lent : Lent) (text : Text) (vars : Text) (used : ℕ) where
   abbrev before : Pairs
   before = inside vars used
 
-  comes : (l : Tree) → tree text ≡ done l → comesTo (alone room) before text ≡ evaluate (alone room) before l
+  comes : (l : Tree) → tree text ≡ done l → comesTo lent before text ≡ evaluate lent before l
   unfolding comesTo
-  comes l q = ap (λ (o : Outcome Tree). o >>= λ l. evaluate (alone room) before l) q
+  comes l q = ap (λ (o : Outcome Tree). o >>= λ l. evaluate lent before l) q
 
-  pub first-refused : (left : Text) (e : ℕ) → Errs room before false (tree text) e → ComesTo (alone room) text vars used left (worked.Refused e)
+  pub first-refused : (left : Text) (e : ℕ) → Errs lent before false (tree text) e → ComesTo lent text vars used left (worked.Refused e)
   unfolding comesTo
-  first-refused left e r = ap (λ (o : Outcome Tree). o >>= λ l. evaluate (alone room) before l) (r .reads refl)
+  first-refused left e r = ap (λ (o : Outcome Tree). o >>= λ l. evaluate lent before l) (r .reads refl)
 
   -- the first run leaves the variables as they are
-  module _ (mid : Text) (z : ℤ) (now : ℕ) (f : Answers room vars used false (tree text) mid (worked.Value z now)) where
-    pub second-holds : Holds room mid now
+  module _ (mid : Text) (z : ℤ) (now : ℕ) (f : Answers lent vars used false (tree text) mid (worked.Value z now)) where
+    pub second-holds : Holds (lent .room) mid now
     second-holds = f .1 .holds
 
-    second-from : (left : Text) (r : Worked) → Answers room vars used true (tree text) left r → ComesTo (alone room) text vars used left r
+    second-from : (left : Text) (r : Worked) → Answers lent vars used true (tree text) left r → ComesTo lent text vars used left r
     second-from left (worked.Refused e) s = comes (f .0 .tree) (f .0 .is) ∙ s .works (f .0 .tree) (f .0 .is)
     second-from left (worked.Value y last) s = (comes (s .0 .tree) (s .0 .is) ∙ s .0 .worth refl, s .1 .holds)
 
-    pub second-says : (left : Text) (r : Worked) → Answers room mid now true (tree text) left r → ComesTo (alone room) text vars used left r
+    pub second-says : (left : Text) (r : Worked) → Answers lent mid now true (tree text) left r → ComesTo lent text vars used left r
     second-says left r s =
         second-from left r
-        (subst (λ (x : Text). Answers room x used true (tree text) left r) (f .1 .bytes refl)
-        (subst (λ (n : ℕ). Answers room mid n true (tree text) left r) (f .1 .length refl) s))
+        (subst (λ (x : Text). Answers lent x used true (tree text) left r) (f .1 .bytes refl)
+        (subst (λ (n : ℕ). Answers lent mid n true (tree text) left r) (f .1 .length refl) s))
 
--- what is lent beside the room is not asked for
-module _ (a b : Lent) (same : a .room ≡ b .room) (text : Text) (vars : Text) (used : ℕ) where
+-- what is lent beside the room and the switch is not asked for
+module _ (a b : Lent) (same : a .room ≡ b .room) (alike : a .shouts ≡ b .shouts) (text : Text) (vars : Text) (used : ℕ) where
   comes-alike : comesTo a (inside vars used) text ≡ comesTo b (inside vars used) text
   unfolding comesTo
   comes-alike = go (tree text)
@@ -105,7 +105,7 @@ module _ (a b : Lent) (same : a .room ≡ b .room) (text : Text) (vars : Text) (
       go : (o : Outcome Tree) → (o >>= λ l. evaluate a (inside vars used) l) ≡ (o >>= λ l. evaluate b (inside vars used) l)
       go (refused e) = refl
       go (demands t) = refl
-      go (done l) = evaluate-alike a b same l (inside vars used)
+      go (done l) = evaluate-alike a b same alike l (inside vars used)
 
   pub lent-alike : (left : Text) (r : Worked) → ComesTo a text vars used left r → ComesTo b text vars used left r
   lent-alike left (worked.Refused e) h = sym comes-alike ∙ h

@@ -1,4 +1,5 @@
--- Laws of trees: a refusal of a left side is that of every tree that grows from it, and what a tree comes to asks of all that is lent for the room alone.
+-- Laws of trees: a refusal of a left side is that of every tree that grows from it, and what a tree comes to asks of all that is lent for the room and the
+-- switch alone.
 use Prim.Native.Nat.{ℕ, suc, _≤_, _<_}
 use native.Mathlib.Omega.{arith}
 use mathlib.Core.Path.{_≡_, refl, sym, ap, _∙_}
@@ -13,13 +14,14 @@ use Rattle.stages.specs.Bytes.{Text}
 use Rattle.stages.specs.Outcome.{Outcome, refused, demands, done, _>>=_, choose}
 use Rattle.stages.specs.Images.{Pairs, lookup}
 use Rattle.stages.specs.Params.{Lent, holding, store, storeIn}
-use Rattle.stages.specs.Constants.{nameNumber, signed}
+use Rattle.stages.specs.Constants.{signed}
 use Rattle.stages.specs.Arith.{choiceLevel, isTrue, early, apply, applyAlone, Op, ends, num, name, op, opens, query, gets, Lexed, token, level}
 use Rattle.stages.specs.Arith.{Tree, constantOf, nameOf, unary, binary, choice, assign, Grown, further, expression, furtherAt, growStep, grow}
-use Rattle.stages.specs.Arith.{Evaluated, withVariables, unless, valueOf, updated, keeping, storing, evaluate}
+use Rattle.stages.specs.Arith.{Evaluated, withVariables, unless, nameNumber, valueOf, updated, keeping, storing, evaluate}
 use Rattle.stages.proofs.Arith.{Lexes, lex-more, token-left, Leaves, some-left, expression-left, grow-left, grow-eq}
 use Rattle.stages.proofs.Outcomes.{done-same, never-asks}
 use Rattle.stages.proofs.Storeys.{lowest}
+use Rattle.arith_eval.specs.Climbs.{alone}
 use Rattle.arith_eval.specs.Wholes.{updatedIn}
 
 -- a refusal is no result
@@ -69,7 +71,7 @@ module _ (a : Lent) (v : Pairs) where
   unfolding evaluate
   unary-done o l x w q = ap (λ (x : Evaluated). x >>= λ p. withVariables (p .1) (applyAlone o (p .0))) q
 
-  pub name-is : (x : Text) → evaluate a v (nameOf x) ≡ withVariables v (nameNumber (lookup x v))
+  pub name-is : (x : Text) → evaluate a v (nameOf x) ≡ withVariables v (nameNumber (a .shouts) (lookup x v))
   unfolding evaluate valueOf holding
   name-is x = refl
 
@@ -77,11 +79,11 @@ module _ (a : Lent) (v : Pairs) where
   unfolding evaluate
   constant-is z = refl
 
--- a store, by the room that is lent
-unfoldable pub storesBy : ℕ → Option Op → Text → ℤ × Pairs → Evaluated
-storesBy room o x p = updatedIn (p .1) o x (p .0) >>= λ z. store room x (signed z) (p .1) >>= λ w. done (z, w)
+-- a store, by the room that is lent and the switch
+unfoldable pub storesBy : ℕ → Bool → Option Op → Text → ℤ × Pairs → Evaluated
+storesBy room shouts o x p = updatedIn shouts (p .1) o x (p .0) >>= λ z. store room x (signed z) (p .1) >>= λ w. done (z, w)
 
-pub storing-is : (a : Lent) (o : Option Op) (x : Text) (p : ℤ × Pairs) → storing a o x p ≡ storesBy (a .room) o x p
+pub storing-is : (a : Lent) (o : Option Op) (x : Text) (p : ℤ × Pairs) → storing a o x p ≡ storesBy (a .room) (a .shouts) o x p
 unfolding storing updated keeping storeIn valueOf holding storesBy
 storing-is a none x p = refl
 storing-is a (some o) x p = refl
@@ -100,15 +102,17 @@ unfolding choose
 choose-alike true f g k m h i = h
 choose-alike false f g k m h i = i
 
--- THE LAW: of all that is lent only the room is asked for
-module _ (a b : Lent) (same : a .room ≡ b .room) where
+-- THE LAW: of all that is lent only the room and the switch are asked for
+module _ (a b : Lent) (same : a .room ≡ b .room) (alike : a .shouts ≡ b .shouts) where
   storing-alike : (o : Option Op) (x : Text) (p : ℤ × Pairs) → storing a o x p ≡ storing b o x p
-  storing-alike o x p = storing-is a o x p ∙ ap (λ (n : ℕ). storesBy n o x p) same ∙ sym (storing-is b o x p)
+  storing-alike o x p =
+      storing-is a o x p ∙ ap (λ (n : ℕ). storesBy n (a .shouts) o x p) same ∙ ap (λ (s : Bool). storesBy (b .room) s o x p) alike
+      ∙ sym (storing-is b o x p)
 
   pub evaluate-alike : (t : Tree) (v : Pairs) → evaluate a v t ≡ evaluate b v t
   unfolding evaluate valueOf holding
   evaluate-alike (constantOf z) v = refl
-  evaluate-alike (nameOf x) v = refl
+  evaluate-alike (nameOf x) v = ap (λ (s : Bool). withVariables v (nameNumber s (lookup x v))) alike
   evaluate-alike (unary o l) v = ap (λ (r : Evaluated). r >>= λ p. withVariables (p .1) (applyAlone o (p .0))) (evaluate-alike l v)
   evaluate-alike (binary o l r) v =
       ap (λ (x : Evaluated). x >>= λ p. unless (early o (p .0)) (p .1) λ _. evaluate a (p .1) r >>= λ q. withVariables (q .1) (apply o (p .0) (q .0)))

@@ -15,6 +15,7 @@ use borrow.Rule.Slice.PartMut.{midOf, putMid, mid-len, take-put}
 use Rattle.stages.specs.Bytes.{Text, part}
 use Rattle.stages.specs.Outcome.{refused, done, _>>=_}
 use Rattle.stages.specs.Images.{Pairs}
+use Rattle.stages.specs.Params.{Lent}
 use Rattle.stages.specs.Arith.{Op, wholeLevel, isTrue, query, Lexed, Tree, Grown, expression, grow, evaluate}
 use Rattle.stages.proofs.Bools.{no}
 use Rattle.stages.proofs.Ended.{NoTarget}
@@ -24,7 +25,7 @@ use Rattle.stages.proofs.Works.{Waiting, storingAll, Works, works-all, works-as
 use Rattle.table_store.specs.Holding.{Holds}
 use Rattle.arith_token.specs.Tokens.{settingOf}
 use Rattle.arith_token.specs.declared.Setting.{Setting}
-use Rattle.arith_eval.specs.Climbs.{alone, inside, Ready, Fails, Comes, Says}
+use Rattle.arith_eval.specs.Climbs.{inside, Ready, Fails, Comes, Says}
 use Rattle.arith_eval.specs.Wholes.{Stands, IsTarget, levelAt, toRead, Last, Passes, Steps, SetsAt, Stacked, bottom, above, Stores}
 use Rattle.arith_eval.specs.declared.answers.Climbed.{Climbed}
 use Rattle.arith_eval.specs.declared.answers.Climbed.the-variants as climbed
@@ -64,9 +65,9 @@ stacked-more text ps k p g gs l h s =
     (stacked-same text ps (set ps k p) k gs (λ j i. sym (getD-set-other ps k j p 0 (λ e. absurd (omega arith)))) s))
 
 -- THE LOOP: the whole comes to what the expression here comes to, and the stores of the names that wait
-pub record Working (room : ℕ) (text : Text) (v : Pairs) (at d p i : ℕ) (first : Bool) (waiting : ℕ) (places : List ℕ) (w : Pairs) : Type 0 where
+pub record Working (lent : Lent) (text : Text) (v : Pairs) (at d p i : ℕ) (first : Bool) (waiting : ℕ) (places : List ℕ) (w : Pairs) : Type 0 where
   pub names : Waiting
-  pub works : Works (alone room) v (expression grow d wholeLevel (drop at text)) names w (expression grow d (levelAt first) (drop i text))
+  pub works : Works lent v (expression grow d wholeLevel (drop at text)) names w (expression grow d (levelAt first) (drop i text))
   pub reads : rest (expression grow d wholeLevel (drop at text)) ≡ toRead text i d p first
   pub stacked : Stacked text places waiting names
   pub onward : at ≤ i
@@ -74,15 +75,15 @@ pub record Working (room : ℕ) (text : Text) (v : Pairs) (at d p i : ℕ) (firs
   pub few : p ≤ i
   pub deep : at + 2 * waiting ≤ i
 
-module _ (room : ℕ) (text : Text) (v : Pairs) (at d : ℕ) where
+module _ (lent : Lent) (text : Text) (v : Pairs) (at d : ℕ) where
   abbrev all-here : Grown
   all-here = expression grow d wholeLevel (drop at text)
 
-  pub working-start : (places : List ℕ) → at ≤ length text → Working room text v at d 0 at true 0 places v
+  pub working-start : (places : List ℕ) → at ≤ length text → Working lent text v at d 0 at true 0 places v
   unfolding pending
   working-start places h = record {
     names = [];
-    works = works-all (alone room) v all-here;
+    works = works-all lent v all-here;
     reads = refl;
     stacked = bottom;
     onward = omega arith;
@@ -92,8 +93,8 @@ module _ (room : ℕ) (text : Text) (v : Pairs) (at d : ℕ) where
   }
 
   -- places that were lent behind those of the names
-  pub working-take : {p i : ℕ} {first : Bool} {waiting : ℕ} {places : List ℕ} {w : Pairs} → Working room text v at d p i first waiting places w
-      → (qs : List ℕ) → take waiting qs ≡ take waiting places → Working room text v at d p i first waiting qs w
+  pub working-take : {p i : ℕ} {first : Bool} {waiting : ℕ} {places : List ℕ} {w : Pairs} → Working lent text v at d p i first waiting places w
+      → (qs : List ℕ) → take waiting qs ≡ take waiting places → Working lent text v at d p i first waiting qs w
   working-take {waiting = waiting} {places = places} k qs e = record {
     names = k .names;
     works = k .works;
@@ -106,9 +107,9 @@ module _ (room : ℕ) (text : Text) (v : Pairs) (at d : ℕ) where
   }
 
   -- a name and its `=`
-  pub work-target : (p i : ℕ) (first : Bool) (waiting : ℕ) (places : List ℕ) (w : Pairs) → Working room text v at d p i first waiting places w
+  pub work-target : (p i : ℕ) (first : Bool) (waiting : ℕ) (places : List ℕ) (w : Pairs) → Working lent text v at d p i first waiting places w
       → {from to : ℕ} {setting : Setting} {n : ℕ} → first ≡ true → IsTarget text i from to setting n → waiting < length places
-      → Working room text v at d p n first (waiting + 1) (set places waiting i) w
+      → Working lent text v at d p n first (waiting + 1) (set places waiting i) w
   work-target p i true waiting places w k {from} {to} {setting} {n} e h l =
       let a = h .names .behind .onward in
       let b = h .sets .behind .onward in
@@ -118,7 +119,7 @@ module _ (room : ℕ) (text : Text) (v : Pairs) (at d : ℕ) where
       record {
         names = (settingOf setting, part text from to) ∷ k .names;
         works =
-            works-gets (alone room) v all-here (k .names) w d (settingOf setting) (part text from to) (drop i text) (drop to text) (drop n text)
+            works-gets lent v all-here (k .names) w d (settingOf setting) (part text from to) (drop i text) (drop to text) (drop n text)
             (h .names .is) (h .sets .is) (k .works);
         reads =
             k .reads
@@ -133,30 +134,30 @@ module _ (room : ℕ) (text : Text) (v : Pairs) (at d : ℕ) where
       }
   work-target p i false waiting places w k e h l = absurd (no e)
 
-  module _ (p i : ℕ) (first : Bool) (waiting : ℕ) (places : List ℕ) (w : Pairs) (k : Working room text v at d p i first waiting places w)
+  module _ (p i : ℕ) (first : Bool) (waiting : ℕ) (places : List ℕ) (w : Pairs) (k : Working lent text v at d p i first waiting places w)
       (bare : first ≡ true → NoTarget (drop i text)) where
     abbrev storey : Grown
     storey = expression grow d lowest (drop i text)
 
-    at-storey : Works (alone room) v all-here (k .names) w (storey >>= upstairs d)
-    at-storey = works-as (alone room) v all-here (k .names) w (storey-above d first (drop i text) bare) (k .works)
+    at-storey : Works lent v all-here (k .names) w (storey >>= upstairs d)
+    at-storey = works-as lent v all-here (k .names) w (storey-above d first (drop i text) bare) (k .works)
 
-    pub work-fails : (e : ℕ) → Fails room w true storey e → Fails room v true all-here e
+    pub work-fails : (e : ℕ) → Fails lent w true storey e → Fails lent v true all-here e
     work-fails e f =
-        work-fault room v true refl λ y h.
+        work-fault lent v true refl λ y h.
         let a = bound (storey >>= upstairs d) (at-storey .around) y (sym (at-storey .is) ∙ h) in
         let s = bound storey (upstairs d) (a .from) (a .first) in
-        works-fails (alone room) v all-here (k .names) w d (drop i text) (s .from .1) (s .from .0) (s .first) e (f .works (s .from) (s .first)) at-storey y h
+        works-fails lent v all-here (k .names) w d (drop i text) (s .from .1) (s .from .0) (s .first) e (f .works (s .from) (s .first)) at-storey y h
 
-    module _ (z : ℤ) (n : ℕ) (u : Pairs) (c : Comes room text (suc i) w true storey z n u) where
+    module _ (z : ℤ) (n : ℕ) (u : Pairs) (c : Comes lent text (suc i) w true storey z n u) where
       storey-is : (storey >>= upstairs d) ≡ upstairs d (c .tree, drop n text)
       storey-is = ap (λ (o : Grown). o >>= upstairs d) (c .is)
 
       reads-on : rest all-here ≡ pending d p (rest (upstairs d (c .tree, drop n text)))
       reads-on = k .reads ∙ ap (λ (o : Grown). pending d p (rest o)) (storey-above d first (drop i text) bare ∙ storey-is)
 
-      pub work-refused : (vars left : Text) (e : ℕ) → Steps text n d z p vars left (step.Refused e) → Fails room v true all-here e
-      work-refused vars left e h = fault room v true (rest-refused all-here e (reads-on ∙ h (c .tree)))
+      pub work-refused : (vars left : Text) (e : ℕ) → Steps text n d z p vars left (step.Refused e) → Fails lent v true all-here e
+      work-refused vars left e h = fault lent v true (rest-refused all-here e (reads-on ∙ h (c .tree)))
 
       -- the end: what is read behind it, and the stores
       module _ (m : ℕ) (h : Last text n d p m) where
@@ -166,16 +167,16 @@ module _ (room : ℕ) (text : Text) (v : Pairs) (at d : ℕ) where
         all-read : Has all-here (drop m text)
         all-read = rest-done all-here (drop m text) (reads-on ∙ ap (λ (o : Grown). pending d p (rest o)) up ∙ h .reads)
 
-        comes-to : (y : Tree × Text) → all-here ≡ done y → evaluate (alone room) v (y .0) ≡ storingAll (alone room) (k .names) (done (z, u))
+        comes-to : (y : Tree × Text) → all-here ≡ done y → evaluate lent v (y .0) ≡ storingAll lent (k .names) (done (z, u))
         comes-to y q =
-            works-done (alone room) v all-here (k .names) w (c .tree, drop n text) y (storey-is ∙ up) at-storey q
-            ∙ ap (storingAll (alone room) (k .names)) (c .worth refl)
+            works-done lent v all-here (k .names) w (c .tree, drop n text) y (storey-is ∙ up) at-storey q
+            ∙ ap (storingAll lent (k .names)) (c .worth refl)
 
-        pub store-fails : (e : ℕ) → storingAll (alone room) (k .names) (done (z, u)) ≡ refused e → Fails room v true all-here e
-        store-fails e s = work-fault room v true refl λ y q. comes-to y q ∙ s
+        pub store-fails : (e : ℕ) → storingAll lent (k .names) (done (z, u)) ≡ refused e → Fails lent v true all-here e
+        store-fails e s = work-fault lent v true refl λ y q. comes-to y q ∙ s
 
-        pub store-comes : (x : ℤ) (t : Pairs) → storingAll (alone room) (k .names) (done (z, u)) ≡ done (x, t)
-            → Comes room text (suc at) v true all-here x m t
+        pub store-comes : (x : ℤ) (t : Pairs) → storingAll lent (k .names) (done (z, u)) ≡ done (x, t)
+            → Comes lent text (suc at) v true all-here x m t
         store-comes x t s =
             let a = c .onward in
             let b = h .onward in
@@ -189,7 +190,7 @@ module _ (room : ℕ) (text : Text) (v : Pairs) (at d : ℕ) where
             }
 
       -- its `?`: the middle is needed
-      pub work-middle : (m : ℕ) → isTrue z ≡ true → Stands text n query m → Working room text v at d (p + 1) m true waiting places u
+      pub work-middle : (m : ℕ) → isTrue z ≡ true → Stands text n query m → Working lent text v at d (p + 1) m true waiting places u
       work-middle m t h =
           let a = c .onward in
           let b = h .behind .onward in
@@ -199,7 +200,7 @@ module _ (room : ℕ) (text : Text) (v : Pairs) (at d : ℕ) where
           record {
             names = k .names;
             works =
-                works-first (alone room) v all-here (k .names) w d (drop i text) (drop n text) (c .tree) (c .is) (drop m text) (h .is) z u (c .worth refl) t
+                works-first lent v all-here (k .names) w d (drop i text) (drop n text) (c .tree) (c .is) (drop m text) (h .is) z u (c .worth refl) t
                 at-storey;
             reads =
                 reads-on ∙ turn-query d p (c .tree) (drop n text) (drop m text) (h .is)
@@ -223,7 +224,7 @@ module _ (room : ℕ) (text : Text) (v : Pairs) (at d : ℕ) where
             ∙ ap (pending d (suc p)) (h .side)
             ∙ ap (λ (o : Lexed). pending d p (o >>= λ s. other d s)) (h .shuts)
 
-        pub work-behind : isTrue z ≡ false → Working room text v at d p m false waiting places u
+        pub work-behind : isTrue z ≡ false → Working lent text v at d p m false waiting places u
         work-behind t =
             let a = c .onward in
             let b = h .behind .onward in
@@ -233,7 +234,7 @@ module _ (room : ℕ) (text : Text) (v : Pairs) (at d : ℕ) where
             record {
               names = k .names;
               works =
-                  works-second (alone room) v all-here (k .names) w d (drop i text) (drop n text) (c .tree) (c .is) (drop (h .from) text) (h .asks) z u
+                  works-second lent v all-here (k .names) w d (drop i text) (drop n text) (c .tree) (c .is) (drop (h .from) text) (h .asks) z u
                   (c .worth refl) (side .tree) (drop (h .to) text) (drop m text) (side .is) (h .shuts) t at-storey;
               reads = passed-reads;
               stacked = k .stacked;
@@ -244,36 +245,36 @@ module _ (room : ℕ) (text : Text) (v : Pairs) (at d : ℕ) where
             }
 
 -- what the stores make of the answer
-pub work-last : (room : ℕ) (text : Text) (vars : Text) (used : ℕ) (at d p i : ℕ) (first : Bool) (waiting : ℕ) (places : List ℕ) (w : Pairs)
-    (k : Working room text (inside vars used) at d p i first waiting places w) (bare : first ≡ true → NoTarget (drop i text)) (z : ℤ) (n : ℕ) (mid : Text)
+pub work-last : (lent : Lent) (text : Text) (vars : Text) (used : ℕ) (at d p i : ℕ) (first : Bool) (waiting : ℕ) (places : List ℕ) (w : Pairs)
+    (k : Working lent text (inside vars used) at d p i first waiting places w) (bare : first ≡ true → NoTarget (drop i text)) (z : ℤ) (n : ℕ) (mid : Text)
     (now : ℕ)
-    → Comes room text (suc i) w true (expression grow d lowest (drop i text)) z n (inside mid now) → (m : ℕ) → Last text n d p m → (left : Text) (r : Climbed)
-    → Stores room text m z waiting places mid now left r
-    → Says room text at vars used true (expression grow d wholeLevel (drop at text)) left r
-work-last room text vars used at d p i first waiting places w k bare z n mid now c m h left (climbed.Refused e) s =
-    store-fails room text (inside vars used) at d p i first waiting places w k bare z n (inside mid now) c m h e (s (k .names) (k .stacked))
-work-last room text vars used at d p i first waiting places w k bare z n mid now c m h left (climbed.Value y next last) s = (
-  subst (λ (j : ℕ). Comes room text (suc at) (inside vars used) true (expression grow d wholeLevel (drop at text)) y j (inside left last)) (sym (s .1))
-      (store-comes room text (inside vars used) at d p i first waiting places w k bare z n (inside mid now) c m h y (inside left last)
+    → Comes lent text (suc i) w true (expression grow d lowest (drop i text)) z n (inside mid now) → (m : ℕ) → Last text n d p m → (left : Text) (r : Climbed)
+    → Stores lent text m z waiting places mid now left r
+    → Says lent text at vars used true (expression grow d wholeLevel (drop at text)) left r
+work-last lent text vars used at d p i first waiting places w k bare z n mid now c m h left (climbed.Refused e) s =
+    store-fails lent text (inside vars used) at d p i first waiting places w k bare z n (inside mid now) c m h e (s (k .names) (k .stacked))
+work-last lent text vars used at d p i first waiting places w k bare z n mid now c m h left (climbed.Value y next last) s = (
+  subst (λ (j : ℕ). Comes lent text (suc at) (inside vars used) true (expression grow d wholeLevel (drop at text)) y j (inside left last)) (sym (s .1))
+      (store-comes lent text (inside vars used) at d p i first waiting places w k bare z n (inside mid now) c m h y (inside left last)
       (s .0 (k .names) (k .stacked))),
   record { holds = s .2; bytes = λ q. absurd (no (sym q)); length = λ q. absurd (no (sym q)) },
 )
 
 -- THE PLACES THAT ARE LENT: those behind the names that wait
 
-module _ {room : ℕ} {text : Text} {at : ℕ} {vars : Text} {used : ℕ} {places : List ℕ} (r : Ready room text at vars used places) (i waiting : ℕ)
+module _ {lent : Lent} {text : Text} {at : ℕ} {vars : Text} {used : ℕ} {places : List ℕ} (r : Ready lent text at vars used places) (i waiting : ℕ)
     (d : at + 2 * waiting ≤ i) (w : i ≤ length text) (others : List ℕ) (e : length others ≡ length places) where
   pub waiting-fits : waiting ≤ length others
   waiting-fits = let p = r .deep in omega arith
 
-  pub part-ready : {mid : Text} {now : ℕ} → Holds room mid now → Ready room text i mid now (midOf waiting (length others - waiting) others)
+  pub part-ready : {mid : Text} {now : ℕ} → Holds (lent .room) mid now → Ready lent text i mid now (midOf waiting (length others - waiting) others)
   part-ready h =
       let p = r .deep in
       let f = waiting-fits in
       record { start = w; few = r .few; holds = h; deep = omega (arith, mid-len waiting (length others) others (omega arith)) }
 
-pub working-lent : {room : ℕ} {text : Text} {v : Pairs} {at d p i : ℕ} {first : Bool} {waiting : ℕ} {places : List ℕ} {w : Pairs}
-    → Working room text v at d p i first waiting places w → waiting ≤ length places → (k : ℕ) (ys : List ℕ)
-    → Working room text v at d p i first waiting (putMid waiting k places ys) w
-working-lent {room} {text} {v} {at} {d} {waiting = waiting} {places = places} s h k ys =
-    working-take room text v at d s (putMid waiting k places ys) (take-put waiting k places ys h)
+pub working-lent : {lent : Lent} {text : Text} {v : Pairs} {at d p i : ℕ} {first : Bool} {waiting : ℕ} {places : List ℕ} {w : Pairs}
+    → Working lent text v at d p i first waiting places w → waiting ≤ length places → (k : ℕ) (ys : List ℕ)
+    → Working lent text v at d p i first waiting (putMid waiting k places ys) w
+working-lent {lent} {text} {v} {at} {d} {waiting = waiting} {places = places} s h k ys =
+    working-take lent text v at d s (putMid waiting k places ys) (take-put waiting k places ys h)

@@ -13,22 +13,22 @@ use Rattle.stages.specs.Arith.{stop, token, Tree, ended, tree, Evaluated, evalu
 use Rattle.table_store.specs.Holding.{Holds}
 use Rattle.arith_eval.specs.declared.Worked.{Worked}
 use Rattle.arith_eval.specs.declared.Worked.the-variants as worked
-use Rattle.arith_eval.specs.Climbs.{alone, inside, Worth, Kept}
+use Rattle.arith_eval.specs.Climbs.{inside, Worth, Kept}
 
 -- gone through once
-pub record Errs (room : ℕ) (v : Pairs) (counts : Bool) (o : Outcome Tree) (e : ℕ) : Type 0 where
+pub record Errs (lent : Lent) (v : Pairs) (counts : Bool) (o : Outcome Tree) (e : ℕ) : Type 0 where
   pub reads : counts ≡ false → o ≡ refused e
-  pub works : (l : Tree) → o ≡ done l → evaluate (alone room) v l ≡ refused e
+  pub works : (l : Tree) → o ≡ done l → evaluate lent v l ≡ refused e
 
-pub record Results (room : ℕ) (v : Pairs) (counts : Bool) (o : Outcome Tree) (z : ℤ) (w : Pairs) : Type 0 where
+pub record Results (lent : Lent) (v : Pairs) (counts : Bool) (o : Outcome Tree) (z : ℤ) (w : Pairs) : Type 0 where
   pub tree : Tree
   pub is : o ≡ done tree
-  pub worth : Worth room v counts tree z w
+  pub worth : Worth lent v counts tree z w
 
-abbrev pub Answers : ℕ → Text → ℕ → Bool → Outcome Tree → Text → Worked → Type 0
-Answers room vars used counts o left (worked.Refused e) = Errs room (inside vars used) counts o e
-Answers room vars used counts o left (worked.Value z now) =
-    Results room (inside vars used) counts o z (inside left now) × Kept room vars used counts left now
+abbrev pub Answers : Lent → Text → ℕ → Bool → Outcome Tree → Text → Worked → Type 0
+Answers lent vars used counts o left (worked.Refused e) = Errs lent (inside vars used) counts o e
+Answers lent vars used counts o left (worked.Value z now) =
+    Results lent (inside vars used) counts o z (inside left now) × Kept lent vars used counts left now
 
 -- nothing behind a value, or what refuses it
 abbrev pub Finishes : Text → ℕ → ℤ → ℕ → Worked → Type 0

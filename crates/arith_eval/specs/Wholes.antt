@@ -10,9 +10,9 @@ use lib.ListN.{length, drop, getD}
 use Rattle.stages.specs.Bytes.{Text, part}
 use Rattle.stages.specs.Outcome.{Outcome, refused, done, _>>=_}
 use Rattle.stages.specs.Images.{Pairs, isName, lookup}
-use Rattle.stages.specs.Constants.{nameNumber}
+use Rattle.stages.specs.Params.{Lent}
 use Rattle.stages.specs.Arith.{Op, wholeLevel, choiceLevel, isTrue, apply, stop, shuts, colon, Token, ends, num, name, op, opens, query, gets, token}
-use Rattle.stages.specs.Arith.{Tree, expression, ended, grow, Evaluated, keeping, storing}
+use Rattle.stages.specs.Arith.{Tree, expression, ended, grow, Evaluated, nameNumber, keeping, storing}
 use Rattle.stages.proofs.Ended.{NoGets, NoTarget}
 use Rattle.stages.proofs.Storeys.{upstairs}
 use Rattle.stages.proofs.Turns.{rest, other, pending}
@@ -105,8 +105,8 @@ Targets text at first (target.At from to setting next) = (first ≡ true) × IsT
 -- WHAT IS ONLY READ
 
 -- so many colons to come, each `?` being a byte of the text before
-pub record Skippable (room : ℕ) (text : Text) (at colons : ℕ) (vars : Text) (used : ℕ) (places : List ℕ) : Type 0 where
-  pub ready : Ready room text at vars used places
+pub record Skippable (lent : Lent) (text : Text) (at colons : ℕ) (vars : Text) (used : ℕ) (places : List ℕ) : Type 0 where
+  pub ready : Ready lent text at vars used places
   pub few : colons ≤ at
 
 -- a whole expression, or what may stand behind a colon
@@ -165,35 +165,36 @@ pub data Stacked (text : Text) (places : List ℕ) : ℕ → Waiting → Type 0 
   above : {k : ℕ} {g : Option Op × Text} {gs : Waiting} → SetsAt text (getD places k 0) g → Stacked text places k gs → Stacked text places (suc k) (g ∷ gs)
 
 -- places in the text, and variables to store in
-pub record Storable (room : ℕ) (text : Text) (waiting : ℕ) (places : List ℕ) (vars : Text) (used : ℕ) : Type 0 where
+pub record Storable (lent : Lent) (text : Text) (waiting : ℕ) (places : List ℕ) (vars : Text) (used : ℕ) : Type 0 where
   pub few : waiting ≤ length places
   pub placed : (j : ℕ) → j < waiting → getD places j 0 ≤ length text
-  pub holds : Holds room vars used
+  pub holds : Holds (lent .room) vars used
 
 -- what is to be stored
-abbrev pub updatedIn : Pairs → Option Op → Text → ℤ → Outcome ℤ
-updatedIn v none x z = done z
-updatedIn v (some o) x z = nameNumber (lookup x v) >>= λ y. apply o y z
+abbrev pub updatedIn : Bool → Pairs → Option Op → Text → ℤ → Outcome ℤ
+updatedIn shouts v none x z = done z
+updatedIn shouts v (some o) x z = nameNumber shouts (lookup x v) >>= λ y. apply o y z
 
 -- an outcome, and the variables' bytes behind it
 abbrev pub Leaves : ℕ → Evaluated → Text → Worked → Type 0
 Leaves room e left (worked.Refused n) = e ≡ refused n
 Leaves room e left (worked.Value z now) = (e ≡ done (z, inside left now)) × Holds room left now
 
+-- a store reads no name, so that the switch is not asked
 abbrev pub Puts : ℕ → Text → ℤ → Pairs → Text → Worked → Type 0
-Puts room x z v left r = Leaves room (keeping (alone room) x v z) left r
+Puts room x z v left r = Leaves room (keeping (alone room false) x v z) left r
 
 -- by the name that stands at a place
-abbrev pub Assigns : ℕ → Text → ℕ → ℤ → Pairs → Text → Worked → Type 0
-Assigns room text place z v left (worked.Refused n) =
-    (g : Option Op × Text) → SetsAt text place g → storing (alone room) (g .0) (g .1) (z, v) ≡ refused n
-Assigns room text place z v left (worked.Value y now) =
-    ((g : Option Op × Text) → SetsAt text place g → storing (alone room) (g .0) (g .1) (z, v) ≡ done (y, inside left now)) × Holds room left now
+abbrev pub Assigns : Lent → Text → ℕ → ℤ → Pairs → Text → Worked → Type 0
+Assigns lent text place z v left (worked.Refused n) =
+    (g : Option Op × Text) → SetsAt text place g → storing lent (g .0) (g .1) (z, v) ≡ refused n
+Assigns lent text place z v left (worked.Value y now) =
+    ((g : Option Op × Text) → SetsAt text place g → storing lent (g .0) (g .1) (z, v) ≡ done (y, inside left now)) × Holds (lent .room) left now
 
 -- by all names that wait; the place behind the value is handed on
-abbrev pub Stores : ℕ → Text → ℕ → ℤ → ℕ → List ℕ → Text → ℕ → Text → Climbed → Type 0
-Stores room text at z waiting places vars used left (climbed.Refused e) =
-    (gs : Waiting) → Stacked text places waiting gs → storingAll (alone room) gs (done (z, inside vars used)) ≡ refused e
-Stores room text at z waiting places vars used left (climbed.Value y next now) =
-    ((gs : Waiting) → Stacked text places waiting gs → storingAll (alone room) gs (done (z, inside vars used)) ≡ done (y, inside left now))
-    × (next ≡ at) × Holds room left now
+abbrev pub Stores : Lent → Text → ℕ → ℤ → ℕ → List ℕ → Text → ℕ → Text → Climbed → Type 0
+Stores lent text at z waiting places vars used left (climbed.Refused e) =
+    (gs : Waiting) → Stacked text places waiting gs → storingAll lent gs (done (z, inside vars used)) ≡ refused e
+Stores lent text at z waiting places vars used left (climbed.Value y next now) =
+    ((gs : Waiting) → Stacked text places waiting gs → storingAll lent gs (done (z, inside vars used)) ≡ done (y, inside left now))
+    × (next ≡ at) × Holds (lent .room) left now

@@ -1,11 +1,13 @@
 // What is known where a part of the text begins, and what is answered of it.
 
-// How many parentheses and signs may still open, whether the part counts, how many bytes the image of variables has, and how many it may have.
+// How many parentheses and signs may still open, whether the part counts, how many bytes the image of variables has, how many it may have, and whether an
+// unset name is refused where it is read.
 pub struct Scope {
     pub room: usize,
     pub counts: bool,
     pub vars_used: usize,
     pub vars_room: usize,
+    pub shouts: bool,
 }
 
 // A value, the place behind its text, and how many bytes the image of variables has then.

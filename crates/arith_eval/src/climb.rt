@@ -5,7 +5,7 @@
 ghost use mathlib.Core.Bool.{true, false};
 ghost use lib.ListN.{drop};
 ghost use Rattle.stages.specs.Arith.{grow, operand as operandTask, enclosed as enclosedIn, expression as expressionOf, wholeLevel};
-ghost use Rattle.arith_eval.specs.Climbs.{Ready, Climbable, Says, signOf, Continues, Turns};
+ghost use Rattle.arith_eval.specs.Climbs.{lentIn, Ready, Climbable, Says, signOf, Continues, Turns};
 ghost use Rattle.arith_eval.specs.Wholes.{Skippable, Skips, Steps};
 use super::answers::Climbed;
 use super::answers::Scope;
@@ -38,8 +38,8 @@ const LOWEST: usize = 3;
 
 // An operand: a constant, a name, one in parentheses or behind a sign.
 fn operand(text: &[u8], at: usize, scope: Scope, vars: &mut [u8], places: &mut [u16]) -> Climbed
-    requires { ⌜ Ready (scope .«vars_room») (now text) at (now vars) (scope .«vars_used») (now places) ⌝ }
-    ensures { λ r. ⌜ Says (scope .«vars_room») (now (text .entry)) at (now (vars .entry)) (scope .«vars_used») (scope .counts)
+    requires { ⌜ Ready (lentIn scope) (now text) at (now vars) (scope .«vars_used») (now places) ⌝ }
+    ensures { λ r. ⌜ Says (lentIn scope) (now (text .entry)) at (now (vars .entry)) (scope .«vars_used») (scope .counts)
         (grow (operandTask false, scope .room, drop at (now (text .entry)))) (now (vars .exit)) r ⌝ }
 {
     let token = token_at(text, at);
@@ -52,7 +52,15 @@ fn operand(text: &[u8], at: usize, scope: Scope, vars: &mut [u8], places: &mut [
         },
         Token::Name { from, to } => {
             let used = scope.vars_used;
-            named(text, from, to, scope.counts, &vars[..used], used)
+            named(
+                text,
+                from,
+                to,
+                scope.counts,
+                &vars[..used],
+                used,
+                scope.shouts,
+            )
         }
         Token::Op(op, next) => signed(text, next, op, scope, vars, places),
         Token::Opens(next) => enclosed(text, next, scope, vars, places),
@@ -73,8 +81,8 @@ fn signed(
     vars: &mut [u8],
     places: &mut [u16],
 ) -> Climbed
-    requires { ⌜ Ready (scope .«vars_room») (now text) at (now vars) (scope .«vars_used») (now places) ⌝ }
-    ensures { λ r. ⌜ Says (scope .«vars_room») (now (text .entry)) at (now (vars .entry)) (scope .«vars_used») (scope .counts)
+    requires { ⌜ Ready (lentIn scope) (now text) at (now vars) (scope .«vars_used») (now places) ⌝ }
+    ensures { λ r. ⌜ Says (lentIn scope) (now (text .entry)) at (now (vars .entry)) (scope .«vars_used») (scope .counts)
         (signOf op (scope .room) (drop at (now (text .entry)))) (now (vars .exit)) r ⌝ }
 {
     let may = is_sign(op);
@@ -101,8 +109,8 @@ fn signed(
 
 // Behind a `(`: an expression, and its `)`.
 fn enclosed(text: &[u8], at: usize, scope: Scope, vars: &mut [u8], places: &mut [u16]) -> Climbed
-    requires { ⌜ Ready (scope .«vars_room») (now text) at (now vars) (scope .«vars_used») (now places) ⌝ }
-    ensures { λ r. ⌜ Says (scope .«vars_room») (now (text .entry)) at (now (vars .entry)) (scope .«vars_used») (scope .counts)
+    requires { ⌜ Ready (lentIn scope) (now text) at (now vars) (scope .«vars_used») (now places) ⌝ }
+    ensures { λ r. ⌜ Says (lentIn scope) (now (text .entry)) at (now (vars .entry)) (scope .«vars_used») (scope .counts)
         (enclosedIn grow (scope .room) (drop at (now (text .entry)))) (now (vars .exit)) r ⌝ }
 {
     if scope.room == 0 {
@@ -135,8 +143,8 @@ fn enclosed(text: &[u8], at: usize, scope: Scope, vars: &mut [u8], places: &mut 
 
 // A whole expression.
 pub fn whole(text: &[u8], at: usize, scope: Scope, vars: &mut [u8], places: &mut [u16]) -> Climbed
-    requires { ⌜ Ready (scope .«vars_room») (now text) at (now vars) (scope .«vars_used») (now places) ⌝ }
-    ensures { λ r. ⌜ Says (scope .«vars_room») (now (text .entry)) at (now (vars .entry)) (scope .«vars_used») (scope .counts)
+    requires { ⌜ Ready (lentIn scope) (now text) at (now vars) (scope .«vars_used») (now places) ⌝ }
+    ensures { λ r. ⌜ Says (lentIn scope) (now (text .entry)) at (now (vars .entry)) (scope .«vars_used») (scope .counts)
         (expressionOf grow (scope .room) wholeLevel (drop at (now (text .entry)))) (now (vars .exit)) r ⌝ }
 {
     if scope.counts {
@@ -163,7 +171,7 @@ fn skip(
     vars: &mut [u8],
     places: &mut [u16],
 ) -> Skipped
-    requires { ⌜ Skippable (scope .«vars_room») (now text) at colons (now vars) (scope .«vars_used») (now places) ⌝ }
+    requires { ⌜ Skippable (lentIn scope) (now text) at colons (now vars) (scope .«vars_used») (now places) ⌝ }
     ensures { λ r. ⌜ Skips (now (text .entry)) at (scope .room) colons begins (now (vars .entry)) (now (vars .exit)) r ⌝ }
 {
     let idle = Scope {
@@ -230,8 +238,8 @@ fn skip(
 // A whole expression that counts: in each `?:` only the side is worked out that its condition asks for, and the names of assignments wait until all else is
 // worked out. Each takes two bytes of the text at the least.
 fn worked(text: &[u8], at: usize, scope: Scope, vars: &mut [u8], places: &mut [u16]) -> Climbed
-    requires { ⌜ Ready (scope .«vars_room») (now text) at (now vars) (scope .«vars_used») (now places) ⌝ }
-    ensures { λ r. ⌜ Says (scope .«vars_room») (now (text .entry)) at (now (vars .entry)) (scope .«vars_used») true
+    requires { ⌜ Ready (lentIn scope) (now text) at (now vars) (scope .«vars_used») (now places) ⌝ }
+    ensures { λ r. ⌜ Says (lentIn scope) (now (text .entry)) at (now (vars .entry)) (scope .«vars_used») true
         (expressionOf grow (scope .room) wholeLevel (drop at (now (text .entry)))) (now (vars .exit)) r ⌝ }
 {
     let mut i = at;
@@ -316,7 +324,7 @@ fn stepped(
     vars: &mut [u8],
     places: &mut [u16],
 ) -> Step
-    requires { ⌜ Skippable (scope .«vars_room») (now text) at colons (now vars) (scope .«vars_used») (now places) ⌝ }
+    requires { ⌜ Skippable (lentIn scope) (now text) at colons (now vars) (scope .«vars_used») (now places) ⌝ }
     ensures { λ r. ⌜ Steps (now (text .entry)) at (scope .room) value colons (now (vars .entry)) (now (vars .exit)) r ⌝ }
 {
     let mark = mark_at(text, at);
@@ -360,8 +368,8 @@ fn expression(
     vars: &mut [u8],
     places: &mut [u16],
 ) -> Climbed
-    requires { ⌜ Climbable (scope .«vars_room») (now text) at least (now vars) (scope .«vars_used») (now places) ⌝ }
-    ensures { λ r. ⌜ Says (scope .«vars_room») (now (text .entry)) at (now (vars .entry)) (scope .«vars_used») (scope .counts)
+    requires { ⌜ Climbable (lentIn scope) (now text) at least (now vars) (scope .«vars_used») (now places) ⌝ }
+    ensures { λ r. ⌜ Says (lentIn scope) (now (text .entry)) at (now (vars .entry)) (scope .«vars_used») (scope .counts)
         (expressionOf grow (scope .room) least (drop at (now (text .entry)))) (now (vars .exit)) r ⌝ }
 {
     let got = operand(text, at, scope, vars, places);
@@ -391,8 +399,8 @@ fn further(
     vars: &mut [u8],
     places: &mut [u16],
 ) -> Climbed
-    requires { ⌜ Climbable (scope .«vars_room») (now text) at least (now vars) (scope .«vars_used») (now places) ⌝ }
-    ensures { λ r. ⌜ Continues (scope .«vars_room») (now (text .entry)) at (now (vars .entry)) (scope .«vars_used») (scope .counts) (scope .room) least left
+    requires { ⌜ Climbable (lentIn scope) (now text) at least (now vars) (scope .«vars_used») (now places) ⌝ }
+    ensures { λ r. ⌜ Continues (lentIn scope) (now (text .entry)) at (now (vars .entry)) (scope .«vars_used») (scope .counts) (scope .room) least left
         (now (vars .exit)) r ⌝ }
 {
     let mut value = left;
@@ -438,8 +446,8 @@ fn operator(
     vars: &mut [u8],
     places: &mut [u16],
 ) -> Turn
-    requires { ⌜ Climbable (scope .«vars_room») (now text) at least (now vars) (scope .«vars_used») (now places) ⌝ }
-    ensures { λ r. ⌜ Turns (scope .«vars_room») (now (text .entry)) at (now (vars .entry)) (scope .«vars_used») (scope .counts) (scope .room) least left
+    requires { ⌜ Climbable (lentIn scope) (now text) at least (now vars) (scope .«vars_used») (now places) ⌝ }
+    ensures { λ r. ⌜ Turns (lentIn scope) (now (text .entry)) at (now (vars .entry)) (scope .«vars_used») (scope .counts) (scope .room) least left
         (now (vars .exit)) r ⌝ }
 {
     let token = token_at(text, at);

@@ -61,15 +61,17 @@ fn once(
     vars_used: usize,
     vars_room: usize,
     places: &mut [u16],
+    shouts: bool,
 ) -> Worked
     requires { ⌜ (length (now text) ≤ rowLimit) × Holds «vars_room» (now vars) «vars_used» × (rowLimit ≤ 2 * length (now places)) ⌝ }
-    ensures { λ r. ⌜ Answers «vars_room» (now (vars .entry)) «vars_used» counts (tree (now (text .entry))) (now (vars .exit)) r ⌝ }
+    ensures { λ r. ⌜ Answers (alone «vars_room» shouts) (now (vars .entry)) «vars_used» counts (tree (now (text .entry))) (now (vars .exit)) r ⌝ }
 {
     let scope = Scope {
         room: numbers::OPEN_LIMIT,
         counts: counts,
         vars_used: vars_used,
         vars_room: vars_room,
+        shouts: shouts,
     };
     let got = whole(text, 0, scope, vars, places);
     match got {
@@ -89,26 +91,34 @@ fn twice(
     vars_used: usize,
     vars_room: usize,
     places: &mut [u16],
+    shouts: bool,
 ) -> Worked
     requires { ⌜ (length (now text) ≤ rowLimit) × Holds «vars_room» (now vars) «vars_used» × (rowLimit ≤ 2 * length (now places)) ⌝ }
-    ensures { λ r. ⌜ ComesTo (alone «vars_room») (now (text .entry)) (now (vars .entry)) «vars_used» (now (vars .exit)) r ⌝ }
+    ensures { λ r. ⌜ ComesTo (alone «vars_room» shouts) (now (text .entry)) (now (vars .entry)) «vars_used» (now (vars .exit)) r ⌝ }
 {
-    let read = once(text, false, vars, vars_used, vars_room, places);
+    let read = once(text, false, vars, vars_used, vars_room, places, shouts);
     match read {
         Worked::Refused(e) => Worked::Refused(e),
         Worked::Value {
             value: _,
             vars_used: used,
-        } => once(text, true, vars, used, vars_room, places),
+        } => once(text, true, vars, used, vars_room, places, shouts),
     }
 }
 
-// The number that an arithmetic text comes to, and the variables as its assignments leave them.
-pub fn evaluate_text(text: &[u8], vars: &mut [u8], vars_used: usize, vars_room: usize) -> Worked
+// The number that an arithmetic text comes to, and the variables as its assignments leave them. An unset name is refused where it is read, if the switch
+// is on.
+pub fn evaluate_text(
+    text: &[u8],
+    vars: &mut [u8],
+    vars_used: usize,
+    vars_room: usize,
+    shouts: bool,
+) -> Worked
     requires { ⌜ (length (now text) ≤ rowLimit) × Holds «vars_room» (now vars) «vars_used» ⌝ }
-    ensures { λ r. ⌜ ((homes params : Text) → ComesTo (lentOf «vars_room» homes params) (now (text .entry)) (now (vars .entry)) «vars_used»
+    ensures { λ r. ⌜ ((homes params : Text) → ComesTo (lentOf «vars_room» shouts homes params) (now (text .entry)) (now (vars .entry)) «vars_used»
         (now (vars .exit)) r) ⌝ }
 {
     let mut places = [0u16; PLACES];
-    twice(text, vars, vars_used, vars_room, &mut places)
+    twice(text, vars, vars_used, vars_room, &mut places, shouts)
 }

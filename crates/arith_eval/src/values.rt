@@ -4,13 +4,13 @@ ghost use mathlib.Core.Bool.{true};
 ghost use Prim.Native.Nat.{_≤_};
 ghost use lib.ListN.{length, take};
 ghost use Rattle.stages.specs.Images.{isName, held, lookup};
-ghost use Rattle.stages.specs.Constants.{nameNumber};
+ghost use Rattle.stages.specs.Arith.{nameNumber};
 ghost use Rattle.table.specs.Places.{Table};
 ghost use Rattle.table_store.specs.Holding.{Holds};
 ghost use Rattle.arith_int.specs.Answers.{numbered};
 ghost use Rattle.arith_token.specs.Tokens.{settingOf};
 ghost use Rattle.arith_decimal.specs.Digits.{mostDigits};
-ghost use Rattle.arith_eval.specs.Climbs.{Names, Turned, Joins, isNeeded};
+ghost use Rattle.arith_eval.specs.Climbs.{alone, lentIn, Names, Turned, Joins, isNeeded};
 ghost use Rattle.arith_eval.specs.Wholes.{updatedIn, Puts, Assigns, Storable, Stores};
 use super::Worked;
 use super::answers::Climbed;
@@ -26,15 +26,20 @@ use table::Found;
 use table_store::Stored;
 use text::numbers;
 
-// What a name stands for: 0 if unset or empty, else the constant that its value is.
-fn name_number(name: &[u8], vars: &[u8]) -> Number
+// What a name stands for: 0 if empty, else the constant that its value is. An unset one is 0, or refused if the switch is on.
+fn name_number(name: &[u8], vars: &[u8], shouts: bool) -> Number
     requires { ⌜ Table (now vars) ⌝ }
-    ensures { λ r. ⌜ numbered r ≡ nameNumber (lookup (now (name .entry)) (held (now (vars .entry)))) ⌝ }
+    ensures { λ r. ⌜ numbered r ≡ nameNumber shouts (lookup (now (name .entry)) (held (now (vars .entry)))) ⌝ }
 {
     let found = table_find::look_up(vars, name);
     match found {
         Found::At { from, to } => arith_constant::value_of(&vars[from..to]),
-        Found::Missing => Number::Value(0),
+        Found::Missing => {
+            if shouts {
+                return Number::Refused(numbers::REFUSED_UNSET);
+            }
+            Number::Value(0)
+        }
     }
 }
 
@@ -46,9 +51,10 @@ pub fn named(
     counts: bool,
     vars: &[u8],
     vars_used: usize,
+    shouts: bool,
 ) -> Climbed
     requires { ⌜ (from ≤ to) × (to ≤ length (now text)) × Table (now vars) ⌝ }
-    ensures { λ r. ⌜ Names (now (text .entry)) from to (held (now (vars .entry))) counts «vars_used» r ⌝ }
+    ensures { λ r. ⌜ Names (now (text .entry)) from to (held (now (vars .entry))) shouts counts «vars_used» r ⌝ }
 {
     if !counts {
         return Climbed::Value {
@@ -57,7 +63,7 @@ pub fn named(
             vars_used: vars_used,
         };
     }
-    let got = name_number(&text[from..to], vars);
+    let got = name_number(&text[from..to], vars, shouts);
     match got {
         Number::Refused(e) => Climbed::Refused(e),
         Number::Value(z) => Climbed::Value {
@@ -137,14 +143,14 @@ pub fn joined(op: Op, left: i64, right: i64, next: usize, counts: bool, vars_use
 }
 
 // What is to be stored: "then the name is read if the operator needs it".
-fn updated(name: &[u8], setting: Setting, value: i64, vars: &[u8]) -> Number
+fn updated(name: &[u8], setting: Setting, value: i64, vars: &[u8], shouts: bool) -> Number
     requires { ⌜ Table (now vars) ⌝ }
-    ensures { λ r. ⌜ numbered r ≡ updatedIn (held (now (vars .entry))) (settingOf setting) (now (name .entry)) value ⌝ }
+    ensures { λ r. ⌜ numbered r ≡ updatedIn shouts (held (now (vars .entry))) (settingOf setting) (now (name .entry)) value ⌝ }
 {
     match setting {
         Setting::Plain => Number::Value(value),
         Setting::With(op) => {
-            let got = name_number(name, vars);
+            let got = name_number(name, vars, shouts);
             match got {
                 Number::Refused(e) => Number::Refused(e),
                 Number::Value(z) => arith_int::operate(op, z, value),
@@ -193,9 +199,10 @@ fn assigned(
     vars: &mut [u8],
     vars_used: usize,
     vars_room: usize,
+    shouts: bool,
 ) -> Worked
     requires { ⌜ (place ≤ length (now text)) × Holds «vars_room» (now vars) «vars_used» ⌝ }
-    ensures { λ r. ⌜ Assigns «vars_room» (now (text .entry)) place value (held (take «vars_used» (now (vars .entry)))) (now (vars .exit)) r ⌝ }
+    ensures { λ r. ⌜ Assigns (alone «vars_room» shouts) (now (text .entry)) place value (held (take «vars_used» (now (vars .entry)))) (now (vars .exit)) r ⌝ }
 {
     let target = target_at(text, place, true);
     match target {
@@ -206,7 +213,7 @@ fn assigned(
             setting,
             next: _,
         } => {
-            let got = updated(&text[from..to], setting, value, &vars[..vars_used]);
+            let got = updated(&text[from..to], setting, value, &vars[..vars_used], shouts);
             match got {
                 Number::Refused(e) => Worked::Refused(e),
                 Number::Value(z) => keep(&text[from..to], z, vars, vars_used, vars_room),
@@ -225,8 +232,8 @@ pub fn stored_all(
     vars: &mut [u8],
     places: &[u16],
 ) -> Climbed
-    requires { ⌜ Storable (scope .«vars_room») (now text) waiting (now places) (now vars) (scope .«vars_used») ⌝ }
-    ensures { λ r. ⌜ Stores (scope .«vars_room») (now (text .entry)) at value waiting (now (places .entry)) (now (vars .entry)) (scope .«vars_used»)
+    requires { ⌜ Storable (lentIn scope) (now text) waiting (now places) (now vars) (scope .«vars_used») ⌝ }
+    ensures { λ r. ⌜ Stores (lentIn scope) (now (text .entry)) at value waiting (now (places .entry)) (now (vars .entry)) (scope .«vars_used»)
         (now (vars .exit)) r ⌝ }
 {
     let mut z = value;
@@ -235,7 +242,7 @@ pub fn stored_all(
     while left > 0 {
         left = left - 1;
         let place = places[left] as usize;
-        let got = assigned(text, place, z, vars, used, scope.vars_room);
+        let got = assigned(text, place, z, vars, used, scope.vars_room, scope.shouts);
         match got {
             Worked::Refused(e) => {
                 return Climbed::Refused(e);

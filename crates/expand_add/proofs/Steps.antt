@@ -12,7 +12,7 @@ use Rattle.stages.specs.Syntax.{Escape, Form, Param, Counted, Spread, Parts, li
 use Rattle.stages.specs.Units.{Mark, Q, cell, Row, marked, bytes, expandedMark, litMark, decimal}
 use Rattle.stages.specs.Arith.{arithmeticOf}
 use Rattle.stages.specs.Params.{Lent}
-use Rattle.stages.specs.Expand.{Made, parameter, amount, listRow, ofNone, inQuotes, directory, tildeRow, onto, adding, expand}
+use Rattle.stages.specs.Expand.{Made, plainly, parameter, amount, listRow, ofNone, inQuotes, directory, tildeRow, onto, adding, expand}
 use Rattle.expand_add.specs.Steps.{beside, placed, quoted, summed, followed}
 use Rattle.expand_add.specs.Added.{measured}
 use Rattle.expand_add.proofs.Fitting.{by-fit}
@@ -56,10 +56,18 @@ module _ (a : Lent) (p : Parts) (m : Mark) (n : ℕ) where
   unfolding expand
   expand-par x f q v = placed-followed (parameter a (λ k w. expand a q k 0 w) x f m v)
 
+  len-bind : (o : Outcome ℕ) (v : Pairs)
+      → (o >>= λ k. adding n (marked (expandedMark m) (decimal k)) false λ i. expand a p m i v)
+      ≡ followed a p m n (placed n (beside v false (o >>= λ k. done (marked (expandedMark m) (decimal k)))))
+  unfolding followed placed
+  len-bind (refused e) v = refl
+  len-bind (demands t) v = refl
+  len-bind (done k) v = placed-followed (done (marked (expandedMark m) (decimal k), v, false))
+
   pub expand-len : (x : Counted) (v : Pairs) → expand a (len x p) m n v ≡ followed a p m n
-      (placed n (done (marked (expandedMark m) (decimal (amount a x v)), v, false)))
+      (placed n (beside v false (amount a x v >>= λ k. done (marked (expandedMark m) (decimal k)))))
   unfolding expand
-  expand-len x v = placed-followed (done (marked (expandedMark m) (decimal (amount a x v)), v, false))
+  expand-len x v = len-bind (amount a x v) v
 
   pub expand-lst : (s : Spread) (v : Pairs) → expand a (lst s p) m n v ≡ followed a p m n
       (placed n (done (listRow s m (a .params) v, v, ofNone s (a .params))))
@@ -151,6 +159,12 @@ beside-placed n v g (done r) =
 
 pub beside-refused : (n : ℕ) (v : Pairs) (g : Bool) (o : Outcome Row) (e : ℕ) → measured n o ≡ refused e → placed n (beside v g o) ≡ refused e
 beside-refused n v g o e h = beside-placed n v g o ∙ ap (beside v g) h
+
+-- a text that is looked up, as units
+pub plainly-beside : (o : Outcome Text) (m : Mark) (v : Pairs) → (o >>= λ t. plainly t m v) ≡ beside v false (o >>= λ t. done (marked (expandedMark m) t))
+plainly-beside (refused e) m v = refl
+plainly-beside (demands t) m v = refl
+plainly-beside (done t) m v = refl
 
 pub beside-done : (v : Pairs) (g : Bool) (o : Outcome Row) (row : Row) → o ≡ done row → beside v g o ≡ done (row, v, g)
 beside-done v g o row h = rw h

@@ -1,9 +1,11 @@
 // What expanding a text is given and answers, beside the lent bytes.
 
-// The variables in their buffer: the first `vars_used` bytes are their image, which may grow to `vars_room`.
+// The variables in their buffer: the first `vars_used` bytes are their image, which may grow to `vars_room`. An unset one that is looked up is refused if
+// `shouts` says so.
 pub struct Extent {
     pub vars_used: usize,
     pub vars_room: usize,
+    pub shouts: bool,
 }
 
 // How a text goes on after what was added: at `next`, with so many bytes of the variables' image, and whether `$@` of no parameters came in it.

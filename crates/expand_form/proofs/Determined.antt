@@ -1,5 +1,6 @@
 -- The contracts determine every answer: two outcomes that a contract allows for one input are equal.
 use mathlib.Core.Path.{_≡_, refl, sym, _∙_}
+use mathlib.Core.Bool.{Bool}
 use Rattle.stages.specs.Syntax.{Form, unescaped}
 use Rattle.text.proofs.Determined.{one-answer}
 use Rattle.row.specs.Marks.{markOf}
@@ -11,8 +12,9 @@ use Rattle.expand_form.specs.Plans.{planOf, operandMark}
 use Rattle.expand_form.specs.declared.Plan.{Plan}
 use Rattle.expand_form.specs.declared.Used.{Used}
 
-pub plan-of-determined : (f : Form) (found : Found) (r s : Plan) → r ≡ planOf f (missingIn found) → s ≡ planOf f (missingIn found) → r ≡ s
-plan-of-determined f found r s = one-answer
+pub plan-of-determined : (f : Form) (found : Found) (shouts : Bool) (r s : Plan) → r ≡ planOf f (missingIn found) shouts → s ≡ planOf f (missingIn found) shouts
+    → r ≡ s
+plan-of-determined f found shouts r s = one-answer
 
 pub operand-mark-determined : (u : Used) (m r s : Mark) → markOf r ≡ operandMark u (markOf m) → markOf s ≡ operandMark u (markOf m) → r ≡ s
 operand-mark-determined u m r s e f = literal-mark-determined unescaped r r s refl (f ∙ sym e)

@@ -1,9 +1,9 @@
 -- What a form of a parameter asks for, and what each plan gives: document 01's forms with "missing" tested once.
-use mathlib.Core.Bool.{Bool}
+use mathlib.Core.Bool.{Bool, _&&_}
 use mathlib.Core.List.{[]}
 use Rattle.stages.specs.Outcome.{Outcome, done, pick}
 use Rattle.stages.specs.Images.{Pairs}
-use Rattle.stages.specs.Syntax.{Colon, Param, Form, plain, minus, equals, query, plus, removal}
+use Rattle.stages.specs.Syntax.{Colon, noColon, Param, Form, plain, minus, equals, query, plus, removal}
 use Rattle.stages.specs.Units.{Mark, L, Row, marked, expandedMark}
 use Rattle.stages.specs.Params.{Lent, value}
 use Rattle.stages.specs.Expand.{Made, assigned, demand, cutBy}
@@ -15,14 +15,14 @@ use Rattle.expand_form.specs.declared.Unused.the-variants.{Value, Nothin
 use Rattle.expand_form.specs.declared.Used.{Used}
 use Rattle.expand_form.specs.declared.Used.the-variants.{Given, Stored, Removed, Demanded}
 
--- what a form asks for, by whether the value is missing: with the colon, and without
-abbrev pub planOf : Form → (Colon → Bool) → Plan
-planOf plain missing = plan.Unused Value
-planOf (minus c) missing = pick (missing c) (plan.Used Given) (plan.Unused Value)
-planOf (equals c) missing = pick (missing c) (plan.Used Stored) (plan.Unused Value)
-planOf (query c) missing = pick (missing c) (plan.Used Demanded) (plan.Unused Value)
-planOf (plus c) missing = pick (missing c) (plan.Unused Nothing) (plan.Used Given)
-planOf (removal side reach) missing = plan.Used (Removed (isSuffix side) (isLongest reach))
+-- what a form asks for, by whether the value is missing, with the colon and without, and whether unset ones shout
+abbrev pub planOf : Form → (Colon → Bool) → Bool → Plan
+planOf plain missing shouts = pick (shouts && missing noColon) plan.Shout (plan.Unused Value)
+planOf (minus c) missing shouts = pick (missing c) (plan.Used Given) (plan.Unused Value)
+planOf (equals c) missing shouts = pick (missing c) (plan.Used Stored) (plan.Unused Value)
+planOf (query c) missing shouts = pick (missing c) (plan.Used Demanded) (plan.Unused Value)
+planOf (plus c) missing shouts = pick (missing c) (plan.Unused Nothing) (plan.Used Given)
+planOf (removal side reach) missing shouts = pick (shouts && missing noColon) plan.Shout (plan.Used (Removed (isSuffix side) (isLongest reach)))
 
 -- the mark of the literal bytes of an operand that is used
 abbrev pub operandMark : Used → Mark → Mark

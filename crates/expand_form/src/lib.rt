@@ -1,6 +1,8 @@
 // What a form of a parameter asks for. "Missing" is tested here, once, before the operand is looked at.
 ghost use mathlib.Core.Path.{_≡_};
-ghost use Rattle.text.specs.Cases.{colonOf};
+ghost use mathlib.Core.Bool.{_&&_};
+ghost use Rattle.stages.specs.Syntax.{noColon, removal};
+ghost use Rattle.text.specs.Cases.{colonOf, sideOf, reachOf};
 ghost use Rattle.read_mode.specs.Modes.{formOf};
 ghost use Rattle.row.specs.Marks.{markOf};
 ghost use Rattle.expand_param.specs.Holding.{missingIn};
@@ -13,6 +15,8 @@ use table::Found;
 pub enum Plan {
     Unused(Unused),
     Used(Used),
+    // it is refused, the value being unset
+    Shout,
 }
 
 // What is given where the operand is not used.
@@ -48,9 +52,32 @@ fn is_missing(colon: bool, found: Found) -> bool
     }
 }
 
-// What a form asks for, where the value was found or not.
-pub fn plan_of(form: Form, found: Found) -> Plan
-    ensures { λ r. ⌜ r ≡ planOf (formOf form) (missingIn found) ⌝ }
+// "A removal is refused before its operand is expanded.": of a value that is unset, the switch being on.
+fn is_refused(found: Found, shouts: bool) -> bool
+    ensures { λ r. ⌜ r ≡ (shouts && missingIn found noColon) ⌝ }
+{
+    if !shouts {
+        return false;
+    }
+    is_missing(false, found)
+}
+
+// What a removal asks for: it is refused, or its operand is used.
+fn removal_plan(suffix: bool, long: bool, found: Found, shouts: bool) -> Plan
+    ensures { λ r. ⌜ r ≡ planOf (removal (sideOf suffix) (reachOf long)) (missingIn found) shouts ⌝ }
+{
+    if is_refused(found, shouts) {
+        return Plan::Shout;
+    }
+    Plan::Used(Used::Removed {
+        suffix: suffix,
+        long: long,
+    })
+}
+
+// What a form asks for, where the value was found or not, and the switch is on or off.
+pub fn plan_of(form: Form, found: Found, shouts: bool) -> Plan
+    ensures { λ r. ⌜ r ≡ planOf (formOf form) (missingIn found) shouts ⌝ }
 {
     match form {
         Form::Minus(colon) => {
@@ -77,14 +104,8 @@ pub fn plan_of(form: Form, found: Found) -> Plan
             }
             Plan::Used(Used::Given)
         }
-        Form::Suffix(long) => Plan::Used(Used::Removed {
-            suffix: true,
-            long: long,
-        }),
-        Form::Prefix(long) => Plan::Used(Used::Removed {
-            suffix: false,
-            long: long,
-        }),
+        Form::Suffix(long) => removal_plan(true, long, found, shouts),
+        Form::Prefix(long) => removal_plan(false, long, found, shouts),
     }
 }
 

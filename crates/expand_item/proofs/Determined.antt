@@ -2,6 +2,7 @@
 -- crates/expand_add/proofs/Determined.antt so are their rows. Open is what that file names.
 use Prim.Native.Nat.{ℕ}
 use mathlib.Core.Path.{_≡_}
+use mathlib.Core.Bool.{Bool}
 use mathlib.Core.List.{List, [], _∷_}
 use lib.ListN.{length}
 use Rattle.stages.specs.Bytes.{Text}
@@ -12,6 +13,7 @@ use Rattle.stages.specs.Units.{Mark, Row, cell, marked, expandedMark, decimal}
 use Rattle.stages.specs.Expand.{directory, tildeRow}
 use Rattle.expand_param.specs.Holding.{holdingIn}
 use Rattle.expand_add.specs.Added.{Adds}
+use Rattle.expand_item.specs.Sought.{valueRow, lengthRow}
 use Rattle.expand_add.specs.declared.answers.Onward.{Onward}
 use Rattle.expand_add.specs.declared.answers.Expanded.{Expanded}
 use Rattle.expand_add.proofs.Determined.{adds-determined}
@@ -37,5 +39,9 @@ module _ (units : ℕ) (on : Onward) (area area′ : Text) (r s : Expanded) wher
     pub give-value-determined : OneFor (done (marked (expandedMark m) own))
     give-value-determined = adds-determined units on (done (marked (expandedMark m) own)) area area′ r s
 
-    pub give-length-determined : OneFor (done (marked (expandedMark m) (decimal (length own))))
-    give-length-determined = adds-determined units on (done (marked (expandedMark m) (decimal (length own)))) area area′ r s
+    module _ (shouts : Bool) where
+      pub give-sought-determined : OneFor (valueRow shouts l v x m)
+      give-sought-determined = adds-determined units on (valueRow shouts l v x m) area area′ r s
+
+      pub give-length-determined : OneFor (lengthRow shouts l v x m)
+      give-length-determined = adds-determined units on (lengthRow shouts l v x m) area area′ r s

@@ -15,6 +15,7 @@ ghost use Rattle.read_brace.specs.Shows.{Name, paramOf};
 ghost use Rattle.expand_param.specs.Holding.{holdingIn};
 ghost use Rattle.expand_add.specs.Added.{Adds};
 ghost use Rattle.expand_item.specs.Homes.{Inside, textAt};
+ghost use Rattle.expand_item.specs.Sought.{valueRow, lengthRow};
 use expand_add::answers::Expanded;
 use expand_add::answers::Onward;
 use read_brace::Param;
@@ -71,7 +72,30 @@ pub fn give_value<'a>(
     expand_add::give_expanded(value, row, on, area)
 }
 
-// Adds the length in bytes of a parameter's value, 0 if it is unset.
+// Adds the value of a parameter in its plain form: one that is unset is refused if the switch is on.
+pub fn give_sought<'a>(
+    text: &[u8],
+    param: Param,
+    row: RowEnd,
+    on: Onward,
+    vars: &'a [u8],
+    params: &'a [u8],
+    area: &mut [u8],
+    shouts: bool,
+) -> Expanded
+    requires { ⌜ Name (now text) (param .from) (param .to) × Table (now vars) × Listed (now params) × (row .units ≤ rowLimit) ×
+        (2 * rowLimit ≤ length (now area) + 2 * row .units) ⌝ }
+    ensures { λ r. ⌜ Adds (row .units) on
+        (valueRow shouts (heldTexts (now (params .entry))) (held (now (vars .entry))) (paramOf (now (text .entry)) param) (markOf (row .mark)))
+        (now (area .exit)) r ⌝ }
+{
+    if expand_param::must_shout(text, param, vars, params, shouts) {
+        return Expanded::Refused(numbers::REFUSED_UNSET);
+    }
+    give_value(text, param, row, on, vars, params, area)
+}
+
+// Adds the length in bytes of a parameter's value, 0 if it is unset. One that is unset is refused if the switch is on.
 pub fn give_length<'a>(
     text: &[u8],
     param: Param,
@@ -80,14 +104,18 @@ pub fn give_length<'a>(
     vars: &'a [u8],
     params: &'a [u8],
     area: &mut [u8],
+    shouts: bool,
 ) -> Expanded
     requires { ⌜ Name (now text) (param .from) (param .to) × Table (now vars) × Listed (now params) × (row .units ≤ rowLimit) ×
         (2 * rowLimit ≤ length (now area) + 2 * row .units) ⌝ }
     ensures { λ r. ⌜ Adds (row .units) on
-        (done (marked (expandedMark (markOf (row .mark)))
-        (decimal (length (orEmpty (holdingIn (heldTexts (now (params .entry))) (held (now (vars .entry))) (paramOf (now (text .entry)) param)))))))
+        (lengthRow shouts (heldTexts (now (params .entry))) (held (now (vars .entry))) (paramOf (now (text .entry)) param) (markOf (row .mark)))
         (now (area .exit)) r ⌝ }
 {
+    let unset = expand_param::must_shout(text, param, vars, params, shouts);
+    if unset {
+        return Expanded::Refused(numbers::REFUSED_UNSET);
+    }
     let value = expand_param::value_of(text, param, vars, params);
     let mut digits = [0u8; numbers::MOST_DIGITS];
     give_count(value.len() as u64, row, on, &mut digits, area)

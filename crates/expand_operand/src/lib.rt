@@ -1,7 +1,7 @@
 // What is done with an operand's row, which stands at the front of the area: it is stored, it is the pattern of a removal, it is an arithmetic text, it is
 // the message of a refusal, or it is the expansion itself.
 ghost use mathlib.Core.Path.{_≡_};
-ghost use mathlib.Core.Bool.{false};
+ghost use mathlib.Core.Bool.{Bool, false};
 ghost use Prim.Native.Nat.{ℕ, _*_, _≤_};
 ghost use lib.ListN.{length, take};
 ghost use Rattle.stages.specs.Numbers.{rowLimit};
@@ -240,13 +240,19 @@ pub fn sum_up(
     requires { ⌜ Holds (extent .«vars_room») (now vars) (extent .«vars_used») × (units ≤ rowLimit) × (row .units ≤ rowLimit) ×
         (2 * rowLimit ≤ length (now work)) ⌝ }
     ensures { λ r. ⌜ ((homes params : Text) → Finishes (extent .«vars_room») (row .units)
-        (placed (row .units) (summed (lentOf (extent .«vars_room») homes params) (markOf (row .mark))
+        (placed (row .units) (summed (lentOf (extent .«vars_room») (extent .shouts) homes params) (markOf (row .mark))
         (rowAt (now (work .entry)) units, held (take (extent .«vars_used») (now (vars .entry))), false)))
         next (now (work .exit)) (now (vars .exit)) r) ⌝ }
 {
     let end = 2 * units;
     let n = row::strip_marks(&mut work[..end]);
-    let got = arith_eval::evaluate_text(&work[..n], vars, extent.vars_used, extent.vars_room);
+    let got = arith_eval::evaluate_text(
+        &work[..n],
+        vars,
+        extent.vars_used,
+        extent.vars_room,
+        extent.shouts,
+    );
     match got {
         Worked::Refused(e) => Expanded::Refused(e),
         Worked::Value {
@@ -286,8 +292,8 @@ pub fn settle<'a>(
 ) -> Expanded
     requires { ⌜ Name (now text) (param .from) (param .to) × Table (now vars) × Listed (now params) × (row .units ≤ rowLimit) ×
         (2 * rowLimit ≤ length (now work)) ⌝ }
-    ensures { λ r. ⌜ ((room : ℕ) (homes : Text) → Adds (row .units) on
-        (settled unused (lentOf room homes (now (params .entry))) (paramOf (now (text .entry)) param) (markOf (row .mark)) (held (now (vars .entry))))
+    ensures { λ r. ⌜ ((room : ℕ) (shouts : Bool) (homes : Text) → Adds (row .units) on
+        (settled unused (lentOf room shouts homes (now (params .entry))) (paramOf (now (text .entry)) param) (markOf (row .mark)) (held (now (vars .entry))))
         (now (work .exit)) r) ⌝ }
 {
     match unused {
@@ -316,8 +322,8 @@ pub fn finish(
     requires { ⌜ Name (now text) (param .from) (param .to) × Listed (now params) × Storable (paramOf (now text) param) (now work) (operand .units) ×
         Holds (extent .«vars_room») (now vars) (extent .«vars_used») × (row .units ≤ rowLimit) × (2 * rowLimit ≤ length (now work)) ⌝ }
     ensures { λ r. ⌜ ((homes : Text) → Finishes (extent .«vars_room») (row .units)
-        (placed (row .units) (finished used (lentOf (extent .«vars_room») homes (now (params .entry))) (paramOf (now (text .entry)) param) (markOf (row .mark))
-        (rowAt (now (work .entry)) (operand .units), held (take (extent .«vars_used») (now (vars .entry))), operand .«of_none»)))
+        (placed (row .units) (finished used (lentOf (extent .«vars_room») (extent .shouts) homes (now (params .entry))) (paramOf (now (text .entry)) param)
+        (markOf (row .mark)) (rowAt (now (work .entry)) (operand .units), held (take (extent .«vars_used») (now (vars .entry))), operand .«of_none»)))
         (operand .next) (now (work .exit)) (now (vars .exit)) r) ⌝ }
 {
     let vars_used = extent.vars_used;

@@ -2,20 +2,24 @@
 use Prim.Native.Nat.{ℕ, _-_, _≤_}
 use native.Mathlib.Omega.{arith}
 use mathlib.Core.Path.{_≡_, refl, sym, ap, _∙_}
+use mathlib.Core.Bool.{Bool, true, false}
 use mathlib.Core.List.{List, [], _∷_}
-use mathlib.Core.Option.{some}
+use mathlib.Core.Option.{Option, none, some}
 use borrow.Author.Tests.{eq-eqb, ne-eqb}
 use lib.ListN.{length}
+use Rattle.stages.specs.Numbers.{unsetName}
 use Rattle.stages.specs.Bytes.{Text, part}
+use Rattle.stages.specs.Outcome.{Outcome, refused, done, _>>=_}
 use Rattle.stages.specs.Images.{Pairs, held, heldTexts, orEmpty}
 use Rattle.stages.specs.Syntax.{Colon, withColon, noColon, Param, var, nth, bytesOf, parameters}
-use Rattle.stages.specs.Params.{Lent, holding, value, missing, numbered}
+use Rattle.stages.specs.Params.{Lent, holding, value, orShout, sought, missing, numbered}
 use Rattle.stages.specs.Params as stage
 use Rattle.stages.specs.Expand.{amount}
+use Rattle.stages.proofs.Bools.{no}
 use Rattle.text.proofs.Parts.{part-length}
 use Rattle.table.specs.declared.Found.{Found}
-use Rattle.table.specs.declared.Found.the-variants.{At}
-use Rattle.expand_param.specs.Holding.{holdingIn, imageOf, Shown, shown, absent, missingIn}
+use Rattle.table.specs.declared.Found.the-variants.{At, Missing}
+use Rattle.expand_param.specs.Holding.{holdingIn, soughtIn, isShout, imageOf, Bears, Shown, shown, absent, Finds, missingIn}
 
 -- the stage's words, by the positional parameters that are lent
 
@@ -29,13 +33,31 @@ module _ (a : Lent) (l : List Text) (e : a .params ≡ l) (v : Pairs) where
   unfolding value
   value-held x = ap orEmpty (holding-held x)
 
-  pub amount-held : (x : Param) → amount a (bytesOf x) v ≡ length (orEmpty (holdingIn l v x))
-  unfolding amount
-  amount-held x = ap length (value-held x)
+  pub sought-held : (x : Param) → sought a v x ≡ soughtIn (a .shouts) l v x
+  unfolding sought soughtIn
+  sought-held x = ap (orShout (a .shouts)) (holding-held x)
 
-  pub amount-parameters : amount a parameters v ≡ length l
+  pub amount-held : (x : Param) → amount a (bytesOf x) v ≡ (soughtIn (a .shouts) l v x >>= λ t. done (length t))
   unfolding amount
-  amount-parameters = ap length e
+  amount-held x = ap (λ (o : Outcome Text). o >>= λ t. done (length t)) (sought-held x)
+
+  pub amount-parameters : amount a parameters v ≡ done (length l)
+  unfolding amount
+  amount-parameters = ap (λ (k : List Text). done (length k)) e
+
+-- E14: what is unset is 25 with the switch on, and nothing with it off
+
+pub shout-refused : (s : Bool) (o : Option Text) → isShout s o ≡ true → orShout s o ≡ refused unsetName
+unfolding orShout
+shout-refused false o e = absurd (no e)
+shout-refused true none e = refl
+shout-refused true (some t) e = absurd (no e)
+
+pub shout-given : (s : Bool) (o : Option Text) → isShout s o ≡ false → orShout s o ≡ done (orEmpty o)
+unfolding orShout
+shout-given false o e = refl
+shout-given true none e = absurd (no (sym e))
+shout-given true (some t) e = refl
 
 -- "missing", by where the value was found
 
@@ -53,3 +75,18 @@ module _ {vars params : Text} {x : Param} (a : Lent) (e : a .params ≡ heldText
   missing-found (shown {start = from} {end = to} h) c =
       missing-part (part (imageOf vars params x) from to) c from to (part-length (imageOf vars params x) from to (h .low) (h .high)) (h .low)
       ∙ ap (stage.absent c) (sym (holding-held a (heldTexts params) e (held vars) x ∙ h .gets))
+
+-- E14, by where the value was found
+
+absent-of : {vars params : Text} {x : Param} → Shown vars params x Missing → holdingIn (heldTexts params) (held vars) x ≡ none
+absent-of (absent h) = h
+
+bears-of : {vars params : Text} {x : Param} {from to : ℕ} → Shown vars params x (At from to) → Bears vars params x from to
+bears-of (shown h) = h
+
+module _ {vars params : Text} {x : Param} {found : Found} (f : Finds vars params x found) where
+  pub unset-shouts : found ≡ Missing → isShout true (holdingIn (heldTexts params) (held vars) x) ≡ true
+  unset-shouts e = ap (isShout true) (absent-of (rw e at (f .shows)))
+
+  pub set-is-quiet : {from to : ℕ} → found ≡ At from to → isShout true (holdingIn (heldTexts params) (held vars) x) ≡ false
+  set-is-quiet e = ap (isShout true) (bears-of (rw e at (f .shows)) .gets)

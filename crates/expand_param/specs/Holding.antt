@@ -7,10 +7,10 @@ use mathlib.Core.Option.{Option, none, some}
 use lib.Dec.{eqb, leb}
 use lib.ListN.{length}
 use Rattle.stages.specs.Bytes.{Text, part}
-use Rattle.stages.specs.Outcome.{pick}
+use Rattle.stages.specs.Outcome.{Outcome, pick}
 use Rattle.stages.specs.Images.{Pairs, lookup, held, heldTexts}
 use Rattle.stages.specs.Syntax.{Colon, withColon, noColon, Param, var, nth}
-use Rattle.stages.specs.Params.{numbered}
+use Rattle.stages.specs.Params.{numbered, orShout}
 use Rattle.table.specs.Places.{foundIn}
 use Rattle.table.specs.declared.Found.{Found}
 use Rattle.table.specs.declared.Found.the-variants.{At, Missing}
@@ -28,6 +28,17 @@ unfoldable pub holdingIn : List Text → Pairs → Param → Option Text
 unfolding lookup numbered
 holdingIn l v (var x) = lookup x v
 holdingIn l v (nth k) = numbered k l
+
+-- E14: the value that is looked up, or 25: the stage's `sought`
+unfoldable pub soughtIn : Bool → List Text → Pairs → Param → Outcome Text
+unfolding orShout holdingIn
+soughtIn shouts l v x = orShout shouts (holdingIn l v x)
+
+-- whether it is 25
+abbrev pub isShout : Bool → Option Text → Bool
+isShout false o = false
+isShout true none = true
+isShout true (some t) = false
 
 -- the image where it is looked up
 abbrev pub imageOf : Text → Text → Param → Text

@@ -5,7 +5,7 @@ ghost use Rattle.stages.specs.Images.{held, heldTexts, orEmpty};
 ghost use Rattle.stages.specs.Items.{numberOf};
 ghost use Rattle.table.specs.Places.{Listed, Table};
 ghost use Rattle.read_brace.specs.Shows.{Name, paramOf};
-ghost use Rattle.expand_param.specs.Holding.{capped, holdingIn, Finds};
+ghost use Rattle.expand_param.specs.Holding.{capped, holdingIn, isShout, Finds};
 use read_brace::Param;
 use table::Found;
 
@@ -52,6 +52,21 @@ pub fn look_up(text: &[u8], param: Param, vars: &[u8], params: &[u8]) -> Found
         return table_find::find_text(params, number);
     }
     table_find::look_up(vars, called)
+}
+
+// Whether a parameter that is looked up is refused: it is unset, and the switch is on.
+pub fn must_shout(text: &[u8], param: Param, vars: &[u8], params: &[u8], shouts: bool) -> bool
+    requires { ⌜ Name (now text) (param .from) (param .to) × Table (now vars) × Listed (now params) ⌝ }
+    ensures { λ r. ⌜ r ≡ isShout shouts (holdingIn (heldTexts (now (params .entry))) (held (now (vars .entry))) (paramOf (now (text .entry)) param)) ⌝ }
+{
+    if !shouts {
+        return false;
+    }
+    let found = look_up(text, param, vars, params);
+    match found {
+        Found::Missing => true,
+        Found::At { from: _, to: _ } => false,
+    }
 }
 
 // The value of a parameter, a part of the image itself; empty if it is unset.

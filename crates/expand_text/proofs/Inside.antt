@@ -9,7 +9,7 @@ use borrow.Author.Tests.{ne-eqb}
 use lib.Dec.{eqb}
 use lib.ListN.{length, take, drop}
 use lib.Seq.{length-take-le}
-use Rattle.stages.specs.Numbers.{rowLimit, tooManyUnits}
+use Rattle.stages.specs.Numbers.{rowLimit, tooManyUnits, unsetName}
 use Rattle.stages.specs.Bytes.{Text, all, notZero}
 use Rattle.stages.specs.Outcome.{refused, demands, done, _>>=_, pick}
 use Rattle.stages.specs.Images.{Pairs, texts, isName, flat, held, heldTexts}
@@ -50,7 +50,7 @@ use Rattle.expand_form.specs.declared.Plan.{Plan}
 use Rattle.expand_form.specs.declared.Plan.the-variants as plan
 use Rattle.expand_form.specs.declared.Unused.{Unused}
 use Rattle.expand_form.specs.declared.Used.{Used}
-use Rattle.expand_form.proofs.Forms.{unused-operand, used-operand}
+use Rattle.expand_form.proofs.Forms.{unused-operand, used-operand, shouted-operand}
 use Rattle.expand_add.proofs.Steps.{placed-refused, placed-demands}
 use Rattle.table_store.proofs.Holding.{vars-held}
 use Rattle.expand_add.proofs.Holding.{says-known, answers-known, adds-finishes, finishes-same, finishes-answers}
@@ -72,8 +72,8 @@ pub record Lends (lent : Lent) (vars : Text) (varsUsed : ℕ) : Type 0 where
   pub holds : Holds (lent .room) vars varsUsed
   pub safe : SafeLent lent
 
-pub lending : {varsRoom : ℕ} {vars : Text} {varsUsed : ℕ} {homes : Text} (params : Text) → Holds varsRoom vars varsUsed → places.Table homes
-    → places.Listed params → Lends (lentOf varsRoom homes params) vars varsUsed
+pub lending : {varsRoom : ℕ} {shouts : Bool} {vars : Text} {varsUsed : ℕ} {homes : Text} (params : Text) → Holds varsRoom vars varsUsed → places.Table homes
+    → places.Listed params → Lends (lentOf varsRoom shouts homes params) vars varsUsed
 lending {homes = homes} params w h l =
     record {
       holds = w;
@@ -238,7 +238,7 @@ module _ {lent : Lent} {text : Text} {at : ℕ} {mode : Mode} {d units size : �
 
 module _ {lent : Lent} {text : Text} {at : ℕ} {mode : Mode} {d size : ℕ} {vars₀ : Text} {varsUsed : ℕ} {params : Text} {x : Param} {found : Found}
     (units : ℕ) (form : Form) (m : Mark) (y : Ready text at mode d 0 size) (w : Lends lent vars₀ varsUsed) (l : lent .params ≡ heldTexts params)
-    (s : Shown (take varsUsed vars₀) params x found) {own : Plan} (e : own ≡ planOf form (missingIn found)) where
+    (s : Shown (take varsUsed vars₀) params x found) {own : Plan} (e : own ≡ planOf form (missingIn found) (lent .shouts)) where
   abbrev v : Pairs
   v = held (take varsUsed vars₀)
 
@@ -262,6 +262,13 @@ module _ {lent : Lent} {text : Text} {at : ℕ} {mode : Mode} {d size : ℕ} {va
       let z : _≡_ {A = ℕ} 0 1 = cc in
       absurd (omega arith)
 
+  -- E14: refused before the operand is looked at
+  pub shouted : own ≡ plan.Shout → (area vars : Text) → Given area vars (answer.Refused unsetName)
+  shouted n area vars =
+      rw (y .is)
+      (ap (placed units) (shouted-operand lent (λ k u. expand lent (y .tree) k 0 u) x m (take varsUsed vars₀) params l form found s e n)
+      ∙ placed-refused units (refused unsetName) unsetName refl)
+
   pub unused-given : {what : Unused} → own ≡ plan.Unused what → {next : ℕ} → ReadTo text at (parts (modeOf mode) d (drop at text)) next
       → (area : Text) (g : Expanded) → Adds units (record { next = next; «vars_used» = varsUsed; «of_none» = false }) (settled what lent x m v) area g
       → Given area vars₀ g
@@ -282,7 +289,7 @@ pub record OperandExpanded (lent : Lent) (text : Text) (at : ℕ) (mode : Mode) 
   pub found : Found
   pub listed : lent .params ≡ heldTexts params
   pub shows : Shown (take varsUsed vars₀) params x found
-  pub planned : plan.Used what ≡ planOf form (missingIn found)
+  pub planned : plan.Used what ≡ planOf form (missingIn found) (lent .shouts)
   pub mark : Mark
   pub is : mark ≡ operandMark what m
   pub says : Says (lent .room) text at 0 (λ p. expand lent p mark 0 (held (take varsUsed vars₀))) (parts (modeOf mode) d (drop at text)) ys us g

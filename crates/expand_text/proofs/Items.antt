@@ -7,15 +7,15 @@ use mathlib.Core.Bool.{Bool, false}
 use mathlib.Core.List.{[], _∷_}
 use lib.ListN.{length, take, drop}
 use Rattle.stages.specs.Bytes.{Text, part, notZero}
-use Rattle.stages.specs.Outcome.{Outcome, refused, done}
-use Rattle.stages.specs.Images.{Pairs, held, orEmpty}
+use Rattle.stages.specs.Outcome.{Outcome, refused, demands, done, _>>=_}
+use Rattle.stages.specs.Images.{Pairs, held}
 use Rattle.stages.specs.Syntax.{unescaped, Parts, plain, end, lit, quo, par, len, lst, ari, til, bytesOf, parameters, arith as sums}
 use Rattle.stages.specs.Syntax as syntax
 use Rattle.stages.specs.Items.{item, onward, behindByte}
 use Rattle.stages.specs.Items as items
 use Rattle.stages.specs.Read.{Taken, parts, nest}
 use Rattle.stages.specs.Units.{Mark, cell, Row, marked, expandedMark, litMark, decimal}
-use Rattle.stages.specs.Params.{Lent, value}
+use Rattle.stages.specs.Params.{Lent, sought}
 use Rattle.stages.specs.Expand.{Made, parameter, amount, listRow, ofNone, directory, tildeRow, expand}
 use Rattle.text.specs.Cases.{escapeOf, spreadOf}
 use Rattle.stages.proofs.Texts.{all-drop}
@@ -43,11 +43,11 @@ use Rattle.expand_add.specs.Answers.{Ready, IsRow, IsDemand, Answers, Says, Fin
 use Rattle.expand_add.specs.declared.answers.Expanded.{Expanded}
 use Rattle.expand_add.specs.declared.answers.Expanded.the-variants as answer
 use Rattle.expand_add.proofs.Steps.{expand-lit, expand-par, expand-len, expand-lst, expand-quo, expand-ari, expand-til}
-use Rattle.expand_add.proofs.Steps.{followed-refused, followed-demands, followed-row}
-use Rattle.expand_add.proofs.Fitting.{adds-same, adds-text}
+use Rattle.expand_add.proofs.Steps.{followed-refused, followed-demands, followed-row, plainly-beside}
+use Rattle.expand_add.proofs.Fitting.{adds-same}
 use Rattle.expand_add.proofs.Holding.{says-known, adds-finishes}
-use Rattle.expand_param.specs.Holding.{holdingIn}
-use Rattle.expand_param.proofs.Holding.{value-held, amount-held, amount-parameters}
+use Rattle.expand_param.specs.Holding.{soughtIn}
+use Rattle.expand_param.proofs.Holding.{sought-held, amount-held, amount-parameters}
 use Rattle.expand_text.proofs.Inside.{Lends}
 
 -- an enum's answer, once its case is known
@@ -216,7 +216,7 @@ module _ {lent : Lent} {text : Text} {at : ℕ} {mode : Mode} {d : ℕ} {m : Mar
 
     pub item-value : (area : Text) (g : Expanded)
         → Adds units (record { next = next; «vars_used» = varsUsed; «of_none» = false })
-        (done (marked (expandedMark m) (orEmpty (holdingIn (lent .params) u (paramOf text p))))) area g
+        (soughtIn (lent .shouts) (lent .params) u (paramOf text p) >>= λ t. done (marked (expandedMark m) t)) area g
         → Said area vars₀ g
     unfolding parameter
     item-value area g f =
@@ -224,24 +224,33 @@ module _ {lent : Lent} {text : Text} {at : ℕ} {mode : Mode} {d : ℕ} {m : Mar
         let t = behind (par (paramOf text p) plain end) (parts (onward (modeOf mode)) d (drop next text)) (x .ready .tree) (x .ready .rest)
         (sym (at-value text at (modeOf mode) d (paramOf text p) next (s .0) (s .1 .onward)) ∙ x .ready .is) in
         known m (x .ready) (x .lends) c area vars₀ g
-        (own-on m (x .ready) (x .lends) (t .next) false (done (marked (expandedMark m) (value lent u (paramOf text p))))
-        (ap (λ (x : Parts). expand lent x m units u) (t .whole) ∙ expand-par lent (t .next) m units (paramOf text p) plain end u)
+        (own-on m (x .ready) (x .lends) (t .next) false (sought lent u (paramOf text p) >>= λ t. done (marked (expandedMark m) t))
+        (ap (λ (x : Parts). expand lent x m units u) (t .whole) ∙ expand-par lent (t .next) m units (paramOf text p) plain end u
+        ∙ ap (λ (o : Made). followed lent (t .next) m units (placed units o)) (plainly-beside (sought lent u (paramOf text p)) m u))
         next (t .read) (s .1 .onward) (s .1 .within) area g
-        (adds-text units (record { next = next; «vars_used» = varsUsed; «of_none» = false }) (expandedMark m) area g
-        (sym (value-held lent (lent .params) refl u (paramOf text p))) f))
+        (adds-same units (record { next = next; «vars_used» = varsUsed; «of_none» = false }) area g
+        (ap (λ (o : Outcome Text). o >>= λ t. done (marked (expandedMark m) t)) (sym (sought-held lent (lent .params) refl u (paramOf text p)))) f))
+
+  count-bind : (o : Outcome Text) (m : Mark)
+      → _≡_ {A = Outcome Row} (o >>= λ t. done (marked (expandedMark m) (decimal (length t))))
+      ((o >>= λ t. done (length t)) >>= λ n. done (marked (expandedMark m) (decimal n)))
+  count-bind (refused e) m = refl
+  count-bind (demands t) m = refl
+  count-bind (done t) m = refl
 
   -- a number that counts
-  amounts : (j : syntax.Counted) {n : ℕ} → n ≡ amount lent j u → {next : ℕ} → item (modeOf mode) d (drop at text) ≡ items.count j (next - suc at)
+  amounts : (j : syntax.Counted) {o : Outcome ℕ} → o ≡ amount lent j u → {next : ℕ} → item (modeOf mode) d (drop at text) ≡ items.count j (next - suc at)
       → Behind text at next → (area : Text) (g : Expanded)
-      → Adds units (record { next = next; «vars_used» = varsUsed; «of_none» = false }) (done (marked (expandedMark m) (decimal n))) area g
+      → Adds units (record { next = next; «vars_used» = varsUsed; «of_none» = false }) (o >>= λ n. done (marked (expandedMark m) (decimal n))) area g
       → Passed m (x .ready) (x .lends) false (modeOnward mode) area vars₀ g
-  amounts j o {next} e l area g f =
+  amounts j q {next} e l area g f =
       let t = behind (len j) (parts (onward (modeOf mode)) d (drop next text)) (x .ready .tree) (x .ready .rest)
       (sym (at-count text at (modeOf mode) d j next e (l .onward)) ∙ x .ready .is) in
-      own-on m (x .ready) (x .lends) (t .next) false (done (marked (expandedMark m) (decimal (amount lent j u))))
+      own-on m (x .ready) (x .lends) (t .next) false (amount lent j u >>= λ n. done (marked (expandedMark m) (decimal n)))
       (ap (λ (x : Parts). expand lent x m units u) (t .whole) ∙ expand-len lent (t .next) m units j u)
       next (t .read) (l .onward) (l .within) area g
-      (adds-text units (record { next = next; «vars_used» = varsUsed; «of_none» = false }) (expandedMark m) area g (ap decimal o) f)
+      (adds-same units (record { next = next; «vars_used» = varsUsed; «of_none» = false }) area g
+      (ap (λ (o : Outcome ℕ). o >>= λ n. done (marked (expandedMark m) (decimal n))) q) f)
 
   module _ {p : Param} {next : ℕ} (c : r ≡ Count p next) where
     pub count-name : Name text (p .from) (p .to)
@@ -249,12 +258,14 @@ module _ {lent : Lent} {text : Text} {at : ℕ} {mode : Mode} {d : ℕ} {m : Mar
 
     pub item-count : (area : Text) (g : Expanded)
         → Adds units (record { next = next; «vars_used» = varsUsed; «of_none» = false })
-        (done (marked (expandedMark m) (decimal (length (orEmpty (holdingIn (lent .params) u (paramOf text p))))))) area g
+        (soughtIn (lent .shouts) (lent .params) u (paramOf text p) >>= λ t. done (marked (expandedMark m) (decimal (length t)))) area g
         → Said area vars₀ g
     item-count area g f =
         let s = shown text at d _ (x .shows) c in
+        let o = soughtIn (lent .shouts) (lent .params) u (paramOf text p) in
         known m (x .ready) (x .lends) c area vars₀ g
-        (amounts (bytesOf (paramOf text p)) (sym (amount-held lent (lent .params) refl u (paramOf text p))) (s .0) (s .1) area g f)
+        (amounts (bytesOf (paramOf text p)) (sym (amount-held lent (lent .params) refl u (paramOf text p))) (s .0) (s .1) area g
+        (adds-same units (record { next = next; «vars_used» = varsUsed; «of_none» = false }) area g (count-bind o m) f))
 
   module _ {next : ℕ} (c : r ≡ Total next) where
     pub item-total : (area : Text) (g : Expanded)

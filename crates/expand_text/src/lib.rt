@@ -27,9 +27,9 @@ use expand_form::operand_mark;
 use expand_form::plan_of;
 use expand_item::give_home;
 use expand_item::give_length;
+use expand_item::give_sought;
 use expand_item::give_total;
 use expand_item::give_unit;
-use expand_item::give_value;
 use expand_list::give_list;
 use expand_list::is_of_none;
 use expand_operand::Operand;
@@ -75,7 +75,8 @@ fn expand_quote(
     requires { ⌜ Ready (now text) (from .at) (from .mode) (from .depth) units (length (now work)) ×
         Holds (extent .«vars_room») (now vars) (extent .«vars_used») × Table (now homes) × Listed (now params) ⌝ }
     ensures { λ r. ⌜ Says (extent .«vars_room») (now (text .entry)) (from .at) units
-        (λ q. quoted (lentOf (extent .«vars_room») (now (homes .entry)) (now (params .entry))) q units (held (take (extent .«vars_used») (now (vars .entry)))))
+        (λ q. quoted (lentOf (extent .«vars_room») (extent .shouts) (now (homes .entry)) (now (params .entry))) q units
+        (held (take (extent .«vars_used») (now (vars .entry)))))
         (parts (modeOf (from .mode)) (from .depth) (drop (from .at) (now (text .entry)))) (now (work .exit)) (now (vars .exit)) r ⌝ }
 {
     if units >= numbers::ROW_LIMIT {
@@ -142,8 +143,8 @@ fn expand_inner(
         Holds (extent .«vars_room») (now vars) (extent .«vars_used») × Table (now homes) × Listed (now params) × (row .units ≤ rowLimit) ×
         Name (now text) (named .param .from) (named .param .to) × IsNamed (paramOf (now text) (named .param)) ⌝ }
     ensures { λ r. ⌜ Says (extent .«vars_room») (now (text .entry)) (from .at) (row .units)
-        (λ q. placed (row .units) (parameter (lentOf (extent .«vars_room») (now (homes .entry)) (now (params .entry)))
-        (λ k u. expand (lentOf (extent .«vars_room») (now (homes .entry)) (now (params .entry))) q k 0 u)
+        (λ q. placed (row .units) (parameter (lentOf (extent .«vars_room») (extent .shouts) (now (homes .entry)) (now (params .entry)))
+        (λ k u. expand (lentOf (extent .«vars_room») (extent .shouts) (now (homes .entry)) (now (params .entry))) q k 0 u)
         (paramOf (now (text .entry)) (named .param)) (formOf (named .form)) (markOf (row .mark)) (held (take (extent .«vars_used») (now (vars .entry))))))
         (parts (modeOf (from .mode)) (from .depth) (drop (from .at) (now (text .entry)))) (now (work .exit)) (now (vars .exit)) r ⌝ }
 {
@@ -151,7 +152,7 @@ fn expand_inner(
     let param = named.param;
     let form = named.form;
     let found = expand_param::look_up(text, param, &vars[..vars_used], params);
-    let plan = plan_of(form, found);
+    let plan = plan_of(form, found, extent.shouts);
     match plan {
         Plan::Unused(what) => {
             let got = read_line::read_text(text, from);
@@ -191,11 +192,13 @@ fn expand_inner(
                     let stored = Extent {
                         vars_used: left,
                         vars_room: extent.vars_room,
+                        shouts: extent.shouts,
                     };
                     finish(what, text, param, stands, row, vars, stored, params, work)
                 }
             }
         }
+        Plan::Shout => Expanded::Refused(numbers::REFUSED_UNSET),
     }
 }
 
@@ -214,7 +217,7 @@ fn expand_sum(
     requires { ⌜ Ready (now text) at (Mode.Arith 0) depth 0 (length (now work)) ×
         Holds (extent .«vars_room») (now vars) (extent .«vars_used») × Table (now homes) × Listed (now params) × (row .units ≤ rowLimit) ⌝ }
     ensures { λ r. ⌜ Says (extent .«vars_room») (now (text .entry)) at (row .units)
-        (λ q. placed (row .units) (summing (lentOf (extent .«vars_room») (now (homes .entry)) (now (params .entry))) q (markOf (row .mark))
+        (λ q. placed (row .units) (summing (lentOf (extent .«vars_room») (extent .shouts) (now (homes .entry)) (now (params .entry))) q (markOf (row .mark))
         (held (take (extent .«vars_used») (now (vars .entry))))))
         (parts (arith 0) depth (drop at (now (text .entry)))) (now (work .exit)) (now (vars .exit)) r ⌝ }
 {
@@ -243,6 +246,7 @@ fn expand_sum(
             let after = Extent {
                 vars_used: vars_used,
                 vars_room: extent.vars_room,
+                shouts: extent.shouts,
             };
             sum_up(units, next, row, vars, after, work)
         }
@@ -263,7 +267,7 @@ fn expand_item(
 ) -> Expanded
     requires { ⌜ ItemAt (now text) from item × Ready (now text) (from .at) (from .mode) (from .depth) (row .units) (length (now work)) ×
         Holds (extent .«vars_room») (now vars) (extent .«vars_used») × Table (now homes) × Listed (now params) ⌝ }
-    ensures { λ r. ⌜ ItemSays (lentOf (extent .«vars_room») (now (homes .entry)) (now (params .entry))) (now (text .entry)) from row item
+    ensures { λ r. ⌜ ItemSays (lentOf (extent .«vars_room») (extent .shouts) (now (homes .entry)) (now (params .entry))) (now (text .entry)) from row item
         (held (take (extent .«vars_used») (now (vars .entry))))
         (now (work .exit)) (now (vars .exit)) r ⌝ }
 {
@@ -311,7 +315,17 @@ fn expand_item(
                 vars_used: vars_used,
                 of_none: false,
             };
-            give_value(text, param, row, on, &vars[..vars_used], params, work)
+            let shouts = extent.shouts;
+            give_sought(
+                text,
+                param,
+                row,
+                on,
+                &vars[..vars_used],
+                params,
+                work,
+                shouts,
+            )
         }
         Item::Count { param, next } => {
             let on = Onward {
@@ -319,7 +333,17 @@ fn expand_item(
                 vars_used: vars_used,
                 of_none: false,
             };
-            give_length(text, param, row, on, &vars[..vars_used], params, work)
+            let shouts = extent.shouts;
+            give_length(
+                text,
+                param,
+                row,
+                on,
+                &vars[..vars_used],
+                params,
+                work,
+                shouts,
+            )
         }
         Item::Total { next } => {
             let on = Onward {
@@ -394,7 +418,7 @@ pub fn expand_text(
     requires { ⌜ Ready (now text) (from .at) (from .mode) (from .depth) (row .units) (length (now work)) ×
         Holds (extent .«vars_room») (now vars) (extent .«vars_used») × Table (now homes) × Listed (now params) ⌝ }
     ensures { λ r. ⌜ Says (extent .«vars_room») (now (text .entry)) (from .at) (row .units)
-        (λ t. expand (lentOf (extent .«vars_room») (now (homes .entry)) (now (params .entry))) t (markOf (row .mark)) (row .units)
+        (λ t. expand (lentOf (extent .«vars_room») (extent .shouts) (now (homes .entry)) (now (params .entry))) t (markOf (row .mark)) (row .units)
         (held (take (extent .«vars_used») (now (vars .entry)))))
         (parts (modeOf (from .mode)) (from .depth) (drop (from .at) (now (text .entry)))) (now (work .exit)) (now (vars .exit)) r ⌝ }
 {
@@ -418,6 +442,7 @@ pub fn expand_text(
         let held = Extent {
             vars_used: left,
             vars_room: extent.vars_room,
+            shouts: extent.shouts,
         };
         let start = 2 * n;
         let got = expand_item(

@@ -75,6 +75,9 @@ pub const REFUSED_PARAMETERS: u8 = 23;
 // "A path already there, or one not there to delete"
 pub const REFUSED_PATH: u8 = 24;
 
+// an unset parameter that is looked up, the switch being on
+pub const REFUSED_UNSET: u8 = 25;
+
 // "work area below 65,536 bytes"
 pub const WORK_LEAST: usize = 65536;
 

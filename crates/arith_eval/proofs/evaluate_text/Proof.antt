@@ -1,4 +1,4 @@
--- `arith_eval::evaluate_text` meets its contract: 1,024 places are lent, and all that is lent beside the room is not asked for.
+-- `arith_eval::evaluate_text` meets its contract: 1,024 places are lent, and all that is lent beside the room and the switch is not asked for.
 use mathlib.Core.Path.{refl}
 use Rattle.table.specs.Around.{lentOf}
 use Rattle.arith_eval.specs.Climbs.{alone}
@@ -21,8 +21,8 @@ returns c =
     let at-twice = c .before .before .before in
     let s = at-twice .before .before .before .before .before in
     let a = s .args in
-    λ homes params. lent-alike (alone (a .vars-room)) (lentOf (a .vars-room) homes params) refl (a .text .now) (a .vars .now) (a .vars-used) _
-    (at-twice .twice .result) (at-twice .twice .ensures)
+    λ homes params. lent-alike (alone (a .vars-room) (a .shouts)) (lentOf (a .vars-room) (a .shouts) homes params) refl refl (a .text .now) (a .vars .now)
+    (a .vars-used) _ (at-twice .twice .result) (at-twice .twice .ensures)
 
 pub evaluate-text-spec : {M : Type 1} → statement M
 evaluate-text-spec =

@@ -4,7 +4,7 @@ use mathlib.Core.Path.{_≡_}
 use Rattle.stages.specs.Numbers.{openLimit}
 use Rattle.stages.specs.Arith as stage
 use Rattle.arith_int.proofs.Ranges.{kept}
-use Rattle.arith_eval.specs.Climbs.{Says}
+use Rattle.arith_eval.specs.Climbs.{alone, Says}
 use Rattle.arith_eval.specs.declared.answers.Climbed.{Climbed}
 use Rattle.arith_eval.proofs.Operands.{says-shown}
 use Rattle.arith_eval.proofs.Texts.{once-fails, once-says}
@@ -15,11 +15,11 @@ use Rattle.arith_eval.proofs.once.Tie as tie
 -- what the whole expression says, once its case is known
 once-whole : (r : tie.After-whole) {g : Climbed} → r .whole .result ≡ g →
     let a = r .before .before .before .before .before .before .args in
-    Says (a .vars-room) (a .text .now) 0 (a .vars .now) (a .vars-used) (a .counts) (stage.expression stage.grow openLimit stage.wholeLevel (a .text .now))
-    (r .whole .last .1 .1 .1 .0) g
+    Says (alone (a .vars-room) (a .shouts)) (a .text .now) 0 (a .vars .now) (a .vars-used) (a .counts)
+    (stage.expression stage.grow openLimit stage.wholeLevel (a .text .now)) (r .whole .last .1 .1 .1 .0) g
 once-whole r e =
     let a = r .before .before .before .before .before .before .args in
-    says-shown (a .vars-room) (a .text .now) 0 (a .vars .now) (a .vars-used) (a .counts)
+    says-shown (alone (a .vars-room) (a .shouts)) (a .text .now) 0 (a .vars .now) (a .vars-used) (a .counts)
     (stage.expression stage.grow openLimit stage.wholeLevel (a .text .now)) _ (r .whole .ensures) e
 
 whole-requires : tie.Need-whole-requires
@@ -52,7 +52,7 @@ returns c =
     let at-whole = at-got .before .before .before .before .before .before in
     let s = at-whole .before .before .before .before .before .before in
     let a = s .args in
-    once-fails (a .vars-room) (a .text .now) (a .vars .now) (a .vars-used) (a .counts) _ (once-whole (at-whole) (at-got .got .given .1))
+    once-fails (alone (a .vars-room) (a .shouts)) (a .text .now) (a .vars .now) (a .vars-used) (a .counts) _ (once-whole (at-whole) (at-got .got .given .1))
 
 same-length-3 : tie.Need-same-length-3
 same-length-3 c = search needs
@@ -67,7 +67,7 @@ returns-2 c =
     let at-whole = at-got2 .before .before .before .before .before .before in
     let s = at-whole .before .before .before .before .before .before in
     let a = s .args in
-    once-says (a .vars-room) (a .text .now) (a .vars .now) (a .vars-used) (a .counts) _ _ _ _ (c .ended .result)
+    once-says (alone (a .vars-room) (a .shouts)) (a .text .now) (a .vars .now) (a .vars-used) (a .counts) _ _ _ _ (c .ended .result)
     (once-whole (at-whole) (at-got2 .got2 .given .1))
     (rw (kept (at-got2 .got2 .given .0 .0) (at-known-told2 .known-told2 .given .0 .1)) at (c .ended .ensures))
 

@@ -6,6 +6,7 @@ use Rattle.stages.specs.Arith.{tree}
 use Rattle.arith_eval.specs.Answers.{Answers}
 use Rattle.arith_eval.specs.declared.Worked.{Worked}
 use Rattle.arith_eval.proofs.Texts.{answers-shown, first-refused, second-holds, second-says}
+use Rattle.arith_eval.specs.Climbs.{alone}
 use borrow.Author.Needs.{needs}
 use Rattle.arith_eval.proofs.twice.Statement.{statement}
 use Rattle.arith_eval.proofs.twice.Tie as tie
@@ -13,10 +14,10 @@ use Rattle.arith_eval.proofs.twice.Tie as tie
 -- what the first run answers, once its case is known
 first-run : (r : tie.After-once) {g : Worked} → r .once .result ≡ g →
     let a = r .before .before .before .before .before .before .args in
-    Answers (a .vars-room) (a .vars .now) (a .vars-used) false (tree (a .text .now)) (r .once .last .1 .1 .0) g
+    Answers (alone (a .vars-room) (a .shouts)) (a .vars .now) (a .vars-used) false (tree (a .text .now)) (r .once .last .1 .1 .0) g
 first-run r e =
     let a = r .before .before .before .before .before .before .args in
-    answers-shown (a .vars-room) (a .vars .now) (a .vars-used) false (tree (a .text .now)) _ (r .once .ensures) e
+    answers-shown (alone (a .vars-room) (a .shouts)) (a .vars .now) (a .vars-used) false (tree (a .text .now)) _ (r .once .ensures) e
 
 once-requires : tie.Need-once-requires
 once-requires c κs = search needs
@@ -34,7 +35,7 @@ once-requires-2 c κs =
     let s = at-once .before .before .before .before .before .before in
     let a = s .args in (
       s .pre .0,
-      second-holds (a .vars-room) (a .text .now) (a .vars .now) (a .vars-used) _ _ _ (first-run (at-once) (at-read2 .read2 .given .1)),
+      second-holds (alone (a .vars-room) (a .shouts)) (a .text .now) (a .vars .now) (a .vars-used) _ _ _ (first-run (at-once) (at-read2 .read2 .given .1)),
       omega (arith, s .pre .2, at-once .once .kept .1 .1 .1 .1 .1 .0),
     )
 
@@ -50,7 +51,8 @@ returns c =
     let at-once = at-read .before .before .before .before .before .before in
     let s = at-once .before .before .before .before .before .before in
     let a = s .args in
-    first-refused (a .vars-room) (a .text .now) (a .vars .now) (a .vars-used) (a .vars .now) _ (first-run (at-once) (at-read .read .given .1))
+    first-refused (alone (a .vars-room) (a .shouts)) (a .text .now) (a .vars .now) (a .vars-used) (a .vars .now) _
+    (first-run (at-once) (at-read .read .given .1))
 
 same-length-3 : tie.Need-same-length-3
 same-length-3 c = search needs
@@ -65,7 +67,7 @@ returns-2 c =
     let at-once = at-read2 .before .before .before .before .before .before in
     let s = at-once .before .before .before .before .before .before in
     let a = s .args in
-    second-says (a .vars-room) (a .text .now) (a .vars .now) (a .vars-used) _ _ _ (first-run (at-once) (at-read2 .read2 .given .1)) _
+    second-says (alone (a .vars-room) (a .shouts)) (a .text .now) (a .vars .now) (a .vars-used) _ _ _ (first-run (at-once) (at-read2 .read2 .given .1)) _
     (at-once2 .once2 .result) (at-once2 .once2 .ensures)
 
 pub twice-spec : {M : Type 1} → statement M

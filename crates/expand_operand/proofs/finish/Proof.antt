@@ -36,7 +36,7 @@ Gives s used area vars r =
     let a = s .args in
     (homes : Text) → Finishes (a .extent .«vars_room») (a .row .units)
     (placed (a .row .units)
-    (finished used (lentOf (a .extent .«vars_room») homes (a .params .now)) (paramOf (a .text .now) (a .param)) (markOf (a .row .mark))
+    (finished used (lentOf (a .extent .«vars_room») (a .extent .shouts) homes (a .params .now)) (paramOf (a .text .now) (a .param)) (markOf (a .row .mark))
     (rowAt (a .work .now) (a .operand .units), held (take (a .extent .«vars_used») (a .vars .now)), a .operand .«of_none»))) (a .operand .next) area vars r
 
 known : (s : tie.Start) {used : Used} → s .args .used ≡ used → (area vars : Text) (r : Expanded) → Gives s used area vars r
@@ -57,8 +57,9 @@ returns c =
     let s = c .before .before .before .before .before .before .before in
     let a = s .args in
     known s (c .before .enum-told2 .given .1) (a .work .now) (a .vars .now) (answer.Refused unserved)
-    (λ homes. finish-number (lentOf (a .extent .«vars_room») homes (a .params .now)) (a .row .units) (part (a .text .now) (a .param .from) (a .param .to))
-    (markOf (a .row .mark)) (rowAt (a .work .now) (a .operand .units)) (held (take (a .extent .«vars_used») (a .vars .now))) (a .operand .«of_none»)
+    (λ homes. finish-number (lentOf (a .extent .«vars_room») (a .extent .shouts) homes (a .params .now)) (a .row .units)
+    (part (a .text .now) (a .param .from) (a .param .to)) (markOf (a .row .mark)) (rowAt (a .work .now) (a .operand .units))
+    (held (take (a .extent .«vars_used») (a .vars .now))) (a .operand .«of_none»)
     (c .if1 .taken))
 
 sub-assign : tie.Need-sub-assign
@@ -112,7 +113,7 @@ returns-2 c =
     let s = c .before .before .before .before .before .before .before in
     let a = s .args in
     known s (c .before .enum-told .given .1) (a .work .now) (a .vars .now) (c .admit .result)
-    (λ homes. finish-given (lentOf (a .extent .«vars_room») homes (a .params .now)) (a .row .units) (onward s (a .operand .«of_none»))
+    (λ homes. finish-given (lentOf (a .extent .«vars_room») (a .extent .shouts) homes (a .params .now)) (a .row .units) (onward s (a .operand .«of_none»))
     (a .operand .units) (paramOf (a .text .now) (a .param)) (markOf (a .row .mark)) (a .work .now) (a .vars .now) (s .pre .3) (s .pre .2)
     (c .admit .ensures))
 
@@ -129,8 +130,9 @@ returns-3 c =
     let s = test .before .before .before .before .before .before .before in
     let a = s .args in
     known s (test .before .enum-told2 .given .1) (g .last .1 .1 .1 .1 .1 .0) (g .last .1 .1 .1 .0) (g .result)
-    (λ homes. finish-stored (lentOf (a .extent .«vars_room») homes (a .params .now)) (a .row .units) (part (a .text .now) (a .param .from) (a .param .to))
-    (markOf (a .row .mark)) (rowAt (a .work .now) (a .operand .units)) (held (take (a .extent .«vars_used») (a .vars .now))) (a .operand .«of_none»)
+    (λ homes. finish-stored (lentOf (a .extent .«vars_room») (a .extent .shouts) homes (a .params .now)) (a .row .units)
+    (part (a .text .now) (a .param .from) (a .param .to)) (markOf (a .row .mark)) (rowAt (a .work .now) (a .operand .units))
+    (held (take (a .extent .«vars_used») (a .vars .now))) (a .operand .«of_none»)
     (test .if1 .left) (a .operand .next) (g .last .1 .1 .1 .1 .1 .0) (g .last .1 .1 .1 .0) (g .result) (g .ensures))
 
 same-length-3 : tie.Need-same-length-3
@@ -149,9 +151,9 @@ returns-4 c =
     let v = held (take (a .extent .«vars_used») (a .vars .now)) in
     let x = paramOf (a .text .now) (a .param) in
     known s (told .used .given .1) left (a .vars .now) (g .result)
-    (λ homes. finish-cut (lentOf (a .extent .«vars_room») homes (a .params .now)) (a .row .units) (onward s false) (a .operand .units) x
+    (λ homes. finish-cut (lentOf (a .extent .«vars_room») (a .extent .shouts) homes (a .params .now)) (a .row .units) (onward s false) (a .operand .units) x
     (markOf (a .row .mark)) (a .work .now) (a .vars .now) (s .pre .3) refl _ _ (a .operand .«of_none») left (g .result)
-    (sym (value-held (lentOf (a .extent .«vars_room») homes (a .params .now)) (heldTexts (a .params .now)) refl v x)) (g .ensures))
+    (sym (value-held (lentOf (a .extent .«vars_room») (a .extent .shouts) homes (a .params .now)) (heldTexts (a .params .now)) refl v x)) (g .ensures))
 
 same-length-5 : tie.Need-same-length-5
 same-length-5 c = search needs
@@ -163,7 +165,7 @@ returns-5 c =
     let s = told .before .before .before .before .before .before in
     let a = s .args in
     known s (told .enum-told3 .given .1) (g .last .1 .0) (a .vars .now) (g .result)
-    (λ homes. finish-demanded (lentOf (a .extent .«vars_room») homes (a .params .now)) (a .row .units) (paramOf (a .text .now) (a .param))
+    (λ homes. finish-demanded (lentOf (a .extent .«vars_room») (a .extent .shouts) homes (a .params .now)) (a .row .units) (paramOf (a .text .now) (a .param))
     (markOf (a .row .mark))
     (rowAt (a .work .now) (a .operand .units), held (take (a .extent .«vars_used») (a .vars .now)), a .operand .«of_none») (a .operand .next)
     (g .last .1 .0) (a .vars .now) (g .result) (g .ensures))

@@ -1,6 +1,7 @@
 -- By what is given.
 use Prim.Native.Nat.{ℕ}
 use mathlib.Core.Path.{_≡_, refl, sym, subst}
+use mathlib.Core.Bool.{Bool}
 use borrow.Author.Needs.{needs}
 use Rattle.stages.specs.Bytes.{Text}
 use Rattle.stages.specs.Images.{held}
@@ -20,8 +21,8 @@ use Rattle.expand_operand.proofs.settle.Tie as tie
 abbrev Gives : tie.Start → Unused → Text → Expanded → Type 0
 Gives s unused area r =
     let a = s .args in
-    (room : ℕ) (homes : Text) → Adds (a .row .units) (a .on)
-    (settled unused (lentOf room homes (a .params .now)) (paramOf (a .text .now) (a .param)) (markOf (a .row .mark)) (held (a .vars .now))) area r
+    (room : ℕ) (shouts : Bool) (homes : Text) → Adds (a .row .units) (a .on)
+    (settled unused (lentOf room shouts homes (a .params .now)) (paramOf (a .text .now) (a .param)) (markOf (a .row .mark)) (held (a .vars .now))) area r
 
 known : (s : tie.Start) {unused : Unused} → s .args .unused ≡ unused → (area : Text) (r : Expanded) → Gives s unused area r
     → Gives s (s .args .unused) area r
@@ -46,7 +47,7 @@ returns c =
     let s = told .before .before .before .before .before .before in
     let a = s .args in
     known s (told .enum-told .given .1) (g .last .1 .1 .1 .1 .1 .1 .0) (g .result)
-    (λ room homes. settle-value (lentOf room homes (a .params .now)) (a .vars .now) (a .params .now) refl (a .row .units) (a .on)
+    (λ room shouts homes. settle-value (lentOf room shouts homes (a .params .now)) (a .vars .now) (a .params .now) refl (a .row .units) (a .on)
     (paramOf (a .text .now) (a .param)) (markOf (a .row .mark)) (g .last .1 .1 .1 .1 .1 .1 .0) (g .result) (g .ensures))
 
 returns-2 : tie.Need-returns-2
@@ -55,7 +56,7 @@ returns-2 c =
     let s = c .before .before .before .before .before .before in
     let a = s .args in
     known s (c .enum-told2 .given .1) (a .work .now) (answer.Row 0 (a .on .next) (a .on .«vars_used») (a .on .«of_none»))
-    (λ room homes. adds-none (a .row .units) (a .on) (a .work .now) (s .pre .3))
+    (λ room shouts homes. adds-none (a .row .units) (a .on) (a .work .now) (s .pre .3))
 
 pub settle-spec : {M : Type 1} → statement M
 settle-spec =

@@ -73,10 +73,10 @@ returns c =
     let s = at-strip-marks .before .before .before .before in
     let a = s .args in
     λ homes params.
-    sum-refuses (lentOf (a .extent .«vars_room») homes params) (markOf (a .row .mark)) (rowAt (a .work .now) (a .units)) false
+    sum-refuses (lentOf (a .extent .«vars_room») (a .extent .shouts) homes params) (markOf (a .row .mark)) (rowAt (a .work .now) (a .units)) false
     (stripped-front _ (at-strip-marks .strip-marks .ensures)) (a .vars .now) (a .extent .«vars_used») (at-evaluate-text .evaluate-text .last .1 .0)
     (a .row .units) (a .next) (a .work .now)
-    (comes-known (lentOf (a .extent .«vars_room») homes params) _ (a .vars .now) (a .extent .«vars_used») _
+    (comes-known (lentOf (a .extent .«vars_room») (a .extent .shouts) homes params) _ (a .vars .now) (a .extent .«vars_used») _
     (at-evaluate-text .evaluate-text .ensures homes params) (at-got .got .given .1))
 
 same-length-3 : tie.Need-same-length-3
@@ -95,12 +95,12 @@ returns-2 c =
     let s = at-strip-marks .before .before .before .before in
     let a = s .args in
     λ homes params.
-    sum-gives (lentOf (a .extent .«vars_room») homes params) (markOf (a .row .mark)) (rowAt (a .work .now) (a .units)) false
+    sum-gives (lentOf (a .extent .«vars_room») (a .extent .shouts) homes params) (markOf (a .row .mark)) (rowAt (a .work .now) (a .units)) false
     (stripped-front _ (at-strip-marks .strip-marks .ensures)) (a .vars .now) (a .extent .«vars_used») (at-evaluate-text .evaluate-text .last .1 .0)
     (a .row .units)
     (record { next = a .next; «vars_used» = at-got2 .got2 .given .0 .1 .0; «of_none» = false }) refl (at-give-number .give-number .last .1 .1 .1 .0)
     (at-give-number .give-number .result)
-    (comes-known (lentOf (a .extent .«vars_room») homes params) _ (a .vars .now) (a .extent .«vars_used») _
+    (comes-known (lentOf (a .extent .«vars_room») (a .extent .shouts) homes params) _ (a .vars .now) (a .extent .«vars_used») _
     (at-evaluate-text .evaluate-text .ensures homes params) (at-got2 .got2 .given .1))
     (kept (at-got2 .got2 .given .0 .0) (at-known-told2 .known-told2 .given .0 .1)) (at-give-number .give-number .ensures)
 

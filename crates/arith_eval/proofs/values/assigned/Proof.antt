@@ -4,7 +4,7 @@ use mathlib.Core.Bool.{true}
 use lib.Seq.{length-take-le}
 use Rattle.arith_int.proofs.Ranges.{held, kept}
 use Rattle.table_store.proofs.Holding.{table-held}
-use Rattle.arith_eval.specs.Climbs.{inside}
+use Rattle.arith_eval.specs.Climbs.{alone, inside}
 use Rattle.arith_eval.specs.Wholes.{Targets}
 use Rattle.arith_eval.specs.declared.marks.Target.{Target}
 use Rattle.arith_eval.proofs.Reading.{targets-shown}
@@ -110,7 +110,7 @@ returns-2 c =
     let at-target-at = at-target .before .before in
     let s = at-target-at .before .before .before in
     let a = s .args in
-    assign-refused (a .vars-room) (a .text .now) (a .place) (a .value) (inside (a .vars .now) (a .vars-used)) (a .vars .now)
+    assign-refused (alone (a .vars-room) (a .shouts)) (a .text .now) (a .place) (a .value) (inside (a .vars .now) (a .vars-used)) (a .vars .now)
     (assigned-target (at-target-at) (at-target .target .given .1) .1) (at-updated .updated .result)
     (rw (held (a .value) (s .fits .value)) at (at-updated .updated .ensures)) _ (at-got .got .given .1)
 
@@ -127,7 +127,7 @@ returns-3 c =
     let at-target-at = at-target .before .before in
     let s = at-target-at .before .before .before in
     let a = s .args in
-    assign-puts (a .vars-room) (a .text .now) (a .place) (a .value) (inside (a .vars .now) (a .vars-used)) _
+    assign-puts (alone (a .vars-room) (a .shouts)) (a .text .now) (a .place) (a .value) (inside (a .vars .now) (a .vars-used)) _
     (assigned-target (at-target-at) (at-target .target .given .1) .1) (at-updated .updated .result)
     (rw (held (a .value) (s .fits .value)) at (at-updated .updated .ensures)) _ (at-got2 .got2 .given .1) (at-keep .keep .result)
     (rw (kept (at-got2 .got2 .given .0 .0) (at-known-told3 .known-told3 .given .0 .1)) at (at-keep .keep .ensures))

@@ -6,7 +6,7 @@ use lib.ListN.{length}
 use mir.Syntax.{w64}
 use mir.Val.{toZ, ofZ}
 use Rattle.arith_int.proofs.Ranges.{held, kept}
-use Rattle.arith_eval.specs.Climbs.{inside}
+use Rattle.arith_eval.specs.Climbs.{lentIn, inside}
 use Rattle.arith_eval.proofs.Storing.{assigns-shown, Unwinding, unwinding-start, unwind-refused, unwind-next, unwind-last}
 use borrow.Author.Needs.{needs}
 use Rattle.arith_eval.proofs.values.stored_all.Statement.{statement}
@@ -14,7 +14,7 @@ use Rattle.arith_eval.proofs.values.stored_all.Tie as tie
 
 abbrev Inv-loop : tie.InvT-loop
 Inv-loop text at value waiting scope vars₀ places z₀ left₀ used₀ vars z left used =
-    Unwinding (scope .«vars_room») text places waiting (toZ w64 z₀) (inside vars₀ (scope .«vars_used»)) left (toZ w64 z) vars used ×
+    Unwinding (lentIn scope) text places waiting (toZ w64 z₀) (inside vars₀ (scope .«vars_used»)) left (toZ w64 z) vars used ×
     (length vars ≡ length vars₀)
 
 abbrev μ-loop : tie.MeasureT-loop
@@ -24,7 +24,7 @@ loop-holds : tie.Need-loop-holds Inv-loop μ-loop
 loop-holds c =
     let s = c .before .before .before in
     let s = s in (
-      unwinding-start (s .args .scope .«vars_room») (s .args .text .now) (s .args .places .now) (s .args .waiting) _ (s .args .vars .now)
+      unwinding-start (lentIn (s .args .scope)) (s .args .text .now) (s .args .places .now) (s .args .waiting) _ (s .args .vars .now)
           (s .args .scope .«vars_used») (s .pre .holds),
       refl,
     )
@@ -72,7 +72,7 @@ returns c =
     let s = at-loop .before .before .before .before in
     let l = at-loop .loop in
     rw (held (s .args .value) (s .fits .value)) at
-    (unwind-refused (s .args .scope .«vars_room») (s .args .text .now) (s .args .places .now) (s .args .waiting) (toZ w64 (ofZ w64 (s .args .value)))
+    (unwind-refused (lentIn (s .args .scope)) (s .args .text .now) (s .args .places .now) (s .args .waiting) (toZ w64 (ofZ w64 (s .args .value)))
     (s .args .vars .now)
     (s .args .scope .«vars_used») (l .left) (toZ w64 (l .z)) (l .vars) (l .used) (l .inv .0) (s .args .at) (l .vars) (at-got .got .given .0 .0)
     (omega (arith, at-loop-test .loop-test .taken)) (assigns-shown _ _ _ _ _ _ (at-assigned .assigned .ensures) (at-got .got .given .1)))
@@ -95,7 +95,7 @@ loop-again c =
     let l = at-loop .loop in
     let h = (assigns-shown _ _ _ _ _ _ (at-assigned .assigned .ensures) (at-got2 .got2 .given .1)) in (
       rw (kept (at-got2 .got2 .given .0 .0) (c .known-told2 .given .0 .1))
-          (unwind-next (s .args .scope .«vars_room») (s .args .text .now) (s .args .places .now) (s .args .waiting) _ (s .args .vars .now)
+          (unwind-next (lentIn (s .args .scope)) (s .args .text .now) (s .args .places .now) (s .args .waiting) _ (s .args .vars .now)
           (s .args .scope .«vars_used») (l .left) _ (l .vars) (l .used) (l .inv .0) _ _ _
           (omega (arith, at-loop-test .loop-test .taken)) h),
       omega (arith, l .inv .1, at-assigned .assigned .kept .1 .1 .1 .0),
@@ -112,7 +112,7 @@ returns-2 c =
     let s = at-loop .before .before .before .before in
     let l = at-loop .loop in
     rw (held (s .args .value) (s .fits .value)) at
-    (unwind-last (s .args .scope .«vars_room») (s .args .text .now) (s .args .places .now) (s .args .waiting) (toZ w64 (ofZ w64 (s .args .value)))
+    (unwind-last (lentIn (s .args .scope)) (s .args .text .now) (s .args .places .now) (s .args .waiting) (toZ w64 (ofZ w64 (s .args .value)))
     (s .args .vars .now) (s .args .scope .«vars_used») (l .left) (toZ w64 (l .z)) (l .vars) (l .used)
     (l .inv .0) (s .args .at) (omega (arith, c .loop-test .left)))
 

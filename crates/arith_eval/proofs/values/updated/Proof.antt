@@ -1,5 +1,6 @@
 -- `arith_eval::values::updated` meets its contract: the right side, or what the operator makes of the name's number and it.
 use mathlib.Core.Path.{_≡_, sym, ap, _∙_}
+use mathlib.Core.Bool.{Bool}
 use lib.IntN.{ℤ}
 use Rattle.stages.specs.Bytes.{Text}
 use Rattle.stages.specs.Outcome.{Outcome, done, _>>=_}
@@ -16,8 +17,9 @@ use Rattle.arith_eval.proofs.values.updated.Statement.{statement}
 use Rattle.arith_eval.proofs.values.updated.Tie as tie
 
 -- what is to be stored, once the setting is known
-setting-known : (v : Pairs) (x : Text) (z : ℤ) {s k : Setting} → s ≡ k → updatedIn v (settingOf s) x z ≡ updatedIn v (settingOf k) x z
-setting-known v x z e = ap (λ (i : Setting). updatedIn v (settingOf i) x z) e
+setting-known : (shouts : Bool) (v : Pairs) (x : Text) (z : ℤ) {s k : Setting} → s ≡ k
+    → updatedIn shouts v (settingOf s) x z ≡ updatedIn shouts v (settingOf k) x z
+setting-known shouts v x z e = ap (λ (i : Setting). updatedIn shouts v (settingOf i) x z) e
 
 enum-told : tie.Need-enum-told
 enum-told c = search needs
@@ -41,7 +43,7 @@ returns : tie.Need-returns
 returns c =
     let s = c .before .before .before .before in
     ap done (held (s .args .value) (s .fits .value))
-    ∙ sym (setting-known (images.held (s .args .vars .now)) (s .args .name .now) (s .args .value) (c .enum-told .given .1))
+    ∙ sym (setting-known (s .args .shouts) (images.held (s .args .vars .now)) (s .args .name .now) (s .args .value) (c .enum-told .given .1))
 
 returns-2 : tie.Need-returns-2
 returns-2 c =
@@ -51,7 +53,7 @@ returns-2 c =
     let s = at-setting .before .before .before .before in
     ap (λ (o : Outcome ℤ). o >>= λ y. apply (opOf (at-setting .setting .given .0 .0)) y (s .args .value))
     (sym (ap numbered (at-got .got .given .1)) ∙ at-name-number .name-number .ensures)
-    ∙ sym (setting-known (images.held (s .args .vars .now)) (s .args .name .now) (s .args .value) (at-setting .setting .given .1))
+    ∙ sym (setting-known (s .args .shouts) (images.held (s .args .vars .now)) (s .args .name .now) (s .args .value) (at-setting .setting .given .1))
 
 returns-3 : tie.Need-returns-3
 returns-3 c =
@@ -63,7 +65,7 @@ returns-3 c =
     (rw (kept (at-got2 .got2 .given .0 .0) (at-known-told3 .known-told3 .given .0 .1), held (s .args .value) (s .fits .value)) at (c .operate .ensures))
     ∙ ap (λ (o : Outcome ℤ). o >>= λ y. apply (opOf (at-setting .setting .given .0 .0)) y (s .args .value))
     (sym (ap numbered (at-got2 .got2 .given .1)) ∙ at-name-number .name-number .ensures)
-    ∙ sym (setting-known (images.held (s .args .vars .now)) (s .args .name .now) (s .args .value) (at-setting .setting .given .1))
+    ∙ sym (setting-known (s .args .shouts) (images.held (s .args .vars .now)) (s .args .name .now) (s .args .value) (at-setting .setting .given .1))
 
 pub updated-spec : {M : Type 1} → statement M
 updated-spec =

@@ -13,6 +13,7 @@ use Rattle.expand_text.proofs.Inside.{
   reading-known,
   unused-fault,
   unused-given,
+  shouted,
   OperandExpanded,
   used-refused,
   used-demanded,
@@ -89,8 +90,8 @@ module _ (t : ℕ) where
 
   inside : (c : lts.After-expand-text (callees t) (expand-inner-at t) expand-inner.Post) →
       let a = began (used c) .args in
-      OperandExpanded (lentOf (a .extent .«vars_room») (a .homes .now) (a .params .now)) (a .text .now) (a .from .at) (a .from .mode) (a .from .depth)
-      (length (a .work .now)) (a .vars .now)
+      OperandExpanded (lentOf (a .extent .«vars_room») (a .extent .shouts) (a .homes .now) (a .params .now)) (a .text .now) (a .from .at)
+      (a .from .mode) (a .from .depth) (length (a .work .now)) (a .vars .now)
       (a .extent .«vars_used») (a .params .now) (paramOf (a .text .now) (a .named .param)) (a .row .units) (formOf (a .named .form)) (markOf (a .row .mark))
       (c .before .before .before .before .before .plan2 .given .0 .0)
       (c .expand-text .last .1 .1 .1 .1 .1 .1 .1 .0) (c .expand-text .last .1 .1 .1 .0) (c .expand-text .result)
@@ -214,7 +215,7 @@ module _ (t : ℕ) where
       (lending (a .params .now) (s .pre .1 .1) (s .pre .1 .2) (s .pre .1 .3)) refl (p .before .look-up .ensures .shows)
       (p .plan-of .ensures) (r .before .before .plan .given .1)
       (reading-known (a .text .now) (a .from .at) _ (r .read-text .ensures) (q .got2 .given .1)) _ (g .result)
-      (g .ensures (a .extent .«vars_room») (a .homes .now))
+      (g .ensures (a .extent .«vars_room») (a .extent .shouts) (a .homes .now))
 
   pub same-length-4 : lts.Need-same-length-4 (callees t) (expand-inner-at t) expand-inner.Post
   same-length-4 c = omega (arith, refused c .expand-text .kept .1 .1 .1 .0)
@@ -249,3 +250,18 @@ module _ (t : ℕ) where
       let f = c .before .before .before .before in
       let e = given (finished f) in
       used-given (inside e) (finished f .before .got5 .given .1) _ _ (f .finish .result) (f .finish .ensures (began (used e) .args .homes .now))
+
+  pub enum-told : lts.Need-enum-told (callees t) (expand-inner-at t) expand-inner.Post
+  enum-told c = search needs
+
+  pub same-length-10 : lts.Need-same-length-10 (callees t) (expand-inner-at t) expand-inner.Post
+  same-length-10 c = search needs
+
+  pub returns-6 : lts.Need-returns-6 (callees t) (expand-inner-at t) expand-inner.Post
+  returns-6 c =
+      let p = c .before .before in
+      let s = began p in
+      let a = s .args in
+      shouted (a .row .units) (formOf (a .named .form)) (markOf (a .row .mark)) (s .pre .1 .0)
+      (lending (a .params .now) (s .pre .1 .1) (s .pre .1 .2) (s .pre .1 .3)) refl (p .before .look-up .ensures .shows)
+      (p .plan-of .ensures) (c .enum-told .given .1) _ _

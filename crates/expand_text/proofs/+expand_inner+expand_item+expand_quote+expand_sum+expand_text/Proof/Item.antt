@@ -45,7 +45,7 @@ use Rattle.expand_text.proofs.expand_quote.Reads as expand-quote
 use Rattle.expand_text.proofs.expand_sum.Reads as expand-sum
 use Rattle.row.proofs.literal_mark.Reads as literal-mark
 use Rattle.expand_item.proofs.give_unit.Reads as give-unit
-use Rattle.expand_item.proofs.give_value.Reads as give-value
+use Rattle.expand_item.proofs.give_sought.Reads as give-sought
 use Rattle.expand_item.proofs.give_length.Reads as give-length
 use Rattle.expand_item.proofs.give_total.Reads as give-total
 use Rattle.expand_list.proofs.is_of_none.Reads as is-of-none
@@ -66,8 +66,8 @@ callees t = (
   give-unit.Learnt,
   expand-quote-below t,
   expand-quote.Post,
-  give-value.Asked,
-  give-value.Learnt,
+  give-sought.Asked,
+  give-sought.Learnt,
   give-length.Asked,
   give-length.Learnt,
   give-total.Asked,
@@ -88,7 +88,7 @@ module _ (t : ℕ) where
   -- the item stands where the text is read
   here : (s : lts.Start (callees t) (expand-item-at t) expand-item.Post) →
       let a = s .args in
-      Here (lentOf (a .extent .«vars_room») (a .homes .now) (a .params .now)) (a .text .now) (a .from .at) (a .from .mode) (a .from .depth)
+      Here (lentOf (a .extent .«vars_room») (a .extent .shouts) (a .homes .now) (a .params .now)) (a .text .now) (a .from .at) (a .from .mode) (a .from .depth)
       (markOf (a .row .mark)) (a .row .units)
       (length (a .work .now)) (a .vars .now) (a .extent .«vars_used») (a .item)
   here s = record { ready = s .pre .1 .1; lends = lending (s .args .params .now) (s .pre .1 .2) (s .pre .1 .3) (s .pre .1 .4); shows = s .pre .1 .0 }
@@ -155,8 +155,8 @@ module _ (t : ℕ) where
   pub enum-known-item-4 : lts.Need-enum-known-item-4 (callees t) (expand-item-at t) expand-item.Post
   enum-known-item-4 c = search needs
 
-  pub add-t49 : lts.Need-add-t49 (callees t) (expand-item-at t) expand-item.Post
-  add-t49 c =
+  pub add-t51 : lts.Need-add-t51 (callees t) (expand-item-at t) expand-item.Post
+  add-t51 c =
       let i = c .before .before in
       omega (arith, paren-place (here (paren i)) (i .item4 .given .1))
 
@@ -179,16 +179,16 @@ module _ (t : ℕ) where
   pub enum-known-item-6 : lts.Need-enum-known-item-6 (callees t) (expand-item-at t) expand-item.Post
   enum-known-item-6 c = search needs
 
-  pub slice-reshare-prefix-give-value : lts.Need-slice-reshare-prefix-give-value (callees t) (expand-item-at t) expand-item.Post
-  slice-reshare-prefix-give-value c = value (c .before) .pre .1 .2 .inside
+  pub slice-reshare-prefix-give-sought : lts.Need-slice-reshare-prefix-give-sought (callees t) (expand-item-at t) expand-item.Post
+  slice-reshare-prefix-give-sought c = value (c .before) .pre .1 .2 .inside
 
-  pub slice-aggregate-give-value : lts.Need-slice-aggregate-give-value (callees t) (expand-item-at t) expand-item.Post
-  slice-aggregate-give-value c =
+  pub slice-aggregate-give-sought : lts.Need-slice-aggregate-give-sought (callees t) (expand-item-at t) expand-item.Post
+  slice-aggregate-give-sought c =
       let s = value (c .before .before) in
       sym (length-take-le (s .args .extent .«vars_used») (s .args .vars .now) (s .pre .1 .2 .inside))
 
-  pub give-value-requires : lts.Need-give-value-requires (callees t) (expand-item-at t) expand-item.Post
-  give-value-requires c κs =
+  pub give-sought-requires : lts.Need-give-sought-requires (callees t) (expand-item-at t) expand-item.Post
+  give-sought-requires c κs =
       let i = c .before .before .before in
       let p = value i .pre .1 in
       (value-name (here (value i)) (i .item6 .given .1), table-held _ _ _ (p .2), p .4, p .1 .few, omega (arith, p .1 .area))
@@ -240,8 +240,8 @@ module _ (t : ℕ) where
   pub enum-known-item-10 : lts.Need-enum-known-item-10 (callees t) (expand-item-at t) expand-item.Post
   enum-known-item-10 c = search needs
 
-  pub sub-t71 : lts.Need-sub-t71 (callees t) (expand-item-at t) expand-item.Post
-  sub-t71 c =
+  pub sub-t73 : lts.Need-sub-t73 (callees t) (expand-item-at t) expand-item.Post
+  sub-t73 c =
       let i = c .before .before in
       omega (arith, inner-depth (here (inner i)) (i .item10 .given .1))
 
@@ -347,13 +347,13 @@ module _ (t : ℕ) where
   same-length-5 c = search needs
 
   pub same-length-6 : lts.Need-same-length-6 (callees t) (expand-item-at t) expand-item.Post
-  same-length-6 c = omega (arith, c .before .before .give-value .kept .1 .1 .1 .1 .1 .1 .0)
+  same-length-6 c = omega (arith, c .before .before .give-sought .kept .1 .1 .1 .1 .1 .1 .0)
 
   pub returns-6 : lts.Need-returns-6 (callees t) (expand-item-at t) expand-item.Post
   returns-6 c =
       let g = c .before .before in
       let i = g .before .before .before .before in
-      item-value (here (value i)) (i .item6 .given .1) _ (g .give-value .result) (g .give-value .ensures)
+      item-value (here (value i)) (i .item6 .given .1) _ (g .give-sought .result) (g .give-sought .ensures)
 
   pub same-length-7 : lts.Need-same-length-7 (callees t) (expand-item-at t) expand-item.Post
   same-length-7 c = search needs

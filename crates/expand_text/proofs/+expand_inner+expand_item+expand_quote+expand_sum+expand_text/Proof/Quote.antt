@@ -70,8 +70,8 @@ module _ (t : ℕ) where
 
   inside : (c : lts.After-expand-text (callees t) (expand-quote-at t) expand-quote.Post) →
       let a = began (emptied c) .args in
-      QuoteExpanded (lentOf (a .extent .«vars_room») (a .homes .now) (a .params .now)) (a .text .now) (a .from .at) (a .from .mode) (a .from .depth) (a .units)
-      (length (a .work .now)) (a .vars .now)
+      QuoteExpanded (lentOf (a .extent .«vars_room») (a .extent .shouts) (a .homes .now) (a .params .now)) (a .text .now) (a .from .at)
+      (a .from .mode) (a .from .depth) (a .units) (length (a .work .now)) (a .vars .now)
       (a .extent .«vars_used») (c .expand-text .last .1 .1 .1 .1 .1 .1 .1 .0) (c .expand-text .last .1 .1 .1 .0) (c .expand-text .result)
   inside c =
       let s = began (emptied c) in
@@ -121,8 +121,8 @@ module _ (t : ℕ) where
       let l = long p in (
         omega (arith, s .pre .0),
         (
-          quote-inner (s .pre .1 .0) (lending (s .args .params .now) (s .pre .1 .1) (s .pre .1 .2) (s .pre .1 .3)) (room-left p) _
-              (omega (arith, mid-len 2 (length w) w (omega arith), l, p .put-empty .kept .0)),
+          quote-inner (s .pre .1 .0) (lending {shouts = s .args .extent .shouts} (s .args .params .now) (s .pre .1 .1) (s .pre .1 .2) (s .pre .1 .3))
+              (room-left p) _ (omega (arith, mid-len 2 (length w) w (omega arith), l, p .put-empty .kept .0)),
           s .pre .1 .1,
           s .pre .1 .2,
           s .pre .1 .3,

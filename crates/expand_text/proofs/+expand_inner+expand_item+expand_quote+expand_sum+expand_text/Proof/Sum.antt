@@ -48,8 +48,8 @@ module _ (t : ℕ) where
 
   inside : (c : lts.After-expand-text (callees t) (expand-sum-at t) expand-sum.Post) →
       let a = began c .args in
-      SumExpanded (lentOf (a .extent .«vars_room») (a .homes .now) (a .params .now)) (a .text .now) (a .at) (a .depth) (length (a .work .now)) (a .vars .now)
-      (a .extent .«vars_used»)
+      SumExpanded (lentOf (a .extent .«vars_room») (a .extent .shouts) (a .homes .now) (a .params .now)) (a .text .now) (a .at) (a .depth)
+      (length (a .work .now)) (a .vars .now) (a .extent .«vars_used»)
       (a .row .units) (markOf (a .row .mark)) (c .expand-text .last .1 .1 .1 .1 .1 .1 .1 .0) (c .expand-text .last .1 .1 .1 .0) (c .expand-text .result)
   inside c = record { ready = began c .pre .1 .0; says = c .expand-text .ensures }
 

@@ -52,7 +52,7 @@ callees t = (
 
 abbrev pub Inv-loop : lts.InvT-loop
 Inv-loop text from row vars₀ extent homes params work₀ mark n₀ i₀ inside₀ left₀ of-none₀ vars work n i inside left of-none =
-    Going (lentOf (extent .«vars_room») homes params) text (from .at) (from .mode) (from .depth) (markOf (row .mark)) (row .units)
+    Going (lentOf (extent .«vars_room») (extent .shouts) homes params) text (from .at) (from .mode) (from .depth) (markOf (row .mark)) (row .units)
     (held (take (extent .«vars_used») vars₀)) work₀ vars₀ work vars n i inside left of-none
 
 abbrev pub μ-loop : lts.MeasureT-loop
@@ -85,8 +85,8 @@ module _ (t : ℕ) where
       let l = looped c .loop in
       let a = began c .args in
       let item = c .before .before .before .before .item-at .result in
-      Expanding (lentOf (a .extent .«vars_room») (a .homes .now) (a .params .now)) (a .text .now) (a .from .at) (a .from .mode) (a .from .depth)
-      (markOf (a .row .mark)) (a .row .units)
+      Expanding (lentOf (a .extent .«vars_room») (a .extent .shouts) (a .homes .now) (a .params .now)) (a .text .now) (a .from .at)
+      (a .from .mode) (a .from .depth) (markOf (a .row .mark)) (a .row .units)
       (held (take (a .extent .«vars_used») (a .vars .now))) (a .work .now) (a .vars .now) (l .work) (l .vars) (l .n) (l .i) (l .inside) (l .left)
       (l .of-none) (isStop item) (modeAfter item (l .inside)) (c .expand-item .last .1 .1 .1 .1 .1 .1 .1 .1 .0)
       (c .expand-item .last .1 .1 .1 .1 .0) (c .expand-item .result)

@@ -10,7 +10,7 @@ use borrow.Author.Needs.{needs}
 use Rattle.stages.specs.Arith as stage
 use Rattle.arith_int.proofs.Ranges.{kept}
 use Rattle.arith_int.proofs.Ranges as ranges
-use Rattle.arith_eval.specs.Climbs.{Says, Turns}
+use Rattle.arith_eval.specs.Climbs.{lentIn, Says, Turns}
 use Rattle.arith_eval.specs.declared.answers.Climbed.{Climbed}
 use Rattle.arith_eval.specs.declared.answers.Turn.{Turn}
 use Rattle.arith_eval.proofs.Operands.{says-shown, ready-with}
@@ -38,12 +38,12 @@ module _ (t : ℕ) where
       → r .operand .result ≡ g →
       let s = r .before .before .before .before .before .before in
       let a = s .args in
-      Says (a .scope .«vars_room») (a .text .now) (a .at) (a .vars .now) (a .scope .«vars_used») (a .scope .counts)
+      Says (lentIn (a .scope)) (a .text .now) (a .at) (a .vars .now) (a .scope .«vars_used») (a .scope .counts)
       (stage.grow (stage.operand false, a .scope .room, drop (a .at) (a .text .now))) (r .operand .last .1 .1 .1 .0) g
   expression-operand r e =
       let s = r .before .before .before .before .before .before in
       let a = s .args in
-      says-shown (a .scope .«vars_room») (a .text .now) (a .at) (a .vars .now) (a .scope .«vars_used») (a .scope .counts)
+      says-shown (lentIn (a .scope)) (a .text .now) (a .at) (a .vars .now) (a .scope .«vars_used») (a .scope .counts)
       (stage.grow (stage.operand false, a .scope .room, drop (a .at) (a .text .now))) _ (r .operand .ensures) e
 
   pub expression-operand-requires : expression-lts.Need-operand-requires (expression-callees t) (expression-at t) expression.Post
@@ -86,7 +86,7 @@ module _ (t : ℕ) where
       let at-operand = at-got .before .before .before .before .before .before in
       let s = at-operand .before .before .before .before .before .before in
       let a = s .args in
-      expression-fails (a .scope .«vars_room») (a .text .now) (a .vars .now) (a .scope .«vars_used») (a .scope .counts) (a .at) (a .scope .room) (a .least)
+      expression-fails (lentIn (a .scope)) (a .text .now) (a .vars .now) (a .scope .«vars_used») (a .scope .counts) (a .at) (a .scope .room) (a .least)
       (s .pre .1 .between) _
       (expression-operand (at-operand) (at-got .got .given .1))
 
@@ -104,7 +104,7 @@ module _ (t : ℕ) where
       let at-operand = at-got2 .before .before .before .before .before .before in
       let s = at-operand .before .before .before .before .before .before in
       let a = s .args in
-      expression-says (a .scope .«vars_room») (a .text .now) (a .vars .now) (a .scope .«vars_used») (a .scope .counts) (a .at) (a .scope .room) (a .least)
+      expression-says (lentIn (a .scope)) (a .text .now) (a .vars .now) (a .scope .«vars_used») (a .scope .counts) (a .at) (a .scope .room) (a .least)
       (s .pre .1 .between) _ _ _ _
       (expression-operand (at-operand) (at-got2 .got2 .given .1)) _ (at-further .further .result)
       (rw (kept (at-got2 .got2 .given .0 .0) (at-known-told2 .known-told2 .given .0 .1)) at (at-further .further .ensures))
@@ -114,7 +114,7 @@ further-callees t = (operator-below t, operator.Post)
 
 abbrev pub further-Inv-loop : further-lts.InvT-loop
 further-Inv-loop text at least left scope vars₀ places₀ value₀ i₀ used₀ vars places value i used =
-    Going (scope .«vars_room») text vars₀ (scope .«vars_used») (scope .counts) at (scope .room) least (toZ w64 value₀) (toZ w64 value) i vars used
+    Going (lentIn scope) text vars₀ (scope .«vars_used») (scope .counts) at (scope .room) least (toZ w64 value₀) (toZ w64 value) i vars used
     × (length vars ≡ length vars₀) × (length places ≡ length places₀)
 
 abbrev pub further-μ-loop : further-lts.MeasureT-loop
@@ -127,21 +127,21 @@ module _ (t : ℕ) where
       let s = at-loop .before .before .before .before in
       let a = s .args in
       let l = at-loop .loop in
-      Turns (a .scope .«vars_room») (a .text .now) (l .i) (l .vars) (l .used) (a .scope .counts) (a .scope .room) (a .least) (toZ w64 (l .value))
+      Turns (lentIn (a .scope)) (a .text .now) (l .i) (l .vars) (l .used) (a .scope .counts) (a .scope .room) (a .least) (toZ w64 (l .value))
       (r .operator .last .1 .1 .1 .1 .1 .0) g
   further-operator r e =
       let at-loop = r .before .before .before in
       let s = at-loop .before .before .before .before in
       let a = s .args in
       let l = at-loop .loop in
-      turns-shown (a .scope .«vars_room») (a .text .now) (l .i) (l .vars) (l .used) (a .scope .counts) (a .scope .room) (a .least) (toZ w64 (l .value)) _
+      turns-shown (lentIn (a .scope)) (a .text .now) (l .i) (l .vars) (l .used) (a .scope .counts) (a .scope .room) (a .least) (toZ w64 (l .value)) _
       (r .operator .ensures) e
 
   pub further-loop-holds : further-lts.Need-loop-holds (further-callees t) (further-at t) further.Post further-Inv-loop further-μ-loop
   further-loop-holds c =
       let s = c .before .before .before in
       let a = s .args in (
-        going-start (a .scope .«vars_room») (a .text .now) (a .vars .now) (a .scope .«vars_used») (a .scope .counts) (a .at) (a .scope .room) (a .least) _
+        going-start (lentIn (a .scope)) (a .text .now) (a .vars .now) (a .scope .«vars_used») (a .scope .counts) (a .at) (a .scope .room) (a .least) _
             (s .pre .1 .ready .start) (s .pre .1 .ready .holds),
         refl,
         refl,
@@ -183,7 +183,7 @@ module _ (t : ℕ) where
       let a = s .args in
       let l = at-loop .loop in
       rw (ranges.held (a .left) (s .fits .left)) at
-      (going-refused (a .scope .«vars_room») (a .text .now) (a .vars .now) (a .scope .«vars_used») (a .scope .counts) (a .at) (a .scope .room) (a .least)
+      (going-refused (lentIn (a .scope)) (a .text .now) (a .vars .now) (a .scope .«vars_used») (a .scope .counts) (a .at) (a .scope .room) (a .least)
       (toZ w64 (ofZ w64 (a .left))) (toZ w64 (l .value)) (l .i) (l .vars) (l .used)
       (l .inv .0) (l .vars) (at-got .got .given .0 .0) (further-operator (at-operator) (at-got .got .given .1)))
 
@@ -210,7 +210,7 @@ module _ (t : ℕ) where
       let a = s .args in
       let l = at-loop .loop in
       rw (ranges.held (a .left) (s .fits .left)) at
-      (going-last (a .scope .«vars_room») (a .text .now) (a .vars .now) (a .scope .«vars_used») (a .scope .counts) (a .at) (a .scope .room) (a .least)
+      (going-last (lentIn (a .scope)) (a .text .now) (a .vars .now) (a .scope .«vars_used») (a .scope .counts) (a .at) (a .scope .room) (a .least)
       (toZ w64 (ofZ w64 (a .left))) (toZ w64 (l .value)) (l .i) (l .vars) (l .used)
       (l .inv .0) (at-operator .operator .last .1 .1 .1 .1 .1 .0) (further-operator (at-operator) (c .enum-told .given .1)))
 
@@ -235,8 +235,8 @@ module _ (t : ℕ) where
       let a = s .args in
       let l = at-loop .loop in (
         rw (kept (at-got2 .got2 .given .0 .0) (c .known-told2 .given .0 .1))
-            (going-next (a .scope .«vars_room») (a .text .now) (a .vars .now) (a .scope .«vars_used») (a .scope .counts) (a .at) (a .scope .room) (a .least) _ _
-            _ _ _ (l .inv .0) _ _ _ _
+            (going-next (lentIn (a .scope)) (a .text .now) (a .vars .now) (a .scope .«vars_used») (a .scope .counts) (a .at) (a .scope .room) (a .least) _ _ _
+            _ _ (l .inv .0) _ _ _ _
             (further-operator (at-operator) (at-got2 .got2 .given .1))),
         at-operator .operator .kept .1 .1 .1 .1 .1 .0 ∙ l .inv .1,
         at-operator .operator .kept .1 .1 .1 .1 .1 .1 .0 ∙ l .inv .2,

@@ -3,6 +3,7 @@ use Prim.Native.Nat.{ℕ}
 use native.Mathlib.Omega.{arith}
 use mathlib.Core.Path.{refl, sym}
 use lib.Seq.{length-take-le}
+use Rattle.arith_eval.specs.Climbs.{lentIn}
 use borrow.Author.Needs.{needs}
 use Rattle.table_store.proofs.Holding.{table-held}
 use Rattle.arith_int.proofs.Ranges.{kept}
@@ -116,7 +117,7 @@ module _ (t : ℕ) where
       let at-token-at = at-token .before .before in
       let s = at-token-at .before .before .before .before in
       let a = s .args in
-      operand-refused (a .scope .«vars_room») (a .text .now) (a .vars .now) (a .scope .«vars_used») (a .scope .counts) (a .at) (a .scope .room) _
+      operand-refused (lentIn (a .scope)) (a .text .now) (a .vars .now) (a .scope .«vars_used») (a .scope .counts) (a .at) (a .scope .room) _
       (token-shown (at-token-at .token-at .ensures) (at-token .token .given .1))
 
   pub operand-returns-2 : operand-lts.Need-returns-2 (operand-callees t) (operand-at t) operand.Post
@@ -126,7 +127,7 @@ module _ (t : ℕ) where
       let s = at-token-at .before .before .before .before in
       let a = s .args in
       rw (kept (at-token2 .token2 .given .0 .0) (c .known-told2 .given .0 .1))
-      (operand-number (a .scope .«vars_room») (a .text .now) (a .vars .now) (a .scope .«vars_used») (a .scope .counts) (a .at) (a .scope .room)
+      (operand-number (lentIn (a .scope)) (a .text .now) (a .vars .now) (a .scope .«vars_used») (a .scope .counts) (a .at) (a .scope .room)
       (s .pre .1 .holds) _ _
       (token-shown (at-token-at .token-at .ensures) (at-token2 .token2 .given .1)))
 
@@ -139,7 +140,7 @@ module _ (t : ℕ) where
       let at-token-at = at-token3 .before .before in
       let s = at-token-at .before .before .before .before in
       let a = s .args in
-      operand-name (a .scope .«vars_room») (a .text .now) (a .vars .now) (a .scope .«vars_used») (a .scope .counts) (a .at) (a .scope .room)
+      operand-name (lentIn (a .scope)) (a .text .now) (a .vars .now) (a .scope .«vars_used») (a .scope .counts) (a .at) (a .scope .room)
       (s .pre .1 .holds) _ _ (c .named .result)
       (token-shown (at-token-at .token-at .ensures) (at-token3 .token3 .given .1)) (a .scope .counts) refl (c .named .ensures)
 
@@ -156,7 +157,7 @@ module _ (t : ℕ) where
       let at-token-at = at-token4 .before .before in
       let s = at-token-at .before .before .before .before in
       let a = s .args in
-      operand-sign (a .scope .«vars_room») (a .text .now) (a .vars .now) (a .scope .«vars_used») (a .scope .counts) (a .at) (a .scope .room) _ _ _
+      operand-sign (lentIn (a .scope)) (a .text .now) (a .vars .now) (a .scope .«vars_used») (a .scope .counts) (a .at) (a .scope .room) _ _ _
       (at-signed .signed .result)
       (token-shown (at-token-at .token-at .ensures) (at-token4 .token4 .given .1)) (at-signed .signed .ensures)
 
@@ -173,7 +174,7 @@ module _ (t : ℕ) where
       let at-token-at = at-token5 .before .before in
       let s = at-token-at .before .before .before .before in
       let a = s .args in
-      operand-opens (a .scope .«vars_room») (a .text .now) (a .vars .now) (a .scope .«vars_used») (a .scope .counts) (a .at) (a .scope .room) _ _
+      operand-opens (lentIn (a .scope)) (a .text .now) (a .vars .now) (a .scope .«vars_used») (a .scope .counts) (a .at) (a .scope .room) _ _
       (at-enclosed .enclosed .result)
       (token-shown (at-token-at .token-at .ensures) (at-token5 .token5 .given .1)) (at-enclosed .enclosed .ensures)
 
@@ -182,7 +183,7 @@ module _ (t : ℕ) where
       let at-token-at = c .before .before in
       let s = at-token-at .before .before .before .before in
       let a = s .args in
-      operand-shut (a .scope .«vars_room») (a .text .now) (a .vars .now) (a .scope .«vars_used») (a .scope .counts) (a .at) (a .scope .room) _
+      operand-shut (lentIn (a .scope)) (a .text .now) (a .vars .now) (a .scope .«vars_used») (a .scope .counts) (a .at) (a .scope .room) _
       (token-shown (at-token-at .token-at .ensures) (c .enum-told .given .1))
 
   pub operand-returns-7 : operand-lts.Need-returns-7 (operand-callees t) (operand-at t) operand.Post
@@ -190,7 +191,7 @@ module _ (t : ℕ) where
       let at-token-at = c .before .before in
       let s = at-token-at .before .before .before .before in
       let a = s .args in
-      operand-query (a .scope .«vars_room») (a .text .now) (a .vars .now) (a .scope .«vars_used») (a .scope .counts) (a .at) (a .scope .room) _
+      operand-query (lentIn (a .scope)) (a .text .now) (a .vars .now) (a .scope .«vars_used») (a .scope .counts) (a .at) (a .scope .room) _
       (token-shown (at-token-at .token-at .ensures) (c .enum-told2 .given .1))
 
   pub operand-returns-8 : operand-lts.Need-returns-8 (operand-callees t) (operand-at t) operand.Post
@@ -198,7 +199,7 @@ module _ (t : ℕ) where
       let at-token-at = c .before .before in
       let s = at-token-at .before .before .before .before in
       let a = s .args in
-      operand-colon (a .scope .«vars_room») (a .text .now) (a .vars .now) (a .scope .«vars_used») (a .scope .counts) (a .at) (a .scope .room) _
+      operand-colon (lentIn (a .scope)) (a .text .now) (a .vars .now) (a .scope .«vars_used») (a .scope .counts) (a .at) (a .scope .room) _
       (token-shown (at-token-at .token-at .ensures) (c .enum-told3 .given .1))
 
   pub operand-returns-9 : operand-lts.Need-returns-9 (operand-callees t) (operand-at t) operand.Post
@@ -206,7 +207,7 @@ module _ (t : ℕ) where
       let at-token-at = c .before .before in
       let s = at-token-at .before .before .before .before in
       let a = s .args in
-      operand-gets (a .scope .«vars_room») (a .text .now) (a .vars .now) (a .scope .«vars_used») (a .scope .counts) (a .at) (a .scope .room) _ _
+      operand-gets (lentIn (a .scope)) (a .text .now) (a .vars .now) (a .scope .«vars_used») (a .scope .counts) (a .at) (a .scope .room) _ _
       (token-shown (at-token-at .token-at .ensures) (c .enum-told4 .given .1))
 
   pub operand-returns-10 : operand-lts.Need-returns-10 (operand-callees t) (operand-at t) operand.Post
@@ -214,5 +215,5 @@ module _ (t : ℕ) where
       let at-token-at = c .before .before in
       let s = at-token-at .before .before .before .before in
       let a = s .args in
-      operand-none (a .scope .«vars_room») (a .text .now) (a .vars .now) (a .scope .«vars_used») (a .scope .counts) (a .at) (a .scope .room)
+      operand-none (lentIn (a .scope)) (a .text .now) (a .vars .now) (a .scope .«vars_used») (a .scope .counts) (a .at) (a .scope .room)
       (token-shown (at-token-at .token-at .ensures) (c .enum-told5 .given .1))

@@ -6,12 +6,13 @@ use mathlib.Core.Bool.{Bool}
 use lib.ListN.{drop}
 use borrow.Author.Needs.{needs}
 use Rattle.stages.specs.Bytes.{Text}
+use Rattle.stages.specs.Params.{Lent}
 use Rattle.stages.specs.Arith as stage
 use Rattle.arith_int.proofs.Ranges.{kept}
 use Rattle.arith_int.proofs.Ranges as ranges
 use Rattle.arith_token.specs.Tokens.{levelOf}
 use Rattle.arith_token.proofs.Lexing.{level-small}
-use Rattle.arith_eval.specs.Climbs.{Says, isNeeded}
+use Rattle.arith_eval.specs.Climbs.{lentIn, Says, isNeeded}
 use Rattle.arith_eval.specs.declared.answers.Climbed.{Climbed}
 use Rattle.arith_eval.proofs.Operands.{token-shown, says-shown, ready-with}
 use Rattle.arith_eval.proofs.Climbing.{turn-refused, last-stop, last-number, last-name, last-opens, last-shuts}
@@ -29,13 +30,13 @@ use Rattle.arith_eval.proofs.climb.+enclosed+expression+further+operand
 }
 
 -- the right side, at the level that the code computed and as far as it counts, once its case is known
-right-shown : (room : ℕ) (text : Text) (next d : ℕ) (vars : Text) (used : ℕ) (left : Text) {x y : Bool} {i j : ℕ} {r g : Climbed}
-    → Says room text next vars used x (stage.expression stage.grow d (i + 1) (drop next text)) left r → x ≡ y → i ≡ j → r ≡ g
-    → Says room text next vars used y (stage.expression stage.grow d (j + 1) (drop next text)) left g
-right-shown room text next d vars used left {x} {j = j} {g = g} h b e q =
-    subst (λ z. Says room text next vars used z (stage.expression stage.grow d (j + 1) (drop next text)) left g) b
-    (subst (λ k. Says room text next vars used x (stage.expression stage.grow d (k + 1) (drop next text)) left g) e
-    (says-shown room text next vars used x _ left h q))
+right-shown : (lent : Lent) (text : Text) (next d : ℕ) (vars : Text) (used : ℕ) (left : Text) {x y : Bool} {i j : ℕ} {r g : Climbed}
+    → Says lent text next vars used x (stage.expression stage.grow d (i + 1) (drop next text)) left r → x ≡ y → i ≡ j → r ≡ g
+    → Says lent text next vars used y (stage.expression stage.grow d (j + 1) (drop next text)) left g
+right-shown lent text next d vars used left {x} {j = j} {g = g} h b e q =
+    subst (λ z. Says lent text next vars used z (stage.expression stage.grow d (j + 1) (drop next text)) left g) b
+    (subst (λ k. Says lent text next vars used x (stage.expression stage.grow d (k + 1) (drop next text)) left g) e
+    (says-shown lent text next vars used x _ left h q))
 
 abbrev pub operator-callees : ℕ → operator-lts.Claims
 operator-callees t = (
@@ -57,7 +58,7 @@ module _ (t : ℕ) where
       let at-token2 = r .before .before .before .before .before .before .before in
       let s = at-token2 .before .before .before .before .before .before in
       let a = s .args in
-      Says (a .scope .«vars_room») (a .text .now) (at-token2 .token2 .given .0 .1 .0) (a .vars .now) (a .scope .«vars_used»)
+      Says (lentIn (a .scope)) (a .text .now) (at-token2 .token2 .given .0 .1 .0) (a .vars .now) (a .scope .«vars_used»)
       (isNeeded (at-token2 .token2 .given .0 .0) (a .left) (a .scope .counts))
       (stage.expression stage.grow (a .scope .room) (levelOf (at-token2 .token2 .given .0 .0) + 1)
       (drop (at-token2 .token2 .given .0 .1 .0) (a .text .now)))
@@ -68,7 +69,7 @@ module _ (t : ℕ) where
       let at-token2 = at-level .before .before in
       let s = at-token2 .before .before .before .before .before .before in
       let a = s .args in
-      right-shown (a .scope .«vars_room») (a .text .now) (at-token2 .token2 .given .0 .1 .0) (a .scope .room) (a .vars .now) (a .scope .«vars_used») _
+      right-shown (lentIn (a .scope)) (a .text .now) (at-token2 .token2 .given .0 .1 .0) (a .scope .room) (a .vars .now) (a .scope .«vars_used») _
       (r .expression .ensures)
       (rw (ranges.held (a .left) (s .fits .left)) at (at-needed .needed .ensures)) (at-level .level .ensures) e
 
@@ -93,7 +94,7 @@ module _ (t : ℕ) where
       let at-token-at = at-token2 .before .before in
       let s = at-token-at .before .before .before .before in
       let a = s .args in
-      last-loose (a .scope .«vars_room») (a .text .now) (a .vars .now) (a .scope .«vars_used») (a .scope .counts) (a .at) (a .scope .room) (a .least)
+      last-loose (lentIn (a .scope)) (a .text .now) (a .vars .now) (a .scope .«vars_used») (a .scope .counts) (a .at) (a .scope .room) (a .least)
       (a .left) _ _
       (token-shown (at-token-at .token-at .ensures) (at-token2 .token2 .given .1)) (rw (at-level .level .ensures) at (c .if1 .taken))
 
@@ -161,7 +162,7 @@ module _ (t : ℕ) where
       let at-token-at = at-token .before .before in
       let s = at-token-at .before .before .before .before in
       let a = s .args in
-      turn-refused (a .scope .«vars_room») (a .text .now) (a .vars .now) (a .scope .«vars_used») (a .scope .counts) (a .at) (a .scope .room) (a .least)
+      turn-refused (lentIn (a .scope)) (a .text .now) (a .vars .now) (a .scope .«vars_used») (a .scope .counts) (a .at) (a .scope .room) (a .least)
       (a .left) (a .vars .now) _
       (token-shown (at-token-at .token-at .ensures) (at-token .token .given .1))
 
@@ -181,7 +182,7 @@ module _ (t : ℕ) where
       let at-token-at = at-token2 .before .before in
       let s = at-token-at .before .before .before .before in
       let a = s .args in
-      right-fails (a .scope .«vars_room») (a .text .now) (a .vars .now) (a .scope .«vars_used») (a .scope .counts) (a .at) (a .scope .room) (a .least)
+      right-fails (lentIn (a .scope)) (a .text .now) (a .vars .now) (a .scope .«vars_used») (a .scope .counts) (a .at) (a .scope .room) (a .least)
       (a .left) _ _
       (token-shown (at-token-at .token-at .ensures) (at-token2 .token2 .given .1)) (rw (at-level .level .ensures) at (at-if1 .if1 .left))
       (s .pre .1 .between) (a .vars .now) _ (a .scope .counts) _ refl refl
@@ -204,7 +205,7 @@ module _ (t : ℕ) where
       let at-token-at = at-token2 .before .before in
       let s = at-token-at .before .before .before .before in
       let a = s .args in
-      turn-says (a .scope .«vars_room») (a .text .now) (a .vars .now) (a .scope .«vars_used») (a .scope .counts) (a .at) (a .scope .room) (a .least) (a .left)
+      turn-says (lentIn (a .scope)) (a .text .now) (a .vars .now) (a .scope .«vars_used») (a .scope .counts) (a .at) (a .scope .room) (a .least) (a .left)
       _ _
       (token-shown (at-token-at .token-at .ensures) (at-token2 .token2 .given .1)) (rw (at-level .level .ensures) at (at-if1 .if1 .left))
       (s .pre .1 .between) (a .scope .counts) _ refl refl _ _ _ _
@@ -216,7 +217,7 @@ module _ (t : ℕ) where
       let at-token-at = c .before .before in
       let s = at-token-at .before .before .before .before in
       let a = s .args in
-      last-number (a .scope .«vars_room») (a .text .now) (a .vars .now) (a .scope .«vars_used») (a .scope .counts) (a .at) (a .scope .room) (a .least)
+      last-number (lentIn (a .scope)) (a .text .now) (a .vars .now) (a .scope .«vars_used») (a .scope .counts) (a .at) (a .scope .room) (a .least)
       (a .left) _ _
       (token-shown (at-token-at .token-at .ensures) (c .enum-told .given .1))
 
@@ -225,7 +226,7 @@ module _ (t : ℕ) where
       let at-token-at = c .before .before in
       let s = at-token-at .before .before .before .before in
       let a = s .args in
-      last-name (a .scope .«vars_room») (a .text .now) (a .vars .now) (a .scope .«vars_used») (a .scope .counts) (a .at) (a .scope .room) (a .least) (a .left)
+      last-name (lentIn (a .scope)) (a .text .now) (a .vars .now) (a .scope .«vars_used») (a .scope .counts) (a .at) (a .scope .room) (a .least) (a .left)
       _ _
       (token-shown (at-token-at .token-at .ensures) (c .enum-told2 .given .1))
 
@@ -234,7 +235,7 @@ module _ (t : ℕ) where
       let at-token-at = c .before .before in
       let s = at-token-at .before .before .before .before in
       let a = s .args in
-      last-opens (a .scope .«vars_room») (a .text .now) (a .vars .now) (a .scope .«vars_used») (a .scope .counts) (a .at) (a .scope .room) (a .least)
+      last-opens (lentIn (a .scope)) (a .text .now) (a .vars .now) (a .scope .«vars_used») (a .scope .counts) (a .at) (a .scope .room) (a .least)
       (a .left) _
       (token-shown (at-token-at .token-at .ensures) (c .enum-told3 .given .1))
 
@@ -243,7 +244,7 @@ module _ (t : ℕ) where
       let at-token-at = c .before .before in
       let s = at-token-at .before .before .before .before in
       let a = s .args in
-      last-shuts (a .scope .«vars_room») (a .text .now) (a .vars .now) (a .scope .«vars_used») (a .scope .counts) (a .at) (a .scope .room) (a .least)
+      last-shuts (lentIn (a .scope)) (a .text .now) (a .vars .now) (a .scope .«vars_used») (a .scope .counts) (a .at) (a .scope .room) (a .least)
       (a .left) _
       (token-shown (at-token-at .token-at .ensures) (c .enum-told4 .given .1))
 
@@ -252,7 +253,7 @@ module _ (t : ℕ) where
       let at-token-at = c .before .before in
       let s = at-token-at .before .before .before .before in
       let a = s .args in
-      last-query (a .scope .«vars_room») (a .text .now) (a .vars .now) (a .scope .«vars_used») (a .scope .counts) (a .at) (a .scope .room) (a .least)
+      last-query (lentIn (a .scope)) (a .text .now) (a .vars .now) (a .scope .«vars_used») (a .scope .counts) (a .at) (a .scope .room) (a .least)
       (a .left) _ (s .pre .1 .between)
       (token-shown (at-token-at .token-at .ensures) (c .enum-told5 .given .1))
 
@@ -261,7 +262,7 @@ module _ (t : ℕ) where
       let at-token-at = c .before .before in
       let s = at-token-at .before .before .before .before in
       let a = s .args in
-      last-colon (a .scope .«vars_room») (a .text .now) (a .vars .now) (a .scope .«vars_used») (a .scope .counts) (a .at) (a .scope .room) (a .least)
+      last-colon (lentIn (a .scope)) (a .text .now) (a .vars .now) (a .scope .«vars_used») (a .scope .counts) (a .at) (a .scope .room) (a .least)
       (a .left) _
       (token-shown (at-token-at .token-at .ensures) (c .enum-told6 .given .1))
 
@@ -270,7 +271,7 @@ module _ (t : ℕ) where
       let at-token-at = c .before .before in
       let s = at-token-at .before .before .before .before in
       let a = s .args in
-      last-gets (a .scope .«vars_room») (a .text .now) (a .vars .now) (a .scope .«vars_used») (a .scope .counts) (a .at) (a .scope .room) (a .least) (a .left)
+      last-gets (lentIn (a .scope)) (a .text .now) (a .vars .now) (a .scope .«vars_used») (a .scope .counts) (a .at) (a .scope .room) (a .least) (a .left)
       _ _
       (token-shown (at-token-at .token-at .ensures) (c .enum-told7 .given .1))
 
@@ -279,5 +280,5 @@ module _ (t : ℕ) where
       let at-token-at = c .before .before in
       let s = at-token-at .before .before .before .before in
       let a = s .args in
-      last-stop (a .scope .«vars_room») (a .text .now) (a .vars .now) (a .scope .«vars_used») (a .scope .counts) (a .at) (a .scope .room) (a .least) (a .left)
+      last-stop (lentIn (a .scope)) (a .text .now) (a .vars .now) (a .scope .«vars_used») (a .scope .counts) (a .at) (a .scope .room) (a .least) (a .left)
       (token-shown (at-token-at .token-at .ensures) (c .enum-told8 .given .1))

@@ -8,7 +8,7 @@ use borrow.Author.Needs.{needs}
 use Rattle.stages.specs.Arith as stage
 use Rattle.stages.proofs.Storeys.{lowest}
 use Rattle.table_store.specs.Holding.{Holds}
-use Rattle.arith_eval.specs.Climbs.{Says}
+use Rattle.arith_eval.specs.Climbs.{lentIn, Says}
 use Rattle.arith_eval.specs.Wholes.{Marks, Targets}
 use Rattle.arith_eval.specs.declared.answers.Climbed.{Climbed}
 use Rattle.arith_eval.specs.declared.marks.Mark.{Mark}
@@ -64,14 +64,14 @@ module _ (t : ℕ) where
       let s = at-loop .before .before .before .before in
       let a = s .args in
       let l = at-loop .loop in
-      Says (a .scope .«vars_room») (a .text .now) (l .i) (l .vars) (a .scope .«vars_used») false
+      Says (lentIn (a .scope)) (a .text .now) (l .i) (l .vars) (a .scope .«vars_used») false
       (stage.expression stage.grow (a .scope .room) lowest (drop (l .i) (a .text .now))) (r .expression .last .1 .1 .1 .1 .0) g
   skip-expression r e =
       let at-loop = r .before .before .before .before .before .before in
       let s = at-loop .before .before .before .before in
       let a = s .args in
       let l = at-loop .loop in
-      says-shown (a .scope .«vars_room») (a .text .now) (l .i) (l .vars) (a .scope .«vars_used») false
+      says-shown (lentIn (a .scope)) (a .text .now) (l .i) (l .vars) (a .scope .«vars_used») false
       (stage.expression stage.grow (a .scope .room) lowest (drop (l .i) (a .text .now))) _ (r .expression .ensures) e
 
   skip-mark-at : (r : skip-lts.After-mark-at (skip-callees t) (skip-at t) skip.Post skip-Inv-loop skip-μ-loop) {g : Mark}
@@ -170,7 +170,7 @@ module _ (t : ℕ) where
       let a = s .args in
       let l = at-loop .loop in
       skip-fails (a .text .now) (a .at) (a .scope .room) (a .colons) (a .begins) (l .awaited) (l .i) (l .first) (l .inv .0)
-      (skip-target-at (at-target-at) (at-enum-told .enum-told .given .1)) (a .scope .«vars_room») _ (a .vars .now) (a .vars .now) _
+      (skip-target-at (at-target-at) (at-enum-told .enum-told .given .1)) (lentIn (a .scope)) _ (a .vars .now) (a .vars .now) _
       (skip-expression (at-expression) (at-got .got .given .1))
 
   pub skip-enum-known-got-2 : skip-lts.Need-enum-known-got-2 (skip-callees t) (skip-at t) skip.Post skip-Inv-loop skip-μ-loop

@@ -8,7 +8,7 @@ use borrow.Author.Needs.{needs}
 use borrow.Author.Tests.{not-true, not-false}
 use Rattle.stages.specs.Arith as stage
 use Rattle.arith_int.proofs.Ranges.{kept}
-use Rattle.arith_eval.specs.Climbs.{Says}
+use Rattle.arith_eval.specs.Climbs.{lentIn, Says}
 use Rattle.arith_eval.specs.declared.answers.Climbed.{Climbed}
 use Rattle.arith_eval.proofs.Operands.{says-shown, closes-shown, ready-with}
 use Rattle.arith_eval.proofs.Operands.{no-sign, sign-deep, sign-fails, sign-says}
@@ -44,12 +44,12 @@ module _ (t : ℕ) where
       → r .operand .result ≡ g →
       let s = r .before .before .before .before .before .before .before .before .before .before .before in
       let a = s .args in
-      Says (a .scope .«vars_room») (a .text .now) (a .at) (a .vars .now) (a .scope .«vars_used») (a .scope .counts)
+      Says (lentIn (a .scope)) (a .text .now) (a .at) (a .vars .now) (a .scope .«vars_used») (a .scope .counts)
       (stage.grow (stage.operand false, a .scope .room - 1, drop (a .at) (a .text .now))) (r .operand .last .1 .1 .1 .0) g
   signed-operand r e =
       let s = r .before .before .before .before .before .before .before .before .before .before .before in
       let a = s .args in
-      says-shown (a .scope .«vars_room») (a .text .now) (a .at) (a .vars .now) (a .scope .«vars_used») (a .scope .counts)
+      says-shown (lentIn (a .scope)) (a .text .now) (a .at) (a .vars .now) (a .scope .«vars_used») (a .scope .counts)
       (stage.grow (stage.operand false, a .scope .room - 1, drop (a .at) (a .text .now))) _ (r .operand .ensures) e
 
   pub signed-is-sign-requires : signed-lts.Need-is-sign-requires (signed-callees t) (signed-at t) signed.Post
@@ -60,7 +60,7 @@ module _ (t : ℕ) where
       let at-is-sign = c .before in
       let s = at-is-sign .before .before .before .before in
       let a = s .args in
-      no-sign (a .scope .«vars_room») (a .text .now) (a .vars .now) (a .scope .«vars_used») (a .scope .counts) (a .at) (a .scope .room) (a .op)
+      no-sign (lentIn (a .scope)) (a .text .now) (a .vars .now) (a .scope .«vars_used») (a .scope .counts) (a .at) (a .scope .room) (a .op)
       (sym (at-is-sign .is-sign .ensures) ∙ not-true (at-is-sign .is-sign .result) (c .if1 .taken))
 
   pub signed-returns-2 : signed-lts.Need-returns-2 (signed-callees t) (signed-at t) signed.Post
@@ -69,7 +69,7 @@ module _ (t : ℕ) where
       let at-is-sign = at-if1 .before in
       let s = at-is-sign .before .before .before .before in
       let a = s .args in
-      sign-deep (a .scope .«vars_room») (a .text .now) (a .vars .now) (a .scope .«vars_used») (a .scope .counts) (a .at) (a .scope .room) (a .op)
+      sign-deep (lentIn (a .scope)) (a .text .now) (a .vars .now) (a .scope .«vars_used») (a .scope .counts) (a .at) (a .scope .room) (a .op)
       (sym (at-is-sign .is-sign .ensures) ∙ not-false (at-is-sign .is-sign .result) (at-if1 .if1 .left)) (c .if2 .taken)
 
   pub signed-sub-t15 : signed-lts.Need-sub-t15 (signed-callees t) (signed-at t) signed.Post
@@ -107,7 +107,7 @@ module _ (t : ℕ) where
       let at-is-sign = at-if1 .before in
       let s = at-is-sign .before .before .before .before in
       let a = s .args in
-      sign-fails (a .scope .«vars_room») (a .text .now) (a .vars .now) (a .scope .«vars_used») (a .scope .counts) (a .at) (a .scope .room) (a .op)
+      sign-fails (lentIn (a .scope)) (a .text .now) (a .vars .now) (a .scope .«vars_used») (a .scope .counts) (a .at) (a .scope .room) (a .op)
       (sym (at-is-sign .is-sign .ensures) ∙ not-false (at-is-sign .is-sign .result) (at-if1 .if1 .left)) (at-if2 .if2 .left) _
       (signed-operand (at-operand) (at-got .got .given .1))
 
@@ -127,7 +127,7 @@ module _ (t : ℕ) where
       let at-is-sign = at-if1 .before in
       let s = at-is-sign .before .before .before .before in
       let a = s .args in
-      sign-says (a .scope .«vars_room») (a .text .now) (a .vars .now) (a .scope .«vars_used») (a .scope .counts) (a .at) (a .scope .room) (a .op)
+      sign-says (lentIn (a .scope)) (a .text .now) (a .vars .now) (a .scope .«vars_used») (a .scope .counts) (a .at) (a .scope .room) (a .op)
       (sym (at-is-sign .is-sign .ensures) ∙ not-false (at-is-sign .is-sign .result) (at-if1 .if1 .left)) (at-if2 .if2 .left) _ _ _ _
       (signed-operand (at-operand) (at-got2 .got2 .given .1))
       (c .turned .result) (a .scope .counts) refl (rw (kept (at-got2 .got2 .given .0 .0) (at-known-told2 .known-told2 .given .0 .1)) at (c .turned .ensures))
@@ -140,19 +140,19 @@ module _ (t : ℕ) where
       → r .whole .result ≡ g →
       let s = r .before .before .before .before .before .before .before .before .before in
       let a = s .args in
-      Says (a .scope .«vars_room») (a .text .now) (a .at) (a .vars .now) (a .scope .«vars_used») (a .scope .counts)
+      Says (lentIn (a .scope)) (a .text .now) (a .at) (a .vars .now) (a .scope .«vars_used») (a .scope .counts)
       (stage.expression stage.grow (a .scope .room - 1) stage.wholeLevel (drop (a .at) (a .text .now))) (r .whole .last .1 .1 .1 .0) g
   enclosed-whole r e =
       let s = r .before .before .before .before .before .before .before .before .before in
       let a = s .args in
-      says-shown (a .scope .«vars_room») (a .text .now) (a .at) (a .vars .now) (a .scope .«vars_used») (a .scope .counts)
+      says-shown (lentIn (a .scope)) (a .text .now) (a .at) (a .vars .now) (a .scope .«vars_used») (a .scope .counts)
       (stage.expression stage.grow (a .scope .room - 1) stage.wholeLevel (drop (a .at) (a .text .now))) _ (r .whole .ensures) e
 
   pub enclosed-returns : enclosed-lts.Need-returns (enclosed-callees t) (enclosed-at t) enclosed.Post
   enclosed-returns c =
       let s = c .before .before .before .before .before in
       let a = s .args in
-      enclosed-deep (a .scope .«vars_room») (a .text .now) (a .vars .now) (a .scope .«vars_used») (a .scope .counts) (a .at) (a .scope .room) (c .if1 .taken)
+      enclosed-deep (lentIn (a .scope)) (a .text .now) (a .vars .now) (a .scope .«vars_used») (a .scope .counts) (a .at) (a .scope .room) (c .if1 .taken)
 
   pub enclosed-sub-t16 : enclosed-lts.Need-sub-t16 (enclosed-callees t) (enclosed-at t) enclosed.Post
   enclosed-sub-t16 c =
@@ -196,7 +196,7 @@ module _ (t : ℕ) where
       let at-if1 = at-whole .before .before .before .before in
       let s = at-if1 .before .before .before .before .before in
       let a = s .args in
-      enclosed-fails (a .scope .«vars_room») (a .text .now) (a .vars .now) (a .scope .«vars_used») (a .scope .counts) (a .at) (a .scope .room) _
+      enclosed-fails (lentIn (a .scope)) (a .text .now) (a .vars .now) (a .scope .«vars_used») (a .scope .counts) (a .at) (a .scope .room) _
       (at-if1 .if1 .left) (enclosed-whole (at-whole) (at-got .got .given .1))
 
   pub enclosed-same-length-3 : enclosed-lts.Need-same-length-3 (enclosed-callees t) (enclosed-at t) enclosed.Post
@@ -214,7 +214,7 @@ module _ (t : ℕ) where
       let at-if1 = at-whole .before .before .before .before in
       let s = at-if1 .before .before .before .before .before in
       let a = s .args in
-      unclosed (a .scope .«vars_room») (a .text .now) (a .vars .now) (a .scope .«vars_used») (a .scope .counts) (a .at) (a .scope .room) _ _ _ _
+      unclosed (lentIn (a .scope)) (a .text .now) (a .vars .now) (a .scope .«vars_used») (a .scope .counts) (a .at) (a .scope .room) _ _ _ _
       (at-if1 .if1 .left) (enclosed-whole (at-whole) (at-got2 .got2 .given .1)) _
       (closes-shown _ _ (at-closed .closed .ensures) (at-shut .shut .given .1))
 
@@ -235,6 +235,6 @@ module _ (t : ℕ) where
       let s = at-if1 .before .before .before .before .before in
       let a = s .args in
       rw (kept (at-got2 .got2 .given .0 .0) (at-known-told2 .known-told2 .given .0 .1))
-      (enclosed-says (a .scope .«vars_room») (a .text .now) (a .vars .now) (a .scope .«vars_used») (a .scope .counts) (a .at) (a .scope .room) _ _ _ _
+      (enclosed-says (lentIn (a .scope)) (a .text .now) (a .vars .now) (a .scope .«vars_used») (a .scope .counts) (a .at) (a .scope .room) _ _ _ _
       (at-if1 .if1 .left)
       (enclosed-whole (at-whole) (at-got2 .got2 .given .1)) _ (closes-shown _ _ (at-closed .closed .ensures) (at-shut2 .shut2 .given .1)))

@@ -9,7 +9,7 @@ use Rattle.stages.specs.Arith as stage
 use Rattle.stages.proofs.Storeys.{lowest}
 use Rattle.table_store.specs.Holding.{Holds}
 use Rattle.arith_int.proofs.Ranges.{kept}
-use Rattle.arith_eval.specs.Climbs.{inside, Says}
+use Rattle.arith_eval.specs.Climbs.{lentIn, inside, Says}
 use Rattle.arith_eval.specs.Wholes.{Targets, Steps}
 use Rattle.arith_eval.specs.declared.answers.Climbed.{Climbed}
 use Rattle.arith_eval.specs.declared.answers.Step.{Step}
@@ -44,7 +44,7 @@ worked-callees t = (
 
 abbrev pub worked-Inv-loop : worked-lts.InvT-loop
 worked-Inv-loop text at scope vars₀ places₀ i₀ first₀ awaited₀ waiting₀ used₀ vars places i first awaited waiting used =
-    Working (scope .«vars_room») text (inside vars₀ (scope .«vars_used»)) at (scope .room) awaited i first waiting places (inside vars used)
+    Working (lentIn scope) text (inside vars₀ (scope .«vars_used»)) at (scope .room) awaited i first waiting places (inside vars used)
     × Holds (scope .«vars_room») vars used × (length vars ≡ length vars₀) × (length places ≡ length places₀)
 
 abbrev pub worked-μ-loop : worked-lts.MeasureT-loop
@@ -71,14 +71,14 @@ module _ (t : ℕ) where
       let s = at-loop .before .before .before .before in
       let a = s .args in
       let l = at-loop .loop in
-      Says (a .scope .«vars_room») (a .text .now) (l .i) (l .vars) (l .used) true
+      Says (lentIn (a .scope)) (a .text .now) (l .i) (l .vars) (l .used) true
       (stage.expression stage.grow (a .scope .room) lowest (drop (l .i) (a .text .now))) (r .expression .last .1 .1 .1 .1 .0) g
   worked-expression r e =
       let at-loop = r .before .before .before .before .before .before in
       let s = at-loop .before .before .before .before in
       let a = s .args in
       let l = at-loop .loop in
-      says-shown (a .scope .«vars_room») (a .text .now) (l .i) (l .vars) (l .used) true
+      says-shown (lentIn (a .scope)) (a .text .now) (l .i) (l .vars) (l .used) true
       (stage.expression stage.grow (a .scope .room) lowest (drop (l .i) (a .text .now))) _ (r .expression .ensures) e
 
   -- the places behind it: those of the names are as they were
@@ -103,7 +103,7 @@ module _ (t : ℕ) where
       let s = at-loop .before .before .before .before in
       let a = s .args in
       let l = at-loop .loop in
-      Working (a .scope .«vars_room») (a .text .now) (inside (a .vars .now) (a .scope .«vars_used»)) (a .at) (a .scope .room) (l .awaited) (l .i) (l .first)
+      Working (lentIn (a .scope)) (a .text .now) (inside (a .vars .now) (a .scope .«vars_used»)) (a .at) (a .scope .room) (l .awaited) (l .i) (l .first)
       (l .waiting)
       (worked-places r) (inside (l .vars) (l .used))
   worked-lent r =
@@ -163,7 +163,7 @@ module _ (t : ℕ) where
       let s = at-loop .before .before .before .before in
       let a = s .args in
       let l = at-loop .loop in
-      Working (a .scope .«vars_room») (a .text .now) (inside (a .vars .now) (a .scope .«vars_used»)) (a .at) (a .scope .room) (l .awaited) (l .i) (l .first)
+      Working (lentIn (a .scope)) (a .text .now) (inside (a .vars .now) (a .scope .«vars_used»)) (a .at) (a .scope .room) (l .awaited) (l .i) (l .first)
       (l .waiting)
       (worked-places-2 r) (inside (l .vars) (l .used))
   worked-lent-2 r =

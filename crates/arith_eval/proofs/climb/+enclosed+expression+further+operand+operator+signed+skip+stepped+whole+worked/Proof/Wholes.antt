@@ -5,6 +5,7 @@ use mathlib.Core.Path.{_≡_}
 use mathlib.Core.Bool.{true}
 use lib.IntN.{pos}
 use lib.ListN.{drop}
+use Rattle.arith_eval.specs.Climbs.{lentIn}
 use borrow.Author.Needs.{needs}
 use Rattle.stages.specs.Arith as stage
 use Rattle.arith_eval.specs.Wholes.{Skips}
@@ -54,7 +55,7 @@ module _ (t : ℕ) where
       let at-if1 = at-worked .before .before .before in
       let s = at-if1 .before .before .before .before in
       let a = s .args in
-      says-counts (a .scope .«vars_room») (a .text .now) (a .at) (a .vars .now) (a .scope .«vars_used»)
+      says-counts (lentIn (a .scope)) (a .text .now) (a .at) (a .vars .now) (a .scope .«vars_used»)
       (stage.expression stage.grow (a .scope .room) stage.wholeLevel (drop (a .at) (a .text .now))) (at-worked .worked .last .1 .1 .1 .0)
       (at-worked .worked .result) (at-if1 .if1 .taken) (at-worked .worked .ensures)
 
@@ -83,10 +84,10 @@ module _ (t : ℕ) where
       let at-if1 = at-skip .before .before .before in
       let s = at-if1 .before .before .before .before in
       let a = s .args in
-      says-counts (a .scope .«vars_room») (a .text .now) (a .at) (a .vars .now) (a .scope .«vars_used»)
+      says-counts (lentIn (a .scope)) (a .text .now) (a .at) (a .vars .now) (a .scope .«vars_used»)
       (stage.expression stage.grow (a .scope .room) stage.wholeLevel (drop (a .at) (a .text .now))) (at-skip .skip .last .1 .1 .1 .1 .1 .0)
       (climbed.Refused (at-got .got .given .0 .0)) (at-if1 .if1 .left)
-      (whole-skipped (a .scope .«vars_room») (a .text .now) (a .at) (a .scope .room) (a .vars .now) (a .scope .«vars_used»)
+      (whole-skipped (lentIn (a .scope)) (a .text .now) (a .at) (a .scope .room) (a .vars .now) (a .scope .«vars_used»)
       (at-skip .skip .last .1 .1 .1 .1 .1 .0) _ (whole-skip (at-skip) (at-got .got .given .1)))
 
   pub whole-same-length-5 : whole-lts.Need-same-length-5 (whole-callees t) (whole-at t) whole.Post
@@ -102,9 +103,9 @@ module _ (t : ℕ) where
       let at-if1 = at-skip .before .before .before in
       let s = at-if1 .before .before .before .before in
       let a = s .args in
-      says-counts (a .scope .«vars_room») (a .text .now) (a .at) (a .vars .now) (a .scope .«vars_used»)
+      says-counts (lentIn (a .scope)) (a .text .now) (a .at) (a .vars .now) (a .scope .«vars_used»)
       (stage.expression stage.grow (a .scope .room) stage.wholeLevel (drop (a .at) (a .text .now))) (at-skip .skip .last .1 .1 .1 .1 .1 .0)
       (climbed.Value (pos 0) (at-got2 .got2 .given .0 .0) (a .scope .«vars_used»)) (at-if1 .if1 .left)
-      (whole-read (a .scope .«vars_room») (a .text .now) (a .at) (a .scope .room) (a .vars .now) (a .scope .«vars_used»)
+      (whole-read (lentIn (a .scope)) (a .text .now) (a .at) (a .scope .room) (a .vars .now) (a .scope .«vars_used»)
       (at-skip .skip .last .1 .1 .1 .1 .1 .0) (s .pre .1 .holds) _
       (whole-skip (at-skip) (at-got2 .got2 .given .1)))

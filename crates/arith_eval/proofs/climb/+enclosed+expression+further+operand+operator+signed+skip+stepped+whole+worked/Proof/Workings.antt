@@ -7,7 +7,7 @@ use lib.ListN.{length-set}
 use borrow.Author.Needs.{needs}
 use Rattle.table_store.specs.Holding.{Holds}
 use Rattle.arith_int.proofs.Ranges.{kept}
-use Rattle.arith_eval.specs.Climbs.{inside}
+use Rattle.arith_eval.specs.Climbs.{lentIn, inside}
 use Rattle.arith_eval.specs.Wholes.{Stores}
 use Rattle.arith_eval.proofs.Working.{Working, working-start, work-target, work-fails, work-refused, work-middle, work-behind, work-last}
 use Rattle.arith_eval.proofs.Working.{stacked-within}
@@ -36,7 +36,7 @@ module _ (t : ℕ) where
   worked-loop-holds c =
       let s = c .before .before .before in
       let a = s .args in (
-        working-start (a .scope .«vars_room») (a .text .now) (inside (a .vars .now) (a .scope .«vars_used»)) (a .at) (a .scope .room) _ (s .pre .1 .start),
+        working-start (lentIn (a .scope)) (a .text .now) (inside (a .vars .now) (a .scope .«vars_used»)) (a .at) (a .scope .room) _ (s .pre .1 .start),
         s .pre .1 .holds,
         refl,
         refl,
@@ -98,7 +98,7 @@ module _ (t : ℕ) where
       let w = h .1 .sets .behind .within in
       let d = l .inv .0 .deep in
       let p = s .pre .1 .deep in (
-        work-target (a .scope .«vars_room») (a .text .now) (inside (a .vars .now) (a .scope .«vars_used»)) (a .at) (a .scope .room) (l .awaited) (l .i)
+        work-target (lentIn (a .scope)) (a .text .now) (inside (a .vars .now) (a .scope .«vars_used»)) (a .at) (a .scope .room) (l .awaited) (l .i)
             (l .first) (l .waiting) (l .places) _ (l .inv .0) (h .0) (h .1) (omega (arith, l .inv .3)),
         l .inv .1,
         l .inv .2,
@@ -151,7 +151,7 @@ module _ (t : ℕ) where
       let s = at-loop .before .before .before .before in
       let a = s .args in
       let l = at-loop .loop in
-      work-fails (a .scope .«vars_room») (a .text .now) (inside (a .vars .now) (a .scope .«vars_used»)) (a .at) (a .scope .room) (l .awaited) (l .i)
+      work-fails (lentIn (a .scope)) (a .text .now) (inside (a .vars .now) (a .scope .«vars_used»)) (a .at) (a .scope .room) (l .awaited) (l .i)
       (l .first) (l .waiting) (l .places) _ (l .inv .0)
       (worked-target-at t (at-target-at) (at-enum-told .enum-told .given .1)) _ (worked-expression t (at-expression) (at-got .got .given .1))
 
@@ -213,7 +213,7 @@ module _ (t : ℕ) where
       let s = at-loop .before .before .before .before in
       let a = s .args in
       let l = at-loop .loop in
-      work-refused (a .scope .«vars_room») (a .text .now) (inside (a .vars .now) (a .scope .«vars_used»)) (a .at) (a .scope .room) (l .awaited) (l .i)
+      work-refused (lentIn (a .scope)) (a .text .now) (inside (a .vars .now) (a .scope .«vars_used»)) (a .at) (a .scope .room) (l .awaited) (l .i)
       (l .first) (l .waiting) (l .places) _ (l .inv .0)
       (worked-target-at t (at-target-at) (at-enum-told .enum-told .given .1)) (at-got2 .got2 .given .0 .0) (at-got2 .got2 .given .0 .1 .0) _
       ((worked-expression t (at-expression) (at-got2 .got2 .given .1)) .0)
@@ -273,12 +273,12 @@ module _ (t : ℕ) where
       let a = s .args in
       let l = at-loop .loop in
       let h = (worked-stepped t (at-stepped) (at-step2 .step2 .given .1)) in
-      work-last (a .scope .«vars_room») (a .text .now) (a .vars .now) (a .scope .«vars_used») (a .at) (a .scope .room) (l .awaited) (l .i) (l .first)
+      work-last (lentIn (a .scope)) (a .text .now) (a .vars .now) (a .scope .«vars_used») (a .at) (a .scope .room) (l .awaited) (l .i) (l .first)
       (l .waiting)
       (worked-places-2 t (at-stepped)) _ (worked-lent-2 t (at-stepped)) (worked-target-at t (at-target-at) (at-enum-told .enum-told .given .1))
       (at-got2 .got2 .given .0 .0) (at-got2 .got2 .given .0 .1 .0) _ (at-got2 .got2 .given .0 .1 .1 .0)
       ((worked-expression t (at-expression) (at-got2 .got2 .given .1)) .0) _ (h .0) _ (at-stored-all .stored-all .result)
-      (subst (λ x. Stores (a .scope .«vars_room») (a .text .now) (at-step2 .step2 .given .0 .0) (at-got2 .got2 .given .0 .0) (l .waiting)
+      (subst (λ x. Stores (lentIn (a .scope)) (a .text .now) (at-step2 .step2 .given .0 .0) (at-got2 .got2 .given .0 .0) (l .waiting)
       (worked-places-2 t (at-stepped)) x (at-got2 .got2 .given .0 .1 .1 .0)
       (at-stored-all .stored-all .last .1 .1 .1 .1 .1 .0) (at-stored-all .stored-all .result)) (h .1)
       (rw (kept (at-got2 .got2 .given .0 .0) (at-known-told3 .known-told3 .given .0 .1)) at (at-stored-all .stored-all .ensures)))
@@ -327,10 +327,10 @@ module _ (t : ℕ) where
       let a = s .args in
       let l = at-loop .loop in
       let h = (worked-stepped t (at-stepped) (at-step3 .step3 .given .1)) in (
-        subst (λ x. Working (a .scope .«vars_room») (a .text .now) (inside (a .vars .now) (a .scope .«vars_used»)) (a .at) (a .scope .room) (l .awaited + 1)
+        subst (λ x. Working (lentIn (a .scope)) (a .text .now) (inside (a .vars .now) (a .scope .«vars_used»)) (a .at) (a .scope .room) (l .awaited + 1)
             (at-step3 .step3 .given .0 .0) true (l .waiting)
             (worked-places-2 t (at-stepped)) (inside x (at-got2 .got2 .given .0 .1 .1 .0))) (sym (h .2))
-            (work-middle (a .scope .«vars_room») (a .text .now) (inside (a .vars .now) (a .scope .«vars_used»)) (a .at) (a .scope .room) (l .awaited) (l .i)
+            (work-middle (lentIn (a .scope)) (a .text .now) (inside (a .vars .now) (a .scope .«vars_used»)) (a .at) (a .scope .room) (l .awaited) (l .i)
             (l .first) (l .waiting) (worked-places-2 t (at-stepped)) _ (worked-lent-2 t (at-stepped))
             (worked-target-at t (at-target-at) (at-enum-told .enum-told .given .1)) (at-got2 .got2 .given .0 .0) (at-got2 .got2 .given .0 .1 .0) _
             ((worked-expression t (at-expression) (at-got2 .got2 .given .1)) .0) _ (h .0) (h .1)),
@@ -370,10 +370,10 @@ module _ (t : ℕ) where
       let a = s .args in
       let l = at-loop .loop in
       let h = (worked-stepped t (at-stepped) (at-step4 .step4 .given .1)) in (
-        subst (λ x. Working (a .scope .«vars_room») (a .text .now) (inside (a .vars .now) (a .scope .«vars_used»)) (a .at) (a .scope .room) (l .awaited)
+        subst (λ x. Working (lentIn (a .scope)) (a .text .now) (inside (a .vars .now) (a .scope .«vars_used»)) (a .at) (a .scope .room) (l .awaited)
             (at-step4 .step4 .given .0 .0) false (l .waiting)
             (worked-places-2 t (at-stepped)) (inside x (at-got2 .got2 .given .0 .1 .1 .0))) (sym (h .2))
-            (work-behind (a .scope .«vars_room») (a .text .now) (inside (a .vars .now) (a .scope .«vars_used»)) (a .at) (a .scope .room) (l .awaited) (l .i)
+            (work-behind (lentIn (a .scope)) (a .text .now) (inside (a .vars .now) (a .scope .«vars_used»)) (a .at) (a .scope .room) (l .awaited) (l .i)
             (l .first) (l .waiting) (worked-places-2 t (at-stepped)) _ (worked-lent-2 t (at-stepped))
             (worked-target-at t (at-target-at) (at-enum-told .enum-told .given .1)) (at-got2 .got2 .given .0 .0) (at-got2 .got2 .given .0 .1 .0) _
             ((worked-expression t (at-expression) (at-got2 .got2 .given .1)) .0) _ (h .1) (h .0)),
