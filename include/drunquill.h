@@ -28,6 +28,7 @@
 #ifndef DRUNQUILL_H
 #define DRUNQUILL_H
 
+#include <stdbool.h>
 #include <stddef.h>
 #include <stdint.h>
 
@@ -80,7 +81,9 @@ enum {
     DRUNQUILL_OUTPUT_ROOM = 21,       /* the output is longer than its buffer or its limit */
     DRUNQUILL_BAD_FIELDS = 22,        /* the quoter's fields malformed or above their limit */
     DRUNQUILL_BAD_PARAMETERS = 23,    /* positional parameters malformed or above their limit */
-    DRUNQUILL_BAD_PATH = 24           /* a path to insert that is there, or one to delete that is not */
+    DRUNQUILL_BAD_PATH = 24,          /* a path to insert that is there, or one to delete that is not */
+    DRUNQUILL_UNSET_NAME = 25         /* with `shouts`, a parameter that is unset where its value is looked up: $name, ${#name}, a removal, a name in
+                                         arithmetic */
 };
 
 /* What the expander, the normaliser and the assigner answer. */
@@ -118,6 +121,11 @@ struct drunquill_costed {
  *
  *  vars         the variables: an image in the first `vars_used` of `vars_len` bytes. ${name=word} and arithmetic, as $((n=n+1)), store into it. The
  *               buffer may be longer than DRUNQUILL_IMAGE_MAX, the image may not.
+ *  shouts       whether unset names shout: with `true` the plain form $name or ${name}, the length ${#name}, the four removals as ${name%word}, each
+ *               before its word is expanded, and a name that is read in arithmetic are DRUNQUILL_UNSET_NAME on a parameter that is unset, a number beyond
+ *               the last one too, at the moment it is looked up. The forms with - = ? + are exempt, and so are $#, $@, $* and ~, but not what stands in a
+ *               word that they expand. An empty value is set; a name that arithmetic only stores to, or on a side that is not needed, is not read. A call
+ *               that is not refused with this number answers what it answers with `false`, in every byte.
  *  homes        whose directory ~login gives, at the start of a word or of a bare operand; ~ alone gives the variable HOME
  *  params       the positional parameters: an image of fields, the first of them $1. One without parameters is the byte 1.
  *  paths        what patterns are matched against: the function looks at no file
@@ -132,16 +140,18 @@ struct drunquill_costed {
  * every byte of both is. The bytes of `message` after the message are unchanged, and on every number but DRUNQUILL_DEMANDED every byte of it is. Faults are
  * met in this order: numbers 1 to 4, 23, 5 and 6; then the whole line is read; then its words are expanded from left to right; the first fault is answered.
  */
-struct drunquill_answer drunquill_expand(const uint8_t *line, size_t line_len, uint8_t *vars, size_t vars_len, size_t vars_used, const uint8_t *homes,
-                                         size_t homes_len, const uint8_t *params, size_t params_len, const uint8_t *paths, size_t paths_len, uint8_t *work,
-                                         size_t work_len, uint8_t *out, size_t out_len, uint8_t *message, size_t message_len);
+struct drunquill_answer drunquill_expand(const uint8_t *line, size_t line_len, uint8_t *vars, size_t vars_len, size_t vars_used, bool shouts,
+                                         const uint8_t *homes, size_t homes_len, const uint8_t *params, size_t params_len, const uint8_t *paths,
+                                         size_t paths_len, uint8_t *work, size_t work_len, uint8_t *out, size_t out_len, uint8_t *message,
+                                         size_t message_len);
 
 /* The normaliser: as the expander, but the fields go to `out` as a quoted line (see the quoter), of at most DRUNQUILL_LINE_MAX bytes. If the quoted line
  * has no room the number is 21 at place 0 and the variables are as before, too. A line without fields needs no byte of `out`.
  */
-struct drunquill_answer drunquill_normalise(const uint8_t *line, size_t line_len, uint8_t *vars, size_t vars_len, size_t vars_used, const uint8_t *homes,
-                                            size_t homes_len, const uint8_t *params, size_t params_len, const uint8_t *paths, size_t paths_len,
-                                            uint8_t *work, size_t work_len, uint8_t *out, size_t out_len, uint8_t *message, size_t message_len);
+struct drunquill_answer drunquill_normalise(const uint8_t *line, size_t line_len, uint8_t *vars, size_t vars_len, size_t vars_used, bool shouts,
+                                            const uint8_t *homes, size_t homes_len, const uint8_t *params, size_t params_len, const uint8_t *paths,
+                                            size_t paths_len, uint8_t *work, size_t work_len, uint8_t *out, size_t out_len, uint8_t *message,
+                                            size_t message_len);
 
 /* The assigner: each word of the line is a name, a bare `=` and a value, which may be empty, as in out=~/jobs:$base, and sets that variable. Assignments take
  * effect from left to right, each seen by the next; if one is refused, none has taken effect.
@@ -150,13 +160,13 @@ struct drunquill_answer drunquill_normalise(const uint8_t *line, size_t line_len
  * assignment's own `=`, and after each `:` that is written in the value, not quoted and in no operand; a login there ends at a `:` too. A word without name
  * and `=` is DRUNQUILL_BAD_SYNTAX, whatever else is wrong with it; $@ and $* in a value are DRUNQUILL_UNSERVED.
  *
- * `vars`, `homes`, `params`, `work` and `message` are as in the expander, before the call and after it; there are neither paths nor output, and the answer's
- * `out_len` is 0. Faults are met in this order: numbers 1 to 3, 23, 5 and 6; then the whole line is read; then its values are expanded and stored from left to
+ * `vars`, `shouts`, `homes`, `params`, `work` and `message` are as in the expander, before the call and after it; there are neither paths nor output, and
+ * the answer's `out_len` is 0. Faults are met in this order: numbers 1 to 3, 23, 5 and 6; then the whole line is read; then its values are expanded and stored from left to
  * right. 4, 21 and 22 do not arise.
  */
-struct drunquill_answer drunquill_assign(const uint8_t *line, size_t line_len, uint8_t *vars, size_t vars_len, size_t vars_used, const uint8_t *homes,
-                                         size_t homes_len, const uint8_t *params, size_t params_len, uint8_t *work, size_t work_len, uint8_t *message,
-                                         size_t message_len);
+struct drunquill_answer drunquill_assign(const uint8_t *line, size_t line_len, uint8_t *vars, size_t vars_len, size_t vars_used, bool shouts,
+                                         const uint8_t *homes, size_t homes_len, const uint8_t *params, size_t params_len, uint8_t *work, size_t work_len,
+                                         uint8_t *message, size_t message_len);
 
 /* The quoter: an image of fields as a line to `out`. A field that is not empty and holds only letters, digits, `.`, `_`, `-` and `/` stands there bare; one
  * that holds a byte below 32 or byte 127 in $'...', a backslash before each \ and ', and each such byte as a backslash and three octal digits; any other in

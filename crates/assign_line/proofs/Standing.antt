@@ -2,6 +2,7 @@
 use Prim.Native.Nat.{ℕ, _≤_, _<_}
 use native.Mathlib.Omega.{arith}
 use mathlib.Core.Path.{_≡_, subst}
+use mathlib.Core.Bool.{Bool}
 use lib.ListN.{length, take, drop}
 use Rattle.stages.specs.Numbers.{workLeast}
 use Rattle.stages.specs.Bytes.{Text}
@@ -19,22 +20,23 @@ use Rattle.assign_line.specs.declared.WordAssigned.the-variants as word
 use Rattle.assign_line.specs.declared.LineAssigned.the-variants as line
 use Rattle.assign_line.proofs.Going.{Goes, goes-start, goes-end, first, goes-refused, goes-demanded, goes-on}
 
-pub record State (text houses params : Text) (room : ℕ) (o : Placed Pairs) (at left : ℕ) (vars work : Text) : Type 0 where
-  pub goes : Goes (lentOf room houses params) o text at (held (take left vars))
+pub record State (text houses params : Text) (room : ℕ) (shouts : Bool) (o : Placed Pairs) (at left : ℕ) (vars work : Text) : Type 0 where
+  pub goes : Goes (lentOf room shouts houses params) o text at (held (take left vars))
   pub holds : Holds room vars left
   pub area : workLeast ≤ length work
 
-module _ {text vars : Text} {varsUsed room : ℕ} {houses params work : Text} (r : LineReady text vars varsUsed room houses params work) where
+module _ {text vars : Text} {varsUsed room : ℕ} {houses params work : Text} (shouts : Bool)
+    (r : LineReady text vars varsUsed room houses params work) where
   abbrev a : Lent
-  a = lentOf room houses params
+  a = lentOf room shouts houses params
 
   abbrev whole : Placed Pairs
   whole = lineOutcome a text (held (take varsUsed vars))
 
-  pub state-start : State text houses params room whole 0 varsUsed vars work
+  pub state-start : State text houses params room shouts whole 0 varsUsed vars work
   state-start = record { goes = goes-start a text (held (take varsUsed vars)) (r .words) (r .read); holds = r .holds; area = r .area }
 
-  module _ {at left : ℕ} {vars' work' : Text} (s : State text houses params room whole at left vars' work') where
+  module _ {at left : ℕ} {vars' work' : Text} (s : State text houses params room shouts whole at left vars' work') where
     pub state-end : NextNone text at → LineSays room whole vars' work' (line.Done left)
     state-end n = record { is = goes-end (s .goes) n; holds = s .holds }
 
@@ -81,7 +83,7 @@ module _ {text vars : Text} {varsUsed room : ℕ} {houses params work : Text} (r
           pub state-further : (at < next) × (next ≤ length text)
           state-further = (omega (arith, p .onward, kept .onward), kept .within)
 
-          pub state-next : length work₂ ≡ length work' → State text houses params room whole next left₂ vars₂ work₂
+          pub state-next : length work₂ ≡ length work' → State text houses params room shouts whole next left₂ vars₂ work₂
           state-next m =
               record {
                 goes = goes-on (s .goes) p (kept .is) (kept .ends) (kept .within);

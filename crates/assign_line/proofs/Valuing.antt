@@ -97,10 +97,10 @@ module _ (a : Lent) (w : Assignment) (v : Pairs) where
 
 -- SAID: by the answers of the two that were called
 
-module _ {line : Text} {place equals : ℕ} {vars : Text} {varsUsed room : ℕ} {houses params work : Text}
+module _ {line : Text} {place equals : ℕ} {vars : Text} {varsUsed room : ℕ} {houses params work : Text} (shouts : Bool)
     (w : ValueReady line place equals vars varsUsed room houses params work) where
   abbrev a : Lent
-  a = lentOf room houses params
+  a = lentOf room shouts houses params
 
   abbrev v : Pairs
   v = held (take varsUsed vars)

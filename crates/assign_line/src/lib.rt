@@ -43,7 +43,7 @@ fn put_value(
     work: &mut [u8],
 ) -> WordAssigned
     requires { ⌜ ValueReady (now line) place equals (now vars) (extent .«vars_used») (extent .«vars_room») (now homes) (now params) (now work) ⌝ }
-    ensures { λ r. ⌜ AssignmentSays (lentOf (extent .«vars_room») (now (homes .entry)) (now (params .entry)))
+    ensures { λ r. ⌜ AssignmentSays (lentOf (extent .«vars_room») (extent .shouts) (now (homes .entry)) (now (params .entry)))
         (anAssignment (drop place (now (line .entry)))) (now (line .entry)) place (held (take (extent .«vars_used») (now (vars .entry))))
         (now (vars .exit)) (now (work .exit)) r ⌝ }
 {
@@ -70,6 +70,7 @@ fn put_value(
             let left = Extent {
                 vars_used: vars_used,
                 vars_room: extent.vars_room,
+                shouts: extent.shouts,
             };
             let stored = expand_operand::store_operand(name, units, vars, left, work);
             match stored {
@@ -94,7 +95,7 @@ fn put_assignment(
     work: &mut [u8],
 ) -> WordAssigned
     requires { ⌜ AssignmentReady (now line) place (now vars) (extent .«vars_used») (extent .«vars_room») (now homes) (now params) (now work) ⌝ }
-    ensures { λ r. ⌜ AssignmentSays (lentOf (extent .«vars_room») (now (homes .entry)) (now (params .entry)))
+    ensures { λ r. ⌜ AssignmentSays (lentOf (extent .«vars_room») (extent .shouts) (now (homes .entry)) (now (params .entry)))
         (anAssignment (drop place (now (line .entry)))) (now (line .entry)) place (held (take (extent .«vars_used») (now (vars .entry))))
         (now (vars .exit)) (now (work .exit)) r ⌝ }
 {
@@ -119,7 +120,7 @@ pub fn assign_line(
 ) -> LineAssigned
     requires { ⌜ LineReady (now line) (now vars) (extent .«vars_used») (extent .«vars_room») (now homes) (now params) (now work) ⌝ }
     ensures { λ r. ⌜ LineSays (extent .«vars_room»)
-        (lineOutcome (lentOf (extent .«vars_room») (now (homes .entry)) (now (params .entry))) (now (line .entry))
+        (lineOutcome (lentOf (extent .«vars_room») (extent .shouts) (now (homes .entry)) (now (params .entry))) (now (line .entry))
         (held (take (extent .«vars_used») (now (vars .entry))))) (now (vars .exit)) (now (work .exit)) r ⌝ }
 {
     let mut at: usize = 0;
@@ -136,6 +137,7 @@ pub fn assign_line(
                 let reached = Extent {
                     vars_used: vars_used,
                     vars_room: extent.vars_room,
+                    shouts: extent.shouts,
                 };
                 let got = put_assignment(line, place, vars, reached, homes, params, work);
                 match got {

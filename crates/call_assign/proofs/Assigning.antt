@@ -61,14 +61,14 @@ module _ {g : Given} (p : AssignPassed g) {room : ℕ} (same : room ≡ length (
 
   -- what the line gives with the copy, whose room is that of the variables' buffer
   abbrev given : ℕ → Placed Pairs
-  given n = lineOutcome (lentOf n (g .homes) (g .params)) (g .line) (held (take (g .varsUsed) copy₁))
+  given n = lineOutcome (lentOf n (g .shouts) (g .homes) (g .params)) (g .line) (held (take (g .varsUsed) copy₁))
 
   assigned-given : assigned g ≡ given (length (g .vars))
   assigned-given =
       p .is
-      ∙ ap (λ (t : Text). assignAll (lentOf (length (g .vars)) (g .homes) (g .params)) (p .words) (held t)) (sym same-image)
+      ∙ ap (λ (t : Text). assignAll (lentOf (length (g .vars)) (g .shouts) (g .homes) (g .params)) (p .words) (held t)) (sym same-image)
       ∙ ap (λ (w : Placed (List Assignment)). w then λ ws.
-      assignAll (lentOf (length (g .vars)) (g .homes) (g .params)) ws (held (take (g .varsUsed) copy₁))) (sym (p .read))
+      assignAll (lentOf (length (g .vars)) (g .shouts) (g .homes) (g .params)) ws (held (take (g .varsUsed) copy₁))) (sym (p .read))
 
   pub line-ready : LineReady (g .line) copy₁ (g .varsUsed) room (g .homes) (g .params) (g .work)
   line-ready =

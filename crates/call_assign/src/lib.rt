@@ -1,6 +1,7 @@
 // The job that takes a line of assignments, on a copy: the variables' image is copied, the assignments take effect on the copy, and its new image is handed
 // over at the end. So "A refusal undoes all." The copy is an array that one function holds and lends to the next.
 use assign_line::LineAssigned;
+use call_check::Asked;
 use call_check::Checked;
 use call_deliver::Answer;
 use call_deliver::Draft;
@@ -28,10 +29,10 @@ fn on_copy(
     copy: &mut [u8],
 ) -> Draft
     requires { ⌜ ((message : Text) → AssignPassed
-        (given (now line) (now vars) (extent .«vars_used») (now homes) (now params) [] (now work) [] message)) ⌝ }
+        (given (now line) (now vars) (extent .«vars_used») (extent .shouts) (now homes) (now params) [] (now work) [] message)) ⌝ }
     requires { ⌜ (extent .«vars_room» ≡ length (now vars)) × (length (now copy) ≡ imageLimit) ⌝ }
     ensures { λ r. ⌜ Awaits
-        (λ message. assigner (given (now (line .entry)) (now (vars .entry)) (extent .«vars_used») (now (homes .entry)) (now (params .entry)) []
+        (λ message. assigner (given (now (line .entry)) (now (vars .entry)) (extent .«vars_used») (extent .shouts) (now (homes .entry)) (now (params .entry)) []
         (now (work .entry)) [] message)) r (now (vars .exit)) (now (work .exit)) [] ⌝ }
 {
     let used = extent.vars_used;
@@ -65,10 +66,10 @@ fn with_copy(
     work: &mut [u8],
 ) -> Draft
     requires { ⌜ ((message : Text) → AssignPassed
-        (given (now line) (now vars) (extent .«vars_used») (now homes) (now params) [] (now work) [] message)) ⌝ }
+        (given (now line) (now vars) (extent .«vars_used») (extent .shouts) (now homes) (now params) [] (now work) [] message)) ⌝ }
     requires { ⌜ extent .«vars_room» ≡ length (now vars) ⌝ }
     ensures { λ r. ⌜ Awaits
-        (λ message. assigner (given (now (line .entry)) (now (vars .entry)) (extent .«vars_used») (now (homes .entry)) (now (params .entry)) []
+        (λ message. assigner (given (now (line .entry)) (now (vars .entry)) (extent .«vars_used») (extent .shouts) (now (homes .entry)) (now (params .entry)) []
         (now (work .entry)) [] message)) r (now (vars .exit)) (now (work .exit)) [] ⌝ }
 {
     let mut copy = [0u8; numbers::IMAGE_LIMIT];
@@ -79,24 +80,25 @@ fn with_copy(
 fn from_checks(
     line: &[u8],
     vars: &mut [u8],
-    vars_used: usize,
+    asked: Asked,
     homes: &[u8],
     params: &[u8],
     work: &mut [u8],
 ) -> Draft
     ensures { λ r. ⌜ Awaits
-        (λ message. assigner (given (now (line .entry)) (now (vars .entry)) «vars_used» (now (homes .entry)) (now (params .entry)) []
+        (λ message. assigner (given (now (line .entry)) (now (vars .entry)) (asked .«vars_used») (asked .shouts) (now (homes .entry)) (now (params .entry)) []
         (now (work .entry)) [] message)) r (now (vars .exit)) (now (work .exit)) [] ⌝ }
 {
-    let checked = call_check::check_assignments(line, vars, vars_used, homes, params, work);
+    let checked = call_check::check_assignments(line, vars, asked.vars_used, homes, params, work);
     match checked {
         Checked::Refused { number, place } => {
-            call_deliver::refuse_with(number, place, vars_used, 0, 0)
+            call_deliver::refuse_with(number, place, asked.vars_used, 0, 0)
         }
         Checked::Fine => {
             let extent = Extent {
-                vars_used: vars_used,
+                vars_used: asked.vars_used,
                 vars_room: vars.len(),
+                shouts: asked.shouts,
             };
             with_copy(line, vars, extent, homes, params, work)
         }
@@ -107,16 +109,16 @@ fn from_checks(
 pub fn answer_assign(
     line: &[u8],
     vars: &mut [u8],
-    vars_used: usize,
+    asked: Asked,
     homes: &[u8],
     params: &[u8],
     work: &mut [u8],
     message: &mut [u8],
 ) -> Answer
     ensures { λ r. ⌜ Gives
-        (assigner (given (now (line .entry)) (now (vars .entry)) «vars_used» (now (homes .entry)) (now (params .entry)) [] (now (work .entry)) []
-        (now (message .entry)))) r (now (vars .exit)) (now (work .exit)) [] (now (message .exit)) ⌝ }
+        (assigner (given (now (line .entry)) (now (vars .entry)) (asked .«vars_used») (asked .shouts) (now (homes .entry)) (now (params .entry)) []
+        (now (work .entry)) [] (now (message .entry)))) r (now (vars .exit)) (now (work .exit)) [] (now (message .exit)) ⌝ }
 {
-    let draft = from_checks(line, vars, vars_used, homes, params, work);
+    let draft = from_checks(line, vars, asked, homes, params, work);
     call_deliver::hand_over(draft, work, message)
 }

@@ -94,7 +94,11 @@ module _ (job : Job) (g : Given) where
   behind-lent v h =
       orRefused badPaths (pathsOf (g .paths)) then λ p.
       orRefused badParameters (fieldsOf (g .params)) then λ ps.
-      expandLine (record { lent = record { room = length (g .vars); homes = h; params = ps }; out = roomOf job (length (g .out)); paths = p }) (g .line) v
+      expandLine (record {
+        lent = record { room = length (g .vars); homes = h; params = ps; shouts = g .shouts };
+        out = roomOf job (length (g .out));
+        paths = p;
+      }) (g .line) v
 
   worked-lent : worked job g ≡ lentThen g behind-lent
   unfolding expanded
@@ -128,7 +132,8 @@ module _ (job : Job) (g : Given) where
 module _ (g : Given) where
   abbrev behind-tables : Pairs → Pairs → Placed Pairs
   behind-tables v h =
-      orRefused badParameters (fieldsOf (g .params)) then λ ps. assignLine (record { room = length (g .vars); homes = h; params = ps }) (g .line) v
+      orRefused badParameters (fieldsOf (g .params)) then λ ps.
+      assignLine (record { room = length (g .vars); homes = h; params = ps; shouts = g .shouts }) (g .line) v
 
   assigned-lent : assigned g ≡ lentThen g behind-tables
   unfolding assigned
@@ -145,7 +150,7 @@ module _ (g : Given) where
 
     module _ (n : isSome (fieldsOf (g .params)) ≡ true) where
       abbrev lent : Lent
-      lent = lentOf (length (g .vars)) (g .homes) (g .params)
+      lent = lentOf (length (g .vars)) (g .shouts) (g .homes) (g .params)
 
       values-left : assigned g ≡ assignLine lent (g .line) (held (take (g .varsUsed) (g .vars)))
       unfolding orRefused

@@ -1,6 +1,7 @@
 -- The contracts determine every answer. For `check` and `check_assignments`: a call passes the checks or is stopped by one of them, never both.
 use Prim.Native.Nat.{ℕ}
 use mathlib.Core.Path.{_≡_, refl}
+use mathlib.Core.Bool.{Bool, false}
 use mathlib.Core.List.{[]}
 use Rattle.stages.specs.Bytes.{Text}
 use Rattle.stages.specs.Call.{Given}
@@ -22,9 +23,9 @@ checks-once job g (Refused n place) (Refused k at) p q =
     let b = q .is in
     cc
 
-pub check-determined : (job : Job) (g : Text → Given) (r s : Checked) → ((message : Text) → Checks job (g message) r)
-    → ((message : Text) → Checks job (g message) s) → r ≡ s
-check-determined job g r s p q = checks-once job (g []) r s (p []) (q [])
+pub check-determined : (job : Job) (g : Bool → Text → Given) (r s : Checked) → ((shouts : Bool) (message : Text) → Checks job (g shouts message) r)
+    → ((shouts : Bool) (message : Text) → Checks job (g shouts message) s) → r ≡ s
+check-determined job g r s p q = checks-once job (g false []) r s (p false []) (q false [])
 
 assign-checks-once : (g : Given) (r s : Checked) → AssignChecks g r → AssignChecks g s → r ≡ s
 assign-checks-once g Fine Fine p q = refl
@@ -35,6 +36,6 @@ assign-checks-once g (Refused n place) (Refused k at) p q =
     let b = q .is in
     cc
 
-pub check-assignments-determined : (g : Text → Given) (r s : Checked) → ((message : Text) → AssignChecks (g message) r)
-    → ((message : Text) → AssignChecks (g message) s) → r ≡ s
-check-assignments-determined g r s p q = assign-checks-once (g []) r s (p []) (q [])
+pub check-assignments-determined : (g : Bool → Text → Given) (r s : Checked) → ((shouts : Bool) (message : Text) → AssignChecks (g shouts message) r)
+    → ((shouts : Bool) (message : Text) → AssignChecks (g shouts message) s) → r ≡ s
+check-assignments-determined g r s p q = assign-checks-once (g false []) r s (p false []) (q false [])

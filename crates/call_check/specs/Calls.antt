@@ -1,5 +1,6 @@
 -- What a call is given, and the two jobs that take a line as one: they differ in the expander's room and in what is written.
 use Prim.Native.Nat.{ℕ}
+use mathlib.Core.Bool.{Bool}
 use lib.ListN.{length}
 use Rattle.stages.specs.Numbers.{imageLimit}
 use Rattle.stages.specs.Bytes.{Text}
@@ -10,8 +11,8 @@ use Rattle.stages.specs.Call as stage
 use Rattle.call_check.specs.declared.Job.{Job}
 use Rattle.call_check.specs.declared.Job.the-variants.{Expander, Normaliser}
 
-abbrev pub given : Text → Text → ℕ → Text → Text → Text → Text → Text → Text → stage.Given
-given line vars used homes params paths work out message = record {
+abbrev pub given : Text → Text → ℕ → Bool → Text → Text → Text → Text → Text → Text → stage.Given
+given line vars used shouts homes params paths work out message = record {
   work = work;
   vars = vars;
   varsUsed = used;
@@ -21,6 +22,7 @@ given line vars used homes params paths work out message = record {
   line = line;
   out = out;
   message = message;
+  shouts = shouts;
 }
 
 -- the stage of each job

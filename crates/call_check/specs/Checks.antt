@@ -26,7 +26,7 @@ roomIn job out = pick (leb (roomOf job out) imageLimit) (roomOf job out) imageLi
 
 -- what the call's line is expanded among
 abbrev pub around : Given → ℕ → Around
-around g out = among (length (g .vars)) (g .homes) (g .params) (g .paths) out
+around g out = among (length (g .vars)) (g .shouts) (g .homes) (g .params) (g .paths) out
 
 -- 1 to 3, which every job that takes a line begins with: they are passed
 pub record Lends (work vars : Text) (used : ℕ) (houses : Text) : Type 0 where
@@ -97,7 +97,7 @@ pub record AssignPassed (g : Given) : Type 0 where
   pub clean : all notZero (g .line) ≡ true
   pub words : List Assignment
   pub read : readAssignments (g .line) ≡ doneAt words
-  pub is : assigned g ≡ assignAll (lentOf (length (g .vars)) (g .homes) (g .params)) words (held (take (g .varsUsed) (g .vars)))
+  pub is : assigned g ≡ assignAll (lentOf (length (g .vars)) (g .shouts) (g .homes) (g .params)) words (held (take (g .varsUsed) (g .vars)))
 
 pub record AssignStopped (g : Given) (n place : ℕ) : Type 0 where
   pub is : assigned g ≡ refusedAt n place

@@ -6,7 +6,7 @@ use text::numbers;
 ghost use mathlib.Core.Path.{_≡_};
 ghost use mathlib.Core.List.{[]};
 ghost use lib.ListN.{length};
-ghost use mathlib.Core.Bool.{true};
+ghost use mathlib.Core.Bool.{Bool, true};
 ghost use Rattle.stages.specs.Bytes.{Text};
 ghost use Rattle.stages.specs.Images.{isSome, fieldsOf};
 ghost use Rattle.call_check.specs.Calls.{given};
@@ -16,6 +16,12 @@ ghost use Rattle.call_check.specs.Checks.{roomIn, LendSays, PlainSays, T
 pub enum Job {
     Expander,
     Normaliser,
+}
+
+// What a call says beside its buffers: so many bytes of the variables' buffer are their image, and unset names shout or not.
+pub struct Asked {
+    pub vars_used: usize,
+    pub shouts: bool,
 }
 
 // What the checks answer: the words may be expanded, or the number and the place that refuse the call.
@@ -82,7 +88,7 @@ fn check_bytes(line: &[u8]) -> Checked
     Checked::Fine
 }
 
-// The line is read, and the empty fields image has its byte. No message is looked at: what holds here and in `check` holds whatever buffer is lent for it.
+// The line is read, and the empty fields image has its byte. Neither message nor switch is looked at: what holds here and in `check` holds whatever they are.
 fn check_line(
     job: Job,
     line: &[u8],
@@ -94,10 +100,10 @@ fn check_line(
     work: &[u8],
     out: &[u8],
 ) -> Checked
-    requires { ⌜ ((message : Text) → Tabled
-        (given (now line) (now vars) «vars_used» (now homes) (now params) (now paths) (now work) (now out) message)) ⌝ }
-    ensures { λ r. ⌜ ((message : Text) → Checks job
-        (given (now (line .entry)) (now (vars .entry)) «vars_used» (now (homes .entry)) (now (params .entry)) (now (paths .entry)) (now (work .entry))
+    requires { ⌜ ((shouts : Bool) (message : Text) → Tabled
+        (given (now line) (now vars) «vars_used» shouts (now homes) (now params) (now paths) (now work) (now out) message)) ⌝ }
+    ensures { λ r. ⌜ ((shouts : Bool) (message : Text) → Checks job
+        (given (now (line .entry)) (now (vars .entry)) «vars_used» shouts (now (homes .entry)) (now (params .entry)) (now (paths .entry)) (now (work .entry))
         (now (out .entry)) message) r) ⌝ }
 {
     let bytes = check_bytes(line);
@@ -137,8 +143,8 @@ pub fn check(
     work: &[u8],
     out: &[u8],
 ) -> Checked
-    ensures { λ r. ⌜ ((message : Text) → Checks job
-        (given (now (line .entry)) (now (vars .entry)) «vars_used» (now (homes .entry)) (now (params .entry)) (now (paths .entry)) (now (work .entry))
+    ensures { λ r. ⌜ ((shouts : Bool) (message : Text) → Checks job
+        (given (now (line .entry)) (now (vars .entry)) «vars_used» shouts (now (homes .entry)) (now (params .entry)) (now (paths .entry)) (now (work .entry))
         (now (out .entry)) message) r) ⌝ }
 {
     let lent = check_lent(vars, vars_used, homes, work);
@@ -160,7 +166,7 @@ pub fn check(
     check_line(job, line, vars, vars_used, homes, params, paths, work, out)
 }
 
-// The line of assignments is read. Neither paths nor output nor message is looked at.
+// The line of assignments is read. Neither paths nor output, message nor switch is looked at.
 fn check_values(
     line: &[u8],
     vars: &[u8],
@@ -171,8 +177,8 @@ fn check_values(
 ) -> Checked
     requires { ⌜ Lends (now work) (now vars) «vars_used» (now homes) ⌝ }
     requires { ⌜ isSome (fieldsOf (now params)) ≡ true ⌝ }
-    ensures { λ r. ⌜ ((message : Text) → AssignChecks
-        (given (now (line .entry)) (now (vars .entry)) «vars_used» (now (homes .entry)) (now (params .entry)) [] (now (work .entry)) [] message) r) ⌝ }
+    ensures { λ r. ⌜ ((shouts : Bool) (message : Text) → AssignChecks
+        (given (now (line .entry)) (now (vars .entry)) «vars_used» shouts (now (homes .entry)) (now (params .entry)) [] (now (work .entry)) [] message) r) ⌝ }
 {
     let bytes = check_bytes(line);
     match bytes {
@@ -203,8 +209,8 @@ pub fn check_assignments(
     params: &[u8],
     work: &[u8],
 ) -> Checked
-    ensures { λ r. ⌜ ((message : Text) → AssignChecks
-        (given (now (line .entry)) (now (vars .entry)) «vars_used» (now (homes .entry)) (now (params .entry)) [] (now (work .entry)) [] message) r) ⌝ }
+    ensures { λ r. ⌜ ((shouts : Bool) (message : Text) → AssignChecks
+        (given (now (line .entry)) (now (vars .entry)) «vars_used» shouts (now (homes .entry)) (now (params .entry)) [] (now (work .entry)) [] message) r) ⌝ }
 {
     let lent = check_lent(vars, vars_used, homes, work);
     match lent {

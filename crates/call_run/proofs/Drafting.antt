@@ -80,8 +80,8 @@ module _ {room left : ℕ} {copy : Text} (w : Holds room copy left) (work old ou
   by-written (doneAt t) fine NoRoom e = absurd (omega (arith, ap (λ (x : Quoting). x .number) e))
   by-written (doneAt t) fine Malformed e = absurd (omega (arith, ap (λ (x : Quoting). x .number) e))
 
-module _ {job : Job} {room used : ℕ} {text copy houses params paths work : Text} (out : Text)
-    (p : Drafting job room used text copy houses params paths work (length out)) (images : Text) (li : length images ≡ imageLimit) (size : ℕ)
+module _ {job : Job} {room used : ℕ} {shouts : Bool} {text copy houses params paths work : Text} (out : Text)
+    (p : Drafting job room shouts used text copy houses params paths work (length out)) (images : Text) (li : length images ≡ imageLimit) (size : ℕ)
     (e : size ≡ roomIn job (length out)) where
   abbrev lent : Text
   lent = take size images
@@ -114,13 +114,13 @@ module _ {job : Job} {room used : ℕ} {text copy houses params paths work : Tex
 
   -- what the line gives, as the contract has it and as the loop over words has it
   abbrev outside : Placed (Fields × Pairs)
-  outside = worded job room used text copy houses params paths (length out)
+  outside = worded job room shouts used text copy houses params paths (length out)
 
   abbrev inside : Placed (Fields × Pairs)
-  inside = lineOutcome (among room houses params paths (length lent)) text (held (take used copy))
+  inside = lineOutcome (among room shouts houses params paths (length lent)) text (held (take used copy))
 
   both : outside ≡ inside
-  both = ap (λ (n : ℕ). lineOutcome (among room houses params paths n) text (held (take used copy))) (sym (lent-long ∙ e))
+  both = ap (λ (n : ℕ). lineOutcome (among room shouts houses params paths n) text (held (take used copy))) (sym (lent-long ∙ e))
 
   module _ (copy₂ work₁ image₁ : Text) (got : LineExpanded) (same : length image₁ ≡ length lent)
       (h : LineSays room inside copy₂ lent image₁ work₁ got) where

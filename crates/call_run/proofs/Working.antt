@@ -46,7 +46,7 @@ module _ {job : Job} {g : Given} (p : Passed job g) {room : ℕ} (same : room �
 
   -- what the line gives with the copy, whose room is that of the variables' buffer
   abbrev given : ℕ → Placed (Fields × Pairs)
-  given n = worded job n (g .varsUsed) (g .line) copy₁ (g .homes) (g .params) (g .paths) (length (g .out))
+  given n = worded job n (g .shouts) (g .varsUsed) (g .line) copy₁ (g .homes) (g .params) (g .paths) (length (g .out))
 
   worked-given : worked job g ≡ given (length (g .vars))
   worked-given =
@@ -55,9 +55,9 @@ module _ {job : Job} {g : Given} (p : Passed job g) {room : ℕ} (same : room �
       ∙ ap (λ (w : Placed (List Word)). w then λ ws. expandWords (around g (roomIn job (length (g .out)))) ws 1 (held (take (g .varsUsed) copy₁)))
       (sym (p .read))
 
-  pub drafting : Drafting job room (g .varsUsed) (g .line) copy₁ (g .homes) (g .params) (g .paths) (g .work) (length (g .out))
+  pub drafting : Drafting job room (g .shouts) (g .varsUsed) (g .line) copy₁ (g .homes) (g .params) (g .paths) (g .work) (length (g .out))
   drafting =
-      subst (λ (n : ℕ). Drafting job n (g .varsUsed) (g .line) copy₁ (g .homes) (g .params) (g .paths) (g .work) (length (g .out))) (sym same)
+      subst (λ (n : ℕ). Drafting job n (g .shouts) (g .varsUsed) (g .line) copy₁ (g .homes) (g .params) (g .paths) (g .work) (length (g .out))) (sym same)
       (record {
         words = p .words;
         read = p .read;

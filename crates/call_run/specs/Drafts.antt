@@ -1,7 +1,7 @@
 -- What a line comes to on a copy of the variables, before the call is answered.
 use Prim.Native.Nat.{ℕ, _≤_}
 use mathlib.Core.Path.{_≡_}
-use mathlib.Core.Bool.{true}
+use mathlib.Core.Bool.{Bool, true}
 use mathlib.Core.List.{List}
 use mathlib.Core.Option.{some}
 use lib.ListN.{length, take}
@@ -24,16 +24,16 @@ use Rattle.call_run.specs.declared.Delivered.{Delivered}
 use Rattle.call_run.specs.declared.Delivered.the-variants as delivered
 
 -- the fields and the variables of a line that is expanded with the copy, for an output of so many bytes
-abbrev pub worded : Job → ℕ → ℕ → Text → Text → Text → Text → Text → ℕ → Placed (Fields × Pairs)
-worded job varsRoom varsUsed line copy houses params paths out =
-    lineOutcome (among varsRoom houses params paths (roomIn job out)) line (held (take varsUsed copy))
+abbrev pub worded : Job → ℕ → Bool → ℕ → Text → Text → Text → Text → Text → ℕ → Placed (Fields × Pairs)
+worded job varsRoom shouts varsUsed line copy houses params paths out =
+    lineOutcome (among varsRoom shouts houses params paths (roomIn job out)) line (held (take varsUsed copy))
 
 -- what the job writes of them, and the variables
 abbrev pub draft : Job → ℕ → Placed (Fields × Pairs) → Placed (Text × Pairs)
 draft job out o = o then λ r. outputOf job out (r .0) then λ t. doneAt (t, r .1)
 
 -- the line is read, the tables are well formed and the empty fields image has room; the image of what the line gives is read as the same fields
-pub record Drafting (job : Job) (varsRoom varsUsed : ℕ) (line copy houses params paths work : Text) (out : ℕ) : Type 0 where
+pub record Drafting (job : Job) (varsRoom : ℕ) (shouts : Bool) (varsUsed : ℕ) (line copy houses params paths work : Text) (out : ℕ) : Type 0 where
   pub words : List Word
   pub read : readLine line ≡ doneAt words
   pub clean : all notZero line ≡ true
@@ -43,7 +43,7 @@ pub record Drafting (job : Job) (varsRoom varsUsed : ℕ) (line copy houses para
   pub listed : isSome (pathsOf paths) ≡ true
   pub area : workLeast ≤ length work
   pub byte : 1 ≤ roomIn job out
-  pub again : (l : Fields) (v : Pairs) → worded job varsRoom varsUsed line copy houses params paths out ≡ doneAt (l, v) → fieldsOf (image l) ≡ some l
+  pub again : (l : Fields) (v : Pairs) → worded job varsRoom shouts varsUsed line copy houses params paths out ≡ doneAt (l, v) → fieldsOf (image l) ≡ some l
 
 -- the output is written, and the variables' new image stands in the copy
 pub record Drafted (varsRoom : ℕ) (o : Placed (Text × Pairs)) (copy old out : Text) (outLength varsUsed : ℕ) : Type 0 where

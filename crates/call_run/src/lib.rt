@@ -1,6 +1,7 @@
 // A job that takes a line, on copies: the variables' image is copied, the line is expanded with the copy and into an image of the fields, and what came of
 // it is handed over at the end. Each copy is an array that one function holds and lends to the next. A demanded message waits in the work area until all else
 // is answered; only then it is handed over, and the area is cleared.
+use call_check::Asked;
 use call_check::Checked;
 use call_check::Job;
 use call_deliver::Answer;
@@ -45,13 +46,13 @@ fn on_image(
     out: &mut [u8],
     image: &mut [u8],
 ) -> Delivered
-    requires { ⌜ Drafting (call .job) (call .extent .«vars_room») (call .extent .«vars_used») (now line) (now copy) (now homes) (now params) (now paths)
-        (now work) (length (now out)) ⌝ }
+    requires { ⌜ Drafting (call .job) (call .extent .«vars_room») (call .extent .shouts) (call .extent .«vars_used») (now line) (now copy) (now homes)
+        (now params) (now paths) (now work) (length (now out)) ⌝ }
     requires { ⌜ length (now image) ≡ imageLimit ⌝ }
     ensures { λ r. ⌜ DraftOf (call .extent .«vars_room»)
         (draft (call .job) (length (now (out .entry)))
-        (worded (call .job) (call .extent .«vars_room») (call .extent .«vars_used») (now (line .entry)) (now (copy .entry)) (now (homes .entry))
-        (now (params .entry)) (now (paths .entry)) (length (now (out .entry))))) (now (copy .exit)) (now (work .exit)) (now (out .entry))
+        (worded (call .job) (call .extent .«vars_room») (call .extent .shouts) (call .extent .«vars_used») (now (line .entry)) (now (copy .entry))
+        (now (homes .entry)) (now (params .entry)) (now (paths .entry)) (length (now (out .entry))))) (now (copy .exit)) (now (work .exit)) (now (out .entry))
         (now (out .exit)) r ⌝ }
 {
     let job = call.job;
@@ -108,12 +109,12 @@ fn with_image(
     work: &mut [u8],
     out: &mut [u8],
 ) -> Delivered
-    requires { ⌜ Drafting (call .job) (call .extent .«vars_room») (call .extent .«vars_used») (now line) (now copy) (now homes) (now params) (now paths)
-        (now work) (length (now out)) ⌝ }
+    requires { ⌜ Drafting (call .job) (call .extent .«vars_room») (call .extent .shouts) (call .extent .«vars_used») (now line) (now copy) (now homes)
+        (now params) (now paths) (now work) (length (now out)) ⌝ }
     ensures { λ r. ⌜ DraftOf (call .extent .«vars_room»)
         (draft (call .job) (length (now (out .entry)))
-        (worded (call .job) (call .extent .«vars_room») (call .extent .«vars_used») (now (line .entry)) (now (copy .entry)) (now (homes .entry))
-        (now (params .entry)) (now (paths .entry)) (length (now (out .entry))))) (now (copy .exit)) (now (work .exit)) (now (out .entry))
+        (worded (call .job) (call .extent .«vars_room») (call .extent .shouts) (call .extent .«vars_used») (now (line .entry)) (now (copy .entry))
+        (now (homes .entry)) (now (params .entry)) (now (paths .entry)) (length (now (out .entry))))) (now (copy .exit)) (now (work .exit)) (now (out .entry))
         (now (out .exit)) r ⌝ }
 {
     let mut image = [0u8; numbers::IMAGE_LIMIT];
@@ -143,10 +144,10 @@ fn on_copy(
     copy: &mut [u8],
 ) -> Draft
     requires { ⌜ ((message : Text) → Passed (call .job)
-        (given (now line) (now vars) (call .extent .«vars_used») (now homes) (now params) (now paths) (now work) (now out) message)) ⌝ }
+        (given (now line) (now vars) (call .extent .«vars_used») (call .extent .shouts) (now homes) (now params) (now paths) (now work) (now out) message)) ⌝ }
     requires { ⌜ (call .extent .«vars_room» ≡ length (now vars)) × (length (now copy) ≡ imageLimit) ⌝ }
     ensures { λ r. ⌜ Awaits
-        (λ message. answerOf (call .job) (given (now (line .entry)) (now (vars .entry)) (call .extent .«vars_used») (now (homes .entry))
+        (λ message. answerOf (call .job) (given (now (line .entry)) (now (vars .entry)) (call .extent .«vars_used») (call .extent .shouts) (now (homes .entry))
         (now (params .entry)) (now (paths .entry)) (now (work .entry)) (now (out .entry)) message)) r (now (vars .exit)) (now (work .exit))
         (now (out .exit)) ⌝ }
 {
@@ -184,10 +185,10 @@ fn with_copy(
     out: &mut [u8],
 ) -> Draft
     requires { ⌜ ((message : Text) → Passed (call .job)
-        (given (now line) (now vars) (call .extent .«vars_used») (now homes) (now params) (now paths) (now work) (now out) message)) ⌝ }
+        (given (now line) (now vars) (call .extent .«vars_used») (call .extent .shouts) (now homes) (now params) (now paths) (now work) (now out) message)) ⌝ }
     requires { ⌜ call .extent .«vars_room» ≡ length (now vars) ⌝ }
     ensures { λ r. ⌜ Awaits
-        (λ message. answerOf (call .job) (given (now (line .entry)) (now (vars .entry)) (call .extent .«vars_used») (now (homes .entry))
+        (λ message. answerOf (call .job) (given (now (line .entry)) (now (vars .entry)) (call .extent .«vars_used») (call .extent .shouts) (now (homes .entry))
         (now (params .entry)) (now (paths .entry)) (now (work .entry)) (now (out .entry)) message)) r (now (vars .exit)) (now (work .exit))
         (now (out .exit)) ⌝ }
 {
@@ -200,7 +201,7 @@ fn from_checks(
     job: Job,
     line: &[u8],
     vars: &mut [u8],
-    vars_used: usize,
+    asked: Asked,
     homes: &[u8],
     params: &[u8],
     paths: &[u8],
@@ -208,18 +209,29 @@ fn from_checks(
     out: &mut [u8],
 ) -> Draft
     ensures { λ r. ⌜ Awaits
-        (λ message. answerOf job (given (now (line .entry)) (now (vars .entry)) «vars_used» (now (homes .entry)) (now (params .entry))
+        (λ message. answerOf job (given (now (line .entry)) (now (vars .entry)) (asked .«vars_used») (asked .shouts) (now (homes .entry)) (now (params .entry))
         (now (paths .entry)) (now (work .entry)) (now (out .entry)) message)) r (now (vars .exit)) (now (work .exit)) (now (out .exit)) ⌝ }
 {
-    let checked = call_check::check(job, line, vars, vars_used, homes, params, paths, work, out);
+    let checked = call_check::check(
+        job,
+        line,
+        vars,
+        asked.vars_used,
+        homes,
+        params,
+        paths,
+        work,
+        out,
+    );
     match checked {
         Checked::Refused { number, place } => {
-            call_deliver::refuse_with(number, place, vars_used, 0, 0)
+            call_deliver::refuse_with(number, place, asked.vars_used, 0, 0)
         }
         Checked::Fine => {
             let extent = Extent {
-                vars_used: vars_used,
+                vars_used: asked.vars_used,
                 vars_room: vars.len(),
+                shouts: asked.shouts,
             };
             let call = Call {
                 job: job,
@@ -235,7 +247,7 @@ pub fn answer_call(
     job: Job,
     line: &[u8],
     vars: &mut [u8],
-    vars_used: usize,
+    asked: Asked,
     homes: &[u8],
     params: &[u8],
     paths: &[u8],
@@ -244,9 +256,10 @@ pub fn answer_call(
     message: &mut [u8],
 ) -> Answer
     ensures { λ r. ⌜ Gives
-        (answerOf job (given (now (line .entry)) (now (vars .entry)) «vars_used» (now (homes .entry)) (now (params .entry)) (now (paths .entry))
-        (now (work .entry)) (now (out .entry)) (now (message .entry)))) r (now (vars .exit)) (now (work .exit)) (now (out .exit)) (now (message .exit)) ⌝ }
+        (answerOf job (given (now (line .entry)) (now (vars .entry)) (asked .«vars_used») (asked .shouts) (now (homes .entry)) (now (params .entry))
+        (now (paths .entry)) (now (work .entry)) (now (out .entry)) (now (message .entry)))) r (now (vars .exit)) (now (work .exit)) (now (out .exit))
+        (now (message .exit)) ⌝ }
 {
-    let draft = from_checks(job, line, vars, vars_used, homes, params, paths, work, out);
+    let draft = from_checks(job, line, vars, asked, homes, params, paths, work, out);
     call_deliver::hand_over(draft, work, message)
 }

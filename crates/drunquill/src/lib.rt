@@ -1,5 +1,6 @@
 // Drunquill's seven jobs. Each takes any bytes in any buffers and answers by document 01's numbers. Inside, a line is worked on in copies of the
 // variables and the output, which are handed over at the end, so that a refusal has touched neither.
+use call_check::Asked;
 use call_check::Job;
 use call_cost::Costed;
 use call_deliver::Answer;
@@ -24,14 +25,14 @@ pub struct QuoteAnswer {
     pub out_len: usize,
 }
 
-// The expander: the line's fields, an image, to `out`. The variables are an image in the first `vars_used` bytes of their buffer, and may change. Their new
-// image may be shorter than the one before: bytes behind it are zero up to the used length that was given. On refusal the variables and the output hold their
-// old bytes; the work area is zero throughout after every call. On 13 the message that the line demands comes to the front of `message`, cut to it; every
-// other byte of that buffer stays, as all of them do on every other answer.
+// The expander: the line's fields, an image, to `out`. The variables are an image in the first `vars_used` bytes of their buffer, and may change; an unset
+// one that is looked up is refused if `shouts` is set. Their new image may be shorter than the one before: bytes behind it are zero up to the used length
+// that was given. On refusal the variables and the output hold their old bytes; the work area is zero throughout after every call. On 13 the message that
+// the line demands comes to the front of `message`, cut to it; every other byte of that buffer stays, as all of them do on every other answer.
 pub fn expand(
     line: &[u8],
     vars: &mut [u8],
-    vars_used: usize,
+    asked: Asked,
     homes: &[u8],
     params: &[u8],
     paths: &[u8],
@@ -40,15 +41,16 @@ pub fn expand(
     message: &mut [u8],
 ) -> Answer
     ensures { λ r. ⌜ Gives
-        (expander (given (now (line .entry)) (now (vars .entry)) «vars_used» (now (homes .entry)) (now (params .entry)) (now (paths .entry))
-        (now (work .entry)) (now (out .entry)) (now (message .entry)))) r (now (vars .exit)) (now (work .exit)) (now (out .exit)) (now (message .exit)) ⌝ }
+        (expander (given (now (line .entry)) (now (vars .entry)) (asked .«vars_used») (asked .shouts) (now (homes .entry)) (now (params .entry))
+        (now (paths .entry)) (now (work .entry)) (now (out .entry)) (now (message .entry)))) r (now (vars .exit)) (now (work .exit)) (now (out .exit))
+        (now (message .exit)) ⌝ }
 {
     let expander = Job::Expander;
     call_run::answer_call(
         expander,
         line,
         vars,
-        vars_used,
+        asked,
         homes,
         params,
         paths,
@@ -62,7 +64,7 @@ pub fn expand(
 pub fn normalise(
     line: &[u8],
     vars: &mut [u8],
-    vars_used: usize,
+    asked: Asked,
     homes: &[u8],
     params: &[u8],
     paths: &[u8],
@@ -71,15 +73,16 @@ pub fn normalise(
     message: &mut [u8],
 ) -> Answer
     ensures { λ r. ⌜ Gives
-        (normaliser (given (now (line .entry)) (now (vars .entry)) «vars_used» (now (homes .entry)) (now (params .entry)) (now (paths .entry))
-        (now (work .entry)) (now (out .entry)) (now (message .entry)))) r (now (vars .exit)) (now (work .exit)) (now (out .exit)) (now (message .exit)) ⌝ }
+        (normaliser (given (now (line .entry)) (now (vars .entry)) (asked .«vars_used») (asked .shouts) (now (homes .entry)) (now (params .entry))
+        (now (paths .entry)) (now (work .entry)) (now (out .entry)) (now (message .entry)))) r (now (vars .exit)) (now (work .exit)) (now (out .exit))
+        (now (message .exit)) ⌝ }
 {
     let normaliser = Job::Normaliser;
     call_run::answer_call(
         normaliser,
         line,
         vars,
-        vars_used,
+        asked,
         homes,
         params,
         paths,
@@ -95,17 +98,17 @@ pub fn normalise(
 pub fn assign(
     line: &[u8],
     vars: &mut [u8],
-    vars_used: usize,
+    asked: Asked,
     homes: &[u8],
     params: &[u8],
     work: &mut [u8],
     message: &mut [u8],
 ) -> Answer
     ensures { λ r. ⌜ Gives
-        (assigner (given (now (line .entry)) (now (vars .entry)) «vars_used» (now (homes .entry)) (now (params .entry)) [] (now (work .entry)) []
-        (now (message .entry)))) r (now (vars .exit)) (now (work .exit)) [] (now (message .exit)) ⌝ }
+        (assigner (given (now (line .entry)) (now (vars .entry)) (asked .«vars_used») (asked .shouts) (now (homes .entry)) (now (params .entry)) []
+        (now (work .entry)) [] (now (message .entry)))) r (now (vars .exit)) (now (work .exit)) [] (now (message .exit)) ⌝ }
 {
-    call_assign::answer_assign(line, vars, vars_used, homes, params, work, message)
+    call_assign::answer_assign(line, vars, asked, homes, params, work, message)
 }
 
 // The quoter: an image of fields as a quoted line to `out`, whose bytes after the line stay; on refusal all of them do.

@@ -9,20 +9,22 @@ ghost use Rattle.call_deliver.specs.Hands.{Gives};
 ghost use Rattle.call_update.specs.Hands.{updating, Hands};
 ghost use Rattle.call_cost.specs.Hands.{costing, Hands as Reports};
 ghost use Rattle.drunquill.specs.Hands.{Quotes};
+use call_check::Asked;
 use call_cost::Costed;
 use call_deliver::Answer;
 use call_update::Updated;
 use drunquill::QuoteAnswer;
 
-// The expander: the line's fields, an image, to `out`. The variables are an image in the first `vars_used` bytes of their buffer, and may change. Their new
-// image may be shorter than the one before: bytes behind it are zero up to the used length that was given. On refusal the variables and the output hold their
-// old bytes; the work area is zero throughout after every call. On 13 the message that the line demands comes to the front of `message`, cut to it; every
-// other byte of that buffer stays, as all of them do on every other answer.
+// The expander: the line's fields, an image, to `out`. The variables are an image in the first `vars_used` bytes of their buffer, and may change; an unset
+// one that is looked up is refused if `shouts` is set. Their new image may be shorter than the one before: bytes behind it are zero up to the used length
+// that was given. On refusal the variables and the output hold their old bytes; the work area is zero throughout after every call. On 13 the message that
+// the line demands comes to the front of `message`, cut to it; every other byte of that buffer stays, as all of them do on every other answer.
 #[no_mangle]
 pub extern "C" fn drunquill_expand(
     line: &[u8],
     vars: &mut [u8],
     vars_used: usize,
+    shouts: bool,
     homes: &[u8],
     params: &[u8],
     paths: &[u8],
@@ -31,20 +33,14 @@ pub extern "C" fn drunquill_expand(
     message: &mut [u8],
 ) -> Answer
     ensures { λ r. ⌜ Gives
-        (expander (given (now (line .entry)) (now (vars .entry)) «vars_used» (now (homes .entry)) (now (params .entry)) (now (paths .entry))
+        (expander (given (now (line .entry)) (now (vars .entry)) «vars_used» shouts (now (homes .entry)) (now (params .entry)) (now (paths .entry))
         (now (work .entry)) (now (out .entry)) (now (message .entry)))) r (now (vars .exit)) (now (work .exit)) (now (out .exit)) (now (message .exit)) ⌝ }
 {
-    drunquill::expand(
-        line,
-        vars,
-        vars_used,
-        homes,
-        params,
-        paths,
-        work,
-        out,
-        message,
-    )
+    let asked = Asked {
+        vars_used: vars_used,
+        shouts: shouts,
+    };
+    drunquill::expand(line, vars, asked, homes, params, paths, work, out, message)
 }
 
 // The normaliser: the line's fields as a quoted line to `out`, all else as in the expander.
@@ -53,6 +49,7 @@ pub extern "C" fn drunquill_normalise(
     line: &[u8],
     vars: &mut [u8],
     vars_used: usize,
+    shouts: bool,
     homes: &[u8],
     params: &[u8],
     paths: &[u8],
@@ -61,20 +58,14 @@ pub extern "C" fn drunquill_normalise(
     message: &mut [u8],
 ) -> Answer
     ensures { λ r. ⌜ Gives
-        (normaliser (given (now (line .entry)) (now (vars .entry)) «vars_used» (now (homes .entry)) (now (params .entry)) (now (paths .entry))
+        (normaliser (given (now (line .entry)) (now (vars .entry)) «vars_used» shouts (now (homes .entry)) (now (params .entry)) (now (paths .entry))
         (now (work .entry)) (now (out .entry)) (now (message .entry)))) r (now (vars .exit)) (now (work .exit)) (now (out .exit)) (now (message .exit)) ⌝ }
 {
-    drunquill::normalise(
-        line,
-        vars,
-        vars_used,
-        homes,
-        params,
-        paths,
-        work,
-        out,
-        message,
-    )
+    let asked = Asked {
+        vars_used: vars_used,
+        shouts: shouts,
+    };
+    drunquill::normalise(line, vars, asked, homes, params, paths, work, out, message)
 }
 
 // The assigner: a line "whose every word is a name, a bare `=` and a value" changes the variables from left to right, or on refusal not at all. The output
@@ -85,16 +76,21 @@ pub extern "C" fn drunquill_assign(
     line: &[u8],
     vars: &mut [u8],
     vars_used: usize,
+    shouts: bool,
     homes: &[u8],
     params: &[u8],
     work: &mut [u8],
     message: &mut [u8],
 ) -> Answer
     ensures { λ r. ⌜ Gives
-        (assigner (given (now (line .entry)) (now (vars .entry)) «vars_used» (now (homes .entry)) (now (params .entry)) [] (now (work .entry)) []
+        (assigner (given (now (line .entry)) (now (vars .entry)) «vars_used» shouts (now (homes .entry)) (now (params .entry)) [] (now (work .entry)) []
         (now (message .entry)))) r (now (vars .exit)) (now (work .exit)) [] (now (message .exit)) ⌝ }
 {
-    drunquill::assign(line, vars, vars_used, homes, params, work, message)
+    let asked = Asked {
+        vars_used: vars_used,
+        shouts: shouts,
+    };
+    drunquill::assign(line, vars, asked, homes, params, work, message)
 }
 
 // The quoter: an image of fields as a quoted line to `out`, whose bytes after the line stay; on refusal all of them do.

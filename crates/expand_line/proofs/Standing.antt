@@ -2,7 +2,7 @@
 use Prim.Native.Nat.{ℕ, suc, _+_, _-_, _≤_, _<_}
 use native.Mathlib.Omega.{arith}
 use mathlib.Core.Path.{_≡_, refl, sym, ap, _∙_, subst}
-use mathlib.Core.Bool.{false}
+use mathlib.Core.Bool.{Bool, false}
 use mathlib.Core.List.{_++_}
 use lib.ListN.{length, take, drop, set, getD, length-set, length-drop}
 use lib.Seq.{drop-cons, drop-set-lt}
@@ -36,36 +36,38 @@ word-longer line place next tree rest l e q d n =
     (ap (parts (words fresh) depthLimit) (sym (drop-cons line place 0 l)) ∙ q) in
     omega (arith, g, ap length d, length-drop next line, length-drop (suc place) line)
 
-pub record State (text houses params paths : Text) (room : ℕ) (o : Placed (Fields × Pairs)) (old : Text) (at len left : ℕ) (vars work out : Text) : Type 0 where
-  pub goes : Goes (among room houses params paths (length old)) o text at len (held (take left vars)) old out
+pub record State (text houses params paths : Text) (room : ℕ) (shouts : Bool) (o : Placed (Fields × Pairs)) (old : Text) (at len left : ℕ)
+    (vars work out : Text) : Type 0 where
+  pub goes : Goes (among room shouts houses params paths (length old)) o text at len (held (take left vars)) old out
   pub holds : Holds room vars left
   pub area : workLeast ≤ length work
   pub same : length out ≡ length old
 
-module _ {text vars : Text} {varsUsed room : ℕ} {houses params paths work out : Text} (r : LineReady text vars varsUsed room houses params paths work out) where
+module _ {text vars : Text} {varsUsed room : ℕ} {houses params paths work out : Text} (shouts : Bool)
+    (r : LineReady text vars varsUsed room houses params paths work out) where
   abbrev first-out : Text
   first-out = set out 0 1
 
   -- what the words give, as the loop has it and as the contract has it
   abbrev inside : Placed (Fields × Pairs)
-  inside = lineOutcome (among room houses params paths (length first-out)) text (held (take varsUsed vars))
+  inside = lineOutcome (among room shouts houses params paths (length first-out)) text (held (take varsUsed vars))
 
   abbrev outside : Placed (Fields × Pairs)
-  outside = lineOutcome (among room houses params paths (length out)) text (held (take varsUsed vars))
+  outside = lineOutcome (among room shouts houses params paths (length out)) text (held (take varsUsed vars))
 
   both : outside ≡ inside
-  both = ap (λ (n : ℕ). lineOutcome (among room houses params paths n) text (held (take varsUsed vars))) (sym (length-set out 0 1))
+  both = ap (λ (n : ℕ). lineOutcome (among room shouts houses params paths n) text (held (take varsUsed vars))) (sym (length-set out 0 1))
 
-  pub state-start : State text houses params paths room inside first-out 0 1 varsUsed vars work first-out
+  pub state-start : State text houses params paths room shouts inside first-out 0 1 varsUsed vars work first-out
   state-start =
       record {
-        goes = goes-start (among room houses params paths (length first-out)) text out (held (take varsUsed vars)) (r .words) (r .read) (r .byte);
+        goes = goes-start (among room shouts houses params paths (length first-out)) text out (held (take varsUsed vars)) (r .words) (r .read) (r .byte);
         holds = r .holds;
         area = r .area;
         same = refl;
       }
 
-  module _ {at len left : ℕ} {vars' work' out' : Text} (s : State text houses params paths room inside first-out at len left vars' work' out') where
+  module _ {at len left : ℕ} {vars' work' out' : Text} (s : State text houses params paths room shouts inside first-out at len left vars' work' out') where
     pub state-same : length out' ≡ length out
     state-same = s .same ∙ length-set out 0 1
 
@@ -115,10 +117,10 @@ module _ {text vars : Text} {varsUsed room : ℕ} {houses params paths work out 
 
       -- the word's answer, by its parts and for the output as it was where the loop began
       module _ {vars₂ out₂ work₂ : Text} {got : WordExpanded}
-          (h : WordSays (among room houses params paths (length out')) (parts (words fresh) depthLimit (drop place text)) text place len
+          (h : WordSays (among room shouts houses params paths (length out')) (parts (words fresh) depthLimit (drop place text)) text place len
           (held (take left vars')) vars₂ out' out₂ work₂ got) where
         abbrev a : Around
-        a = among room houses params paths (length first-out)
+        a = among room shouts houses params paths (length first-out)
 
         word-of : {x : WordExpanded} → got ≡ x → WordOf a (wordOutcome a (own .tree) len (held (take left vars'))) (own .rest) text place len
             vars₂ out' out₂ work₂ x
@@ -126,8 +128,8 @@ module _ {text vars : Text} {varsUsed room : ℕ} {houses params paths work out 
             subst
             (λ (y : WordExpanded). WordOf a (wordOutcome a (own .tree) len (held (take left vars'))) (own .rest) text place len vars₂ out' out₂ work₂ y) e
             (subst
-            (λ (n : ℕ). WordSays (among room houses params paths n) (parts (words fresh) depthLimit (drop place text)) text place len (held (take left vars'))
-            vars₂ out' out₂ work₂ got)
+            (λ (n : ℕ). WordSays (among room shouts houses params paths n) (parts (words fresh) depthLimit (drop place text)) text place len
+            (held (take left vars')) vars₂ out' out₂ work₂ got)
             (s .same) h .says (own .tree, own .rest) (own .read))
 
         pub state-refused : {e : ℕ} → got ≡ word.Refused e → LineSays room outside vars₂ out out₂ work₂ (line.Refused e place)
@@ -148,7 +150,7 @@ module _ {text vars : Text} {varsUsed room : ℕ} {houses params paths work out 
               (omega (arith, p .onward, k), made .ends .within)
 
           pub state-next : length work₂ ≡ length work' → length out₂ ≡ length out'
-              → State text houses params paths room inside first-out next len₂ left₂ vars₂ work₂ out₂
+              → State text houses params paths room shouts inside first-out next len₂ left₂ vars₂ work₂ out₂
           unfolding placed
           state-next m n =
               record {

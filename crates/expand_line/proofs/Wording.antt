@@ -102,10 +102,10 @@ module _ (a : Around) (tree : Parts) (n : ℕ) (v : Pairs) where
 
 -- the word by the answers of the two that were called
 
-module _ {line : Text} {at : ℕ} {vars : Text} {varsUsed room : ℕ} {houses params paths work old : Text} {used : ℕ}
+module _ {line : Text} {at : ℕ} {vars : Text} {varsUsed room : ℕ} {houses params paths work old : Text} {used : ℕ} (shouts : Bool)
     (w : WordReady line at vars varsUsed room houses params paths work old used) where
   abbrev a : Around
-  a = among room houses params paths (length old)
+  a = among room shouts houses params paths (length old)
 
   abbrev v : Pairs
   v = held (take varsUsed vars)
@@ -127,11 +127,11 @@ module _ {line : Text} {at : ℕ} {vars : Text} {varsUsed room : ℕ} {houses pa
       }
 
   module _ (area vars' : Text) (got : Expanded)
-      (h : Expands room line at 0 (λ t. expand (lentOf room houses params) t L 0 v) (parts (words fresh) depthLimit (drop at line)) area vars' got) where
-    pub row-of : {s : Expanded} → got ≡ s → RowOf room line at 0 (expand (lentOf room houses params) tree L 0 v) rest area vars' s
+      (h : Expands room line at 0 (λ t. expand (lentOf room shouts houses params) t L 0 v) (parts (words fresh) depthLimit (drop at line)) area vars' got) where
+    pub row-of : {s : Expanded} → got ≡ s → RowOf room line at 0 (expand (lentOf room shouts houses params) tree L 0 v) rest area vars' s
     row-of e =
-        subst (λ (x : Expanded). RowOf room line at 0 (expand (lentOf room houses params) tree L 0 v) rest area vars' x) e
-        (subst (λ (o : Taken). Expands room line at 0 (λ t. expand (lentOf room houses params) t L 0 v) o area vars' got) (w .ready .is) h)
+        subst (λ (x : Expanded). RowOf room line at 0 (expand (lentOf room shouts houses params) tree L 0 v) rest area vars' x) e
+        (subst (λ (o : Taken). Expands room line at 0 (λ t. expand (lentOf room shouts houses params) t L 0 v) o area vars' got) (w .ready .is) h)
 
     pub word-refused : {e : ℕ} {out work' : Text} → got ≡ expanded.Refused e → WordSays a (parts (words fresh) depthLimit (drop at line)) line at used v
         vars' old out work' (word.Refused e)
@@ -140,12 +140,12 @@ module _ {line : Text} {at : ℕ} {vars : Text} {varsUsed room : ℕ} {houses pa
     pub word-demanded : {from count : ℕ} {out : Text} → got ≡ expanded.Demanded from count
         → WordSays a (parts (words fresh) depthLimit (drop at line)) line at used v vars' old out area (word.Demanded from count)
     word-demanded {from = from} {count = count} {out = out} g =
-        let d : IsDemand (expand (lentOf room houses params) tree L 0 v) area from count = row-of g in
+        let d : IsDemand (expand (lentOf room shouts houses params) tree L 0 v) area from count = row-of g in
         said vars' out area (word.Demanded from count)
         (record { message = d .message; is = outcome-demands a tree used v (d .is); waits = d .waits })
 
     module _ {units next left : ℕ} {came : Bool} (g : got ≡ expanded.Row units next left came) where
-      pub there : IsRow room 0 (expand (lentOf room houses params) tree L 0 v) area vars' units left came
+      pub there : IsRow room 0 (expand (lentOf room shouts houses params) tree L 0 v) area vars' units left came
       there = row-of g .0
 
       module _ {out : Text} {r : Written}

@@ -60,7 +60,8 @@ fn put_word(
 ) -> WordExpanded
     requires { ⌜ WordReady (now line) (from .at) (now vars) (extent .«vars_used») (extent .«vars_room») (now homes) (now params) (now paths) (now work)
         (now out) (from .used) ⌝ }
-    ensures { λ r. ⌜ WordSays (among (extent .«vars_room») (now (homes .entry)) (now (params .entry)) (now (paths .entry)) (length (now (out .entry))))
+    ensures { λ r. ⌜ WordSays
+        (among (extent .«vars_room») (extent .shouts) (now (homes .entry)) (now (params .entry)) (now (paths .entry)) (length (now (out .entry))))
         (parts (word fresh) depthLimit (drop (from .at) (now (line .entry)))) (now (line .entry)) (from .at) (from .used)
         (held (take (extent .«vars_used») (now (vars .entry)))) (now (vars .exit)) (now (out .entry)) (now (out .exit)) (now (work .exit)) r ⌝ }
 {
@@ -119,7 +120,7 @@ pub fn expand_line(
 ) -> LineExpanded
     requires { ⌜ LineReady (now line) (now vars) (extent .«vars_used») (extent .«vars_room») (now homes) (now params) (now paths) (now work) (now out) ⌝ }
     ensures { λ r. ⌜ LineSays (extent .«vars_room»)
-        (lineOutcome (among (extent .«vars_room») (now (homes .entry)) (now (params .entry)) (now (paths .entry)) (length (now (out .entry))))
+        (lineOutcome (among (extent .«vars_room») (extent .shouts) (now (homes .entry)) (now (params .entry)) (now (paths .entry)) (length (now (out .entry))))
         (now (line .entry)) (held (take (extent .«vars_used») (now (vars .entry))))) (now (vars .exit)) (now (out .entry)) (now (out .exit))
         (now (work .exit)) r ⌝ }
 {
@@ -144,6 +145,7 @@ pub fn expand_line(
                 let reached = Extent {
                     vars_used: vars_used,
                     vars_room: extent.vars_room,
+                    shouts: extent.shouts,
                 };
                 let got = put_word(line, from, vars, reached, homes, params, paths, work, out);
                 match got {

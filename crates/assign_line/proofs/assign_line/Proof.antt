@@ -24,8 +24,8 @@ use Rattle.assign_line.proofs.assign_line.Tie as tie
 
 abbrev Inv-loop : tie.InvT-loop
 Inv-loop line vars₀ extent homes params work₀ at₀ vars-used₀ vars work at vars-used =
-    State line homes params (extent .«vars_room»)
-    (lineOutcome (lentOf (extent .«vars_room») homes params) line (held (take (extent .«vars_used») vars₀))) at vars-used vars work
+    State line homes params (extent .«vars_room») (extent .shouts)
+    (lineOutcome (lentOf (extent .«vars_room») (extent .shouts) homes params) line (held (take (extent .«vars_used») vars₀))) at vars-used vars work
     × (length vars ≡ length vars₀) × (length work ≡ length work₀)
 
 abbrev μ-loop : tie.MeasureT-loop
@@ -58,7 +58,7 @@ module _ (c : tie.After-put-assignment Inv-loop μ-loop) where
   work-same = c .put-assignment .kept .1 .1 .1 .1 .1 .1 .0 ∙ turn (found c) .loop .inv .2
 
 loop-holds : tie.Need-loop-holds Inv-loop μ-loop
-loop-holds c = (state-start (begun c .pre), refl, refl)
+loop-holds c = (state-start (begun c .args .extent .shouts) (begun c .pre), refl, refl)
 
 next-word-requires : tie.Need-next-word-requires Inv-loop μ-loop
 next-word-requires c κs = c .loop .inv .0 .goes .within
@@ -75,7 +75,7 @@ same-length-2 c = c .before .before .before .loop .inv .2
 returns : tie.Need-returns Inv-loop μ-loop
 returns c =
     let t = c .before .before .before in
-    state-end (entry t .pre) (t .loop .inv .0) (next-shown _ _ (c .before .before .next-word .ensures) (c .enum-told .given .1))
+    state-end (entry t .args .extent .shouts) (entry t .pre) (t .loop .inv .0) (next-shown _ _ (c .before .before .next-word .ensures) (c .enum-told .given .1))
 
 enum-known-found : tie.Need-enum-known-found Inv-loop μ-loop
 enum-known-found c = search needs
@@ -83,7 +83,7 @@ enum-known-found c = search needs
 put-assignment-requires : tie.Need-put-assignment-requires Inv-loop μ-loop
 put-assignment-requires c κs =
     let f = c .before .before .before in
-    assignment-ready (entry (turn f) .pre) (turn f .loop .inv .0) (word f)
+    assignment-ready (entry (turn f) .args .extent .shouts) (entry (turn f) .pre) (turn f .loop .inv .0) (word f)
 
 enum-known-got : tie.Need-enum-known-got Inv-loop μ-loop
 enum-known-got c = search needs
@@ -98,7 +98,7 @@ returns-2 : tie.Need-returns-2 Inv-loop μ-loop
 returns-2 c =
     let p = c .before .before .before .before .before .before .before in
     let t = turn (found p) in
-    state-refused (entry t .pre) (t .loop .inv .0) (word (found p)) (p .put-assignment .ensures) (c .before .got .given .1)
+    state-refused (entry t .args .extent .shouts) (entry t .pre) (t .loop .inv .0) (word (found p)) (p .put-assignment .ensures) (c .before .got .given .1)
 
 enum-known-got-2 : tie.Need-enum-known-got-2 Inv-loop μ-loop
 enum-known-got-2 c = search needs
@@ -113,7 +113,7 @@ returns-3 : tie.Need-returns-3 Inv-loop μ-loop
 returns-3 c =
     let p = c .before .before .before .before .before .before .before in
     let t = turn (found p) in
-    state-demanded (entry t .pre) (t .loop .inv .0) (word (found p)) (p .put-assignment .ensures) (c .before .got2 .given .1)
+    state-demanded (entry t .args .extent .shouts) (entry t .pre) (t .loop .inv .0) (word (found p)) (p .put-assignment .ensures) (c .before .got2 .given .1)
 
 enum-known-got-3 : tie.Need-enum-known-got-3 Inv-loop μ-loop
 enum-known-got-3 c = search needs
@@ -122,13 +122,17 @@ loop-less : tie.Need-loop-less Inv-loop μ-loop
 loop-less c =
     let p = c .before .before .before .before .before .before .before in
     let t = turn (found p) in
-    omega (arith, state-further (entry t .pre) (t .loop .inv .0) (word (found p)) (p .put-assignment .ensures) (c .before .got3 .given .1))
+    omega (
+      arith,
+      state-further (entry t .args .extent .shouts) (entry t .pre) (t .loop .inv .0) (word (found p)) (p .put-assignment .ensures)
+          (c .before .got3 .given .1),
+    )
 
 loop-again : tie.Need-loop-again Inv-loop μ-loop
 loop-again c =
     let p = c .before .before .before .before .before .before .before in
     let t = turn (found p) in (
-      state-next (entry t .pre) (t .loop .inv .0) (word (found p)) (p .put-assignment .ensures) (c .before .got3 .given .1)
+      state-next (entry t .args .extent .shouts) (entry t .pre) (t .loop .inv .0) (word (found p)) (p .put-assignment .ensures) (c .before .got3 .given .1)
           (p .put-assignment .kept .1 .1 .1 .1 .1 .1 .0),
       vars-same p,
       work-same p,

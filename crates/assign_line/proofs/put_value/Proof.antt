@@ -39,12 +39,12 @@ row : (c : tie.After-got3) →
     let s = entry (giving c) in
     let x = s .args .extent in
     IsRow (x .«vars_room») 0
-    (expand (lentOf (x .«vars_room») (s .args .homes .now) (s .args .params .now)) (s .pre .ready .tree) L 0
+    (expand (lentOf (x .«vars_room») (x .shouts) (s .args .homes .now) (s .args .params .now)) (s .pre .ready .tree) L 0
     (held (take (x .«vars_used») (s .args .vars .now))))
     (area (giving c)) (vars (giving c)) (c .got3 .given .0 .0) (c .got3 .given .0 .1 .1 .0) (c .got3 .given .0 .1 .1 .1 .0)
 row c =
     let e = giving c in
-    there (entry e .pre) (area e) (vars e) (e .expand-text .result) (e .expand-text .ensures) (c .got3 .given .1)
+    there (entry e .args .extent .shouts) (entry e .pre) (area e) (vars e) (e .expand-text .result) (e .expand-text .ensures) (c .got3 .given .1)
 
 -- the arm of the row, where the value has been stored, and the variables then
 abbrev given : tie.After-store-operand → tie.After-got3
@@ -82,8 +82,11 @@ part-name-end c = search needs
 store-operand-requires : tie.Need-store-operand-requires
 store-operand-requires c κs =
     let g = c .before .before .before .before in
-    let e = giving g in
-    (value-storable (entry e .pre) (area e) (vars e) (e .expand-text .result) (e .expand-text .ensures) (g .got3 .given .1), row g .holds)
+    let e = giving g in (
+      value-storable (entry e .args .extent .shouts) (entry e .pre) (area e) (vars e) (e .expand-text .result) (e .expand-text .ensures)
+          (g .got3 .given .1),
+      row g .holds,
+    )
 
 enum-told : tie.Need-enum-told
 enum-told c = search needs
@@ -100,7 +103,7 @@ same-length-2 c = search needs
 returns : tie.Need-returns
 returns c =
     let e = refusing (c .before) in
-    value-refused (entry e .pre) (area e) (vars e) (e .expand-text .result) (e .expand-text .ensures) (c .before .got .given .1)
+    value-refused (entry e .args .extent .shouts) (entry e .pre) (area e) (vars e) (e .expand-text .result) (e .expand-text .ensures) (c .before .got .given .1)
 
 same-length-3 : tie.Need-same-length-3
 same-length-3 c = search needs
@@ -111,7 +114,8 @@ same-length-4 c = search needs
 returns-2 : tie.Need-returns-2
 returns-2 c =
     let e = demanding (c .before) in
-    value-demanded (entry e .pre) (area e) (vars e) (e .expand-text .result) (e .expand-text .ensures) (c .before .got2 .given .1)
+    value-demanded (entry e .args .extent .shouts) (entry e .pre) (area e) (vars e) (e .expand-text .result) (e .expand-text .ensures)
+    (c .before .got2 .given .1)
 
 same-length-5 : tie.Need-same-length-5
 same-length-5 c = search needs
@@ -124,7 +128,8 @@ returns-3 c =
     let f = c .before .before .before .before .before .before in
     let g = given f in
     let e = giving g in
-    value-full (entry e .pre) (area e) (vars e) (e .expand-text .result) (e .expand-text .ensures) (g .got3 .given .1) (left f) (f .store-operand .result)
+    value-full (entry e .args .extent .shouts) (entry e .pre) (area e) (vars e) (e .expand-text .result) (e .expand-text .ensures) (g .got3 .given .1)
+    (left f) (f .store-operand .result)
     (f .store-operand .ensures) (c .enum-told .given .1)
 
 same-length-7 : tie.Need-same-length-7
@@ -138,7 +143,8 @@ returns-4 c =
     let f = c .before .before .before .before .before .before .before in
     let g = given f in
     let e = giving g in
-    value-stored (entry e .pre) (area e) (vars e) (e .expand-text .result) (e .expand-text .ensures) (g .got3 .given .1) (left f) (f .store-operand .result)
+    value-stored (entry e .args .extent .shouts) (entry e .pre) (area e) (vars e) (e .expand-text .result) (e .expand-text .ensures)
+    (g .got3 .given .1) (left f) (f .store-operand .result)
     (f .store-operand .ensures) (c .before .stored .given .1)
 
 pub put-value-spec : {M : Type 1} → statement M

@@ -26,7 +26,7 @@ enum-told c = search needs
 with-copy-requires : tie.Need-with-copy-requires
 with-copy-requires c κs =
     let t = c .before .before in
-    (λ m. assign-fine _ (t .before .before .check-assignments .ensures m) (t .enum-told .given .1), refl)
+    (λ m. assign-fine _ (t .before .before .check-assignments .ensures _ m) (t .enum-told .given .1), refl)
 
 same-length : tie.Need-same-length
 same-length c = search needs
@@ -38,7 +38,7 @@ returns : tie.Need-returns
 returns c =
     let k = c .before .before .before .before in
     awaits-as _ (c .refuse-with .ensures) (untold-awaits refl (entry k .args .work .now) _ λ m.
-    answer-refused _ (assign-refused _ (k .check-assignments .ensures m) (c .before .before .checked .given .1)) refl)
+    answer-refused _ (assign-refused _ (k .check-assignments .ensures _ m) (c .before .before .checked .given .1)) refl)
 
 same-length-3 : tie.Need-same-length-3
 same-length-3 c = search needs

@@ -13,7 +13,7 @@ enum-known-lent : tie.Need-enum-known-lent
 enum-known-lent c = search needs
 
 returns : tie.Need-returns
-returns c m = lent-stops _ _ (unlent-of (c .before .before .before .check-lent .ensures) (c .before .lent .given .1))
+returns c b m = lent-stops _ _ (unlent-of (c .before .before .before .check-lent .ensures) (c .before .lent .given .1))
 
 enum-told : tie.Need-enum-told
 enum-told c = search needs
@@ -25,7 +25,7 @@ refuse-requires : tie.Need-refuse-requires
 refuse-requires c κs = search needs
 
 returns-2 : tie.Need-returns-2
-returns-2 c m =
+returns-2 c b m =
     let t = c .before .before .before in
     refuses _ _ (c .refuse .ensures)
     (paths-bad _ _ (lends-of (t .before .before .check-lent .ensures) (t .enum-told .given .1))
@@ -38,7 +38,7 @@ refuse-requires-2 : tie.Need-refuse-requires-2
 refuse-requires-2 c κs = search needs
 
 returns-3 : tie.Need-returns-3
-returns-3 c m =
+returns-3 c b m =
     let p = c .before .before .before in
     let t = p .before .before in
     refuses _ _ (c .refuse2 .ensures)
@@ -47,7 +47,7 @@ returns-3 c m =
     (sym (c .before .before .well-formed2 .ensures) ∙ not-true _ (c .before .if2 .taken)))
 
 check-line-requires : tie.Need-check-line-requires
-check-line-requires c κs m =
+check-line-requires c κs b m =
     let p = c .before .before in
     let t = p .before .before in
     tables-fine (t .before .before .before .before .before .before .before .before .before .before .args .job) _

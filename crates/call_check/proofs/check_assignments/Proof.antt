@@ -12,7 +12,7 @@ enum-known-lent : tie.Need-enum-known-lent
 enum-known-lent c = search needs
 
 returns : tie.Need-returns
-returns c m = assign-unlent _ (unlent-of (c .before .before .before .check-lent .ensures) (c .before .lent .given .1))
+returns c b m = assign-unlent _ (unlent-of (c .before .before .before .check-lent .ensures) (c .before .lent .given .1))
 
 enum-told : tie.Need-enum-told
 enum-told c = search needs
@@ -32,7 +32,7 @@ refuse-requires : tie.Need-refuse-requires
 refuse-requires c κs = search needs
 
 returns-3 : tie.Need-returns-3
-returns-3 c m =
+returns-3 c b m =
     let t = c .before .before .before in
     assign-refuses _ (c .refuse .ensures)
     (assign-unnumbered _ (lends-of (t .before .before .check-lent .ensures) (t .enum-told .given .1))

@@ -26,9 +26,9 @@ enum-known-bytes : tie.Need-enum-known-bytes
 enum-known-bytes c = search needs
 
 returns : tie.Need-returns
-returns c m =
+returns c b m =
     let k = c .before .before .before in
-    line-unplain _ _ (entry k .pre m) (unplain-of (k .check-bytes .ensures) (c .before .bytes .given .1))
+    line-unplain _ _ (entry k .pre b m) (unplain-of (k .check-bytes .ensures) (c .before .bytes .given .1))
 
 enum-told : tie.Need-enum-told
 enum-told c = search needs
@@ -49,23 +49,23 @@ refuse-requires : tie.Need-refuse-requires
 refuse-requires c κs = search needs
 
 returns-2 : tie.Need-returns-2
-returns-2 c m =
+returns-2 c b m =
     let r = c .before .before .before .before .before in
     refuses _ _ (c .refuse .ensures)
-    (room-none _ _ (entry (looked r) .pre m) (plain r .short) (plain r .whole)
+    (room-none _ _ (entry (looked r) .pre b m) (plain r .short) (plain r .whole)
     (accepted _ (read-as (r .read-line .ensures) (c .before .before .before .enum-told2 .given .1)))
     (sym (c .before .before .room .ensures) ∙ c .before .if1 .taken))
 
 returns-3 : tie.Need-returns-3
-returns-3 c m =
+returns-3 c b m =
     let r = c .before .before .before in
-    line-refused _ _ (entry (looked r) .pre m) (plain r .short) (plain r .whole) _ _
+    line-refused _ _ (entry (looked r) .pre b m) (plain r .short) (plain r .whole) _ _
     (refused-line _ _ _ (read-as (r .read-line .ensures) (c .before .read .given .1)))
 
 returns-4 : tie.Need-returns-4
-returns-4 c m =
+returns-4 c b m =
     let r = c .before .before .before .before in
-    room-some _ _ (entry (looked r) .pre m) (plain r .short) (plain r .whole)
+    room-some _ _ (entry (looked r) .pre b m) (plain r .short) (plain r .whole)
     (accepted _ (read-as (r .read-line .ensures) (c .before .before .enum-told2 .given .1)))
     (λ e. c .if1 .left (c .before .room .ensures ∙ e))
 

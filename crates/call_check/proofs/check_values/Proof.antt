@@ -24,7 +24,7 @@ enum-known-bytes : tie.Need-enum-known-bytes
 enum-known-bytes c = search needs
 
 returns : tie.Need-returns
-returns c m =
+returns c b m =
     let k = c .before .before .before in
     assign-unplain _ (entry k .pre .0) (entry k .pre .1) (unplain-of (k .check-bytes .ensures) (c .before .bytes .given .1))
 
@@ -41,13 +41,13 @@ enum-told-2 : tie.Need-enum-told-2
 enum-told-2 c = search needs
 
 returns-2 : tie.Need-returns-2
-returns-2 c m =
+returns-2 c b m =
     let r = c .before .before .before in
     let s = entry (looked r) in
     assign-unread _ (s .pre .0) (s .pre .1) (plain r) (read-as (r .read-assignments .ensures) (c .before .read .given .1))
 
 returns-3 : tie.Need-returns-3
-returns-3 c m =
+returns-3 c b m =
     let r = c .before .before in
     let s = entry (looked r) in
     assign-passed _ (s .pre .0) (s .pre .1) (plain r) (read-as (r .read-assignments .ensures) (c .enum-told2 .given .1))

@@ -26,7 +26,7 @@ enum-told c = search needs
 with-copy-requires : tie.Need-with-copy-requires
 with-copy-requires c κs =
     let t = c .before .before .before in
-    (λ m. check-passed _ _ (t .before .before .check .ensures m) (t .enum-told .given .1), refl)
+    (λ m. check-passed _ _ (t .before .before .check .ensures _ m) (t .enum-told .given .1), refl)
 
 same-length : tie.Need-same-length
 same-length c = search needs
@@ -42,7 +42,7 @@ returns c =
     let k = c .before .before .before .before in
     let s = entry k in
     awaits-as _ (c .refuse-with .ensures) (untold-awaits refl (s .args .work .now) _ λ m.
-    answer-refused (s .args .job) _ (check-refused (s .args .job) _ (k .check .ensures m) (c .before .before .checked .given .1)) refl)
+    answer-refused (s .args .job) _ (check-refused (s .args .job) _ (k .check .ensures _ m) (c .before .before .checked .given .1)) refl)
 
 same-length-4 : tie.Need-same-length-4
 same-length-4 c = search needs

@@ -67,7 +67,7 @@ module _ (c : tie.After-deliver) where
       let x = s .args .call .extent in
       DraftOf (x .«vars_room»)
       (draft job (length (s .args .out .now))
-      (worded job (x .«vars_room») (x .«vars_used») (s .args .line .now) (s .args .copy .now) (s .args .homes .now) (s .args .params .now)
+      (worded job (x .«vars_room») (x .shouts) (x .«vars_used») (s .args .line .now) (s .args .copy .now) (s .args .homes .now) (s .args .params .now)
       (s .args .paths .now) (length (s .args .out .now)))) (copied (accepting drawn)) (worked (accepting drawn)) (s .args .out .now) (c .deliver .last .1 .1 .0)
       (deliveredAs q (drawn .got3 .given .0 .1 .0))
   drafted k =

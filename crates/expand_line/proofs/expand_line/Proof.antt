@@ -25,9 +25,9 @@ use Rattle.expand_line.proofs.expand_line.Tie as tie
 
 abbrev Inv-loop : tie.InvT-loop
 Inv-loop line vars₀ extent homes params paths work₀ out₀ at₀ used₀ vars-used₀ vars work out at used vars-used =
-    State line homes params paths (extent .«vars_room»)
-    (lineOutcome (among (extent .«vars_room») homes params paths (length out₀)) line (held (take (extent .«vars_used») vars₀))) out₀ at used vars-used
-    vars work out
+    State line homes params paths (extent .«vars_room») (extent .shouts)
+    (lineOutcome (among (extent .«vars_room») (extent .shouts) homes params paths (length out₀)) line (held (take (extent .«vars_used») vars₀)))
+    out₀ at used vars-used vars work out
     × (length vars ≡ length vars₀) × (length work ≡ length work₀)
 
 abbrev μ-loop : tie.MeasureT-loop
@@ -60,13 +60,14 @@ module _ (c : tie.After-put-word Inv-loop μ-loop) where
   work-same = c .put-word .kept .1 .1 .1 .1 .1 .1 .1 .0 ∙ turn (found c) .loop .inv .2
 
   out-same : length (c .put-word .last .1 .1 .1 .1 .1 .1 .1 .1 .0) ≡ length (entry (turn (found c)) .args .out .now)
-  out-same = let t = turn (found c) in c .put-word .kept .1 .1 .1 .1 .1 .1 .1 .1 .0 ∙ state-same (entry t .pre) (t .loop .inv .0)
+  out-same =
+      let t = turn (found c) in c .put-word .kept .1 .1 .1 .1 .1 .1 .1 .1 .0 ∙ state-same (entry t .args .extent .shouts) (entry t .pre) (t .loop .inv .0)
 
 slice-write-out : tie.Need-slice-write-out Inv-loop μ-loop
 slice-write-out c = begun c .pre .byte
 
 loop-holds : tie.Need-loop-holds Inv-loop μ-loop
-loop-holds c = (state-start (begun c .pre), refl, refl)
+loop-holds c = (state-start (begun c .args .extent .shouts) (begun c .pre), refl, refl)
 
 next-word-requires : tie.Need-next-word-requires Inv-loop μ-loop
 next-word-requires c κs = c .loop .inv .0 .goes .within
@@ -81,12 +82,12 @@ same-length-2 : tie.Need-same-length-2 Inv-loop μ-loop
 same-length-2 c = c .before .before .before .loop .inv .2
 
 same-length-3 : tie.Need-same-length-3 Inv-loop μ-loop
-same-length-3 c = let t = c .before .before .before in state-same (entry t .pre) (t .loop .inv .0)
+same-length-3 c = let t = c .before .before .before in state-same (entry t .args .extent .shouts) (entry t .pre) (t .loop .inv .0)
 
 returns : tie.Need-returns Inv-loop μ-loop
 returns c =
     let t = c .before .before .before in
-    state-end (entry t .pre) (t .loop .inv .0) (next-shown _ _ (c .before .before .next-word .ensures) (c .enum-told .given .1))
+    state-end (entry t .args .extent .shouts) (entry t .pre) (t .loop .inv .0) (next-shown _ _ (c .before .before .next-word .ensures) (c .enum-told .given .1))
 
 enum-known-found : tie.Need-enum-known-found Inv-loop μ-loop
 enum-known-found c = search needs
@@ -94,7 +95,7 @@ enum-known-found c = search needs
 put-word-requires : tie.Need-put-word-requires Inv-loop μ-loop
 put-word-requires c κs =
     let f = c .before .before .before .before in
-    word-ready (entry (turn f) .pre) (turn f .loop .inv .0) (word f)
+    word-ready (entry (turn f) .args .extent .shouts) (entry (turn f) .pre) (turn f .loop .inv .0) (word f)
 
 enum-known-got : tie.Need-enum-known-got Inv-loop μ-loop
 enum-known-got c = search needs
@@ -112,7 +113,7 @@ returns-2 : tie.Need-returns-2 Inv-loop μ-loop
 returns-2 c =
     let p = c .before .before .before .before .before .before .before .before .before in
     let t = turn (found p) in
-    state-refused (entry t .pre) (t .loop .inv .0) (word (found p)) (p .put-word .ensures) (c .before .got .given .1)
+    state-refused (entry t .args .extent .shouts) (entry t .pre) (t .loop .inv .0) (word (found p)) (p .put-word .ensures) (c .before .got .given .1)
 
 enum-known-got-2 : tie.Need-enum-known-got-2 Inv-loop μ-loop
 enum-known-got-2 c = search needs
@@ -130,7 +131,7 @@ returns-3 : tie.Need-returns-3 Inv-loop μ-loop
 returns-3 c =
     let p = c .before .before .before .before .before .before .before .before .before in
     let t = turn (found p) in
-    state-demanded (entry t .pre) (t .loop .inv .0) (word (found p)) (p .put-word .ensures) (c .before .got2 .given .1)
+    state-demanded (entry t .args .extent .shouts) (entry t .pre) (t .loop .inv .0) (word (found p)) (p .put-word .ensures) (c .before .got2 .given .1)
 
 enum-known-got-3 : tie.Need-enum-known-got-3 Inv-loop μ-loop
 enum-known-got-3 c = search needs
@@ -139,13 +140,17 @@ loop-less : tie.Need-loop-less Inv-loop μ-loop
 loop-less c =
     let p = c .before .before .before .before .before .before .before .before .before in
     let t = turn (found p) in
-    omega (arith, state-further (entry t .pre) (t .loop .inv .0) (word (found p)) (p .put-word .ensures) (c .before .got3 .given .1))
+    omega (
+      arith,
+      state-further (entry t .args .extent .shouts) (entry t .pre) (t .loop .inv .0) (word (found p)) (p .put-word .ensures)
+          (c .before .got3 .given .1),
+    )
 
 loop-again : tie.Need-loop-again Inv-loop μ-loop
 loop-again c =
     let p = c .before .before .before .before .before .before .before .before .before in
     let t = turn (found p) in (
-      state-next (entry t .pre) (t .loop .inv .0) (word (found p)) (p .put-word .ensures) (c .before .got3 .given .1)
+      state-next (entry t .args .extent .shouts) (entry t .pre) (t .loop .inv .0) (word (found p)) (p .put-word .ensures) (c .before .got3 .given .1)
           (p .put-word .kept .1 .1 .1 .1 .1 .1 .1 .0) (p .put-word .kept .1 .1 .1 .1 .1 .1 .1 .1 .0),
       vars-same p,
       work-same p,

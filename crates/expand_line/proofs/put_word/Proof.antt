@@ -43,12 +43,12 @@ row : (c : tie.After-got3) →
     let s = entry (giving c) in
     let x = s .args .extent in
     IsRow (x .«vars_room») 0
-    (expand (lentOf (x .«vars_room») (s .args .homes .now) (s .args .params .now)) (s .pre .ready .tree) L 0
+    (expand (lentOf (x .«vars_room») (x .shouts) (s .args .homes .now) (s .args .params .now)) (s .pre .ready .tree) L 0
     (held (take (x .«vars_used») (s .args .vars .now))))
     (area (giving c)) (vars (giving c)) (c .got3 .given .0 .0) (c .got3 .given .0 .1 .1 .0) (c .got3 .given .0 .1 .1 .1 .0)
 row c =
     let e = giving c in
-    there (entry e .pre) (area e) (vars e) (e .expand-text .result) (e .expand-text .ensures) (c .got3 .given .1)
+    there (entry e .args .extent .shouts) (entry e .pre) (area e) (vars e) (e .expand-text .result) (e .expand-text .ensures) (c .got3 .given .1)
 
 -- the arm of the row, where its fields have been put
 abbrev split : tie.After-put-word-fields → tie.After-got3
@@ -104,7 +104,7 @@ same-length-2 c = search needs
 returns : tie.Need-returns
 returns c =
     let e = refusing (c .before) in
-    word-refused (entry e .pre) (area e) (vars e) (e .expand-text .result) (e .expand-text .ensures) (c .before .got .given .1)
+    word-refused (entry e .args .extent .shouts) (entry e .pre) (area e) (vars e) (e .expand-text .result) (e .expand-text .ensures) (c .before .got .given .1)
 
 same-length-3 : tie.Need-same-length-3
 same-length-3 c = search needs
@@ -115,7 +115,8 @@ same-length-4 c = search needs
 returns-2 : tie.Need-returns-2
 returns-2 c =
     let e = demanding (c .before) in
-    word-demanded (entry e .pre) (area e) (vars e) (e .expand-text .result) (e .expand-text .ensures) (c .before .got2 .given .1)
+    word-demanded (entry e .args .extent .shouts) (entry e .pre) (area e) (vars e) (e .expand-text .result) (e .expand-text .ensures)
+    (c .before .got2 .given .1)
 
 same-length-5 : tie.Need-same-length-5
 same-length-5 c = search needs
@@ -131,7 +132,8 @@ returns-3 c =
     let f = c .before .before .before .before .before .before in
     let g = split f in
     let e = giving g in
-    word-class (entry e .pre) (area e) (vars e) (e .expand-text .result) (e .expand-text .ensures) (g .got3 .given .1) (f .put-word-fields .ensures)
+    word-class (entry e .args .extent .shouts) (entry e .pre) (area e) (vars e) (e .expand-text .result) (e .expand-text .ensures) (g .got3 .given .1)
+    (f .put-word-fields .ensures)
     (c .enum-told .given .1)
 
 same-length-8 : tie.Need-same-length-8
@@ -148,7 +150,8 @@ returns-4 c =
     let f = c .before .before .before .before .before .before in
     let g = split f in
     let e = giving g in
-    word-full (entry e .pre) (area e) (vars e) (e .expand-text .result) (e .expand-text .ensures) (g .got3 .given .1) (f .put-word-fields .ensures)
+    word-full (entry e .args .extent .shouts) (entry e .pre) (area e) (vars e) (e .expand-text .result) (e .expand-text .ensures) (g .got3 .given .1)
+    (f .put-word-fields .ensures)
     (c .enum-told2 .given .1)
 
 same-length-11 : tie.Need-same-length-11
@@ -165,7 +168,8 @@ returns-5 c =
     let f = c .before .before .before .before .before .before .before in
     let g = split f in
     let e = giving g in
-    word-written (entry e .pre) (area e) (vars e) (e .expand-text .result) (e .expand-text .ensures) (g .got3 .given .1) (f .put-word-fields .ensures)
+    word-written (entry e .args .extent .shouts) (entry e .pre) (area e) (vars e) (e .expand-text .result) (e .expand-text .ensures)
+    (g .got3 .given .1) (f .put-word-fields .ensures)
     (c .before .put .given .1)
 
 pub put-word-spec : {M : Type 1} → statement M
