@@ -3,7 +3,7 @@ use Prim.Native.Nat.{ℕ, zero, suc, _+_, _<_, _≤_, min}
 use native.Mathlib.Omega.{arith}
 use mathlib.Core.Path.{_≡_, refl, sym, ap, subst, _∙_}
 use mathlib.Core.Bool.{Bool, true, false}
-use mathlib.Core.List.{[], _∷_, _++_, append-nil}
+use mathlib.Core.List.{List, [], _∷_, _++_, append-nil}
 use lib.IntN.{ℤ, pos, negsuc}
 use lib.Signed.{ltZ}
 use lib.ListN.{length, take, drop}
@@ -11,7 +11,7 @@ use lib.Seq.{take-all, take-at, drop-at, length-take-le}
 use borrow.Author.Tests.{ltb-true}
 use Rattle.stages.specs.Bytes.{Text}
 use Rattle.stages.specs.Call.{normaliser}
-use Rattle.stages.specs.Program.{Variables, givenLine, said, told, nextNumber, saidOf, toldOf}
+use Rattle.stages.specs.Program.{Variables, givenLine, said, told, nextNumber, afterLine, afterLines, saidOf, toldOf}
 use Rattle.stages.proofs.Bools.{no, apart, either}
 use Rattle.io.specs.Counts.{Counts, clamped}
 use Rattle.io.proofs.Counting.{counts}
@@ -103,8 +103,8 @@ pub record Goes (homes paths params block line₀ vars₀ said₀ : Text) (k : R
   pub sameVars : length vars ≡ length vars₀
   pub sameSaid : length said ≡ length said₀
   pub reached : (first : Variables) (read : Text) (w : Wrote)
-      → Reaches homes paths params first read w line₀ (k .kept) (k .line) (variables vars₀ (k .«vars_used»))
-      → Reached homes paths params first (read ++ take at block) line (r .kept) (r .line) (variables vars (r .«vars_used»))
+      → Reaches homes paths params first read w line₀ (k .kept) (k .line) (variables vars₀ (k .«vars_used») (k .shouts))
+      → Reached homes paths params first (read ++ take at block) line (r .kept) (r .line) (variables vars (r .«vars_used») (r .shouts))
 
 pub goes-starts : (homes paths params block line vars said : Text) (k : Run) → Ready line said (k .kept)
     → Goes homes paths params block line vars said k line vars said k 0
@@ -116,7 +116,7 @@ goes-starts homes paths params block line vars said k h = record {
   sameSaid = refl;
   reached = λ first read w r. record {
     wrote = w;
-    reaches = subst (λ (x : Text). Reaches homes paths params first x w line (k .kept) (k .line) (variables vars (k .«vars_used»)))
+    reaches = subst (λ (x : Text). Reaches homes paths params first x w line (k .kept) (k .line) (variables vars (k .«vars_used») (k .shouts)))
         (sym (append-nil read)) r;
   };
 }
@@ -125,14 +125,14 @@ module _ {homes paths params block line₀ vars₀ said₀ : Text} {k : Run} {li
     (g : Goes homes paths params block line₀ vars₀ said₀ k line vars said r at) where
   -- what is carried into a turn
   abbrev pub carried : Carried
-  carried = record { kept = r .kept; line = r .line; «vars_used» = r .«vars_used» }
+  carried = record { kept = r .kept; line = r .line; «vars_used» = r .«vars_used»; shouts = r .shouts }
 
   -- a line ended, is counted, and was written or not
   pub goes-line : {c : Buffers} {len told used next number : ℕ} (s : Bool)
       → Tells homes paths params carried block at (buffers line vars said) c len told used next → number ≡ nextNumber (r .line)
       → length (c .line) ≡ length line → length (c .vars) ≡ length vars → length (c .said) ≡ length said
       → Goes homes paths params block line₀ vars₀ said₀ k (c .line) (c .vars) (c .said)
-      (record { kept = 0; line = number; «vars_used» = used; «goes_on» = s }) next
+      (record { kept = 0; line = number; «vars_used» = used; shouts = r .shouts; «goes_on» = s }) next
   goes-line {c = c} {len = len} {told = told} {used = used} {next = next} s t e l v w = record {
     ready = record { most = omega arith; room = omega (arith, g .ready .room); words = omega (arith, g .ready .words) };
     inside = next-turn block at next (t .ends) (g .inside) .1;
@@ -149,7 +149,8 @@ module _ {homes paths params block line₀ vars₀ said₀ : Text} {k : Run} {li
 
   -- the block ran out within a line
   pub passes-open : {c : Buffers} {n : ℕ} → Stays (r .kept) block at (buffers line vars said) c n
-      → Passes homes paths params block line₀ vars₀ k (c .line) (c .vars) (record { kept = n; line = r .line; «vars_used» = r .«vars_used»; «goes_on» = true })
+      → Passes homes paths params block line₀ vars₀ k (c .line) (c .vars)
+      (record { kept = n; line = r .line; «vars_used» = r .«vars_used»; shouts = r .shouts; «goes_on» = true })
   passes-open s = record {
     goes = λ e first read w h.
         let q = g .reached first read w h in
@@ -164,7 +165,8 @@ module _ {homes paths params block line₀ vars₀ said₀ : Text} {k : Run} {li
         let q = g .reached first read w h in
         record {
           wrote = q .wrote;
-          reaches = subst (λ (x : Text). Reaches homes paths params first (read ++ x) (q .wrote) line (r .kept) (r .line) (variables vars (r .«vars_used»)))
+          reaches = subst (λ (x : Text). Reaches homes paths params first (read ++ x) (q .wrote) line (r .kept) (r .line)
+              (variables vars (r .«vars_used») (r .shouts)))
               (take-all at block (f e)) (q .reaches);
         };
     stops = λ e first read w h. reaches-stopped homes paths params read block at (g .reached first read w h .reaches);
@@ -217,36 +219,53 @@ module _ {homes paths params block line vars said : Text} {k : Run} {line′ var
 
 -- ALL BLOCKS
 
+-- the switch is the same after lines
+after-shouts : (homes paths params : Text) (v : Variables) (ls : List Text) → afterLines homes paths params v ls .shouts ≡ v .shouts
+unfolding afterLines afterLine
+after-shouts homes paths params v [] = refl
+after-shouts homes paths params v (l ∷ ls) = after-shouts homes paths params (afterLine homes paths params v l) ls
+
+answers-ran : {homes paths params vars vars′ read : Text} {used used′ : ℕ} {s s′ : Bool}
+    → Ran homes paths params (variables vars used s) read (variables vars′ used′ s′) → Answers homes paths params vars used s vars′ used′
+answers-ran {homes} {paths} {params} {vars} {vars′} {read} {used} {used′} {s} r = record {
+  read = read;
+  ran = subst (λ (x : Bool). Ran homes paths params (variables vars used s) read (variables vars′ used′ x))
+      (ap (λ (v : Variables). v .shouts) (r .after) ∙ after-shouts homes paths params (variables vars used s) (r .lines)) r;
+}
+
 -- a run stands where all that was read is answered, or has stopped
-pub record Stands (homes paths params vars₀ : Text) (used₀ : ℕ) (line vars said : Text) (k : Run) : Type 0 where
+pub record Stands (homes paths params vars₀ : Text) (used₀ : ℕ) (shouts₀ : Bool) (line vars said : Text) (k : Run) : Type 0 where
   pub room : lineKept ≤ length line
   pub words : writtenRoom ≤ length said
-  pub goes : k .«goes_on» ≡ true → Going homes paths params (variables vars₀ used₀) line (k .kept) (k .line) (variables vars (k .«vars_used»))
-  pub stops : k .«goes_on» ≡ false → Answers homes paths params vars₀ used₀ vars (k .«vars_used»)
+  pub goes : k .«goes_on» ≡ true → Going homes paths params (variables vars₀ used₀ shouts₀) line (k .kept) (k .line)
+      (variables vars (k .«vars_used») (k .shouts))
+  pub stops : k .«goes_on» ≡ false → Answers homes paths params vars₀ used₀ shouts₀ vars (k .«vars_used»)
 
-pub stands-starts : (homes paths params vars : Text) (used : ℕ) (line said : Text) → Ready line said 0
-    → Stands homes paths params vars used line vars said (record { kept = 0; line = 1; «vars_used» = used; «goes_on» = true })
-stands-starts homes paths params vars used line said h = record {
+pub stands-starts : (homes paths params vars : Text) (used : ℕ) (shouts : Bool) (line said : Text) → Ready line said 0
+    → Stands homes paths params vars used shouts line vars said
+    (record { kept = 0; line = 1; «vars_used» = used; shouts = shouts; «goes_on» = true })
+stands-starts homes paths params vars used shouts line said h = record {
   room = h .room;
   words = h .words;
-  goes = λ e. record { read = []; reached = record { wrote = nothing; reaches = reaches-none homes paths params (variables vars used) line } };
+  goes = λ e. record { read = []; reached = record { wrote = nothing; reaches = reaches-none homes paths params (variables vars used shouts) line } };
   stops = λ e. absurd (no (sym e));
 }
 
-module _ {homes paths params vars₀ : Text} {used₀ : ℕ} {line vars said : Text} {k : Run} (s : Stands homes paths params vars₀ used₀ line vars said k) where
+module _ {homes paths params vars₀ : Text} {used₀ : ℕ} {shouts₀ : Bool} {line vars said : Text} {k : Run}
+    (s : Stands homes paths params vars₀ used₀ shouts₀ line vars said k) where
   pub stands-ready : k .«goes_on» ≡ true → Ready line said (k .kept)
   stands-ready e = record { most = kept-most (s .goes e .reached .reaches .holds); room = s .room; words = s .words }
 
   -- by either way out
-  pub stands-answers : Answers homes paths params vars₀ used₀ vars (k .«vars_used»)
+  pub stands-answers : Answers homes paths params vars₀ used₀ shouts₀ vars (k .«vars_used»)
   stands-answers =
       either (k .«goes_on»)
-      (λ e. let g = s .goes e in record { read = g .read; ran = reaches-ran homes paths params (g .reached .reaches) })
+      (λ e. answers-ran (reaches-ran homes paths params (s .goes e .reached .reaches)))
       (λ e. s .stops e)
 
   pub stands-follows : {block line′ vars′ said′ : Text} {r : Run} {i : Input} → k .«goes_on» ≡ true
       → Follows homes paths params block line vars said k line′ vars′ said′ r i → length line′ ≡ length line → length said′ ≡ length said
-      → Stands homes paths params vars₀ used₀ line′ vars′ said′ r
+      → Stands homes paths params vars₀ used₀ shouts₀ line′ vars′ said′ r
   stands-follows {line′ = line′} {vars′ = vars′} {said′ = said′} {r = r} q f l w = record {
     room = omega (arith, s .room);
     words = omega (arith, s .words);
@@ -254,21 +273,20 @@ module _ {homes paths params vars₀ : Text} {used₀ : ℕ} {line vars said : T
     stops = stopped f;
   }
     where
-      g : Going homes paths params (variables vars₀ used₀) line (k .kept) (k .line) (variables vars (k .«vars_used»))
+      g : Going homes paths params (variables vars₀ used₀ shouts₀) line (k .kept) (k .line) (variables vars (k .«vars_used») (k .shouts))
       g = s .goes q
 
       goes-on : {block : Text} {i : Input} → Follows homes paths params block line vars said k line′ vars′ said′ r i → r .«goes_on» ≡ true
-          → Going homes paths params (variables vars₀ used₀) line′ (r .kept) (r .line) (variables vars′ (r .«vars_used»))
-      goes-on (passes p) e = record { read = _; reached = p .goes e (variables vars₀ used₀) (g .read) (g .reached .wrote) (g .reached .reaches) }
+          → Going homes paths params (variables vars₀ used₀ shouts₀) line′ (r .kept) (r .line) (variables vars′ (r .«vars_used») (r .shouts))
+      goes-on (passes p) e = record { read = _; reached = p .goes e (variables vars₀ used₀ shouts₀) (g .read) (g .reached .wrote) (g .reached .reaches) }
       goes-on (finishes p) e = absurd (apart (p .stops) e)
       goes-on (fails p) e = absurd (apart (p .stops) e)
 
       stopped : {block : Text} {i : Input} → Follows homes paths params block line vars said k line′ vars′ said′ r i → r .«goes_on» ≡ false
-          → Answers homes paths params vars₀ used₀ vars′ (r .«vars_used»)
-      stopped (passes p) e = record { read = _; ran = p .stops e (variables vars₀ used₀) (g .read) (g .reached .wrote) (g .reached .reaches) }
-      stopped (finishes p) e = record { read = g .read; ran = run-ran homes paths params (g .reached .reaches) (p .says) }
-      stopped (fails p) e = record {
-        read = g .read;
-        ran = subst (Ran homes paths params (variables vars₀ used₀) (g .read)) (sym (ap (λ (x : Text). variables x (r .«vars_used»)) (p .sameVars) ∙
-            ap (λ (n : ℕ). variables vars n) (p .sameUsed))) (reaches-ran homes paths params (g .reached .reaches));
-      }
+          → Answers homes paths params vars₀ used₀ shouts₀ vars′ (r .«vars_used»)
+      stopped (passes p) e = answers-ran (p .stops e (variables vars₀ used₀ shouts₀) (g .read) (g .reached .wrote) (g .reached .reaches))
+      stopped (finishes p) e = answers-ran (run-ran homes paths params (g .reached .reaches) (p .says))
+      stopped (fails p) e =
+          answers-ran (subst (Ran homes paths params (variables vars₀ used₀ shouts₀) (g .read))
+          (sym (ap (λ (x : Text). variables x (r .«vars_used») (k .shouts)) (p .sameVars) ∙ ap (λ (n : ℕ). variables vars n (k .shouts)) (p .sameUsed)))
+          (reaches-ran homes paths params (g .reached .reaches)))

@@ -20,11 +20,13 @@ enum Input {
     Failed,
 }
 
-// Where a run stands: the bytes kept of a line that has not ended, the line's number, the variables' used length, and whether there is more to answer.
+// Where a run stands: the bytes kept of a line that has not ended, the line's number, the variables' used length, whether unset
+// names shout, and whether there is more to answer.
 struct Run {
     kept: usize,
     line: usize,
     vars_used: usize,
+    shouts: bool,
     goes_on: bool,
 }
 
@@ -87,6 +89,7 @@ fn answer_block(
             kept: so_far.kept,
             line: so_far.line,
             vars_used: so_far.vars_used,
+            shouts: so_far.shouts,
         };
         let turn = recipe_answer::answer_next(
             carried,
@@ -105,6 +108,7 @@ fn answer_block(
                     kept: kept,
                     line: so_far.line,
                     vars_used: so_far.vars_used,
+                    shouts: so_far.shouts,
                     goes_on: true,
                 };
             }
@@ -116,10 +120,12 @@ fn answer_block(
             } => {
                 let end = len + told;
                 let is_written = write_answer(&said[..end], len);
+                let shouts = so_far.shouts;
                 so_far = Run {
                     kept: 0,
                     line: recipe_cut::next_number(so_far.line),
                     vars_used: vars_used,
+                    shouts: shouts,
                     goes_on: is_written,
                 };
                 at = next;
@@ -147,6 +153,7 @@ fn answer_end(
         kept: run.kept,
         line: run.line,
         vars_used: run.vars_used,
+        shouts: run.shouts,
     };
     let spoken = recipe_answer::answer_last(carried, line, vars, homes, params, paths, said);
     let len = spoken.len;
@@ -158,6 +165,7 @@ fn answer_end(
         kept: 0,
         line: run.line,
         vars_used: spoken.vars_used,
+        shouts: run.shouts,
         goes_on: false,
     }
 }
@@ -185,6 +193,7 @@ fn answer_input(
             kept: 0,
             line: run.line,
             vars_used: run.vars_used,
+            shouts: run.shouts,
             goes_on: false,
         },
     }
@@ -194,6 +203,7 @@ fn answer_input(
 // down, from a number that no run uses up.
 pub fn answer_all(
     vars_used: usize,
+    shouts: bool,
     block: &mut [u8],
     line: &mut [u8],
     vars: &mut [u8],
@@ -203,12 +213,13 @@ pub fn answer_all(
     said: &mut [u8],
 ) -> usize
     requires { ⌜ Ready (now line) (now said) 0 ⌝ }
-    ensures { λ r. ⌜ Answers (now (homes .entry)) (now (paths .entry)) (now (params .entry)) (now (vars .entry)) «vars_used» (now (vars .exit)) r ⌝ }
+    ensures { λ r. ⌜ Answers (now (homes .entry)) (now (paths .entry)) (now (params .entry)) (now (vars .entry)) «vars_used» shouts (now (vars .exit)) r ⌝ }
 {
     let mut so_far = Run {
         kept: 0,
         line: 1,
         vars_used: vars_used,
+        shouts: shouts,
         goes_on: true,
     };
     let mut turns = u64::MAX;

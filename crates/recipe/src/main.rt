@@ -1,5 +1,5 @@
 // The program of document 01. It reads the tables of the current folder, then answers the lines of standard input one by one; its arguments are their
-// positional parameters. The buffers are made here and lent; how an answer is worked out is in the libraries.
+// positional parameters, with `--shout` before them unset names shout. The buffers are made here and lent; how an answer is worked out is in the libraries.
 mod answering;
 
 ghost use mathlib.Core.Path.{_≡_};
@@ -9,6 +9,7 @@ ghost use lib.ListN.{length};
 ghost use Rattle.stages.specs.Numbers.{imageLimit, pathsLimit, lineLimit};
 ghost use Rattle.recipe_cut.specs.Said.{writtenRoom};
 ghost use Rattle.recipe.specs.Runs.{Answers, Runs};
+use libc::STDERR_FILENO;
 use recipe_load::Loaded;
 use text::numbers;
 
@@ -44,17 +45,19 @@ fn said_room() -> [u8; recipe_cut::WRITTEN_ROOM]
 fn answer_with(
     vars: &mut [u8],
     vars_used: usize,
+    shouts: bool,
     homes: &[u8],
     params: &[u8],
     paths: &[u8],
 ) -> usize
-    ensures { λ r. ⌜ Answers (now (homes .entry)) (now (paths .entry)) (now (params .entry)) (now (vars .entry)) «vars_used» (now (vars .exit)) r ⌝ }
+    ensures { λ r. ⌜ Answers (now (homes .entry)) (now (paths .entry)) (now (params .entry)) (now (vars .entry)) «vars_used» shouts (now (vars .exit)) r ⌝ }
 {
     let mut line = line_room();
     let mut block = io::buffer();
     let mut said = said_room();
     answering::answer_all(
         vars_used,
+        shouts,
         &mut block,
         &mut line,
         vars,
@@ -65,7 +68,16 @@ fn answer_with(
     )
 }
 
-// Reads the three tables and the arguments, which are the positional parameters, and answers all lines. If a table cannot be read, no line is answered.
+// Says on standard error how the program is called.
+fn say_usage() {
+    io::write_all(
+        STDERR_FILENO,
+        b"usage: recipe [--shout] [--] [PARAMETER]... < LINES\n",
+    );
+}
+
+// Reads the three tables and hears the arguments, options and positional parameters, and answers all lines. If a table cannot be read, or an option is
+// unknown, no line is answered.
 fn run(vars: &mut [u8], homes: &mut [u8], params: &mut [u8], paths: &mut [u8]) -> bool
     requires { ⌜ (imageLimit + 1 ≡ length (now vars)) × (imageLimit + 1 ≡ length (now homes)) × (imageLimit + 1 ≡ length (now params))
         × (pathsLimit + 1 ≡ length (now paths)) ⌝ }
@@ -80,10 +92,16 @@ fn run(vars: &mut [u8], homes: &mut [u8], params: &mut [u8], paths: &mut [u8]) -
     let Loaded::Length(p) = recipe_load::load(b"paths.tab", paths) else {
         return false;
     };
-    let packed = recipe_arguments::gather(params);
+    let heard = recipe_arguments::gather(1, params);
+    if !heard.known {
+        say_usage();
+        return false;
+    }
+    let packed = heard.used;
     answer_with(
         &mut vars[..numbers::IMAGE_LIMIT],
         vars_used,
+        heard.shouts,
         &homes[..h],
         &params[..packed],
         &paths[..p],

@@ -19,7 +19,7 @@ use Rattle.recipe_answer.specs.declared.Turn.the-variants.{Open, Answere
 pub says-determined : (homes paths params : Text) (v : Variables) (n : ℕ) (lines : List Text) (old left left′ vars vars′ : Text) (r s : Said)
     → Says homes paths params v n lines old left vars r → Says homes paths params v n lines old left′ vars′ s → (r ≡ s) × (left ≡ left′) × (vars ≡ vars′)
 says-determined homes paths params v n lines old left left′ vars vars′ r s g h =
-    let e : variables vars (r .«vars_used») ≡ variables vars′ (s .«vars_used») = one-answer (g .after) (h .after) in
+    let e : variables vars (r .«vars_used») (v .shouts) ≡ variables vars′ (s .«vars_used») (v .shouts) = one-answer (g .after) (h .after) in
     let l : r .len ≡ s .len = one-answer (g .words) (h .words) in
     let t : r .told ≡ s .told = one-answer (g .messages) (h .messages) in
     let u : r .«vars_used» ≡ s .«vars_used» = ap (λ (w : Variables). w .varsUsed) e in (
@@ -41,7 +41,7 @@ module _ (homes paths params : Text) (k : Carried) (block : Text) (at : ℕ) (b 
   turned-determined c d (Answered len told used next) (Open n) (tells g) (stays h) = absurd (clash (sym (h .runsOut) ∙ g .ends))
   turned-determined c d (Answered len told used next) (Answered len′ told′ used′ next′) (tells g) (tells h) =
       let n : next ≡ next′ = some-same (sym (g .ends) ∙ h .ends) in
-      let v : Variables = variables (b .vars) (k .«vars_used») in
+      let v : Variables = variables (b .vars) (k .«vars_used») (k .shouts) in
       let p = says-determined homes paths params v (k .line) _ (b .said) (c .said) (d .said) (c .vars) (d .vars) _ _ (g .says) (h .says) in (
         ap (λ (s : Said). Answered (s .len) (s .told) (s .«vars_used») next) (p .0) ∙ ap (Answered len′ told′ used′) n,
         rw (one-answer (g .keeps) (h .keeps), p .2, p .1),

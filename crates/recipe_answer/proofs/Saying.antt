@@ -2,6 +2,7 @@
 use Prim.Native.Nat.{ℕ, _+_, _-_, _≤_}
 use native.Mathlib.Omega.{arith}
 use mathlib.Core.Path.{_≡_, refl, sym, ap, subst, _∙_}
+use mathlib.Core.Bool.{Bool}
 use mathlib.Core.List.{List, [], _∷_, _++_, append-nil}
 use lib.Dec.{eqb}
 use lib.ListN.{length, take, drop, replicate, length-append, length-replicate}
@@ -65,13 +66,13 @@ unfoldable outcome : Given → Placed (Text × Pairs)
 unfolding expanded quotedIn
 outcome g = expanded g imageLimit then λ r. quotedIn (length (g .out)) (r .0) then λ t. doneAt (t, r .1)
 
-module _ (line vars : Text) (used : ℕ) (homes params paths work out message work' out' message' : Text) (w : length work ≡ length work')
+module _ (line vars : Text) (used : ℕ) (shouts : Bool) (homes params paths work out message work' out' message' : Text) (w : length work ≡ length work')
     (o : length out ≡ length out') (m : length message ≡ length message') where
   abbrev these : Given
-  these = given line vars used homes params paths work out message
+  these = given line vars used shouts homes params paths work out message
 
   abbrev those : Given
-  those = given line vars used homes params paths work' out' message'
+  those = given line vars used shouts homes params paths work' out' message'
 
   same-outcome : outcome these ≡ outcome those
   unfolding outcome expanded
@@ -85,12 +86,12 @@ module _ (line vars : Text) (used : ℕ) (homes params paths work out message wo
 
 -- the code's answer, said and told
 
-module _ (line vars : Text) (used : ℕ) (homes params paths work out message : Text) (l : Lent work out message) where
-  to-stage : Alike (normaliser (given line vars used homes params paths work out message))
-      (normaliser (givenLine homes paths params line (variables vars used)))
+module _ (line vars : Text) (used : ℕ) (shouts : Bool) (homes params paths work out message : Text) (l : Lent work out message) where
+  to-stage : Alike (normaliser (given line vars used shouts homes params paths work out message))
+      (normaliser (givenLine homes paths params line (variables vars used shouts)))
   unfolding givenLine
   to-stage =
-      same-lengths line vars used homes params paths work out message (replicate workLeast 0) (replicate imageLimit 0) (replicate rowLimit 0)
+      same-lengths line vars used shouts homes params paths work out message (replicate workLeast 0) (replicate imageLimit 0) (replicate rowLimit 0)
       (sym (l .area) ∙ sym (length-replicate {A = ℕ} workLeast 0)) (sym (l .output) ∙ sym (length-replicate {A = ℕ} imageLimit 0))
       (sym (l .row) ∙ sym (length-replicate {A = ℕ} rowLimit 0))
 
@@ -192,28 +193,28 @@ module _ (g : Given) {r : Answer} {vars work out message : Text} (h : Gives (nor
       both-inside = omega (arith, fill-room both-filled, both-same)
 
 -- what is said and told of a line is the stage's
-module _ (homes paths params line vars : Text) (used : ℕ) where
+module _ (homes paths params line vars : Text) (used : ℕ) (shouts : Bool) where
   abbrev answer : stage.Answer
-  answer = normaliser (givenLine homes paths params line (variables vars used))
+  answer = normaliser (givenLine homes paths params line (variables vars used shouts))
 
-  one-said : said answer ≡ saidOf homes paths params (variables vars used) (line ∷ [])
+  one-said : said answer ≡ saidOf homes paths params (variables vars used shouts) (line ∷ [])
   unfolding saidOf
   one-said = sym (append-nil (said answer))
 
-  one-told : (n : ℕ) → told n answer ≡ toldOf homes paths params (variables vars used) n (line ∷ [])
+  one-told : (n : ℕ) → told n answer ≡ toldOf homes paths params (variables vars used shouts) n (line ∷ [])
   unfolding toldOf
   one-told n = sym (append-nil (told n answer))
 
   one-after : (buffer : Text) (n : ℕ) → buffer ≡ answer .vars → n ≡ answer .varsUsed
-      → variables buffer n ≡ afterLines homes paths params (variables vars used) (line ∷ [])
+      → variables buffer n shouts ≡ afterLines homes paths params (variables vars used shouts) (line ∷ [])
   unfolding afterLines afterLine
-  one-after buffer n e f = ap (λ (b : Text). variables b n) e ∙ ap (λ (k : ℕ). variables (answer .vars) k) f
+  one-after buffer n e f = ap (λ (b : Text). variables b n shouts) e ∙ ap (λ (k : ℕ). variables (answer .vars) k shouts) f
 
 -- texts that stand behind each other at the front of a buffer, where they are what is said and told
 module _ (homes paths params : Text) (v : Variables) (n : ℕ) (lines : List Text) {words messages : Text} (e : words ≡ saidOf homes paths params v lines)
     (f : messages ≡ toldOf homes paths params v n lines) where
   says-both : {old left vars : Text} {len k used : ℕ} → len ≡ length words → k ≡ length messages → Puts (words ++ messages) old left (len + k)
-      → len + k ≤ length left → variables vars used ≡ afterLines homes paths params v lines
+      → len + k ≤ length left → variables vars used (v .shouts) ≡ afterLines homes paths params v lines
       → Says homes paths params v n lines old left vars (record { len = len; told = k; «vars_used» = used })
   says-both {old} {left} {len = len} i j p h a = record {
     words = i ∙ ap length e;
@@ -226,20 +227,21 @@ module _ (homes paths params : Text) (v : Variables) (n : ℕ) (lines : List Tex
     inside = h;
   }
 
-module _ (line vars : Text) (used : ℕ) (homes params paths work out message : Text) where
+module _ (line vars : Text) (used : ℕ) (shouts : Bool) (homes params paths work out message : Text) where
   abbrev asked : Given
-  asked = given line vars used homes params paths work out message
+  asked = given line vars used shouts homes params paths work out message
 
   pub said-so : (n : ℕ) {r : Answer} {vars' work' out' message' old left ys : Text} {len k : ℕ} → Lent work out message → writtenRoom ≤ length old
       → (h : Gives (normaliser asked) r vars' work' out' message')
       → Puts (saidBy (r .number) (r .place) (quoted asked h)) old left len
       → Puts (toldBy (r .number) n (demanded asked h)) (midOf len (length left - len) left) ys k
-      → Says homes paths params (variables vars used) n (line ∷ []) old (putMid len (length left - len) left ys) vars'
+      → Says homes paths params (variables vars used shouts) n (line ∷ []) old (putMid len (length left - len) left ys) vars'
       (record { len = len; told = k; «vars_used» = r .«vars_used» })
   said-so n {r} {vars'} {old = old} l f h p q =
-      let a : Alike (normaliser asked) (answer homes paths params line vars used) = to-stage line vars used homes params paths work out message l in
+      let a : Alike (normaliser asked) (answer homes paths params line vars used shouts) =
+      to-stage line vars used shouts homes params paths work out message l in
       let b : length out + answerRoom + (length message + toldRoom) ≤ length old = omega (arith, l .output, l .row) in
-      says-both homes paths params (variables vars used) n (line ∷ []) (words-are asked h ∙ a .words ∙ one-said homes paths params line vars used)
-      (messages-are asked h n ∙ a .messages n ∙ one-told homes paths params line vars used n) (p .counts) (q .counts) (both-put asked h n b p q)
+      says-both homes paths params (variables vars used shouts) n (line ∷ []) (words-are asked h ∙ a .words ∙ one-said homes paths params line vars used shouts)
+      (messages-are asked h n ∙ a .messages n ∙ one-told homes paths params line vars used shouts n) (p .counts) (q .counts) (both-put asked h n b p q)
       (both-inside asked h n b p q)
-      (one-after homes paths params line vars used vars' (r .«vars_used») (h .hands .variables ∙ a .variables) (h .hands .varsUsed ∙ a .varsUsed))
+      (one-after homes paths params line vars used shouts vars' (r .«vars_used») (h .hands .variables ∙ a .variables) (h .hands .varsUsed ∙ a .varsUsed))

@@ -86,12 +86,12 @@ module _ {block line line′ : Text} {at : ℕ} (k : Carried) {r : Taken} (w : T
   turn-open vars said e = record { runsOut = open-next w e; keeps = open-puts w e; sameVars = refl; sameSaid = refl }
 
   pub turn-ended : {n next : ℕ} (homes paths params vars vars′ said said′ : Text) (t : Said) → r ≡ Ended n next
-      → Says homes paths params (variables vars (k .«vars_used»)) (k .line) (take n line′ ∷ []) said said′ vars′ t
+      → Says homes paths params (variables vars (k .«vars_used») (k .shouts)) (k .line) (take n line′ ∷ []) said said′ vars′ t
       → Tells homes paths params k block at (buffers line vars said) (buffers line′ vars′ said′) (t .len) (t .told) (t .«vars_used») next
   turn-ended homes paths params vars vars′ said said′ t e s = record {
     ends = ended-next w e;
     keeps = ended-puts w e .leaves;
-    says = subst (λ (x : Text). Says homes paths params (variables vars (k .«vars_used»)) (k .line) (x ∷ []) said said′ vars′ t)
+    says = subst (λ (x : Text). Says homes paths params (variables vars (k .«vars_used») (k .shouts)) (k .line) (x ∷ []) said said′ vars′ t)
         (puts-front (ended-puts w e)) s;
   }
 
@@ -150,7 +150,7 @@ module _ (homes paths params : Text) where
         ∙ ap (λ (k : ℕ). toldOf homes paths params (afterLines homes paths params first (r .ended)) k lines) (r .counts))
         ∙ sym (told-append homes paths params first 1 (r .ended) lines)
 
-    more-after : variables vars (s .«vars_used») ≡ afterLines homes paths params first (r .ended ++ lines)
+    more-after : variables vars (s .«vars_used») (now .shouts) ≡ afterLines homes paths params first (r .ended ++ lines)
     more-after =
         h .after
         ∙ after-lines-cut homes paths params now lines
@@ -158,10 +158,10 @@ module _ (homes paths params : Text) where
         ∙ sym (after-append homes paths params first (r .ended) lines)
 
   module _ {first : Variables} (read block : Text) (w : Wrote) (at : ℕ) {k : Carried} {b c : Buffers}
-      (r : Reaches homes paths params first (read ++ take at block) w (b .line) (k .kept) (k .line) (variables (b .vars) (k .«vars_used»))) where
+      (r : Reaches homes paths params first (read ++ take at block) w (b .line) (k .kept) (k .line) (variables (b .vars) (k .«vars_used») (k .shouts))) where
     -- the block ran out
     pub reaches-open : {n : ℕ} → Stays (k .kept) block at b c n
-        → Reaches homes paths params first (read ++ block) w (c .line) n (k .line) (variables (c .vars) (k .«vars_used»))
+        → Reaches homes paths params first (read ++ block) w (c .line) n (k .line) (variables (c .vars) (k .«vars_used») (k .shouts))
     reaches-open s = record {
       ended = r .ended;
       left = r .left ++ came block at;
@@ -170,20 +170,21 @@ module _ (homes paths params : Text) where
       words = r .words;
       messages = r .messages;
       counts = r .counts;
-      after = ap (λ (x : Text). variables x (k .«vars_used»)) (s .sameVars) ∙ r .after;
+      after = ap (λ (x : Text). variables x (k .«vars_used») (k .shouts)) (s .sameVars) ∙ r .after;
     }
 
     -- a line ended, and is counted
     pub reaches-line : {len told used next number : ℕ} → Tells homes paths params k block at b c len told used next → number ≡ nextNumber (k .line)
         → Reaches homes paths params first (read ++ take next block) (wroteMore w (record { len = len; told = told; «vars_used» = used }) (c .said))
-        (c .line) 0 number (variables (c .vars) used)
+        (c .line) 0 number (variables (c .vars) used (k .shouts))
     unfolding numberAfter
     reaches-line {len} {told} {used} t e =
         let l : Text = r .left ++ came block at in
         let a : Said = record { len = len; told = told; «vars_used» = used } in
         let g : grown (b .line) (k .kept) block at ∷ [] ≡ cutLines (l ∷ []) = ap (λ (x : Text). x ∷ []) (holding-came (r .holds) block at) in
-        let h : Says homes paths params (variables (b .vars) (k .«vars_used»)) (k .line) (cutLines (l ∷ [])) (b .said) (c .said) (c .vars) a =
-        subst (λ (x : List Text). Says homes paths params (variables (b .vars) (k .«vars_used»)) (k .line) x (b .said) (c .said) (c .vars) a) g (t .says) in
+        let h : Says homes paths params (variables (b .vars) (k .«vars_used») (k .shouts)) (k .line) (cutLines (l ∷ [])) (b .said) (c .said) (c .vars) a =
+        subst (λ (x : List Text). Says homes paths params (variables (b .vars) (k .«vars_used») (k .shouts)) (k .line) x (b .said) (c .said)
+        (c .vars) a) g (t .says) in
         record {
           ended = r .ended ++ l ∷ [];
           left = [];
@@ -237,10 +238,10 @@ module _ (homes paths params : Text) where
       pub run-told : wroteMore w s left .messages ≡ toldOf homes paths params first 1 (linesOf read)
       run-told = more-told r (lastLine (r .left)) last ∙ ap (toldOf homes paths params first 1) whole
 
-      pub run-after : variables vars (s .«vars_used») ≡ afterLines homes paths params first (linesOf read)
+      pub run-after : variables vars (s .«vars_used») (now .shouts) ≡ afterLines homes paths params first (linesOf read)
       run-after = more-after r (lastLine (r .left)) last ∙ ap (afterLines homes paths params first) whole
 
-      pub run-ran : Ran homes paths params first read (variables vars (s .«vars_used»))
+      pub run-ran : Ran homes paths params first read (variables vars (s .«vars_used») (now .shouts))
       run-ran = record {
         wrote = wroteMore w s left;
         lines = linesOf read;

@@ -1,6 +1,7 @@
 -- What the program says and tells of lines, and the variables that it carries over, by the stages.
 use Prim.Native.Nat.{ℕ, _+_, _≤_}
 use mathlib.Core.Path.{_≡_}
+use mathlib.Core.Bool.{Bool}
 use mathlib.Core.List.{List, _++_}
 use lib.ListN.{length}
 use Rattle.stages.specs.Numbers.{workLeast, imageLimit, rowLimit}
@@ -10,8 +11,8 @@ use Rattle.stages.specs.Program.{Variables, saidOf, toldOf, afterLines}
 use Rattle.io.specs.Counts.{Counts}
 use Rattle.recipe_answer.specs.declared.Said.{Said}
 
-abbrev pub variables : Text → ℕ → Variables
-variables vars used = record { buffer = vars; varsUsed = used }
+abbrev pub variables : Text → ℕ → Bool → Variables
+variables vars used shouts = record { buffer = vars; varsUsed = used; shouts = shouts }
 
 -- what is lent to the normaliser beside the variables, by its lengths
 pub record Lent (work out message : Text) : Type 0 where
@@ -25,6 +26,6 @@ pub record Says (homes paths params : Text) (v : Variables) (n : ℕ) (lines : L
   pub words : r .len ≡ length (saidOf homes paths params v lines)
   pub messages : r .told ≡ length (toldOf homes paths params v n lines)
   pub leaves : left ≡ over (saidOf homes paths params v lines ++ toldOf homes paths params v n lines) old
-  pub after : variables vars (r .«vars_used») ≡ afterLines homes paths params v lines
+  pub after : variables vars (r .«vars_used») (v .shouts) ≡ afterLines homes paths params v lines
   pub within : Counts (r .len) left
   pub inside : r .len + r .told ≤ length left

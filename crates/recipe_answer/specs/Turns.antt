@@ -45,7 +45,7 @@ pub record Stays (kept : ℕ) (block : Text) (at : ℕ) (b c : Buffers) (n : ℕ
 pub record Tells (homes paths params : Text) (k : Carried) (block : Text) (at : ℕ) (b c : Buffers) (len told used next : ℕ) : Type 0 where
   pub ends : nextPlace block (behind block at) ≡ some next
   pub keeps : c .line ≡ over (grown (b .line) (k .kept) block at) (b .line)
-  pub says : Says homes paths params (variables (b .vars) (k .«vars_used»)) (k .line) (grown (b .line) (k .kept) block at ∷ []) (b .said) (c .said)
+  pub says : Says homes paths params (variables (b .vars) (k .«vars_used») (k .shouts)) (k .line) (grown (b .line) (k .kept) block at ∷ []) (b .said) (c .said)
       (c .vars) (record { len = len; told = told; «vars_used» = used })
 
 pub data Turned (homes paths params : Text) (k : Carried) (block : Text) (at : ℕ) (b c : Buffers) : Turn → Type 0 where

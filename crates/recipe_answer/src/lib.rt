@@ -9,6 +9,7 @@ ghost use Rattle.recipe_cut.specs.Lines.{lastLine};
 ghost use Rattle.recipe_cut.specs.Said.{writtenRoom};
 ghost use Rattle.recipe_answer.specs.Says.{variables, Lent, Says};
 ghost use Rattle.recipe_answer.specs.Turns.{Ready, buffers, Turned};
+use call_check::Asked;
 use recipe_cut::Taken;
 use text::numbers;
 
@@ -19,11 +20,13 @@ pub struct Said {
     pub vars_used: usize,
 }
 
-// What is carried from turn to turn: the bytes kept of a line that has not ended, the line's number, and the variables' used length.
+// What is carried from turn to turn: the bytes kept of a line that has not ended, the line's number, the variables' used length, and whether unset names
+// shout.
 pub struct Carried {
     pub kept: usize,
     pub line: usize,
     pub vars_used: usize,
+    pub shouts: bool,
 }
 
 // What came of a turn.
@@ -67,11 +70,15 @@ fn say_in(
     said: &mut [u8],
 ) -> Said
     requires { ⌜ Lent (now work) (now out) (now message) × (writtenRoom ≤ length (now said)) ⌝ }
-    ensures { λ r. ⌜ Says (now (homes .entry)) (now (paths .entry)) (now (params .entry)) (variables (now (vars .entry)) (carried .«vars_used»))
-        (carried .line) (now (line .entry) ∷ []) (now (said .entry)) (now (said .exit)) (now (vars .exit)) r ⌝ }
+    ensures { λ r. ⌜ Says (now (homes .entry)) (now (paths .entry)) (now (params .entry))
+        (variables (now (vars .entry)) (carried .«vars_used») (carried .shouts)) (carried .line) (now (line .entry) ∷ [])
+        (now (said .entry)) (now (said .exit)) (now (vars .exit)) r ⌝ }
 {
-    let used = carried.vars_used;
-    let answer = drunquill::normalise(line, vars, used, homes, params, paths, work, out, message);
+    let asked = Asked {
+        vars_used: carried.vars_used,
+        shouts: carried.shouts,
+    };
+    let answer = drunquill::normalise(line, vars, asked, homes, params, paths, work, out, message);
     let n = answer.out_len;
     let len = recipe_cut::put_answer(answer.number, answer.place, &out[..n], said);
     let m = answer.message_len;
@@ -94,8 +101,9 @@ fn say(
     said: &mut [u8],
 ) -> Said
     requires { ⌜ writtenRoom ≤ length (now said) ⌝ }
-    ensures { λ r. ⌜ Says (now (homes .entry)) (now (paths .entry)) (now (params .entry)) (variables (now (vars .entry)) (carried .«vars_used»))
-        (carried .line) (now (line .entry) ∷ []) (now (said .entry)) (now (said .exit)) (now (vars .exit)) r ⌝ }
+    ensures { λ r. ⌜ Says (now (homes .entry)) (now (paths .entry)) (now (params .entry))
+        (variables (now (vars .entry)) (carried .«vars_used») (carried .shouts)) (carried .line) (now (line .entry) ∷ [])
+        (now (said .entry)) (now (said .exit)) (now (vars .exit)) r ⌝ }
 {
     let mut work = io::large_buffer();
     let mut out = out_room();
@@ -156,8 +164,9 @@ pub fn answer_last(
     said: &mut [u8],
 ) -> Said
     requires { ⌜ Ready (now line) (now said) (carried .kept) ⌝ }
-    ensures { λ r. ⌜ Says (now (homes .entry)) (now (paths .entry)) (now (params .entry)) (variables (now (vars .entry)) (carried .«vars_used»))
-        (carried .line) (lastLine (take (carried .kept) (now (line .entry)))) (now (said .entry)) (now (said .exit)) (now (vars .exit)) r ⌝ }
+    ensures { λ r. ⌜ Says (now (homes .entry)) (now (paths .entry)) (now (params .entry))
+        (variables (now (vars .entry)) (carried .«vars_used») (carried .shouts)) (carried .line)
+        (lastLine (take (carried .kept) (now (line .entry)))) (now (said .entry)) (now (said .exit)) (now (vars .exit)) r ⌝ }
 {
     let kept = carried.kept;
     if recipe_cut::is_last_line(&line[..kept]) {

@@ -1,3 +1,4 @@
+pub mod Hearing
 pub mod Packing
 pub mod Lists
 pub mod Determined

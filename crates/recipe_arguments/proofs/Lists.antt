@@ -44,6 +44,7 @@ module _ (g : Given) (params : Text) (e : fieldsOf (g .params) ≡ fieldsOf para
     line = g .line;
     out = g .out;
     message = g .message;
+    shouts = g .shouts;
   }
 
   expanded-params : (out : ℕ) → expanded g out ≡ expanded other out

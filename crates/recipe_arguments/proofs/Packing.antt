@@ -22,7 +22,11 @@ use Rattle.table_store.specs.declared.Put.{Put}
 use Rattle.table_store.specs.declared.Put.the-variants.{Len, NoRoom}
 use Rattle.table_store.specs.Splice.{placed}
 use Rattle.table_store.proofs.Callers.{Wrote, wrote, unwritten, record-given, record-refused, version-first}
-use Rattle.recipe_arguments.specs.Packs.{Adds, Appends, Packs, whole, full, Grows, Gathers, GathersAll}
+use Rattle.recipe_arguments.specs.Options.{wordIn, Hearing, silent, heardAs, heard, heardAll}
+use Rattle.recipe_arguments.specs.Packs.{Adds, Appends, Packs, whole, full, HearsAs, Hears, Holds, Grows, Gathers, GathersAll}
+use Rattle.recipe_arguments.specs.declared.Word.{Word}
+use Rattle.recipe_arguments.specs.declared.Word.the-variants.{Shout, End, Unknown, Parameter}
+use Rattle.recipe_arguments.specs.declared.Heard.{Heard}
 
 -- A RECORD IN THE FREE PART
 
@@ -160,45 +164,79 @@ module _ (t : Text) (used : ℕ) (old left : Text) (r : ℕ) (l : List Text) (h 
 
 -- AN ARGUMENT
 
-module _ {used : ℕ} {old : Text} (h : used ≤ length old) (e : imageLimit + 1 ≡ length old) where
-  -- one that was fetched
-  pub grows-fetched : (t left : Text) (r : ℕ) → Appends t used old left r → Grows old used left r
-  grows-fetched t left r a = record {
-    text = t;
-    packs = λ l p. appends-more t used old left r l h (omega (arith, e)) a p;
-    within = appends-within t used old left r [] h (omega (arith, e)) a;
+-- one that is longer than any that has room, of whatever bytes, the first of which is no hyphen, is a parameter
+long-word : (o : Bool) (n : ℕ) → wordIn o (1 ∷ replicate n 1) ≡ Parameter
+long-word true n = refl
+long-word false n = refl
+
+module _ {h : Heard} {old : Text} (e : imageLimit + 1 ≡ length old) where
+  -- one that was fetched, by what it is
+  heard-as : (w : Word) (t left : Text) (r : Heard) → HearsAs w t h old left r → (g : Hearing) → Holds g old h → Holds (heardAs g w t) left r
+  heard-as Shout t left r a g k = rw (a .0, a .1) (record { shouts = refl; options = refl; known = k .known; packs = k .packs; within = k .within })
+  heard-as End t left r a g k = rw (a .0, a .1) (record { shouts = k .shouts; options = refl; known = k .known; packs = k .packs; within = k .within })
+  heard-as Unknown t left r a g k = rw (a .0, a .1) (record { shouts = k .shouts; options = refl; known = refl; packs = k .packs; within = k .within })
+  heard-as Parameter t left r a g k = record {
+    shouts = ap (λ (x : Heard). x .shouts) (a .1) ∙ k .shouts;
+    options = ap (λ (x : Heard). x .options) (a .1);
+    known = ap (λ (x : Heard). x .known) (a .1) ∙ k .known;
+    packs = appends-more t (h .used) old left (r .used) (g .params) (k .within) (omega (arith, e)) (a .0) (k .packs);
+    within = appends-within t (h .used) old left (r .used) (g .params) (k .within) (omega (arith, e)) (a .0);
   }
 
-  -- one that is longer than any that has room, of whatever bytes
-  pub grows-long : Grows old used old (length old)
-  grows-long = record {
-    text = replicate (length old) 1;
-    packs = λ l p.
-        more-full (replicate (length old) 1) used old old (length old) l h (omega (arith, e))
-        (omega (arith, length-replicate {A = ℕ} (length old) 1)) refl refl p;
-    within = omega arith;
+  pub grows-fetched : (t left : Text) (r : Heard) → Hears t h old left r → Grows old h left r
+  grows-fetched t left r a = record {
+    text = t;
+    holds = λ g k.
+        subst (λ (o : Bool). Holds (heardAs g (wordIn o t) t) left r) (k .options) (heard-as (wordIn (h .options) t) t left r a g k);
   }
+
+  pub grows-long : Grows old h old (record { used = length old; shouts = h .shouts; options = false; known = h .known })
+  grows-long =
+      let t : Text = 1 ∷ replicate (length old) 1 in
+      record {
+        text = t;
+        holds = λ g k.
+            rw (long-word (g .options) (length old)) (record {
+              shouts = k .shouts;
+              options = refl;
+              known = k .known;
+              packs = more-full t (h .used) old old (length old) (g .params) (k .within) (omega (arith, e))
+                  (omega (arith, length-replicate {A = ℕ} (length old) 1)) refl refl (k .packs);
+              within = omega arith;
+            });
+      }
 
 -- ALL ARGUMENTS
 
--- on the way: those before a number are packed
-pub record Packing (count : ℕ) (image : Text) (used number : ℕ) : Type 0 where
-  pub gathers : Gathers image used
-  pub counts : number ≡ length (gathers .arguments) + 1
-  pub most : number ≤ count - 1 + 1
+-- what is heard last comes behind what was heard before
+heard-last : (g : Hearing) (ts : List Text) (t : Text) → heardAll g (ts ++ t ∷ []) ≡ heard (heardAll g ts) t
+heard-last g [] t = refl
+heard-last g (u ∷ ts) t = heard-last (heard g u) ts t
+
+-- on the way: those before a number are heard
+pub record Packing (first count : ℕ) (image : Text) (h : Heard) (number : ℕ) : Type 0 where
+  pub gathers : Gathers image h
+  pub counts : number ≡ length (gathers .arguments) + first
+  pub most : number ≤ count - first + first
   pub room : imageLimit + 1 ≡ length image
 
 -- the version byte alone is the image of no arguments
-pub packing-starts : (old : Text) (count : ℕ) → imageLimit + 1 ≡ length old → Packing count (set old 0 1) 1 1
-packing-starts old count e =
+pub packing-starts : (old : Text) (first count : ℕ) → imageLimit + 1 ≡ length old
+    → Packing first count (set old 0 1) (record { used = 1; shouts = false; options = true; known = true }) first
+packing-starts old first count e =
     let k : length (set old 0 1) ≡ length old = length-set old 0 1 in
     record {
       gathers = record {
         arguments = [];
-        packs = whole (omega (arith, k, e)) (ap (take 1) (version-first old (omega (arith, e))) ∙ front);
-        within = omega (arith, k, e);
+        holds = record {
+          shouts = refl;
+          options = refl;
+          known = refl;
+          packs = whole (omega (arith, k, e)) (ap (take 1) (version-first old (omega (arith, e))) ∙ front);
+          within = omega (arith, k, e);
+        };
       };
-      counts = refl;
+      counts = omega arith;
       most = omega arith;
       room = e ∙ sym k;
     }
@@ -206,19 +244,19 @@ packing-starts old count e =
     front : take 1 (over (image []) old) ≡ image []
     front = unfold image written in over-front (1 ∷ []) old
 
-module _ {count : ℕ} {image : Text} {used number : ℕ} (p : Packing count image used number) where
-  pub packing-more : {image′ : Text} {used′ : ℕ} → number < count → Grows image used image′ used′ → length image′ ≡ length image
-      → Packing count image′ used′ (number + 1)
-  packing-more h g e = record {
+module _ {first count : ℕ} {image : Text} {h : Heard} {number : ℕ} (p : Packing first count image h number) where
+  pub packing-more : {image′ : Text} {h′ : Heard} → number < count → Grows image h image′ h′ → length image′ ≡ length image
+      → Packing first count image′ h′ (number + 1)
+  packing-more {image′} {h′} l g e = record {
     gathers = record {
       arguments = p .gathers .arguments ++ g .text ∷ [];
-      packs = g .packs (p .gathers .arguments) (p .gathers .packs);
-      within = g .within;
+      holds = subst (λ (x : Hearing). Holds x image′ h′) (sym (heard-last silent (p .gathers .arguments) (g .text)))
+          (g .holds (heardAll silent (p .gathers .arguments)) (p .gathers .holds));
     };
     counts = omega (arith, p .counts, length-append (p .gathers .arguments) (g .text ∷ []));
-    most = omega (arith, h);
+    most = omega (arith, l, p .counts);
     room = p .room ∙ sym e;
   }
 
-  pub packing-ends : count ≤ number → GathersAll count image used
-  packing-ends h = record { gathers = p .gathers; all = omega (arith, h, p .counts, p .most) }
+  pub packing-ends : count ≤ number → GathersAll first count image h
+  packing-ends l = record { gathers = p .gathers; all = omega (arith, l, p .counts, p .most) }

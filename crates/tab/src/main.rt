@@ -8,6 +8,7 @@ ghost use mathlib.Core.Path.{_≡_};
 ghost use Prim.Native.Nat.{_+_, _*_, _≤_};
 ghost use lib.ListN.{length};
 ghost use Rattle.stages.specs.Numbers.{imageLimit, pathsLimit};
+use call_check::Asked;
 use call_update::Updated;
 use libc::STDIN_FILENO;
 use libc::STDOUT_FILENO;
@@ -138,17 +139,17 @@ fn pack(kind: Kind) {
     pack_input(kind, &mut text, &mut image, &mut work);
 }
 
-// Applies assignment lines to variables and writes their image. There are no positional parameters.
+// Applies assignment lines to variables and writes their image.
 fn assign_text(
     text: &[u8],
     vars: &mut [u8],
-    used: usize,
+    asked: Asked,
     homes: &[u8],
+    params: &[u8],
     work: &mut [u8],
     message: &mut [u8],
 ) {
-    let none = [numbers::VERSION];
-    let assigned = tab_assign::assign_lines(text, vars, used, homes, &none, work, message);
+    let assigned = tab_assign::assign_lines(text, vars, asked, homes, params, work, message);
     match assigned {
         Assigned::Done { vars_used } => write_out(vars, vars_used),
         Assigned::Refused {
@@ -162,9 +163,11 @@ fn assign_text(
 
 // Applies the assignment lines that are read to the variables of the current folder.
 fn assign_input(
+    shouts: bool,
     text: &mut [u8],
     vars: &mut [u8],
     homes: &mut [u8],
+    params: &[u8],
     work: &mut [u8],
     message: &mut [u8],
 )
@@ -180,17 +183,37 @@ fn assign_input(
     if !is_whole(n, text.len()) {
         return;
     }
+    let asked = Asked {
+        vars_used: used,
+        shouts: shouts,
+    };
     let front = &mut vars[..numbers::IMAGE_LIMIT];
-    assign_text(&text[..n], front, used, &homes[..h], work, message);
+    assign_text(&text[..n], front, asked, &homes[..h], params, work, message);
 }
 
+// Hears the arguments behind the first: the switch, and the positional parameters of the lines.
 fn assign() {
+    let mut params = pairs_room();
+    let heard = recipe_arguments::gather(2, &mut params);
+    if !heard.known {
+        telling::usage();
+        return;
+    }
+    let packed = heard.used;
     let mut text = lines_room();
     let mut vars = pairs_room();
     let mut homes = pairs_room();
     let mut work = io::large_buffer();
     let mut message = message_room();
-    assign_input(&mut text, &mut vars, &mut homes, &mut work, &mut message);
+    assign_input(
+        heard.shouts,
+        &mut text,
+        &mut vars,
+        &mut homes,
+        &params[..packed],
+        &mut work,
+        &mut message,
+    );
 }
 
 // Inserts a path into an image of n bytes, or deletes it.
@@ -261,19 +284,11 @@ fn show_named(word: &[u8]) {
     telling::usage();
 }
 
-fn assign_named(job: &[u8]) {
-    if text::same(job, b"assign") {
-        assign();
-        return;
-    }
-    telling::usage();
-}
-
 fn main() {
     let mut job = io::buffer();
     let n = os::arg(1, &mut job);
-    if os::arg_count() == 2 {
-        assign_named(&job[..n]);
+    if text::same(&job[..n], b"assign") {
+        assign();
         return;
     }
     let mut word = lines_room();

@@ -66,6 +66,8 @@ pub(crate) fn say_not_updated(number: u8) {
 pub(crate) fn usage() {
     say(b"usage: tab show vars|homes|paths|fields < image > text\n");
     say(b"       tab pack vars|homes|paths|fields < text > image\n");
-    say(b"       tab assign < settings.txt > new.tab && mv new.tab vars.tab\n");
+    say(
+        b"       tab assign [--shout] [--] [PARAMETER]... < settings.txt > new.tab && mv new.tab vars.tab\n",
+    );
     say(b"       tab insert|delete PATH < paths.tab > new.tab && mv new.tab paths.tab\n");
 }

@@ -50,20 +50,21 @@ taken-some [] h = absurd (omega arith)
 taken-some (b ∷ t) h = refl
 
 -- the lines before `at` are applied, and have left this
-pub record Going (homes params text : Text) (first left : Buffers) (at line : ℕ) : Type 0 where
-  pub is : assigning homes params 1 first (linesTaken text) ≡ assigning homes params line left (linesTaken (drop at text))
+pub record Going (homes params : Text) (shouts : Bool) (text : Text) (first left : Buffers) (at line : ℕ) : Type 0 where
+  pub is : assigning homes params shouts 1 first (linesTaken text) ≡ assigning homes params shouts line left (linesTaken (drop at text))
   pub within : at ≤ length text
   pub count : line ≤ at + 1
 
-pub going-starts : (homes params text : Text) (first : Buffers) → Going homes params text first first 0 1
-going-starts homes params text first = record { is = refl; within = omega arith; count = omega arith }
+pub going-starts : (homes params : Text) (shouts : Bool) (text : Text) (first : Buffers) → Going homes params shouts text first first 0 1
+going-starts homes params shouts text first = record { is = refl; within = omega arith; count = omega arith }
 
 -- the line at the walk's place is r bytes long: it ends at the first newline, or at the text's end
-pub record Line (homes params text : Text) (first left : Buffers) (at line r : ℕ) : Type 0 where
-  pub going : Going homes params text first left at line
+pub record Line (homes params : Text) (shouts : Bool) (text : Text) (first left : Buffers) (at line r : ℕ) : Type 0 where
+  pub going : Going homes params shouts text first left at line
   pub ends : r ≡ upTo 10 (take (length text - at) (drop at text))
 
-module _ {homes params text : Text} {first left : Buffers} {at line r : ℕ} (l : Line homes params text first left at line r) where
+module _ {homes params : Text} {shouts : Bool} {text : Text} {first left : Buffers} {at line r : ℕ}
+    (l : Line homes params shouts text first left at line r) where
   place : r ≡ upTo 10 (drop at text)
   place = l .ends ∙ ap (upTo 10) (take-all (length text - at) (drop at text) (omega (arith, length-drop at text)))
 
@@ -80,19 +81,19 @@ module _ {homes params text : Text} {first left : Buffers} {at line r : ℕ} (l 
       ∙ ap (λ (k : ℕ). take k (drop at text) ∷ linesOf (drop (at + r + 1) text)) (sym z)
 
   abbrev all : Assigning
-  all = assigning homes params 1 first (linesTaken text)
+  all = assigning homes params shouts 1 first (linesTaken text)
 
   abbrev answer : stage.Answer
-  answer = answerTo homes params left (part text at (at + r))
+  answer = answerTo homes params shouts left (part text at (at + r))
 
   step : (b : Bool) → eqb (answer .number) accepted ≡ b
-      → all ≡ assignOn b line answer (λ c. assigning homes params (suc line) c (linesOf (drop (at + r + 1) text)))
+      → all ≡ assignOn b line answer (λ c. assigning homes params shouts (suc line) c (linesOf (drop (at + r + 1) text)))
   unfolding assigning
   step b e =
-      l .going .is ∙ ap (assigning homes params line left) lines
-      ∙ ap (λ (x : Bool). assignOn x line answer (λ c. assigning homes params (suc line) c (linesOf (drop (at + r + 1) text)))) e
+      l .going .is ∙ ap (assigning homes params shouts line left) lines
+      ∙ ap (λ (x : Bool). assignOn x line answer (λ c. assigning homes params shouts (suc line) c (linesOf (drop (at + r + 1) text)))) e
 
-  fits : AssignerFits (given (part text at (at + r)) (left .vars) (left .varsUsed) homes params [] (left .work) [] (left .message)) answer
+  fits : AssignerFits (given (part text at (at + r)) (left .vars) (left .varsUsed) shouts homes params [] (left .work) [] (left .message)) answer
   fits = assigner-fits _
 
   module _ {a : Answer} {vars work message : Text} (g : Gives answer a vars work [] message) where
@@ -117,24 +118,24 @@ module _ {homes params text : Text} {first left : Buffers} {at line r : ℕ} (l 
       taken : answer .number ≡ accepted
       taken = sym (g .hands .number) ∙ e
 
-      goes : all ≡ assigning homes params (suc line) (buffers vars (a .«vars_used») work message) (linesOf (drop (at + r + 1) text))
+      goes : all ≡ assigning homes params shouts (suc line) (buffers vars (a .«vars_used») work message) (linesOf (drop (at + r + 1) text))
       goes =
           step true (eq-eqb (answer .number) accepted taken)
-          ∙ ap (λ (b : Buffers). assigning homes params (suc line) b (linesOf (drop (at + r + 1) text))) same
+          ∙ ap (λ (b : Buffers). assigning homes params shouts (suc line) b (linesOf (drop (at + r + 1) text))) same
 
     pub going-passes : a .number ≡ accepted → length text ≤ at + r + 1 → Assigns all vars work message (Done (a .«vars_used»))
     unfolding assigning linesOf
     going-passes e h =
         passes
         (goes e
-        ∙ ap (λ (t : Text). assigning homes params (suc line) (buffers vars (a .«vars_used») work message) (linesOf t)) (drop-of-length-le text h))
+        ∙ ap (λ (t : Text). assigning homes params shouts (suc line) (buffers vars (a .«vars_used») work message) (linesOf t)) (drop-of-length-le text h))
         (counts (a .«vars_used») vars
         (omega (arith, g .hands .varsUsed, ap length (g .hands .variables), fits .varsKept, fits .accepts (taken e) .varsFit)))
 
     pub going-more : a .number ≡ accepted → at + r + 1 < length text
-        → Going homes params text first (buffers vars (a .«vars_used») work message) (at + r + 1) (line + 1)
+        → Going homes params shouts text first (buffers vars (a .«vars_used») work message) (at + r + 1) (line + 1)
     going-more e h = record {
-      is = rw (add-one line) (goes e ∙ ap (assigning homes params (suc line) (buffers vars (a .«vars_used») work message))
+      is = rw (add-one line) (goes e ∙ ap (assigning homes params shouts (suc line) (buffers vars (a .«vars_used») work message))
           (taken-some (drop (at + r + 1) text) (omega (arith, h, length-drop (at + r + 1) text))));
       within = omega (arith, h);
       count = omega (arith, l .going .count);

@@ -25,8 +25,8 @@ abbrev pub buffers : Text → ℕ → Text → Text → Buffers
 buffers vars used work message = record { vars = vars; varsUsed = used; work = work; message = message }
 
 -- the assigner's answer to a line
-abbrev pub answerTo : Text → Text → Buffers → Text → stage.Answer
-answerTo homes params b line = assigner (given line (b .vars) (b .varsUsed) homes params [] (b .work) [] (b .message))
+abbrev pub answerTo : Text → Text → Bool → Buffers → Text → stage.Answer
+answerTo homes params shouts b line = assigner (given line (b .vars) (b .varsUsed) shouts homes params [] (b .work) [] (b .message))
 
 -- what an answer leaves
 abbrev pub leftBy : stage.Answer → Buffers
@@ -42,11 +42,11 @@ assignOn true n a on = on (leftBy a)
 assignOn false n a on = fault n a
 
 -- lines, the first of which has the number n
-unfoldable pub assigning : Text → Text → ℕ → Buffers → List Text → Assigning
+unfoldable pub assigning : Text → Text → Bool → ℕ → Buffers → List Text → Assigning
 unfolding assigner
-assigning homes params n b [] = whole b
-assigning homes params n b (l ∷ ls) =
-    assignOn (eqb (answerTo homes params b l .number) accepted) n (answerTo homes params b l) (λ c. assigning homes params (suc n) c ls)
+assigning homes params shouts n b [] = whole b
+assigning homes params shouts n b (l ∷ ls) =
+    assignOn (eqb (answerTo homes params shouts b l .number) accepted) n (answerTo homes params shouts b l) (λ c. assigning homes params shouts (suc n) c ls)
 
 -- the lines of a text, and an empty one where it has none
 unfoldable pub linesTaken : Text → List Text

@@ -2,6 +2,7 @@
 // its number in the text and by the job's own answer. A text without a line is taken for one empty line, which assigns nothing, so that the tables are looked
 // at in any case.
 ghost use Rattle.tab_assign.specs.Assignings.{buffers, linesTaken, assigning, Assigns};
+use call_check::Asked;
 use text::numbers;
 
 const NEWLINE: u8 = b'\n';
@@ -25,22 +26,27 @@ pub enum Assigned {
 pub fn assign_lines(
     text: &[u8],
     vars: &mut [u8],
-    vars_used: usize,
+    asked: Asked,
     homes: &[u8],
     params: &[u8],
     work: &mut [u8],
     message: &mut [u8],
 ) -> Assigned
     ensures { λ r. ⌜ Assigns
-        (assigning (now (homes .entry)) (now (params .entry)) 1 (buffers (now (vars .entry)) «vars_used» (now (work .entry)) (now (message .entry)))
+        (assigning (now (homes .entry)) (now (params .entry)) (asked .shouts) 1
+        (buffers (now (vars .entry)) (asked .«vars_used») (now (work .entry)) (now (message .entry)))
         (linesTaken (now (text .entry)))) (now (vars .exit)) (now (work .exit)) (now (message .exit)) r ⌝ }
 {
-    let mut used = vars_used;
+    let mut used = asked.vars_used;
     let mut at: usize = 0;
     let mut line: usize = 1;
     loop {
         let end = at + tab_escape::find(&text[at..], NEWLINE);
-        let answer = drunquill::assign(&text[at..end], vars, used, homes, params, work, message);
+        let now = Asked {
+            vars_used: used,
+            shouts: asked.shouts,
+        };
+        let answer = drunquill::assign(&text[at..end], vars, now, homes, params, work, message);
         if answer.number != numbers::ACCEPTED {
             return Assigned::Refused {
                 line: line,

@@ -1,6 +1,7 @@
 -- Each table lies within its buffer, as the arguments do, and the lines are answered among them.
 use borrow.Author.Needs.{needs}
-use Prim.Native.Nat.{ℕ}
+use borrow.Author.Tests.{not-false}
+use Prim.Native.Nat.{ℕ, _≤_}
 use native.Mathlib.Omega.{arith}
 use mathlib.Core.Path.{sym, _∙_}
 use lib.ListN.{length}
@@ -9,7 +10,7 @@ use Rattle.stages.specs.Numbers.{imageLimit}
 use Rattle.stages.proofs.Bools.{no}
 use Rattle.recipe_load.specs.Loads.{Held}
 use Rattle.recipe_load.proofs.Reading.{loads-held}
-use Rattle.recipe.proofs.Loading.{answers-run}
+use Rattle.recipe.proofs.Loading.{same-room, answers-run}
 use Rattle.recipe.proofs.run.Statement.{statement}
 use Rattle.recipe.proofs.run.Tie as tie
 
@@ -33,9 +34,12 @@ loaded-2 c = c .before .before .before .before
 abbrev loaded-3 : tie.After-p → tie.After-load3
 loaded-3 c = c .before .before .before .before
 
--- where the arguments are packed
+-- where the arguments are heard, and where they are known
 abbrev gathered : tie.After-gather → tie.After-p
 gathered c = c .before .before .before
+
+abbrev heard : tie.After-answer-with-arg → tie.After-gather
+heard c = c .before .before .before .before .before
 
 abbrev homed : tie.After-load3 → tie.After-h
 homed c = c .before .before .before .before
@@ -127,36 +131,8 @@ returns-3 c = λ e. absurd (no e)
 gather-requires : tie.Need-gather-requires
 gather-requires c κs = search needs
 
-slice-relend-prefix-answer-with : tie.Need-slice-relend-prefix-answer-with
-slice-relend-prefix-answer-with c = search needs
-
-slice-aggregate-answer-with : tie.Need-slice-aggregate-answer-with
-slice-aggregate-answer-with c =
-    let l = first (second (loaded-3 (gathered (c .before .before .before)))) in
-    sym (length-take-le _ (l .load .last .1 .0) (omega (arith, l .load .kept .1 .0)))
-
-slice-reshare-prefix-answer-with : tie.Need-slice-reshare-prefix-answer-with
-slice-reshare-prefix-answer-with c = omega (arith, homes-held (homed (loaded-3 (gathered (c .before .before .before)))) .within)
-
-slice-aggregate-answer-with-2 : tie.Need-slice-aggregate-answer-with-2
-slice-aggregate-answer-with-2 c =
-    sym (length-take-le _ _ (omega (arith, homes-held (homed (loaded-3 (gathered (c .before .before .before .before)))) .within)))
-
-slice-reshare-prefix-answer-with-2 : tie.Need-slice-reshare-prefix-answer-with-2
-slice-reshare-prefix-answer-with-2 c = c .before .before .before .before .gather .ensures .within
-
-slice-aggregate-answer-with-3 : tie.Need-slice-aggregate-answer-with-3
-slice-aggregate-answer-with-3 c = sym (length-take-le _ _ (c .before .before .before .before .before .gather .ensures .within))
-
-slice-reshare-prefix-answer-with-3 : tie.Need-slice-reshare-prefix-answer-with-3
-slice-reshare-prefix-answer-with-3 c = omega (arith, paths-held (gathered (c .before .before .before .before .before)) .within)
-
-slice-aggregate-answer-with-4 : tie.Need-slice-aggregate-answer-with-4
-slice-aggregate-answer-with-4 c =
-    sym (length-take-le _ _ (omega (arith, paths-held (gathered (c .before .before .before .before .before .before)) .within)))
-
-answer-with-requires : tie.Need-answer-with-requires
-answer-with-requires c κs = search needs
+say-usage-requires : tie.Need-say-usage-requires
+say-usage-requires c κs = search needs
 
 same-length-7 : tie.Need-same-length-7
 same-length-7 c = search needs
@@ -171,8 +147,59 @@ same-length-10 : tie.Need-same-length-10
 same-length-10 c = search needs
 
 returns-4 : tie.Need-returns-4
-returns-4 c =
-    let g = c .before .before .before .before .before .before .before .before .before in
+returns-4 c = λ e. absurd (no e)
+
+slice-relend-prefix-answer-with : tie.Need-slice-relend-prefix-answer-with
+slice-relend-prefix-answer-with c =
+    let l = first (second (loaded-3 (gathered (c .before .before .before .before)))) in
+    omega (arith, l .load .kept .1 .0, begun l .pre .0)
+
+slice-aggregate-answer-with : tie.Need-slice-aggregate-answer-with
+slice-aggregate-answer-with c =
+    let l = first (second (loaded-3 (gathered (heard c)))) in
+    sym (length-take-le _ (l .load .last .1 .0) (omega (arith, l .load .kept .1 .0)))
+
+slice-reshare-prefix-answer-with : tie.Need-slice-reshare-prefix-answer-with
+slice-reshare-prefix-answer-with c = omega (arith, homes-held (homed (loaded-3 (gathered (heard c)))) .within)
+
+slice-aggregate-answer-with-2 : tie.Need-slice-aggregate-answer-with-2
+slice-aggregate-answer-with-2 c = sym (length-take-le _ _ (omega (arith, homes-held (homed (loaded-3 (gathered (heard (c .before))))) .within)))
+
+slice-reshare-prefix-answer-with-2 : tie.Need-slice-reshare-prefix-answer-with-2
+slice-reshare-prefix-answer-with-2 c = heard (c .before) .gather .ensures .holds .within
+
+slice-aggregate-answer-with-3 : tie.Need-slice-aggregate-answer-with-3
+slice-aggregate-answer-with-3 c = sym (length-take-le _ _ (heard (c .before .before) .gather .ensures .holds .within))
+
+slice-reshare-prefix-answer-with-3 : tie.Need-slice-reshare-prefix-answer-with-3
+slice-reshare-prefix-answer-with-3 c = omega (arith, paths-held (gathered (heard (c .before .before))) .within)
+
+slice-aggregate-answer-with-4 : tie.Need-slice-aggregate-answer-with-4
+slice-aggregate-answer-with-4 c = sym (length-take-le _ _ (omega (arith, paths-held (gathered (heard (c .before .before .before))) .within)))
+
+answer-with-requires : tie.Need-answer-with-requires
+answer-with-requires c κs = search needs
+
+same-length-11 : tie.Need-same-length-11
+same-length-11 c =
+    let a = c .before .before .answer-with in
+    let l = first (second (loaded-3 (gathered (heard (c .before .before .before .before .before .before))))) in
+    let h : imageLimit ≤ length (l .load .last .1 .0) = omega (arith, l .load .kept .1 .0, begun l .pre .0) in
+    same-room (a .last .0) (l .load .last .1 .0) (a .kept .0 ∙ length-take-le imageLimit (l .load .last .1 .0) h) h ∙ l .load .kept .1 .0
+
+same-length-12 : tie.Need-same-length-12
+same-length-12 c = search needs
+
+same-length-13 : tie.Need-same-length-13
+same-length-13 c = search needs
+
+same-length-14 : tie.Need-same-length-14
+same-length-14 c = search needs
+
+returns-5 : tie.Need-returns-5
+returns-5 c =
+    let w = c .before .before .before .before .before .before in
+    let g = heard w in
     let p = gathered g in
     let l = loaded-3 p in
     let m = second l in
@@ -180,9 +207,9 @@ returns-4 c =
     let a = c .before .before .answer-with in
     let e = begun (loaded v) .pre .0 in
     let k = a .kept .0 ∙ length-take-le imageLimit (loaded v .load .last .1 .0) (omega (arith, loaded v .load .kept .1 .0, e)) in
-    let i = begun (loaded v) .pre .2 ∙ sym (g .gather .kept .0) in
+    let i = begun (loaded v) .pre .2 ∙ sym (g .gather .kept .1 .0) in
     λ _. answers-run (vars-held v) (sym e) (homes-held (homed l)) (m .load2 .kept .1 .0) (paths-held p) (l .load3 .kept .1 .0) (g .gather .ensures) i
-    (a .ensures) k
+    (not-false _ (w .before .if1 .left)) (a .ensures) k
 
 pub run-spec : {M : Type 1} → statement M
 run-spec =
@@ -210,6 +237,12 @@ run-spec =
     same-length-6
     returns-3
     gather-requires
+    say-usage-requires
+    same-length-7
+    same-length-8
+    same-length-9
+    same-length-10
+    returns-4
     slice-relend-prefix-answer-with
     slice-aggregate-answer-with
     slice-reshare-prefix-answer-with
@@ -219,8 +252,8 @@ run-spec =
     slice-reshare-prefix-answer-with-3
     slice-aggregate-answer-with-4
     answer-with-requires
-    same-length-7
-    same-length-8
-    same-length-9
-    same-length-10
-    returns-4)
+    same-length-11
+    same-length-12
+    same-length-13
+    same-length-14
+    returns-5)

@@ -40,13 +40,13 @@ returns c =
     let s = c .before .before .before .before in
     let i = s .before .before .before .before in
     let a = i .before .before .before .before .before .before .before .before .before .args in
-    last-said (a .homes .now) (a .paths .now) (a .params .now) (variables (a .vars .now) (a .carried .«vars_used»)) (a .carried .line)
+    last-said (a .homes .now) (a .paths .now) (a .params .now) (variables (a .vars .now) (a .carried .«vars_used») (a .carried .shouts)) (a .carried .line)
     (take (a .carried .kept) (a .line .now)) (sym (i .before .is-last-line .ensures) ∙ i .if1 .taken) (s .say .ensures)
 
 returns-2 : tie.Need-returns-2
 returns-2 c =
     let a = c .before .before .before .before .before .before .before .before .before .args in
-    last-unsaid (a .homes .now) (a .paths .now) (a .params .now) (variables (a .vars .now) (a .carried .«vars_used»)) (a .carried .line)
+    last-unsaid (a .homes .now) (a .paths .now) (a .params .now) (variables (a .vars .now) (a .carried .«vars_used») (a .carried .shouts)) (a .carried .line)
     (take (a .carried .kept) (a .line .now)) (a .said .now) (sym (c .before .is-last-line .ensures) ∙ c .if1 .left)
 
 pub answer-last-spec : {M : Type 1} → statement M

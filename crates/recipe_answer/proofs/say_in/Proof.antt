@@ -21,7 +21,8 @@ module _ (c : tie.After-normalise) where
   abbrev asked : Given
   asked =
       let a = entry .args in
-      given (a .line .now) (a .vars .now) (a .carried .«vars_used») (a .homes .now) (a .params .now) (a .paths .now) (a .work .now) (a .out .now)
+      given (a .line .now) (a .vars .now) (a .carried .«vars_used») (a .carried .shouts) (a .homes .now) (a .params .now) (a .paths .now)
+      (a .work .now) (a .out .now)
       (a .message .now)
 
   abbrev out : Text
@@ -108,7 +109,8 @@ returns c =
     let p = t .before .before .before .before .before in
     let n = answered p in
     let a = entry n .args in
-    said-so (a .line .now) (a .vars .now) (a .carried .«vars_used») (a .homes .now) (a .params .now) (a .paths .now) (a .work .now) (a .out .now)
+    said-so (a .line .now) (a .vars .now) (a .carried .«vars_used») (a .carried .shouts) (a .homes .now) (a .params .now) (a .paths .now)
+    (a .work .now) (a .out .now)
     (a .message .now) (a .carried .line) (entry n .pre .0) (entry n .pre .1) (n .normalise .ensures) (p .put-answer .ensures) (t .put-told .ensures)
 
 pub say-in-spec : {M : Type 1} → statement M

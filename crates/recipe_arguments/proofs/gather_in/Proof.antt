@@ -9,19 +9,19 @@ use Rattle.recipe_arguments.proofs.gather_in.Statement.{statement}
 use Rattle.recipe_arguments.proofs.gather_in.Tie as tie
 
 abbrev Inv-loop : tie.InvT-loop
-Inv-loop count buffer₀ image₀ used₀ number₀ buffer image used number = Packing count image used number × (length buffer ≡ length buffer₀)
+Inv-loop first count buffer₀ image₀ heard₀ number₀ buffer image heard number = Packing first count image heard number × (length buffer ≡ length buffer₀)
 
 abbrev μ-loop : tie.MeasureT-loop
-μ-loop count buffer₀ image₀ used₀ number₀ buffer image used number = count - number
+μ-loop first count buffer₀ image₀ heard₀ number₀ buffer image heard number = count - number
 
 slice-write-image : tie.Need-slice-write-image Inv-loop μ-loop
 slice-write-image c = search needs
 
 loop-holds : tie.Need-loop-holds Inv-loop μ-loop
-loop-holds c = let s = c .before .before in (packing-starts (s .args .image .now) (s .args .count) (s .pre), refl)
+loop-holds c = let s = c .before .before in (packing-starts (s .args .image .now) (s .args .first) (s .args .count) (s .pre), refl)
 
 take-argument-requires : tie.Need-take-argument-requires Inv-loop μ-loop
-take-argument-requires c κs = let p = c .before .before .before .loop .inv .0 in (p .gathers .within, p .room)
+take-argument-requires c κs = let p = c .before .before .before .loop .inv .0 in (p .gathers .holds .within, p .room)
 
 add-number : tie.Need-add-number Inv-loop μ-loop
 add-number c = search needs

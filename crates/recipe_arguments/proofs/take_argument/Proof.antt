@@ -16,16 +16,16 @@ same-length c = search needs
 returns : tie.Need-returns
 returns c =
     let s = c .before .before .before .before .before .before .before .before in
-    grows-long (s .pre .0) (s .pre .1)
+    grows-long (s .pre .1)
 
-slice-reshare-prefix-append-argument : tie.Need-slice-reshare-prefix-append-argument
-slice-reshare-prefix-append-argument c = search needs
+slice-reshare-prefix-hear : tie.Need-slice-reshare-prefix-hear
+slice-reshare-prefix-hear c = search needs
 
-slice-aggregate-append-argument : tie.Need-slice-aggregate-append-argument
-slice-aggregate-append-argument c = search needs
+slice-aggregate-hear : tie.Need-slice-aggregate-hear
+slice-aggregate-hear c = search needs
 
-append-argument-requires : tie.Need-append-argument-requires
-append-argument-requires c κs = search needs
+hear-requires : tie.Need-hear-requires
+hear-requires c κs = search needs
 
 same-length-2 : tie.Need-same-length-2
 same-length-2 c = search needs
@@ -36,8 +36,8 @@ same-length-3 c = search needs
 returns-2 : tie.Need-returns-2
 returns-2 c =
     let s = c .before .before .before .before .before .before .before .before .before .before .before .before .before in
-    let a = c .before .before .append-argument in
-    grows-fetched (s .pre .0) (s .pre .1) _ (a .last .0) (a .result) (a .ensures)
+    let a = c .before .before .hear in
+    grows-fetched (s .pre .1) _ (a .last .0) (a .result) (a .ensures)
 
 pub take-argument-spec : {M : Type 1} → statement M
 take-argument-spec =
@@ -47,9 +47,9 @@ take-argument-spec =
     errno-requires
     same-length
     returns
-    slice-reshare-prefix-append-argument
-    slice-aggregate-append-argument
-    append-argument-requires
+    slice-reshare-prefix-hear
+    slice-aggregate-hear
+    hear-requires
     same-length-2
     same-length-3
     returns-2)

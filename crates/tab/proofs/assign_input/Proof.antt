@@ -10,7 +10,7 @@ use Rattle.tab.proofs.assign_input.Statement.{statement}
 use Rattle.tab.proofs.assign_input.Tie as tie
 
 abbrev begun : tie.After-load → tie.Start
-begun c = c .before .before .before .before .before .before .before .before
+begun c = c .before .before .before .before .before .before .before .before .before
 
 abbrev first : tie.After-load2 → tie.After-load
 first c = c .before .before .before .before .before .before .before .before

@@ -7,9 +7,6 @@ use Rattle.tab.proofs.assign_text.Tie as tie
 abbrev applied : tie.After-assigned2 → tie.After-assign-lines
 applied c = c .before .before .before .before .before .before .before .before
 
-slice-aggregate-assign-lines : tie.Need-slice-aggregate-assign-lines
-slice-aggregate-assign-lines c = search needs
-
 assign-lines-requires : tie.Need-assign-lines-requires
 assign-lines-requires c κs = tt
 
@@ -63,7 +60,6 @@ pub assign-text-spec : {M : Type 1} → statement M
 assign-text-spec =
     tie.close
     (tie.spec
-    slice-aggregate-assign-lines
     assign-lines-requires
     enum-known-assigned
     write-out-requires

@@ -10,12 +10,12 @@ use Rattle.tab_assign.proofs.assign_lines.Statement.{statement}
 use Rattle.tab_assign.proofs.assign_lines.Tie as tie
 
 abbrev Inv-loop : tie.InvT-loop
-Inv-loop text vars₀ vars-used homes params work₀ message₀ used₀ at₀ line₀ vars work message used at line =
-    Going homes params text (buffers vars₀ vars-used work₀ message₀) (buffers vars used work message) at line
+Inv-loop text vars₀ asked homes params work₀ message₀ used₀ at₀ line₀ vars work message used at line =
+    Going homes params (asked .shouts) text (buffers vars₀ (asked .«vars_used») work₀ message₀) (buffers vars used work message) at line
     × (length vars ≡ length vars₀) × (length work ≡ length work₀) × (length message ≡ length message₀)
 
 abbrev μ-loop : tie.MeasureT-loop
-μ-loop text vars₀ vars-used homes params work₀ message₀ used₀ at₀ line₀ vars work message used at line = length text - at
+μ-loop text vars₀ asked homes params work₀ message₀ used₀ at₀ line₀ vars work message used at line = length text - at
 
 abbrev start : tie.At-loop Inv-loop μ-loop → tie.Start Inv-loop μ-loop
 start c = c .before .before .before .before .before .before .before
@@ -27,7 +27,7 @@ walk c = c .before .before
 found : (c : tie.After-find Inv-loop μ-loop) →
     let l = walk c .loop in
     let a = start (walk c) .args in
-    Line (a .homes .now) (a .params .now) (a .text .now) (buffers (a .vars .now) (a .vars-used) (a .work .now) (a .message .now))
+    Line (a .homes .now) (a .params .now) (a .asked .shouts) (a .text .now) (buffers (a .vars .now) (a .asked .«vars_used») (a .work .now) (a .message .now))
     (buffers (l .vars) (l .used) (l .work) (l .message)) (l .at) (l .line) (c .find .result)
 found c = record { going = walk c .loop .inv .0; ends = c .find .ensures }
 
@@ -39,7 +39,7 @@ abbrev line-of : tie.After-assign Inv-loop μ-loop → tie.After-find Inv-loop �
 line-of c = c .before .before .before .before .before
 
 loop-holds : tie.Need-loop-holds Inv-loop μ-loop
-loop-holds c = (going-starts _ _ _ _, refl, refl, refl)
+loop-holds c = (going-starts _ _ _ _ _, refl, refl, refl)
 
 sub-find : tie.Need-sub-find Inv-loop μ-loop
 sub-find c = omega (arith, c .loop .inv .0 .within)

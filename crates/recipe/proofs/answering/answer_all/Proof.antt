@@ -7,12 +7,12 @@ use Rattle.recipe.proofs.answering.answer_all.Statement.{statement}
 use Rattle.recipe.proofs.answering.answer_all.Tie as tie
 
 abbrev Inv-loop : tie.InvT-loop
-Inv-loop vars-used block₀ line₀ vars₀ homes params paths said₀ so-far₀ turns₀ block line vars said so-far turns =
-    Stands homes paths params vars₀ vars-used line vars said so-far
+Inv-loop vars-used shouts block₀ line₀ vars₀ homes params paths said₀ so-far₀ turns₀ block line vars said so-far turns =
+    Stands homes paths params vars₀ vars-used shouts line vars said so-far
     × (length block ≡ length block₀) × (length line ≡ length line₀) × (length vars ≡ length vars₀) × (length said ≡ length said₀)
 
 abbrev μ-loop : tie.MeasureT-loop
-μ-loop vars-used block₀ line₀ vars₀ homes params paths said₀ so-far₀ turns₀ block line vars said so-far turns = turns
+μ-loop vars-used shouts block₀ line₀ vars₀ homes params paths said₀ so-far₀ turns₀ block line vars said so-far turns = turns
 
 -- a turn, where a block has been read
 abbrev turn : tie.After-read-block Inv-loop μ-loop → tie.At-loop Inv-loop μ-loop
@@ -21,7 +21,7 @@ turn c = c .before .before .before .before
 loop-holds : tie.Need-loop-holds Inv-loop μ-loop
 loop-holds c =
     let a = c .before .before .before .before .before .before .before in (
-      stands-starts (a .args .homes .now) (a .args .paths .now) (a .args .params .now) (a .args .vars .now) (a .args .vars-used)
+      stands-starts (a .args .homes .now) (a .args .paths .now) (a .args .params .now) (a .args .vars .now) (a .args .vars-used) (a .args .shouts)
           (a .args .line .now) (a .args .said .now) (a .pre),
       refl,
       refl,
