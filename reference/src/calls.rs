@@ -28,12 +28,14 @@ pub struct Answer {
     pub message: usize,
 }
 
-/// The images that a call reads and leaves as they are.
+/// The images that a call reads and leaves as they are, and the switch by which what is unset is refused where its value is asked for. Assignments do not look
+/// at the paths.
 #[derive(Clone, Copy, Debug)]
 pub struct Tables<'a> {
     pub homes: &'a [u8],
     pub paths: &'a [u8],
     pub parameters: &'a [u8],
+    pub shout: bool,
 }
 
 /// What an accepted call writes.
@@ -82,13 +84,12 @@ pub fn assign(
     line: &[u8],
     variables: &mut [u8],
     used: usize,
-    homes: &[u8],
-    parameters: &[u8],
+    tables: Tables,
     work: &mut [u8],
     message: &mut [u8],
 ) -> Answer {
     work.fill(0);
-    let lent = Lent { line, variables, used, homes, paths: None, parameters, work: work.len() };
+    let lent = Lent { paths: None, ..tables.lent(line, variables, used, work) };
     let written = assigned(&lent);
     answer(written, variables, used, &mut [], message)
 }
@@ -126,8 +127,8 @@ fn answer(
 
 impl<'a> Tables<'a> {
     fn lent(self, line: &'a [u8], variables: &'a [u8], used: usize, work: &[u8]) -> Lent<'a> {
-        let Tables { homes, paths, parameters } = self;
-        Lent { line, variables, used, homes, paths: Some(paths), parameters, work: work.len() }
+        let Tables { homes, paths, parameters, shout } = self;
+        Lent { line, variables, used, homes, paths: Some(paths), parameters, shout, work: work.len() }
     }
 }
 

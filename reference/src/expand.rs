@@ -8,7 +8,8 @@ use crate::matching::remaining;
 use crate::number::{Number, Refusal};
 use crate::pattern::{self, Purpose};
 use crate::row::{bytes, marked, Given, Mark, Row, Unit};
-use crate::tree::{Choice, End, Form, List, Parameter, Part};
+use crate::seen::{HeldTo, Seen, SeenDemand, SeenPattern, SeenRow, SeenSum, SeenUnset};
+use crate::tree::{Choice, Form, List, Parameter, Part};
 use crate::variables::Variables;
 
 /// What expanding reads and, for the variables, changes; and the message of a `?` once one has refused.
@@ -18,72 +19,6 @@ pub struct Expander<'a> {
     pub parameters: &'a [Vec<u8>],
     pub message: Vec<u8>,
     pub seen: Seen,
-}
-
-/// What expanding has come across. It decides nothing here, but lets the generator keep its cases cheap and count them.
-#[derive(Debug, Default)]
-pub struct Seen {
-    /// The patterns that were read, a refused one too.
-    pub patterns: Vec<SeenPattern>,
-    /// Each row; a refused one with what would have passed the limit.
-    pub rows: Vec<SeenRow>,
-    /// The arithmetic texts that were worked out or refused.
-    pub sums: Vec<SeenSum>,
-    /// The quotes that gave back their empty mark.
-    pub given_back: usize,
-    /// Each `?` on a missing value, the innermost first.
-    pub demands: Vec<SeenDemand>,
-}
-
-/// A `?` on a missing value: the units of its operand or why that was refused, whether it began with a tilde, and whether it had stored anything by then.
-#[derive(Debug)]
-pub struct SeenDemand {
-    pub operand: Result<Vec<Unit>, Number>,
-    pub tilde: bool,
-    pub stored: bool,
-}
-
-/// An arithmetic text, and the variables as they were before it was worked out.
-#[derive(Debug)]
-pub struct SeenSum {
-    pub text: Vec<u8>,
-    pub variables: Variables,
-}
-
-/// How many units a row has, and how many of them are break marks.
-#[derive(Clone, Copy, Debug)]
-pub struct SeenRow {
-    pub units: usize,
-    pub breaks: usize,
-}
-
-impl SeenRow {
-    fn of(units: &[Unit]) -> SeenRow {
-        SeenRow { units: units.len(), breaks: units.iter().filter(|unit| **unit == Unit::Break).count() }
-    }
-}
-
-#[derive(Debug)]
-pub struct SeenPattern {
-    pub units: Vec<Unit>,
-    pub held_to: HeldTo,
-}
-
-/// The texts that a pattern may match.
-#[derive(Debug)]
-pub enum HeldTo {
-    /// The beginnings or the ends of a value.
-    Value(Vec<u8>, End),
-    Paths,
-}
-
-impl SeenPattern {
-    pub fn purpose(&self) -> Purpose {
-        match self.held_to {
-            HeldTo::Value(..) => Purpose::Removal,
-            HeldTo::Paths => Purpose::Paths,
-        }
-    }
 }
 
 impl Expander<'_> {
@@ -110,7 +45,11 @@ impl Expander<'_> {
             Part::Arithmetic { text, quoted } => {
                 let text = bytes(self.row(text)?.units());
                 self.seen.sums.push(SeenSum { text: text.clone(), variables: self.variables.clone() });
-                let result = arithmetic::result(&text, &mut self.variables)?;
+                let result = arithmetic::result(&text, &mut self.variables);
+                if result == Err(Number::Unset) {
+                    self.seen.unset.push(SeenUnset::Arithmetic);
+                }
+                let result = result?;
                 marked(result.to_string().as_bytes(), mark(*quoted)).into()
             }
         };
@@ -177,10 +116,14 @@ impl Expander<'_> {
     }
 
     fn parameter(&mut self, parameter: &Parameter, form: &Form, mark: Mark) -> Result<Given, Number> {
+        if self.value(parameter).is_none() {
+            let numbered = matches!(parameter, Parameter::Number(_));
+            self.seen.unset.push(SeenUnset::Form { sign: form.sign(), numbered });
+        }
         match form {
-            Form::Plain => Ok(marked(self.value_or_nothing(parameter), mark).into()),
+            Form::Plain => Ok(marked(self.asked(parameter)?, mark).into()),
             Form::Length => {
-                let length = self.value_or_nothing(parameter).len().to_string();
+                let length = self.asked(parameter)?.len().to_string();
                 Ok(marked(length.as_bytes(), mark).into())
             }
             Form::Choice { choice, colon, operand } => {
@@ -189,6 +132,7 @@ impl Expander<'_> {
                 self.choose(parameter, *choice, missing, operand, mark)
             }
             Form::Removal { end, extent, operand } => {
+                self.asked(parameter)?;
                 let operand = self.row(operand)?;
                 let held_to = HeldTo::Value(self.value_or_nothing(parameter).to_vec(), *end);
                 self.seen.patterns.push(SeenPattern { units: operand.units().to_vec(), held_to });
@@ -204,6 +148,11 @@ impl Expander<'_> {
             Parameter::Name(name) => self.variables.value(name),
             Parameter::Number(number) => self.parameters.get(number - 1).map(Vec::as_slice),
         }
+    }
+
+    /// The value that a form asks for; what is unset may be refused here, for a removal before its operand is expanded.
+    fn asked(&self, parameter: &Parameter) -> Result<&[u8], Number> {
+        self.value(parameter).map_or_else(|| self.variables.unset(), Ok)
     }
 
     fn value_or_nothing(&self, parameter: &Parameter) -> &[u8] {

@@ -1,9 +1,10 @@
 //! What a call is lent, and the numbers that come before its line is read.
 
-use crate::expand::{Expander, Seen};
+use crate::expand::Expander;
 use crate::image::{self, Pair};
 use crate::limits;
 use crate::number::{Number, Refusal};
+use crate::seen::Seen;
 use crate::variables::Variables;
 
 /// What a call reads; the variables are the whole buffer, and the assignments' job has no paths.
@@ -14,6 +15,7 @@ pub struct Lent<'a> {
     pub homes: &'a [u8],
     pub paths: Option<&'a [u8]>,
     pub parameters: &'a [u8],
+    pub shout: bool,
     pub work: usize,
 }
 
@@ -45,7 +47,7 @@ impl Lent<'_> {
         if self.line.contains(&0) {
             return Err(Number::ZeroByte.at(0));
         }
-        let variables = Variables::new(variables, self.variables.len().min(limits::IMAGE));
+        let variables = Variables::new(variables, self.variables.len().min(limits::IMAGE), self.shout);
         Ok(Checked { variables, homes, paths, parameters })
     }
 }

@@ -25,6 +25,7 @@ pub mod program;
 mod quoting;
 mod read;
 mod row;
+mod seen;
 pub mod shells;
 mod split;
 mod tree;

@@ -29,11 +29,13 @@ pub enum Number {
     Parameters = 23,
     /// A path to insert that is there, or one to delete that is not.
     PathPresence = 24,
+    /// With the switch on, a parameter that is unset where its value is asked for.
+    Unset = 25,
 }
 
 /// The number of an accepted call, and the last number of the table.
 pub const ACCEPTED: u8 = 0;
-pub const LAST_NUMBER: u8 = Number::PathPresence as u8;
+pub const LAST_NUMBER: u8 = Number::Unset as u8;
 
 /// A number, the place it was met at, and the message that was demanded, which only 13 has.
 #[derive(Clone, Debug, PartialEq, Eq)]

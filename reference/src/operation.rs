@@ -13,7 +13,7 @@ const COUNTS: std::ops::RangeInclusive<i64> = 0..=63;
 pub fn work_out(tree: &Tree, variables: &mut Variables) -> Result<i64, Number> {
     match tree {
         Tree::Constant(number) => Ok(*number),
-        Tree::Name(name) => of_value(variables.value(name).unwrap_or_default()),
+        Tree::Name(name) => of_value(variables.asked(name)?),
         Tree::Unary(sign, operand) => unary(sign, work_out(operand, variables)?),
         Tree::Binary("&&", left, right) => Ok(i64::from(holds(left, variables)? && holds(right, variables)?)),
         Tree::Binary("||", left, right) => Ok(i64::from(holds(left, variables)? || holds(right, variables)?)),
@@ -40,7 +40,7 @@ fn holds(tree: &Tree, variables: &mut Variables) -> Result<bool, Number> {
 pub fn assigned(sign: &str, name: &[u8], right: i64, variables: &mut Variables) -> Result<i64, Number> {
     let result = match sign.strip_suffix('=') {
         None | Some("") => right,
-        Some(operator) => binary(operator, of_value(variables.value(name).unwrap_or_default())?, right)?,
+        Some(operator) => binary(operator, of_value(variables.asked(name)?)?, right)?,
     };
     variables.store(name, result.to_string().into_bytes())?;
     Ok(result)

@@ -1,4 +1,5 @@
-//! The program of document 01: tables from a folder, parameters from its arguments, lines from a reader, one answer to a line; and what lines demand.
+//! The program of document 01: tables from a folder, the switch and parameters from its arguments, lines from a reader, one answer to a line; and what lines
+//! demand.
 
 use std::fs;
 use std::io::{self, BufRead, ErrorKind, Write};
@@ -9,24 +10,44 @@ use crate::image;
 use crate::limits;
 use crate::number::{Number, ACCEPTED};
 
-/// The tables of a folder, the parameters, and the variables as the lines so far have left them.
+/// What the program is started with.
+#[derive(Default)]
+pub struct Started {
+    pub shout: bool,
+    pub parameters: Vec<Vec<u8>>,
+}
+
+impl Started {
+    /// `--shout` turns the switch on; `--` ends the options, and so does the first argument that is none. The others are the parameters. An option that
+    /// there is none of, a hyphen and something behind it, starts nothing.
+    pub fn by(arguments: impl IntoIterator<Item = Vec<u8>>) -> Option<Started> {
+        let mut rest = arguments.into_iter().peekable();
+        let shout = std::iter::from_fn(|| rest.next_if(|word| word == b"--shout")).count() > 0;
+        let ended = rest.next_if(|word| word == b"--").is_some();
+        let unknown = !ended && rest.peek().is_some_and(|word| word.len() > 1 && word.starts_with(b"-"));
+        (!unknown).then(|| Started { shout, parameters: rest.collect() })
+    }
+}
+
+/// The tables of a folder, the parameters, the switch, and the variables as the lines so far have left them.
 struct Program {
     variables: Vec<u8>,
     used: usize,
     homes: Vec<u8>,
     paths: Vec<u8>,
     parameters: Vec<u8>,
+    shout: bool,
 }
 
 /// Answers every line, and tells what it demands behind its number, counted from 1; a table that is there and cannot be read is an error before any answer.
 pub fn run(
     folder: &Path,
-    parameters: &[Vec<u8>],
+    started: &Started,
     mut lines: impl BufRead,
     mut out: impl Write,
     mut told: impl Write,
 ) -> io::Result<()> {
-    let mut program = Program::new(folder, parameters)?;
+    let mut program = Program::new(folder, started)?;
     let mut line = Vec::new();
     for number in 1u64.. {
         if lines.read_until(b'\n', &mut line)? == 0 {
@@ -44,12 +65,13 @@ pub fn run(
 }
 
 impl Program {
-    fn new(folder: &Path, parameters: &[Vec<u8>]) -> io::Result<Self> {
+    fn new(folder: &Path, started: &Started) -> io::Result<Self> {
         let mut variables = table(folder, "vars.tab")?;
         let used = variables.len();
         variables.resize(limits::IMAGE, 0);
         let (homes, paths) = (table(folder, "homes.tab")?, table(folder, "paths.tab")?);
-        Ok(Program { variables, used, homes, paths, parameters: list(parameters) })
+        let parameters = list(&started.parameters);
+        Ok(Program { variables, used, homes, paths, parameters, shout: started.shout })
     }
 
     /// The words of the answer to a line, and the message that it demands, if it does.
@@ -59,7 +81,7 @@ impl Program {
             line,
             &mut self.variables,
             self.used,
-            Tables { homes: &self.homes, paths: &self.paths, parameters: &self.parameters },
+            Tables { homes: &self.homes, paths: &self.paths, parameters: &self.parameters, shout: self.shout },
             &mut vec![0; limits::WORK_AREA],
             &mut out,
             &mut message,

@@ -80,6 +80,24 @@ pub enum Form {
     },
 }
 
+impl Form {
+    /// The sign by which a form is known, without its colon; the plain form has none, and the length has its own before the name.
+    pub fn sign(&self) -> &'static str {
+        match self {
+            Form::Plain => "",
+            Form::Length => "length",
+            Form::Choice { choice: Choice::Default, .. } => "-",
+            Form::Choice { choice: Choice::Store, .. } => "=",
+            Form::Choice { choice: Choice::Demand, .. } => "?",
+            Form::Choice { choice: Choice::Alternative, .. } => "+",
+            Form::Removal { end: End::Prefix, extent: Extent::Shortest, .. } => "#",
+            Form::Removal { end: End::Prefix, extent: Extent::Longest, .. } => "##",
+            Form::Removal { end: End::Suffix, extent: Extent::Shortest, .. } => "%",
+            Form::Removal { end: End::Suffix, extent: Extent::Longest, .. } => "%%",
+        }
+    }
+}
+
 #[derive(Clone, Copy, Debug, PartialEq, Eq)]
 pub enum Choice {
     /// `-`

@@ -1,4 +1,4 @@
-//! The variables of a call, kept in order of name, and the room their image has.
+//! The variables of a call, kept in order of name, the room their image has, and whether what is unset is refused where its value is asked for.
 
 use std::collections::BTreeMap;
 
@@ -9,15 +9,29 @@ use crate::number::Number;
 pub struct Variables {
     values: BTreeMap<Vec<u8>, Vec<u8>>,
     room: usize,
+    shout: bool,
 }
 
 impl Variables {
-    pub fn new(pairs: Vec<Pair>, room: usize) -> Self {
-        Variables { values: pairs.into_iter().collect(), room }
+    pub fn new(pairs: Vec<Pair>, room: usize, shout: bool) -> Self {
+        Variables { values: pairs.into_iter().collect(), room, shout }
     }
 
     pub fn value(&self, name: &[u8]) -> Option<&[u8]> {
         self.values.get(name).map(Vec::as_slice)
+    }
+
+    /// The value that is asked for under a name.
+    pub fn asked(&self, name: &[u8]) -> Result<&[u8], Number> {
+        self.value(name).map_or_else(|| self.unset(), Ok)
+    }
+
+    /// What stands for a value that is not there: nothing, or with the switch on a refusal.
+    pub fn unset(&self) -> Result<&'static [u8], Number> {
+        if self.shout {
+            return Err(Number::Unset);
+        }
+        Ok(&[])
     }
 
     /// Sets a variable, or refuses if the image would be longer than its room.

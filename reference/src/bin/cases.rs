@@ -1,12 +1,14 @@
 //! Prints cases made from a seed with the reference's answers, or hostile ones, or those about `?` and its message, about assignment lines, about assignments
-//! in arithmetic, about insertion and deletion, about `$'...'` or about the cost of patterns alone, or how often each number and each edge comes up in the cases of one seed or more.
+//! in arithmetic, about insertion and deletion, about `$'...'`, about the cost of patterns or about the switch alone, or how often each number and each edge comes up in the cases of one seed or more.
 
 use std::io::{stdout, BufWriter, Write};
 use std::ops::RangeInclusive;
 use std::process::ExitCode;
 
 use reference::case::{case, Call};
-use reference::generate::{assignments, call, costs, counting, demands, escapes, hostile, tally::Tally, updates};
+use reference::generate::{
+    assignments, call, costs, counting, demands, escapes, hostile, shouting, tally::Tally, updates,
+};
 
 fn main() -> ExitCode {
     let words: Vec<String> = std::env::args().skip(1).collect();
@@ -47,13 +49,14 @@ fn made(option: &str) -> Option<fn(u64, u64) -> Call> {
         "--updates" => Some(updates::call),
         "--escapes" => Some(escapes::call),
         "--costs" => Some(costs::call),
+        "--shouting" => Some(shouting::call),
         _ => None,
     }
 }
 
 fn usage() -> ExitCode {
     eprintln!(
-        "usage: cases [--hostile|--messages|--assignments|--counting|--updates|--escapes|--costs|--tally] SEED[-SEED] COUNT"
+        "usage: cases [--hostile|--messages|--assignments|--counting|--updates|--escapes|--costs|--shouting|--tally] SEED[-SEED] COUNT"
     );
     ExitCode::FAILURE
 }

@@ -7,7 +7,7 @@ use std::path::Path;
 use std::process::ExitCode;
 
 use reference::generate::season::Season;
-use reference::program;
+use reference::program::{self, Started};
 
 fn main() -> ExitCode {
     let words: Vec<String> = std::env::args().skip(1).collect();
@@ -41,6 +41,6 @@ fn write_season(folder: &Path, season: &Season) -> std::io::Result<()> {
     let lines: Vec<u8> = season.lines.iter().flat_map(|line| [line.as_slice(), b"\n"].concat()).collect();
     write(folder.join("recipe.txt"), &lines)?;
     let mut answers = Vec::new();
-    program::run(folder, &[], lines.as_slice(), &mut answers, sink())?;
+    program::run(folder, &Started::default(), lines.as_slice(), &mut answers, sink())?;
     write(folder.join("expected.txt"), answers)
 }

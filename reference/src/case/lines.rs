@@ -41,11 +41,12 @@ pub struct Lent {
     pub out: usize,
     pub parameters: Vec<u8>,
     pub message: usize,
+    pub shout: bool,
 }
 
 impl Lent {
     pub fn tables(&self) -> Tables<'_> {
-        Tables { homes: &self.homes, paths: &self.paths, parameters: &self.parameters }
+        Tables { homes: &self.homes, paths: &self.paths, parameters: &self.parameters, shout: self.shout }
     }
 
     /// The words of a job's call behind its name.
@@ -57,18 +58,23 @@ impl Lent {
             Job::Assign => words.push(number(self.work)),
             _ => words.extend([hex::write(&self.paths), number(self.work), number(self.out)]),
         }
-        words.extend([hex::write(&self.parameters), number(self.message)]);
+        words.extend([hex::write(&self.parameters), number(self.message), number(usize::from(self.shout))]);
         words
     }
 
-    /// What such words lend, or `None` if they are not in the format.
+    /// What such words lend, or `None` if they are not in the format. The switch may be left out, and is off then.
     pub fn of_words(job: Job, words: &[&str]) -> Option<Lent> {
         let (&[line, variables, used, variables_buffer, homes], rest) = words.split_first_chunk()?;
-        let (paths, work, out, parameters, message) = match (job, rest) {
-            (Job::Assign, &[work, parameters, message]) => (image::empty(), work, 0, parameters, message),
-            (Job::Expand | Job::Normalise, &[paths, work, out, parameters, message]) => {
-                (hex::read(paths)?, work, out.parse().ok()?, parameters, message)
+        let (paths, work, out, behind) = match (job, rest) {
+            (Job::Assign, [work, behind @ ..]) => (image::empty(), work, 0, behind),
+            (Job::Expand | Job::Normalise, [paths, work, out, behind @ ..]) => {
+                (hex::read(paths)?, work, out.parse().ok()?, behind)
             }
+            _ => return None,
+        };
+        let (parameters, message, shout) = match behind {
+            [parameters, message] | [parameters, message, "0"] => (parameters, message, false),
+            [parameters, message, "1"] => (parameters, message, true),
             _ => return None,
         };
         Some(Lent {
@@ -82,6 +88,7 @@ impl Lent {
             out,
             parameters: hex::read(parameters)?,
             message: message.parse().ok()?,
+            shout,
         })
     }
 }
@@ -94,11 +101,11 @@ pub fn answer(job: Job, lent: &Lent) -> Result<(Answer, String), String> {
     let mut out = vec![OUT_FILL; lent.out];
     let mut work = vec![WORK_FILL; lent.work];
     let mut message = vec![MESSAGE_FILL; lent.message];
-    let Lent { line, used, homes, parameters, .. } = lent;
+    let Lent { line, used, .. } = lent;
     let answer = match job {
         Job::Expand => expand(line, &mut variables, *used, lent.tables(), &mut work, &mut out, &mut message),
         Job::Normalise => normalise(line, &mut variables, *used, lent.tables(), &mut work, &mut out, &mut message),
-        Job::Assign => assign(line, &mut variables, *used, homes, parameters, &mut work, &mut message),
+        Job::Assign => assign(line, &mut variables, *used, lent.tables(), &mut work, &mut message),
     };
     if work.iter().any(|&byte| byte != 0) {
         return Err("the work area is not zero".to_string());

@@ -6,10 +6,10 @@ use std::fmt;
 use super::classes::BORDERS;
 use crate::bracket::{Bracket, End, Fault, Member, Searches};
 use crate::class::{Class, CLASSES};
-use crate::expand::{HeldTo, Seen, SeenPattern};
 use crate::matching::{matching_paths, remaining};
 use crate::pattern::{self, pattern_bytes, Element, Pattern, Purpose};
 use crate::row::{Mark, Unit};
+use crate::seen::{HeldTo, Seen, SeenPattern};
 use crate::tree::{End as ValueEnd, Extent};
 
 /// What may be said of a bracket that a class stands in.

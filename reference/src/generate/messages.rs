@@ -5,10 +5,10 @@ use std::fmt;
 
 use crate::calls::Answer;
 use crate::case::Lent;
-use crate::expand::{Seen, SeenDemand};
 use crate::limits;
 use crate::number::Number;
 use crate::row::{bytes, Mark, Unit};
+use crate::seen::{Seen, SeenDemand};
 
 /// How long the buffer is beside the message.
 pub const ROOMS: [&str; 7] = [
@@ -16,7 +16,7 @@ pub const ROOMS: [&str; 7] = [
     "longer by more than one",
 ];
 /// What a call with a demand may have.
-pub const KINDS: [&str; 16] = [
+pub const KINDS: [&str; 17] = [
     "a tilde that is found",
     "a tilde that is not found",
     "quotes",
@@ -31,6 +31,7 @@ pub const KINDS: [&str; 16] = [
     "18 in place of 13",
     "19 in place of 13",
     "20 in place of 13",
+    "25 in place of 13",
     "a message of 2,046 bytes or more",
     "an empty message",
 ];

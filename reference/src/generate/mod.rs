@@ -27,6 +27,8 @@ pub mod positional;
 pub mod quoting;
 pub mod random;
 pub mod season;
+pub mod shouted;
+pub mod shouting;
 mod sizes;
 mod stars;
 pub mod steps;
@@ -64,32 +66,34 @@ pub fn call(seed: u64, case: u64) -> Call {
     if random.once_in(12) {
         return costs::made(random);
     }
-    let call = match random.below(482) {
+    let call = match random.below(551) {
         0..=14 => sizes::call(random),
         15..=21 => quoting::call(random),
         22..=28 => malformed(random),
         29..=35 => storing(random),
         36..=46 => focused(random, focus::patterns),
         47..=53 => focused(random, focus::splitting),
-        54..=85 => focused(random, tildes::case),
-        86..=88 => lone(random, quoting::fed_again),
-        89..=144 => focused(random, classes::case),
-        145..=174 => focused(random, stars::case),
-        175..=187 => focused(random, crowds::case),
-        188..=255 => lone(random, lists::case),
-        256..=285 => focused(random, operators::case),
-        286..=391 => focused(random, demands::case),
-        392..=435 => counting::words(random),
-        436..=465 => focused(random, escapes::case),
+        54..=87 => focused(random, tildes::case),
+        88..=90 => lone(random, quoting::fed_again),
+        91..=160 => focused(random, classes::case),
+        161..=192 => focused(random, stars::case),
+        193..=206 => focused(random, crowds::case),
+        207..=276 => lone(random, lists::case),
+        277..=307 => focused(random, operators::case),
+        308..=425 => focused(random, demands::case),
+        426..=469 => counting::words(random),
+        470..=499 => focused(random, escapes::case),
+        500..=534 => shouting::made(random),
         _ => lines(random),
     };
     finished(random, call)
 }
 
-/// The call with patterns that are not too dear, now and then with just the room it needs, and with a message buffer.
+/// The call with patterns that are not too dear, now and then with the switch on or with just the room it needs, and with a message buffer.
 fn finished(random: &mut Random, call: Call) -> Call {
     match call {
         Call::Lines(job, mut lent) => {
+            lent.shout |= random.once_in(12);
             steps::thin(job, &mut lent, MOST_STEPS);
             tighten(random, job, &mut lent);
             demands::lend_room(random, job, &mut lent);
@@ -113,6 +117,7 @@ pub fn ordinary(random: &mut Random) -> Lent {
         out: limits::IMAGE,
         parameters: of_texts(&lists::parameters(random)),
         message: 64,
+        shout: false,
     }
 }
 

@@ -7,7 +7,7 @@ use crate::case::Lent;
 use crate::image;
 use crate::limits;
 use crate::read::{read, Setting};
-use crate::tree::{Choice, End, Extent, Form, Part};
+use crate::tree::{Form, Part};
 
 /// The signs of the forms that have an operand.
 pub const SIGNS: [&str; 8] = ["-", "=", "?", "+", "#", "##", "%", "%%"];
@@ -55,10 +55,10 @@ impl Tildes {
     }
 
     fn form(&mut self, form: &Form, text: Setting, lent: &Lent) {
-        let (sign, operand, bare) = match form {
+        let (operand, bare) = match form {
             Form::Plain | Form::Length => return,
-            Form::Choice { choice, operand, .. } => (choice_sign(*choice), operand, text == Setting::Bare),
-            Form::Removal { end, extent, operand } => (removal_sign(*end, *extent), operand, true),
+            Form::Choice { operand, .. } => (operand, text == Setting::Bare),
+            Form::Removal { operand, .. } => (operand, true),
         };
         let begins = match operand.first() {
             Some(Part::Tilde(_) | Part::Literal(b'~')) => true,
@@ -66,7 +66,7 @@ impl Tildes {
             _ => false,
         };
         if begins {
-            self.forms.entry(sign).or_default()[text as usize] += 1;
+            self.forms.entry(form.sign()).or_default()[text as usize] += 1;
         }
         match operand.first() {
             Some(Part::Tilde(login)) => self.look_up(login, lent),
@@ -92,24 +92,6 @@ impl Tildes {
         if (limits::ROW - 1..=limits::ROW + 1).contains(&units) {
             self.long[units + 1 - limits::ROW] += 1;
         }
-    }
-}
-
-fn choice_sign(choice: Choice) -> &'static str {
-    match choice {
-        Choice::Default => "-",
-        Choice::Store => "=",
-        Choice::Demand => "?",
-        Choice::Alternative => "+",
-    }
-}
-
-fn removal_sign(end: End, extent: Extent) -> &'static str {
-    match (end, extent) {
-        (End::Prefix, Extent::Shortest) => "#",
-        (End::Prefix, Extent::Longest) => "##",
-        (End::Suffix, Extent::Shortest) => "%",
-        (End::Suffix, Extent::Longest) => "%%",
     }
 }
 

@@ -3,8 +3,8 @@
 use std::fmt;
 
 use crate::bracket::End;
-use crate::expand::{HeldTo, Seen, SeenPattern};
 use crate::pattern::{self, stars, Pattern};
+use crate::seen::{HeldTo, Seen, SeenPattern};
 
 /// The paths of a long list, the bytes of a long value.
 const LONG_LIST: usize = 300;

@@ -4,11 +4,11 @@ use std::collections::BTreeMap;
 use std::fmt;
 
 use crate::case::Lent;
-use crate::expand::Seen;
 use crate::image;
 use crate::limits;
 use crate::number::Number;
 use crate::read::read;
+use crate::seen::Seen;
 use crate::tree::{Choice, Form, List, Parameter, Part, Word};
 
 /// What may stand in a line; the first kinds are lists.

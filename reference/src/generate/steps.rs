@@ -3,9 +3,9 @@
 
 use super::walk::walk;
 use crate::case::{Job, Lent};
-use crate::expand::{HeldTo, SeenPattern};
 use crate::image;
 use crate::pattern::{self, Element, Pattern};
+use crate::seen::{HeldTo, SeenPattern};
 
 /// The steps of all patterns that the call comes to read.
 pub fn steps(job: Job, lent: &Lent) -> usize {

@@ -88,6 +88,7 @@ impl Met {
             Number::Overflow if of_name => self.found("17 of the name"),
             Number::Overflow => self.found("17 of the operation"),
             Number::ZeroDivisor => self.found("18 of the operation"),
+            Number::Unset => (),
             _ => self.found("20 of the store"),
         }
         if of_name && matches!(sign, "/=" | "%=") && right == 0 {
@@ -145,8 +146,8 @@ impl Met {
             Err(Number::NotANumber) => self.found("15 of an assignment in such a side"),
             Err(Number::Overflow) => self.found("17 of an assignment in such a side"),
             Err(Number::ZeroDivisor) => self.found("18 of an assignment in such a side"),
-            Err(_) => self.found("20 of an assignment in such a side"),
-            Ok(_) => (),
+            Err(Number::NoRoomForVariable) => self.found("20 of an assignment in such a side"),
+            _ => (),
         }
     }
 

@@ -4,9 +4,9 @@ use std::collections::{BTreeMap, BTreeSet};
 use std::fmt;
 
 use crate::arithmetic::{read, Tree};
-use crate::expand::SeenSum;
 use crate::number::Number;
 use crate::operation::{binary, unary, work_out};
+use crate::seen::SeenSum;
 use crate::variables::Variables;
 
 /// What a text may have.

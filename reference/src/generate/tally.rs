@@ -15,15 +15,16 @@ use super::operands::Tildes;
 use super::patterns::Patterns;
 use super::positional::Positional;
 use super::quoting::Quoting;
+use super::shouted::Shouted;
 use super::sums::{Met, Sums};
 use super::updated::Updated;
 use super::walk::walk;
 use crate::calls::Answer;
 use crate::case::{Call, Job, Lent, Update};
-use crate::expand::{Seen, SeenRow};
 use crate::image;
 use crate::limits;
 use crate::number::{Number, ACCEPTED, LAST_NUMBER};
+use crate::seen::{Seen, SeenRow};
 
 #[derive(Debug, Default)]
 pub struct Tally {
@@ -56,6 +57,7 @@ pub struct Tally {
     pub updated: Updated,
     pub escaped: Escaped,
     pub costly: Costly,
+    pub shouted: Shouted,
 }
 
 impl Tally {
@@ -104,6 +106,7 @@ impl Tally {
             return;
         }
         self.escaped.add(job, lent);
+        self.shouted.add(job, lent, answer);
         let seen = walk(job, lent);
         let texts: Vec<Met> = seen.sums.iter().map(Met::of).collect();
         self.counted.add(job, lent, answer, &texts);
@@ -165,6 +168,7 @@ impl fmt::Display for Tally {
             updated,
             escaped,
             costly,
+            shouted,
             assign,
             insert,
             delete,
@@ -178,6 +182,6 @@ impl fmt::Display for Tally {
         writeln!(out, "lines of 2048 bytes {full_lines}")?;
         writeln!(out, "rows of 2047 units {}, of 2048 {}, refused at 2049 {}", rows[0], rows[1], rows[2])?;
         write!(out, "{tildes}{quoting}{brackets}{patterns}{positional}{kinds_of_sums}{messages}{assigned}{counted}")?;
-        write!(out, "{updated}{escaped}{costly}")
+        write!(out, "{updated}{escaped}{costly}{shouted}")
     }
 }

@@ -26,7 +26,7 @@ pub fn call(seed: u64, case: u64) -> Call {
 
 /// An insertion or a deletion; a deletion mostly of a path that is there.
 pub fn made(random: &mut Random) -> Call {
-    if random.once_in(50) {
+    if random.once_in(100) {
         return full(random);
     }
     let update = *random.pick(&Update::ALL);
@@ -59,8 +59,8 @@ fn full(random: &mut Random) -> Call {
 /// None, a few of any kind, a few that are close together, seldom hundreds.
 fn list(random: &mut Random) -> Vec<Vec<u8>> {
     match random.below(60) {
-        0 => card(random),
-        1..=5 => Vec::new(),
+        0 if random.once_in(2) => card(random),
+        0..=5 => Vec::new(),
         6..=8 => vec![random.text(&CLOSE)],
         9..=30 => tables::paths(random),
         _ => close(random),

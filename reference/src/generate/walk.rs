@@ -2,16 +2,22 @@
 
 use crate::assignment;
 use crate::case::{Job, Lent};
-use crate::expand::{Expander, HeldTo, Seen, SeenPattern};
+use crate::expand::Expander;
 use crate::image::{self, Pair};
 use crate::limits;
 use crate::pattern::{self, Purpose};
 use crate::read::read;
+use crate::seen::{HeldTo, Seen, SeenPattern};
 use crate::split::split;
 use crate::variables::Variables;
 
 /// Expands word after word up to the first refusal; what is too long or malformed counts as no records.
 pub fn walk(job: Job, lent: &Lent) -> Seen {
+    walked(job, lent).0
+}
+
+/// The same, and the variables as they are then.
+pub fn walked(job: Job, lent: &Lent) -> (Seen, Variables) {
     let homes = image::homes(&lent.homes).unwrap_or_default();
     let parameters = image::fields(&lent.parameters).unwrap_or_default();
     let mut expander = expander(lent, &homes, &parameters);
@@ -21,7 +27,7 @@ pub fn walk(job: Job, lent: &Lent) -> Seen {
     } else {
         walk_words(lent, &mut expander);
     }
-    expander.seen
+    (expander.seen, expander.variables)
 }
 
 /// What expands with these homes and parameters, and with the variables that are lent.
@@ -29,7 +35,7 @@ pub fn expander<'a>(lent: &Lent, homes: &'a [Pair], parameters: &'a [Vec<u8>]) -
     let used = lent.variables.get(..lent.used);
     let variables = used.and_then(image::variables).unwrap_or_default();
     Expander {
-        variables: Variables::new(variables, lent.variables_buffer.min(limits::IMAGE)),
+        variables: Variables::new(variables, lent.variables_buffer.min(limits::IMAGE), lent.shout),
         homes,
         parameters,
         message: Vec::new(),

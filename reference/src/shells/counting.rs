@@ -30,7 +30,7 @@ pub fn given(random: &mut Random) -> Given {
     variables.retain(|name, _| !numbered(name));
     numbers.retain(|name, _| numbered(name));
     variables.extend(numbers);
-    Given { variables, parameters: vec![b"n".to_vec(), b"A1".to_vec()] }
+    Given { variables, parameters: vec![b"n".to_vec(), b"A1".to_vec()], shout: false }
 }
 
 pub fn line(random: &mut Random) -> Vec<u8> {
@@ -63,6 +63,7 @@ impl Shell {
             out: limits::IMAGE,
             parameters: of_texts(&given.parameters),
             message: 0,
+            shout: false,
         };
         let alike = |text: &[u8]| !matches!(self, Shell::Bash) || is_alike(text);
         walk(Job::Expand, &lent).sums.iter().all(|sum| alike(&sum.text) && self.assigns_alike(&sum.text))

@@ -143,6 +143,13 @@ const ASSIGNMENTS: &[Listed] = &[
     ("`$@` and `$*` in values are 10", "x=\"$*\"", &[], &["a", "b  c"]),
 ];
 
+/// With the switch on, which is `set -u` in a shell.
+const SHOUTING: &[Listed] = &[
+    ("and a name read in arithmetic are refused on an unset parameter", "$((u+1))", &[], &[]),
+    ("and a name read in arithmetic are refused on an unset parameter", "$((u+=1))", &[], &[]),
+    ("The operand is always expanded", "a${e%$u}", &[("e", "")], &[]),
+];
+
 /// Every difference as docs/SHELLS.md lists it, and how many lines show none.
 pub fn measured(folder: &Folder, shells: &[Shell]) -> io::Result<(String, usize)> {
     let (mut text, mut alike) = (String::new(), 0);
@@ -154,17 +161,19 @@ pub fn measured(folder: &Folder, shells: &[Shell]) -> io::Result<(String, usize)
     ] {
         text.push_str(&format!("## {title}\n\n"));
         for (phrase, line, pairs) in list {
-            let (shown, parts) = measure(folder, shells, &(phrase, line, pairs, &[]), Taken::Fields)?;
+            let (shown, parts) = measure(folder, shells, &(phrase, line, pairs, &[]), Taken::Fields, false)?;
             text.push_str(&shown);
             alike += usize::from(!parts);
         }
     }
-    for (title, list, taken) in
-        [("Positional parameters", POSITIONAL, Taken::Fields), ("Assignment lines", ASSIGNMENTS, Taken::Assignments)]
-    {
+    for (title, list, taken, shout) in [
+        ("Positional parameters", POSITIONAL, Taken::Fields, false),
+        ("Assignment lines", ASSIGNMENTS, Taken::Assignments, false),
+        ("The switch, `set -u` in a shell", SHOUTING, Taken::Fields, true),
+    ] {
         text.push_str(&format!("## {title}\n\n"));
         for listed in list {
-            let (shown, parts) = measure(folder, shells, listed, taken)?;
+            let (shown, parts) = measure(folder, shells, listed, taken, shout)?;
             text.push_str(&shown);
             alike += usize::from(!parts);
         }
@@ -178,10 +187,11 @@ fn measure(
     shells: &[Shell],
     (phrase, line, pairs, parameters): &Listed,
     taken: Taken,
+    shout: bool,
 ) -> io::Result<(String, bool)> {
     let before: Table = pairs.iter().map(|(name, value)| ((*name).into(), (*value).into())).collect();
     let parameters = parameters.iter().map(|text| text.as_bytes().to_vec()).collect();
-    let lent = Given { variables: before.clone(), parameters };
+    let lent = Given { variables: before.clone(), parameters, shout };
     let line = line.as_bytes();
     let wanted = reference(line, &lent, taken);
     let mut text = format!("- {phrase}\n\n      line         {}", printable(line));

@@ -37,7 +37,7 @@ pub fn demanded(line: &[u8], given: &Given) -> Option<Vec<u8>> {
     let used = variables.len();
     variables.resize(limits::IMAGE, 0);
     let (homes, paths, parameters) = (&image::empty(), &of_texts(&PATHS), &of_texts(&given.parameters));
-    let tables = Tables { homes, paths, parameters };
+    let tables = Tables { homes, paths, parameters, shout: false };
     let (work, out, mut message) = (&mut vec![0; limits::WORK_AREA], &mut [0; 9], vec![0; limits::ROW]);
     let answer = expand(line, &mut variables, used, tables, work, out, &mut message);
     message.truncate(answer.message);

@@ -8,6 +8,7 @@ pub mod lines;
 pub mod messages;
 pub mod positional;
 pub mod script;
+pub mod shouting;
 pub mod sums;
 
 use std::collections::BTreeMap;
@@ -39,6 +40,8 @@ const DIRECTORIES: [&str; 2] = ["d", "d/e"];
 pub struct Given {
     pub variables: Table,
     pub parameters: Vec<Vec<u8>>,
+    /// The switch, `set -u` in a shell.
+    pub shout: bool,
 }
 
 /// How a line is taken: as words that become fields, or as assignments.
@@ -165,13 +168,14 @@ pub fn reference(line: &[u8], given: &Given, taken: Taken) -> Result<Outcome, u8
     let used = variables.len();
     variables.resize(limits::IMAGE, 0);
     let (homes, paths, parameters) = (&image::empty(), &of_texts(&PATHS), &of_texts(&given.parameters));
+    let tables = Tables { homes, paths, parameters, shout: given.shout };
     let (work, mut out) = (&mut vec![0; limits::WORK_AREA], image::empty());
     let answer = match taken {
         Taken::Fields => {
             out.resize(limits::IMAGE, 0);
-            expand(line, &mut variables, used, Tables { homes, paths, parameters }, work, &mut out, &mut [])
+            expand(line, &mut variables, used, tables, work, &mut out, &mut [])
         }
-        Taken::Assignments => assign(line, &mut variables, used, homes, parameters, work, &mut []),
+        Taken::Assignments => assign(line, &mut variables, used, tables, work, &mut []),
     };
     if answer.number != ACCEPTED {
         return Err(answer.number);

@@ -61,6 +61,9 @@ pub fn script(line: &[u8], given: &Given, names: &[&str], taken: Taken) -> Vec<u
     }
     let parameters = given.parameters.iter().flat_map(|text| [b" ".to_vec(), quoted(text)].concat());
     script.extend(b"set --".iter().copied().chain(parameters).chain(*b"\n"));
+    if given.shout {
+        script.extend(b"set -u\n");
+    }
     match taken {
         Taken::Fields => {
             script.extend([b"set -- ", line, b"\n"].concat());

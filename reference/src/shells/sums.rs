@@ -74,7 +74,7 @@ impl Sums {
 
     fn add(&mut self, text: Vec<u8>, variables: Table) {
         let line = [b"$((".as_slice(), &text, b"))"].concat();
-        let given = Given { variables, parameters: Vec::new() };
+        let given = Given { variables, ..Given::default() };
         match reference(&line, &given, Taken::Fields) {
             Err(_) => self.refused += 1,
             Ok(_) if !is_alike(&text) => self.left_out += 1,

@@ -7,8 +7,12 @@ use reference::number::Number::{
     ZeroDivisor,
 };
 use reference::number::ACCEPTED;
+use reference::Tables;
 
 use crate::support::{assigns, refuses_to_assign, World};
+
+/// Images without records; the paths are none at all, as assignments do not look at them.
+const NO_TABLES: Tables = Tables { homes: &[1], paths: &[], parameters: &[1], shout: false };
 
 fn world() -> World {
     World::empty().set("b", "long value").set("d", "").set("m", "7").variables_buffer(60)
@@ -79,7 +83,7 @@ fn left(line: &str) -> (usize, Vec<u8>) {
     assert_eq!(used, 27);
     variables.extend(BEHIND);
     let (work, message) = (&mut vec![0; limits::WORK_AREA], &mut [0; 9]);
-    let answer = reference::assign(line.as_bytes(), &mut variables, used, &[1], &[1], work, message);
+    let answer = reference::assign(line.as_bytes(), &mut variables, used, NO_TABLES, work, message);
     assert_eq!((answer.number, answer.place, answer.length, answer.message), (ACCEPTED, 0, 0, 0), "{line}");
     (answer.used, variables)
 }
@@ -169,8 +173,8 @@ fn faulty(faults: &[Number]) -> u8 {
     line[2] = if bad(ZeroByte) { 0 } else { b'b' };
     line[0] = if bad(Syntax) { b'=' } else { b'a' };
     let (before, mut message) = (variables.clone(), *b"message");
-    let answer =
-        reference::assign(&line, &mut variables, used, image(Homes), image(Parameters), &mut work, &mut message);
+    let tables = Tables { homes: image(Homes), parameters: image(Parameters), ..NO_TABLES };
+    let answer = reference::assign(&line, &mut variables, used, tables, &mut work, &mut message);
     assert!(work.iter().all(|&byte| byte == 0));
     assert_eq!((answer.place, answer.length, answer.used, answer.message), (0, 0, used, 0));
     assert_eq!((variables, &message), (before, b"message"));
@@ -193,7 +197,7 @@ fn used_length() {
         let mut variables = vec![b'x'; buffer];
         variables[0] = 1;
         let work = &mut vec![0; limits::WORK_AREA];
-        reference::assign(b"", &mut variables, used, &[1], &[1], work, &mut []).number
+        reference::assign(b"", &mut variables, used, NO_TABLES, work, &mut []).number
     };
     assert_eq!(call(9_000, 1), ACCEPTED);
     assert_eq!(call(1, 1), ACCEPTED);

@@ -12,7 +12,7 @@ use crate::support::{gives, refuses, World};
 
 /// The image without records.
 const NONE: &[u8] = &[1];
-const NO_TABLES: Tables = Tables { homes: NONE, paths: NONE, parameters: NONE };
+const NO_TABLES: Tables = Tables { homes: NONE, paths: NONE, parameters: NONE, shout: false };
 
 /// A call with all these faults at once.
 fn faulty(faults: &[Number]) -> u8 {
@@ -26,8 +26,8 @@ fn faulty(faults: &[Number]) -> u8 {
         line[1] = 0;
     }
     line[2] = if bad(Number::Operator) { b'|' } else { b'a' };
-    let tables =
-        Tables { homes: image(Number::Homes), paths: image(Number::Paths), parameters: image(Number::Parameters) };
+    let (homes, paths) = (image(Number::Homes), image(Number::Paths));
+    let tables = Tables { homes, paths, parameters: image(Number::Parameters), shout: false };
     let mut message = *b"message";
     let answer = reference::expand(&line, &mut variables, used, tables, &mut work, &mut [], &mut message);
     assert!(work.iter().all(|&byte| byte == 0));

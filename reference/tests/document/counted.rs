@@ -79,13 +79,13 @@ const BEHIND: [u8; 20] = *b"bytes behind it all.";
 /// What each job makes of a text over an image of 27 bytes: the used length, and the whole buffer, whose bytes behind it are known.
 fn left(text: &str) -> Vec<(usize, Vec<u8>)> {
     let given = [of_texts(&["a", "", "b", "0000000017", "c", "7"]), BEHIND.to_vec()].concat();
-    let tables = Tables { homes: &[1], paths: &[1], parameters: &[1] };
+    let tables = Tables { homes: &[1], paths: &[1], parameters: &[1], shout: false };
     let [mut first, mut second, mut third] = [given.clone(), given.clone(), given];
     let (line, work, out) = (format!("$(({text}))"), &mut vec![5; limits::WORK_AREA], &mut [0; 30]);
     let expanded = reference::expand(line.as_bytes(), &mut first, 27, tables, work, out, &mut []);
     let normalised = reference::normalise(line.as_bytes(), &mut second, 27, tables, work, out, &mut []);
     let line = format!("a={line}");
-    let assigned = reference::assign(line.as_bytes(), &mut third, 27, &[1], &[1], work, &mut []);
+    let assigned = reference::assign(line.as_bytes(), &mut third, 27, tables, work, &mut []);
     let accepted = |answer: &Answer| (answer.number, answer.place) == (ACCEPTED, 0);
     assert!([expanded, normalised, assigned].iter().all(accepted), "{text}");
     vec![(expanded.used, first), (normalised.used, second), (assigned.used, third)]

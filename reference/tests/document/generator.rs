@@ -7,8 +7,8 @@ use reference::case::{case, replay, Call, Job};
 use reference::generate::random::Random;
 use reference::generate::{
     assigned, assignments, brackets::KINDS, call, classes::BORDERS, costly, costs, counted, counting, demands, escaped,
-    escapes, hostile, messages, operands::SIGNS, ordinary, positional, quoting, season::Season, steps::steps, sums,
-    tally::Tally, updated, updates, MOST_STEPS,
+    escapes, hostile, messages, operands::SIGNS, ordinary, positional, quoting, season::Season, shouted, shouting,
+    steps::steps, sums, tally::Tally, updated, updates, MOST_STEPS,
 };
 use reference::{image, limits};
 
@@ -202,6 +202,19 @@ fn costs_come_up() {
     for case in 0..1_000 {
         assert!(matches!(costs::call(SEED, case), Call::Cost(_)));
     }
+}
+
+/// The switch: on in a tenth of the lines, 25 of each form, beside each other number, and all that is exempt.
+#[test]
+fn shouts_come_up() {
+    let found = &tally().shouted;
+    assert!(found.on >= CASES as usize / 12 && found.accepted >= 1_000 && found.shouted >= 1_000, "{found}");
+    for kind in shouted::KINDS {
+        assert!(found.kinds.get(kind).is_some_and(|count| *count >= 5), "{kind}: {found}");
+    }
+    let answers =
+        (0..1_000).map(|case| shouting::call(SEED, case).answer().expect("buffers kept as promised").0.number);
+    assert!(answers.filter(|number| *number == 25).count() >= 200);
 }
 
 /// Demand 3 on made fields: their quoted line gives them again and is its own quoted line, under tables that were not asked for.

@@ -262,11 +262,11 @@ fn answered(job: Job, lent: &Lent, mut message: Vec<u8>) -> (reference::Answer, 
     let mut variables = lent.variables.clone();
     variables.resize(lent.variables_buffer, 0);
     let (work, out) = (&mut vec![0; lent.work], &mut vec![0; lent.out]);
-    let Lent { line, used, homes, parameters, .. } = lent;
+    let Lent { line, used, .. } = lent;
     let answer = match job {
         Job::Expand => reference::expand(line, &mut variables, *used, lent.tables(), work, out, &mut message),
         Job::Normalise => reference::normalise(line, &mut variables, *used, lent.tables(), work, out, &mut message),
-        Job::Assign => reference::assign(line, &mut variables, *used, homes, parameters, work, &mut message),
+        Job::Assign => reference::assign(line, &mut variables, *used, lent.tables(), work, &mut message),
     };
     (answer, message)
 }

@@ -1,10 +1,10 @@
-//! The program: tables absent, empty, too long and unreadable; unended lines; variables that carry over.
+//! The program: tables absent, empty, too long and unreadable; unended lines; variables that carry over; its option.
 
 use std::fs;
 use std::path::{Path, PathBuf};
 
 use reference::image::of_texts;
-use reference::program::run;
+use reference::program::{run, Started};
 
 /// A folder of its own for one test, removed at its end.
 struct Folder(PathBuf);
@@ -41,10 +41,31 @@ fn said(folder: &Path, parameters: &[&str], lines: &[u8]) -> std::io::Result<Str
 }
 
 fn said_and_told(folder: &Path, parameters: &[&str], lines: &[u8]) -> std::io::Result<(String, String)> {
-    let parameters: Vec<Vec<u8>> = parameters.iter().map(|text| text.as_bytes().to_vec()).collect();
+    let started = Started::by(parameters.iter().map(|text| text.as_bytes().to_vec())).expect("known options");
     let (mut out, mut told) = (Vec::new(), Vec::new());
-    run(folder, &parameters, lines, &mut out, &mut told)?;
+    run(folder, &started, lines, &mut out, &mut told)?;
     Ok((String::from_utf8_lossy(&out).into_owned(), String::from_utf8_lossy(&told).into_owned()))
+}
+
+/// "Add a switch, off by default.": an option in front of the parameters.
+#[test]
+fn the_switch_is_an_option() {
+    let folder = Folder::new("switch");
+    let lines = b"load $bsae $1\n${base=b}\nload $base$1$#\n${rover?no $bsae}\n";
+    let (off, on) = ("ok load a\nok b\nok load ba1\nno 13 0\n", "no 25 5\nok b\nok load ba1\nno 25 0\n");
+    assert_eq!(folder.says_with(&["a"], lines), off);
+    assert_eq!(folder.says_with(&["--", "a"], lines), off);
+    assert_eq!(folder.says_with(&["--shout", "a"], lines), on);
+    assert_eq!(folder.says_with(&["--shout", "--", "a"], lines), on);
+    let told = |parameters: &[&str]| said_and_told(&folder.0, parameters, lines).expect("no tables").1;
+    assert_eq!((told(&["a"]), told(&["--shout", "a"])), ("line 4: no \n".to_string(), String::new()));
+    assert_eq!(folder.says_with(&["--", "--shout"], b"\"$1\" $bsae"), "ok --shout\n");
+    assert_eq!(folder.says_with(&["--shout", "--", "--"], b"$1$#"), "ok --1\n");
+    assert_eq!(folder.says_with(&["--shout"], b"$#\n$1"), "ok 0\nno 25 0\n");
+    assert_eq!(folder.says_with(&["-", "--loud"], b"$1 $2"), "ok - --loud\n");
+    for unknown in [&["--loud"][..], &["-s", "a"], &["--shout", "--shout=1"]] {
+        assert!(Started::by(unknown.iter().map(|text| text.as_bytes().to_vec())).is_none());
+    }
 }
 
 #[test]

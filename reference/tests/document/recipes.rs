@@ -42,7 +42,7 @@ fn c1_is_the_image_document_01_writes_out() {
         br#"cp "$job" $job"#,
         &mut variables,
         used,
-        Tables { homes: &empty, paths: &empty, parameters: &empty },
+        Tables { homes: &empty, paths: &empty, parameters: &empty, shout: false },
         &mut vec![1; limits::WORK_AREA],
         &mut out,
         &mut [],

@@ -3,7 +3,9 @@
 use reference::generate::random::Random;
 use reference::shells::script::{is_harmless, script};
 use reference::shells::sums::Sums;
-use reference::shells::{assignments, counting, escapes, lines, messages, positional, reference, Given, Shell, Taken};
+use reference::shells::{
+    assignments, counting, escapes, lines, messages, positional, reference, shouting, Given, Shell, Taken,
+};
 
 #[test]
 fn lines_that_could_run_something() {
@@ -77,7 +79,7 @@ fn counting_lines_run_nothing() {
 }
 
 fn given(random: &mut Random) -> Given {
-    Given { variables: lines::variables(random), parameters: positional::parameters(random) }
+    Given { variables: lines::variables(random), parameters: positional::parameters(random), shout: false }
 }
 
 /// Of the lines with `$'...'` for bash nearly all are accepted and run nothing.
@@ -92,6 +94,27 @@ fn lines_with_escapes_run_nothing() {
         accepted += usize::from(is_harmless(&line) && reference(&line, &given, Taken::Fields).is_ok());
     }
     assert!(accepted >= 800, "{accepted} accepted");
+}
+
+/// Of the lines with the switch on some are accepted and some refused with 25, and the script has the shell's own switch before the line.
+#[test]
+fn lines_with_the_switch_on() {
+    let (mut accepted, mut refused) = (0, 0);
+    for case in 0..1_000 {
+        let random = &mut Random::new(2_001, case);
+        let given = Given { shout: true, ..given(random) };
+        let line = lines::line(random, true);
+        accepted += usize::from(reference(&line, &given, Taken::Fields).is_ok());
+        refused += usize::from(shouting::is_refused(&line, &given));
+        let script = script(&line, &given, &[], Taken::Fields);
+        let before = [b"\nset -u\nset -- ", line.as_slice()].concat();
+        assert!(script.windows(before.len()).any(|here| here == before));
+    }
+    assert!(accepted >= 200 && refused >= 200, "{accepted} accepted, {refused} refused");
+    assert!(shouting::is_of_unset(b"sh: 1: u: parameter not set\n") && !shouting::is_of_unset(b"sh: 1: gone\n"));
+    let unset = Given { shout: true, ..Given::default() };
+    assert!(Shell::Dash.shouts_alike(b"$u", &unset) && !Shell::Dash.shouts_alike(b"$((u))", &unset));
+    assert!(Shell::Bash.shouts_alike(b"$((u))", &unset));
 }
 
 /// Of the assignment lines for the shells nearly all are accepted and run nothing, and should a shell see a command in one, it would find none.

@@ -19,6 +19,7 @@ pub struct World {
     variables_buffer: usize,
     out: usize,
     message: Vec<u8>,
+    shout: bool,
 }
 
 pub struct Outcome {
@@ -44,6 +45,7 @@ impl World {
             variables_buffer: limits::IMAGE,
             out: limits::IMAGE,
             message: vec![b'.'; 64],
+            shout: false,
         }
     }
 
@@ -91,6 +93,12 @@ impl World {
         self
     }
 
+    /// The switch.
+    pub fn shout(mut self, on: bool) -> World {
+        self.shout = on;
+        self
+    }
+
     pub fn variables_image(&self) -> Vec<u8> {
         pairs(&self.variables)
     }
@@ -128,7 +136,7 @@ impl World {
             line,
             &mut variables,
             used,
-            Tables { homes: &homes, paths: &paths, parameters: &of_texts(&self.parameters) },
+            Tables { homes: &homes, paths: &paths, parameters: &of_texts(&self.parameters), shout: self.shout },
             &mut vec![0; limits::WORK_AREA],
             &mut out,
             &mut message,
@@ -146,7 +154,8 @@ impl World {
         let mut message = self.message.clone();
         let (homes, parameters) = (pairs(&self.homes), of_texts(&self.parameters));
         let work = &mut vec![7; limits::WORK_AREA];
-        let answer = reference::assign(line.as_ref(), &mut variables, used, &homes, &parameters, work, &mut message);
+        let tables = Tables { homes: &homes, paths: &[], parameters: &parameters, shout: self.shout };
+        let answer = reference::assign(line.as_ref(), &mut variables, used, tables, work, &mut message);
         assert!(work.iter().all(|&byte| byte == 0));
         assert_eq!(answer.length, 0);
         Left { answer, out: Vec::new(), variables, message }

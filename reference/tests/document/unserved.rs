@@ -110,7 +110,7 @@ fn forms_on_lists_and_on_the_count() {
 #[test]
 fn lists_that_are_refused() {
     let number = |parameters: &[u8]| {
-        let tables = Tables { homes: &[1], paths: &[1], parameters };
+        let tables = Tables { homes: &[1], paths: &[1], parameters, shout: false };
         let mut out = vec![7; 100];
         let work = &mut vec![3; limits::WORK_AREA];
         let answer = reference::expand(b"$#", &mut [1, 9], 1, tables, work, &mut out, &mut []);

@@ -5,7 +5,7 @@ use std::io::sink;
 use std::path::{Path, PathBuf};
 
 use reference::case::replay;
-use reference::program::run;
+use reference::program::{run, Started};
 
 fn vectors() -> PathBuf {
     Path::new(env!("CARGO_MANIFEST_DIR")).join("../tests/vectors")
@@ -49,7 +49,7 @@ fn program() {
         let lines = fs::read(folder.join("stdin")).expect("stdin");
         let wanted = fs::read(folder.join("stdout")).expect("stdout");
         let mut out = Vec::new();
-        run(&folder, &arguments(&folder), lines.as_slice(), &mut out, sink()).expect("an answer");
+        run(&folder, &Started::by(arguments(&folder)).expect("no options"), lines.as_slice(), &mut out, sink()).expect("an answer");
         assert!(out == wanted, "{} differs", folder.display());
         folders += 1;
     }
