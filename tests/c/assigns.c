@@ -2,14 +2,6 @@
  * docs/02-change-requests.md, then each call of standard input, in the format of tests/vectors/README.md. */
 #include "jobs.h"
 
-/* A call of the assigner with the sizes and tables that are set. */
-static void assign(const char *name, unsigned number, size_t place) {
-    lend_all();
-    struct drunquill_answer a = drunquill_assign(line.at, line.len, lent(&vars), vars_len, used, homes_image.at, homes_image.len, params_image.at,
-                                                 params_image.len, lent(&work), work_len, lent(&message), message_len);
-    compare(name, a, number, place);
-}
-
 static void assigns(const char *text, const char *const *texts) {
     set(text);
     image(&want_vars, texts);
@@ -177,6 +169,7 @@ static void vectors(void) {
         work_len = number_word();
         bytes_word(&params_image);
         message_len = number_word();
+        shouts = number_word() == 1;
         if (vars_len > ROOM || work_len > ROOM || message_len > ROOM || memcmp(word(), "=", 2)) fail(name, "not a call, or too large");
         unsigned number = (unsigned)number_word();
         size_t place = number_word();

@@ -11,8 +11,11 @@ static int count;
 /* the sizes of the next call's buffers, and the used length; reset by `set` */
 static size_t vars_len, used, work_len, out_len, message_len;
 
-typedef struct drunquill_answer job(const uint8_t *, size_t, uint8_t *, size_t, size_t, const uint8_t *, size_t, const uint8_t *, size_t, const uint8_t *,
-                                    size_t, uint8_t *, size_t, uint8_t *, size_t, uint8_t *, size_t);
+/* whether unset names shout in the calls that follow */
+static bool shouts;
+
+typedef struct drunquill_answer job(const uint8_t *, size_t, uint8_t *, size_t, size_t, bool, const uint8_t *, size_t, const uint8_t *, size_t,
+                                    const uint8_t *, size_t, uint8_t *, size_t, uint8_t *, size_t, uint8_t *, size_t);
 
 static inline void fail(const char *name, const char *what) {
     printf("tests/built/c: %s: %s\n", name, what);
@@ -79,8 +82,17 @@ static inline void compare(const char *name, struct drunquill_answer a, unsigned
 static inline void call(const char *name, job *f, unsigned number, size_t place) {
     lend_all();
     compare(name,
-            f(line.at, line.len, lent(&vars), vars_len, used, homes_image.at, homes_image.len, params_image.at, params_image.len, paths_image.at,
+            f(line.at, line.len, lent(&vars), vars_len, used, shouts, homes_image.at, homes_image.len, params_image.at, params_image.len, paths_image.at,
               paths_image.len, lent(&work), work_len, lent(&out), out_len, lent(&message), message_len),
+            number, place);
+}
+
+/* A call of the assigner with the sizes and tables that are set. */
+static inline void assign(const char *name, unsigned number, size_t place) {
+    lend_all();
+    compare(name,
+            drunquill_assign(line.at, line.len, lent(&vars), vars_len, used, shouts, homes_image.at, homes_image.len, params_image.at, params_image.len,
+                             lent(&work), work_len, lent(&message), message_len),
             number, place);
 }
 

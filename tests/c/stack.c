@@ -19,12 +19,12 @@ static uint8_t *caller;
 static void *run(void *unused) {
     caller = __builtin_frame_address(0);
     if (job == ASSIGNER) {
-        answer = drunquill_assign(line.at, line.len, lent(&vars), vars.len, vars_image.len, homes_image.at, homes_image.len, params_image.at,
+        answer = drunquill_assign(line.at, line.len, lent(&vars), vars.len, vars_image.len, false, homes_image.at, homes_image.len, params_image.at,
                                   params_image.len, lent(&work), work.len, lent(&message), message.len);
         return unused;
     }
-    answer = (job == NORMALISER ? drunquill_normalise : drunquill_expand)(line.at, line.len, lent(&vars), vars.len, vars_image.len, homes_image.at,
-                                                                         homes_image.len, params_image.at, params_image.len, paths_image.at,
+    answer = (job == NORMALISER ? drunquill_normalise : drunquill_expand)(line.at, line.len, lent(&vars), vars.len, vars_image.len, false,
+                                                                         homes_image.at, homes_image.len, params_image.at, params_image.len, paths_image.at,
                                                                          paths_image.len, lent(&work), work.len, lent(&out), out.len, lent(&message),
                                                                          message.len);
     return unused;

@@ -52,9 +52,9 @@ def texts(image):
     return found
 
 
-def assigning(line, variables, homes, params):
-    """A call of the assigner on a line and three images, without its answer: buffers and work area are those of the program."""
-    return f"assign {written(line)} {written(variables)} {len(variables)} 8192 {written(homes)} 65536 {written(params)} 2048"
+def assigning(line, variables, homes, params, shouts=False):
+    """A call of the assigner on a line and three images, with the switch off or on, without its answer: buffers and work area are those of the program."""
+    return f"assign {written(line)} {written(variables)} {len(variables)} 8192 {written(homes)} 65536 {written(params)} 2048 {int(shouts)}"
 
 
 def answered(asked):

@@ -25,7 +25,7 @@ static double call(const char *piece, size_t n, double seconds, unsigned *number
   while (spent < seconds) {
     double a = now();
     for (int i = 0; i < 20; i++)
-      *number = drunquill_expand(line, used, vars, sizeof vars, 1, none, 1, none, 1, none, 1, work, sizeof work, out, sizeof out, message,
+      *number = drunquill_expand(line, used, vars, sizeof vars, 1, false, none, 1, none, 1, none, 1, work, sizeof work, out, sizeof out, message,
                                  sizeof message)
                     .number;
     spent += now() - a, rounds += 20;

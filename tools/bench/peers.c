@@ -94,7 +94,7 @@ static void make_tables(void) {
 }
 
 static struct drunquill_answer expand(int kind) {
-  return drunquill_expand((const uint8_t *)kinds[kind].line, strlen(kinds[kind].line), vars, sizeof vars, vars_len, none, 1, none, 1,
+  return drunquill_expand((const uint8_t *)kinds[kind].line, strlen(kinds[kind].line), vars, sizeof vars, vars_len, false, none, 1, none, 1,
                           kinds[kind].paths ? card : few, kinds[kind].paths ? card_len : few_len, work, sizeof work, out, sizeof out, message,
                           sizeof message);
 }
@@ -194,7 +194,7 @@ static double one_call(const char *line, int full, int tables, size_t work_len, 
   while (spent < seconds) {
     double a = now();
     for (int i = 0; i < 200; i++)
-      sink += drunquill_expand((const uint8_t *)line, n, v, DRUNQUILL_IMAGE_MAX, used, homes, homes_len, none, 1, paths, paths_len, work, work_len, out,
+      sink += drunquill_expand((const uint8_t *)line, n, v, DRUNQUILL_IMAGE_MAX, used, false, homes, homes_len, none, 1, paths, paths_len, work, work_len, out,
                                sizeof out, message, sizeof message)
                   .number;
     double b = now() - a;

@@ -46,6 +46,7 @@ macro_rules! jobs {
                 vars: *mut u8,
                 vars_len: usize,
                 vars_used: usize,
+                shouts: bool,
                 homes: *const u8,
                 homes_len: usize,
                 params: *const u8,
@@ -68,7 +69,7 @@ macro_rules! jobs {
             out: &mut [u8],
             message: &mut [u8],
         ) -> Answer {
-            let Tables { homes, params, paths } = tables;
+            let Tables { homes, params, paths, shouts } = tables;
             // SAFETY: a slice's pointer is never null and has as many bytes as its length; the four that are written are lent for this call alone, so
             // that they overlap nothing and nobody else looks at them. The function keeps no pointer, and is proved to reach nothing but these bytes and
             // the stack, whatever the bytes and lengths are.
@@ -79,6 +80,7 @@ macro_rules! jobs {
                     vars.buffer.as_mut_ptr(),
                     vars.buffer.len(),
                     vars.used,
+                    shouts,
                     homes.as_ptr(),
                     homes.len(),
                     params.as_ptr(),
@@ -109,6 +111,7 @@ extern "C" {
         vars: *mut u8,
         vars_len: usize,
         vars_used: usize,
+        shouts: bool,
         homes: *const u8,
         homes_len: usize,
         params: *const u8,
@@ -130,7 +133,7 @@ extern "C" {
 }
 
 pub fn assign(line: &[u8], vars: &mut Variables, tables: Tables, work: &mut [u8], message: &mut [u8]) -> Answer {
-    let Tables { homes, params, paths: _ } = tables;
+    let Tables { homes, params, paths: _, shouts } = tables;
     // SAFETY: as above, of the three that are written.
     unsafe {
         drunquill_assign(
@@ -139,6 +142,7 @@ pub fn assign(line: &[u8], vars: &mut Variables, tables: Tables, work: &mut [u8]
             vars.buffer.as_mut_ptr(),
             vars.buffer.len(),
             vars.used,
+            shouts,
             homes.as_ptr(),
             homes.len(),
             params.as_ptr(),

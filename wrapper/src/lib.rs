@@ -32,6 +32,11 @@
 //! let line = normalise(b"cp \"$@\"", &mut variables, tables, &mut work, &mut out);
 //! assert_eq!(line, Ok(b"cp 'a b' ''".as_slice()));
 //!
+//! let shouting = Tables { shouts: true, ..Tables::NONE };
+//! assert_eq!(normalise(b"cp $jbo", &mut variables, Tables::NONE, &mut work, &mut out), Ok(b"cp".as_slice()));
+//! let refusal = normalise(b"cp $jbo", &mut variables, shouting, &mut work, &mut out).unwrap_err();
+//! assert_eq!((refusal.number, refusal.place), (Number::UnsetName, 3));
+//!
 //! assign(b"job=c out=/jobs:$job", &mut variables, Tables::NONE, &mut work).expect("two assignments");
 //! assert_eq!(&variables.buffer[..variables.used], b"\x01\0\x03job\0\x01c\0\x03out\0\x07/jobs:c");
 //!
@@ -88,18 +93,21 @@ pub struct Paths<'a> {
     pub used: usize,
 }
 
-/// The images of homes, of positional parameters and of paths.
+/// The images of homes, of positional parameters and of paths, and the switch by which unset names shout.
 #[derive(Clone, Copy, Debug)]
 pub struct Tables<'a> {
     pub homes: &'a [u8],
     /// An image of fields: the first of them is `$1`.
     pub params: &'a [u8],
     pub paths: &'a [u8],
+    /// Whether a parameter that is unset is [`Number::UnsetName`] at the moment it is looked up: in the plain form, the length and the four removals, and as a
+    /// name that is read in arithmetic; not in the forms with `-`, `=`, `?` and `+`. A call that is not refused so answers as it does without.
+    pub shouts: bool,
 }
 
 impl Tables<'static> {
-    /// No homes, no parameters and no paths.
-    pub const NONE: Tables<'static> = Tables { homes: &[1], params: &[1], paths: &[1] };
+    /// No homes, no parameters and no paths; unset names do not shout.
+    pub const NONE: Tables<'static> = Tables { homes: &[1], params: &[1], paths: &[1], shouts: false };
 }
 
 /// The expander: the fields of the line's words, as an image, to the front of `out`, which is given back. The work area has at least [`WORK_LEAST`] bytes,

@@ -32,11 +32,12 @@ pub enum Number {
     BadFields = 22,
     BadParameters = 23,
     BadPath = 24,
+    UnsetName = 25,
 }
 
 impl Number {
     /// All of them, in order.
-    pub const ALL: [Number; 24] = [
+    pub const ALL: [Number; 25] = [
         Number::WorkTooSmall,
         Number::BadVariables,
         Number::BadHomes,
@@ -61,6 +62,7 @@ impl Number {
         Number::BadFields,
         Number::BadParameters,
         Number::BadPath,
+        Number::UnsetName,
     ];
 
     /// The refusal of that number, if there is one: 0 is the acceptance.
@@ -68,7 +70,7 @@ impl Number {
         Number::ALL.into_iter().find(|known| *known as u8 == number)
     }
 
-    /// What docs/01-scope.md says of the number; of 23 and 24, what E5 and E11 of docs/02-change-requests.md add.
+    /// What docs/01-scope.md says of the number; of 23, 24 and 25, what E5, E11 and E14 of docs/02-change-requests.md add.
     pub fn words(self) -> &'static str {
         match self {
             Number::WorkTooSmall => "work area below 65,536 bytes",
@@ -95,6 +97,7 @@ impl Number {
             Number::BadFields => "fields image malformed or too long",
             Number::BadParameters => "parameters malformed or too long",
             Number::BadPath => "path already there, or not there to delete",
+            Number::UnsetName => "unset parameter looked up",
         }
     }
 }
@@ -113,7 +116,7 @@ impl Refusal {
     /// What a call's number, place and message say.
     ///
     /// # Panics
-    /// On a number above 24: the functions are proved to give none.
+    /// On a number above 25: the functions are proved to give none.
     pub(crate) fn unless_accepted(number: u8, place: usize, message: &[u8]) -> Result<(), Refusal> {
         match number {
             0 => Ok(()),

@@ -3,6 +3,7 @@ use crate::laying::MESSAGE_FILL;
 use crate::laying::VARS_FILL;
 use crate::laying::WORK_JUNK;
 use crate::laying::WORK_ZERO;
+use crate::laying::asked_by;
 use crate::laying::cut_to_bytes;
 use crate::laying::cut_to_size;
 use crate::laying::hold_variables;
@@ -13,7 +14,6 @@ use crate::telling::Told;
 use crate::telling::hold_bytes;
 use crate::telling::hold_number;
 use crate::words;
-use crate::words::number;
 use crate::words::word;
 use call_deliver::Answer;
 
@@ -74,8 +74,8 @@ fn call(
     work: &mut [u8],
     message: &mut [u8],
 ) -> Answer {
-    let used = number(word(case, words::USED));
-    drunquill::assign(line, vars, used, homes, params, work, message)
+    let asked = asked_by(case, words::ASSIGN_SHOUT);
+    drunquill::assign(line, vars, asked, homes, params, work, message)
 }
 
 // Calls the assigner in buffers that are filled, and holds what it gave against the case.

@@ -2,6 +2,7 @@
 // the case's answer.
 use crate::kinds::is_normaliser;
 use crate::laying::OUT_FILL;
+use crate::laying::asked_by;
 use crate::laying::cut_to_bytes;
 use crate::laying::cut_to_size;
 use crate::laying::hold_buffers;
@@ -13,7 +14,6 @@ use crate::laying::lay_word;
 use crate::telling::Told;
 use crate::telling::hold_bytes;
 use crate::words;
-use crate::words::number;
 use crate::words::word;
 use call_deliver::Answer;
 use drunquill::QuoteAnswer;
@@ -57,11 +57,11 @@ fn call(
     out: &mut [u8],
     message: &mut [u8],
 ) -> Answer {
-    let used = number(word(case, words::USED));
+    let asked = asked_by(case, words::SHOUT);
     if is_normaliser(case) {
-        drunquill::normalise(line, vars, used, homes, params, paths, work, out, message)
+        drunquill::normalise(line, vars, asked, homes, params, paths, work, out, message)
     } else {
-        drunquill::expand(line, vars, used, homes, params, paths, work, out, message)
+        drunquill::expand(line, vars, asked, homes, params, paths, work, out, message)
     }
 }
 

@@ -16,7 +16,7 @@ pub enum Job {
 // Is the case one of the expander or the normaliser: words of the right kinds, variables that their buffer holds, bytes as many as told? On a refusal
 // there are none of the output or of variables.
 fn is_line_case(case: &[u8]) -> bool {
-    if !words::has_shape(case, b"jhhdshhsshs=dddhdhdh")
+    if !words::has_shape(case, b"jhhdshhsshsb=dddhdhdh")
         || !words::fits(case, words::VARS, words::VARS_BUFFER)
         || !words::agrees(case, words::OUT_LENGTH, words::OUT_BYTES)
         || !words::agrees(case, words::MESSAGE_LENGTH, words::MESSAGE_BYTES)
@@ -38,7 +38,7 @@ pub(crate) fn is_normaliser(case: &[u8]) -> bool {
 // Is the case one of the assigner: words of the right kinds, variables that their buffer holds, bytes as many as told? On a refusal there are none of
 // variables.
 fn is_assign_case(case: &[u8]) -> bool {
-    if !words::has_shape(case, b"jhhdshshs=dddhdh")
+    if !words::has_shape(case, b"jhhdshshsb=dddhdh")
         || !words::fits(case, words::VARS, words::VARS_BUFFER)
         || !words::agrees(
             case,

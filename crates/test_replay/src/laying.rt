@@ -7,6 +7,7 @@ use crate::words::byte_at;
 use crate::words::byte_count;
 use crate::words::number;
 use crate::words::word;
+use call_check::Asked;
 ghost use lib.ListN.{length};
 ghost use Rattle.io.specs.Counts.{Counts};
 
@@ -82,6 +83,14 @@ fn hold_behind(told: Told, what: &[u8], kept: &[u8], end: usize, before: &[u8], 
         return hold_bytes(told, what, kept, b"-", &before[from..], fill);
     }
     hold_bytes(told, what, kept, b"-", b"-", fill)
+}
+
+// What a case asks for beside its buffers, by the word of its switch.
+pub(crate) fn asked_by(case: &[u8], shout: usize) -> Asked {
+    Asked {
+        vars_used: number(word(case, words::USED)),
+        shouts: text::same(word(case, shout), b"1"),
+    }
 }
 
 // Where the bytes end that an accepted call changes: at the new image's end, or at the used length that was given if that is greater.

@@ -9,7 +9,7 @@ pub const ROOM: usize = 131072;
 // The places of a case's words. Its job comes first.
 pub const JOB: usize = 0;
 
-// Those of the expander and the normaliser; `=` stands at 11.
+// Those of the expander and the normaliser; `=` stands at 12.
 pub const LINE: usize = 1;
 
 pub const VARS: usize = 2;
@@ -30,40 +30,44 @@ pub const PARAMS: usize = 9;
 
 pub const MESSAGE: usize = 10;
 
-pub const NUMBER: usize = 12;
+pub const SHOUT: usize = 11;
 
-pub const PLACE: usize = 13;
+pub const NUMBER: usize = 13;
 
-pub const OUT_LENGTH: usize = 14;
+pub const PLACE: usize = 14;
 
-pub const OUT_BYTES: usize = 15;
+pub const OUT_LENGTH: usize = 15;
 
-pub const USED_LENGTH: usize = 16;
+pub const OUT_BYTES: usize = 16;
 
-pub const VARS_BYTES: usize = 17;
+pub const USED_LENGTH: usize = 17;
 
-pub const MESSAGE_LENGTH: usize = 18;
+pub const VARS_BYTES: usize = 18;
 
-pub const MESSAGE_BYTES: usize = 19;
+pub const MESSAGE_LENGTH: usize = 19;
 
-// Those of the assigner; `=` stands at 9. Its line, variables, their lengths and homes stand where the expander's do.
+pub const MESSAGE_BYTES: usize = 20;
+
+// Those of the assigner; `=` stands at 10. Its line, variables, their lengths and homes stand where the expander's do.
 pub const ASSIGN_WORK: usize = 6;
 
 pub const ASSIGN_PARAMS: usize = 7;
 
 pub const ASSIGN_MESSAGE: usize = 8;
 
-pub const ASSIGN_NUMBER: usize = 10;
+pub const ASSIGN_SHOUT: usize = 9;
 
-pub const ASSIGN_PLACE: usize = 11;
+pub const ASSIGN_NUMBER: usize = 11;
 
-pub const ASSIGN_USED_LENGTH: usize = 12;
+pub const ASSIGN_PLACE: usize = 12;
 
-pub const ASSIGN_VARS_BYTES: usize = 13;
+pub const ASSIGN_USED_LENGTH: usize = 13;
 
-pub const ASSIGN_MESSAGE_LENGTH: usize = 14;
+pub const ASSIGN_VARS_BYTES: usize = 14;
 
-pub const ASSIGN_MESSAGE_BYTES: usize = 15;
+pub const ASSIGN_MESSAGE_LENGTH: usize = 15;
+
+pub const ASSIGN_MESSAGE_BYTES: usize = 16;
 
 // Those of the quoter; `=` stands at 3.
 pub const FIELDS: usize = 1;
@@ -218,13 +222,14 @@ pub(crate) fn number(word: &[u8]) -> usize {
     n
 }
 
-// Is the word of a kind: `j` a job, whose name is looked at elsewhere, `h` bytes, `d` a number, `s` a size that there is room for, `=` itself?
+// Is the word of a kind: `j` a job, whose name is looked at elsewhere, `h` bytes, `d` a number, `s` a size that there is room for, `b` 0 or 1, `=` itself?
 fn is_of(word: &[u8], kind: u8) -> bool {
     match kind {
         b'j' => true,
         b'h' => is_bytes(word),
         b'd' => is_number(word),
         b's' => is_number(word) && number(word) <= ROOM,
+        b'b' => text::same(word, b"0") || text::same(word, b"1"),
         _ => text::same(word, b"="),
     }
 }

@@ -46,6 +46,7 @@ pub struct Given {
     pub homes: Vec<u8>,
     pub params: Vec<u8>,
     pub paths: Vec<u8>,
+    pub shouts: bool,
     pub work_len: usize,
     pub out_len: usize,
     /// So many bytes of a message are compared.
@@ -75,7 +76,7 @@ pub fn differs(job: Job, given: &Given, wanted: &Wanted) -> Option<String> {
     let mut work = Buffer::new(&[], given.work_len, |at| (at % 251 + 3) as u8);
     let (vars_before, out_before) = (Buffer(vars.0.clone()), Buffer(out.0.clone()));
     let mut variables = Variables { buffer: vars.lent(), used: given.used };
-    let tables = Tables { homes: &given.homes, params: &given.params, paths: &given.paths };
+    let tables = Tables { homes: &given.homes, params: &given.params, paths: &given.paths, shouts: given.shouts };
     let line = given.line.as_slice();
     let mut result = match job {
         Job::Expand => expand(line, &mut variables, tables, work.lent(), out.lent()).map(<[u8]>::to_vec),

@@ -8,10 +8,10 @@ use drunquill::{quote, Number, Refusal, IMAGE_MAX, LINE_MAX, MESSAGE_MAX, WORK_L
 
 use crate::buffers::{differs, image, quote_differs, Given, Job};
 
-const VARIABLES: [&[u8]; 6] = [b"HOME", b"/home/crew", b"job", b"north field", b"note", b""];
+pub const VARIABLES: [&[u8]; 6] = [b"HOME", b"/home/crew", b"job", b"north field", b"note", b""];
 
 /// The variables and paths of the spoiled recipes, no parameters, and a line.
-fn given(line: &[u8]) -> Given {
+pub fn given(line: &[u8]) -> Given {
     let vars = image(&VARIABLES);
     Given {
         line: line.to_vec(),
@@ -21,6 +21,7 @@ fn given(line: &[u8]) -> Given {
         homes: image(&[]),
         params: image(&[]),
         paths: image(&[b".hid.raw", b"a b.raw", b"n/p1.raw", b"p1.raw", b"p2.raw"]),
+        shouts: false,
         work_len: WORK_LEAST,
         out_len: 200,
         message_len: MESSAGE_MAX + 1,
@@ -28,7 +29,7 @@ fn given(line: &[u8]) -> Given {
     }
 }
 
-fn accepted(job: Job, given: &Given, out: &[u8], vars: &[u8]) {
+pub fn accepted(job: Job, given: &Given, out: &[u8], vars: &[u8]) {
     assert_eq!(
         differs(job, given, &Ok((out.to_vec(), vars.to_vec()))),
         None,
@@ -41,17 +42,17 @@ fn refused_as(job: Job, given: &Given, refusal: Refusal) {
     assert_eq!(differs(job, given, &Err(refusal)), None, "{:?}", given.line.escape_ascii().to_string());
 }
 
-fn refused_by(job: Job, given: &Given, number: Number, place: usize) {
+pub fn refused_by(job: Job, given: &Given, number: Number, place: usize) {
     refused_as(job, given, Refusal { number, place, message: Vec::new() });
 }
 
-fn demands(given: &Given, place: usize, message: &[u8]) {
+pub fn demands(given: &Given, place: usize, message: &[u8]) {
     let refusal = Refusal { number: Number::Demanded, place, message: message.to_vec() };
     refused_as(Job::Expand, given, refusal.clone());
     refused_as(Job::Normalise, given, refusal);
 }
 
-fn refused(given: &Given, number: Number, place: usize) {
+pub fn refused(given: &Given, number: Number, place: usize) {
     refused_by(Job::Expand, given, number, place);
     refused_by(Job::Normalise, given, number, place);
 }
@@ -171,7 +172,7 @@ fn messages_are_given() {
 }
 
 /// The variables with these in place of those of the same name, in order.
-fn changed(records: &[(&[u8], &[u8])]) -> Vec<u8> {
+pub fn changed(records: &[(&[u8], &[u8])]) -> Vec<u8> {
     let mut table: BTreeMap<&[u8], &[u8]> = VARIABLES.chunks(2).map(|record| (record[0], record[1])).collect();
     table.extend(records.iter().copied());
     let texts: Vec<&[u8]> = table.into_iter().flat_map(|(name, value)| [name, value]).collect();
@@ -315,5 +316,5 @@ fn a_refusal_says_itself() {
     let shown = r#"Refusal { number: Demanded, place: 5, message: b"no \"b\xc3\xa4se\"\n" }"#;
     assert_eq!(format!("{refusal:?}"), shown);
     assert_eq!(Number::of(0), None);
-    assert_eq!(Number::of(25), None);
+    assert_eq!(Number::of(26), None);
 }

@@ -29,7 +29,7 @@ fn numbers_are_those_of_the_header() {
     let accepted = [("DRUNQUILL_ACCEPTED".to_string(), 0)];
     let known = Number::ALL.iter().map(|number| (in_c(&format!("{number:?}")), *number as u8));
     assert_eq!(listed, accepted.into_iter().chain(known).collect::<Vec<_>>());
-    assert!((1..=24).all(|number| Number::of(number).is_some_and(|known| known as u8 == number)));
+    assert!((1..=25).all(|number| Number::of(number).is_some_and(|known| known as u8 == number)));
 }
 
 #[test]

@@ -3,5 +3,6 @@
 mod buffers;
 mod calls;
 mod header;
+mod shouts;
 mod updates;
 mod vectors;

@@ -37,10 +37,10 @@ fn outcome<T>(words: &[&str], given: T, message: Vec<u8>) -> Result<T, Refusal> 
 /// A case of a job that takes a line. Assignments have neither paths nor output: no byte is given for either.
 fn line_case(job: Job, call: &[&str], answer: &[&str]) -> Option<String> {
     let (paths, out_len, rest) = match job {
-        Job::Assign => ("-", 0, [call[6], call[7], call[8]]),
-        _ => (call[6], count(call[8]), [call[7], call[9], call[10]]),
+        Job::Assign => ("-", 0, [call[6], call[7], call[8], call[9]]),
+        _ => (call[6], count(call[8]), [call[7], call[9], call[10], call[11]]),
     };
-    let [work_len, params, message_len] = rest;
+    let [work_len, params, message_len, shouts] = rest;
     let given = Given {
         line: bytes(call[1]),
         vars: bytes(call[2]),
@@ -48,6 +48,7 @@ fn line_case(job: Job, call: &[&str], answer: &[&str]) -> Option<String> {
         vars_len: count(call[4]),
         homes: bytes(call[5]),
         paths: bytes(paths),
+        shouts: count(shouts) == 1,
         work_len: count(work_len),
         out_len,
         params: bytes(params),

@@ -1,0 +1,7 @@
+/* What tests/c and tools/bench use of <stdbool.h>. */
+#ifndef STDBOOL_H
+#define STDBOOL_H
+#define bool _Bool
+#define true 1
+#define false 0
+#endif
