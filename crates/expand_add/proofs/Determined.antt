@@ -6,18 +6,24 @@ use native.Mathlib.Omega.{arith}
 use mathlib.Core.Path.{_≡_, refl, sym, ap, _∙_}
 use mathlib.Core.Bool.{Bool}
 use mathlib.Core.List.{[]}
+use lib.IntN.{ℤ}
 use lib.ListN.{length, take, drop, length-drop}
 use Rattle.stages.specs.Bytes.{Text}
 use Rattle.stages.specs.Outcome.{Outcome, refused, demands, done}
 use Rattle.stages.specs.Images.{Pairs, isName, held, flat, image, imageLength}
 use Rattle.stages.specs.Syntax.{Parts}
 use Rattle.stages.specs.Read.{Taken}
+use Rattle.stages.specs.Constants.{signed}
 use Rattle.stages.specs.Units.{Row}
+use Rattle.stages.specs.Units as unit
 use Rattle.stages.specs.Expand.{Made}
 use Rattle.stages.proofs.Images.{Bytes}
 use Rattle.stages.proofs.Tables.{table-canonical}
 use Rattle.stages.proofs.Rooms.{fit-ok}
 use Rattle.text.specs.Rows.{rowBytes}
+use Rattle.row.specs.declared.Mark.{Mark}
+use Rattle.row.specs.declared.RowEnd.{RowEnd}
+use Rattle.row.proofs.Determined.{expanded-mark-determined}
 use Rattle.table_store.proofs.Holding.{vars-held, vars-used-is}
 use Rattle.expand_add.specs.Answers.{IsRow, IsDemand, Ends, Answers, Says, Finishes}
 use Rattle.expand_add.specs.declared.answers.Onward.{Onward}
@@ -27,7 +33,7 @@ use Rattle.expand_add.proofs.Standing.{front}
 use Rattle.expand_add.proofs.Holding.{says-known, answers-known}
 use Rattle.expand_add.proofs.Waiting.{waits-length}
 use Rattle.text.proofs.Determined.{one-answer}
-use Rattle.expand_add.specs.Added.{Adds, Fitting, measured}
+use Rattle.expand_add.specs.Added.{EndsExpanded, Adds, Fitting, leftWith, AddsTo, measured}
 
 -- A row that is added.
 
@@ -64,6 +70,32 @@ module _ (units : ℕ) (on : Onward) (o : Outcome Row) (area area′ : Text) whe
       → take (2 * n) area ≡ take (2 * n′) area′
   adds-determined-row {n} {next} {u} {n′} f f′ =
       front (f .row) area n (f .stands) (f .counts) ∙ ap rowBytes (one-row f f′) ∙ sym (front (f′ .row) area′ n′ (f′ .stands) (f′ .counts))
+
+-- A row that is there whole: the area is determined too.
+
+pub added-determined : (units : ℕ) (on : Onward) (row : Row) (old area area′ : Text) (r r′ : Expanded) → AddsTo units on row old area r
+    → AddsTo units on row old area′ r′ → (r ≡ r′) × (area ≡ area′)
+added-determined units on row old area area′ r r′ h h′ =
+    let e = adds-determined units on (done row) area area′ r r′ (h .adds) (h′ .adds) in
+    (e, h .leaves ∙ ap (leftWith row old) e ∙ sym (h′ .leaves))
+
+module _ (units : ℕ) (on : Onward) (m : unit.Mark) (old area area′ : Text) (r r′ : Expanded) where
+  pub give-text-determined : (t : Text) → AddsTo units on (unit.marked m t) old area r → AddsTo units on (unit.marked m t) old area′ r′
+      → (r ≡ r′) × (area ≡ area′)
+  give-text-determined t = added-determined units on (unit.marked m t) old area area′ r r′
+
+  pub give-expanded-determined : (t : Text) → AddsTo units on (unit.marked (unit.expandedMark m) t) old area r
+      → AddsTo units on (unit.marked (unit.expandedMark m) t) old area′ r′ → (r ≡ r′) × (area ≡ area′)
+  give-expanded-determined t = added-determined units on (unit.marked (unit.expandedMark m) t) old area area′ r r′
+
+  pub give-number-determined : (z : ℤ) → AddsTo units on (unit.marked (unit.expandedMark m) (signed z)) old area r
+      → AddsTo units on (unit.marked (unit.expandedMark m) (signed z)) old area′ r′ → (r ≡ r′) × (area ≡ area′)
+  give-number-determined z = added-determined units on (unit.marked (unit.expandedMark m) (signed z)) old area area′ r r′
+
+pub expanded-end-determined : (row r s : RowEnd) → EndsExpanded row r → EndsExpanded row s → r ≡ s
+expanded-end-determined row r s p q =
+    ap (λ (m : Mark). record { mark = m; units = r .units }) (expanded-mark-determined (row .mark) (r .mark) (s .mark) (p .mark) (q .mark))
+    ∙ ap (λ (n : ℕ). record { mark = s .mark; units = n }) (one-answer (p .units) (q .units))
 
 -- A text that is expanded.
 

@@ -15,7 +15,7 @@ use Rattle.text.specs.Rows.{rowBytes}
 use Rattle.row.specs.Marks.{markOf}
 use Rattle.row.specs.Stands.{fronted}
 use Rattle.row.specs.declared.RowEnd.{RowEnd}
-use Rattle.expand_add.specs.Added.{EndsExpanded, Adds, Fitting, measured, admitted}
+use Rattle.expand_add.specs.Added.{EndsExpanded, Adds, Fitting, AddsTo, measured, admitted}
 use Rattle.expand_add.specs.declared.answers.Onward.{Onward}
 use Rattle.expand_add.specs.declared.answers.Expanded.{Expanded}
 use Rattle.expand_add.specs.declared.answers.Expanded.the-variants as answer
@@ -64,6 +64,18 @@ adds-same units on area r e h = subst (λ (x : Outcome Row). Adds units on x are
 pub adds-text : (units : ℕ) (on : Onward) (m : Mark) {t u : Text} (area : Text) (r : Expanded) → t ≡ u → Adds units on (done (marked m t)) area r
     → Adds units on (done (marked m u)) area r
 adds-text units on m area r e h = adds-same units on area r (ap (λ (s : Text). done (marked m s)) e) h
+
+-- the same with every byte of the area
+pub added-text : (units : ℕ) (on : Onward) (m : Mark) {t u : Text} (old area : Text) (r : Expanded) → t ≡ u → AddsTo units on (marked m t) old area r
+    → AddsTo units on (marked m u) old area r
+added-text units on m old area r e h = subst (λ (s : Text). AddsTo units on (marked m s) old area r) e h
+
+pub added-expanded : (row : RowEnd) {there : RowEnd} (on : Onward) (t old area : Text) (r : Expanded) → EndsExpanded row there
+    → AddsTo (there .units) on (marked (markOf (there .mark)) t) old area r
+    → AddsTo (row .units) on (marked (expandedMark (markOf (row .mark))) t) old area r
+added-expanded row {there} on t old area r x h =
+    subst (λ (n : ℕ). AddsTo n on (marked (expandedMark (markOf (row .mark))) t) old area r) (x .units)
+    (subst (λ (k : Mark). AddsTo (there .units) on (marked k t) old area r) (x .mark) h)
 
 -- a text that was given where what is expanded ends
 pub adds-expanded : (row : RowEnd) {there : RowEnd} (on : Onward) {t u : Text} (area : Text) (r : Expanded) → EndsExpanded row there → t ≡ u

@@ -9,7 +9,8 @@ use Rattle.stages.specs.Bytes.{Text}
 use Rattle.stages.specs.Outcome.{Outcome, refused, done, _>>=_, pick}
 use Rattle.stages.specs.Units.{Row, expandedMark as asExpanded, fit}
 use Rattle.row.specs.Marks.{markOf}
-use Rattle.row.specs.Stands.{Stands}
+use Rattle.text.specs.Rows.{rowBytes}
+use Rattle.row.specs.Stands.{fronted, Stands}
 use Rattle.row.specs.declared.RowEnd.{RowEnd}
 use Rattle.expand_add.specs.declared.answers.Onward.{Onward}
 use Rattle.expand_add.specs.declared.answers.Expanded.{Expanded}
@@ -41,6 +42,17 @@ abbrev pub Adds : ℕ → Onward → Outcome Row → Text → Expanded → Type 
 Adds units on o area (expanded.Row count next varsUsed ofNone) = Fitting units on o area count next varsUsed ofNone
 Adds units on o area (expanded.Refused e) = measured units o ≡ refused e
 Adds units on o area (expanded.Demanded at len) = ⊥
+
+-- the bytes then: the row at the front and all behind it as it was, or all as they were
+abbrev pub leftWith : Row → Text → Expanded → Text
+leftWith row old (expanded.Row count next varsUsed ofNone) = fronted (rowBytes row) old
+leftWith row old (expanded.Refused e) = old
+leftWith row old (expanded.Demanded at len) = old
+
+-- a row that is there whole is added, and no byte of the area but its own is touched
+pub record AddsTo (units : ℕ) (on : Onward) (row : Row) (old area : Text) (r : Expanded) : Type 0 where
+  pub adds : Adds units on (done row) area r
+  pub leaves : area ≡ leftWith row old r
 
 -- so many units after those before them
 abbrev pub admitted : ℕ → Onward → ℕ → Expanded

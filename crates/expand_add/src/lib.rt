@@ -2,12 +2,11 @@
 ghost use Prim.Native.Nat.{_+_, _*_, _≤_};
 ghost use lib.ListN.{length};
 ghost use Rattle.stages.specs.Numbers.{rowLimit};
-ghost use Rattle.stages.specs.Outcome.{done};
 ghost use Rattle.stages.specs.Units.{marked, expandedMark};
 ghost use Rattle.stages.specs.Constants.{signed};
 ghost use Rattle.arith_decimal.specs.Digits.{mostDigits};
 ghost use Rattle.row.specs.Marks.{markOf};
-ghost use Rattle.expand_add.specs.Added.{Adds, EndsExpanded};
+ghost use Rattle.expand_add.specs.Added.{AddsTo, EndsExpanded};
 use answers::Expanded;
 use answers::Onward;
 use row::RowEnd;
@@ -29,7 +28,7 @@ pub fn expanded_end(row: RowEnd) -> RowEnd
 // Adds the bytes of a text, each with the row's mark.
 pub fn give_text(text: &[u8], row: RowEnd, on: Onward, area: &mut [u8]) -> Expanded
     requires { ⌜ (row .units ≤ rowLimit) × (2 * rowLimit ≤ length (now area) + 2 * row .units) ⌝ }
-    ensures { λ r. ⌜ Adds (row .units) on (done (marked (markOf (row .mark)) (now (text .entry)))) (now (area .exit)) r ⌝ }
+    ensures { λ r. ⌜ AddsTo (row .units) on (marked (markOf (row .mark)) (now (text .entry))) (now (area .entry)) (now (area .exit)) r ⌝ }
 {
     let room = numbers::ROW_LIMIT - row.units;
     if text.len() > room {
@@ -48,7 +47,7 @@ pub fn give_text(text: &[u8], row: RowEnd, on: Onward, area: &mut [u8]) -> Expan
 // Adds a value, as what is expanded where literal bytes have the row's mark.
 pub fn give_expanded(value: &[u8], row: RowEnd, on: Onward, area: &mut [u8]) -> Expanded
     requires { ⌜ (row .units ≤ rowLimit) × (2 * rowLimit ≤ length (now area) + 2 * row .units) ⌝ }
-    ensures { λ r. ⌜ Adds (row .units) on (done (marked (expandedMark (markOf (row .mark))) (now (value .entry)))) (now (area .exit)) r ⌝ }
+    ensures { λ r. ⌜ AddsTo (row .units) on (marked (expandedMark (markOf (row .mark))) (now (value .entry))) (now (area .entry)) (now (area .exit)) r ⌝ }
 {
     give_text(value, expanded_end(row), on, area)
 }
@@ -56,7 +55,7 @@ pub fn give_expanded(value: &[u8], row: RowEnd, on: Onward, area: &mut [u8]) -> 
 // Adds the decimal text of a number, which is worked out in `digits`.
 fn give_signed(z: i64, row: RowEnd, on: Onward, digits: &mut [u8], area: &mut [u8]) -> Expanded
     requires { ⌜ (mostDigits ≤ length (now digits)) × (row .units ≤ rowLimit) × (2 * rowLimit ≤ length (now area) + 2 * row .units) ⌝ }
-    ensures { λ r. ⌜ Adds (row .units) on (done (marked (expandedMark (markOf (row .mark))) (signed z))) (now (area .exit)) r ⌝ }
+    ensures { λ r. ⌜ AddsTo (row .units) on (marked (expandedMark (markOf (row .mark))) (signed z)) (now (area .entry)) (now (area .exit)) r ⌝ }
 {
     let n = arith_decimal::put_signed(digits, z);
     give_expanded(&digits[..n], row, on, area)
@@ -65,7 +64,7 @@ fn give_signed(z: i64, row: RowEnd, on: Onward, digits: &mut [u8], area: &mut [u
 // Adds the decimal text of a number.
 pub fn give_number(z: i64, row: RowEnd, on: Onward, area: &mut [u8]) -> Expanded
     requires { ⌜ (row .units ≤ rowLimit) × (2 * rowLimit ≤ length (now area) + 2 * row .units) ⌝ }
-    ensures { λ r. ⌜ Adds (row .units) on (done (marked (expandedMark (markOf (row .mark))) (signed z))) (now (area .exit)) r ⌝ }
+    ensures { λ r. ⌜ AddsTo (row .units) on (marked (expandedMark (markOf (row .mark))) (signed z)) (now (area .entry)) (now (area .exit)) r ⌝ }
 {
     let mut digits = [0u8; numbers::MOST_DIGITS];
     give_signed(z, row, on, &mut digits, area)

@@ -1,5 +1,5 @@
 -- Twenty bytes are lent for the digits.
-use Rattle.expand_add.proofs.Fitting.{adds-text}
+use Rattle.expand_add.proofs.Fitting.{added-text}
 use Rattle.stages.specs.Constants.{signed}
 use Rattle.stages.specs.Units.{expandedMark}
 use Rattle.row.specs.Marks.{markOf}
@@ -24,7 +24,7 @@ returns c =
     let g = c .before .before .before .give-signed in
     let start = c .before .before .before .before .before .before .before in
     let a = start .args in
-    adds-text (a .row .units) (a .on) (expandedMark (markOf (a .row .mark))) (g .last .1 .1 .1 .1 .0) (g .result)
+    added-text (a .row .units) (a .on) (expandedMark (markOf (a .row .mark))) (a .area .now) (g .last .1 .1 .1 .1 .0) (g .result)
     (ap signed (toZ-ofZ w64 (a .z) (start .fits .z))) (g .ensures)
 
 pub give-number-spec : {M : Type 1} → statement M

@@ -1,6 +1,6 @@
 -- The decimal text of a number is what its writer leaves at the front.
 use Rattle.arith_decimal.proofs.Writing.{puts-inside}
-use Rattle.expand_add.proofs.Fitting.{adds-text}
+use Rattle.expand_add.proofs.Fitting.{added-text}
 use Rattle.text.proofs.Filling.{puts-front}
 use Rattle.stages.specs.Constants.{signed}
 use Rattle.stages.specs.Units.{expandedMark}
@@ -39,7 +39,7 @@ returns c =
     let put = c .before .before .before .before .before .before .before in
     let start = put .before .before .before .before in
     let a = start .args in
-    adds-text (a .row .units) (a .on) (expandedMark (markOf (a .row .mark))) (g .last .1 .1 .1 .0) (g .result)
+    added-text (a .row .units) (a .on) (expandedMark (markOf (a .row .mark))) (a .area .now) (g .last .1 .1 .1 .0) (g .result)
     (puts-front (put .put-signed .ensures) ∙ ap signed (toZ-ofZ w64 (a .z) (start .fits .z))) (g .ensures)
 
 pub give-signed-spec : {M : Type 1} → statement M

@@ -1,5 +1,6 @@
 -- A text fits where its bytes are no more than the units that may still come.
 use native.Mathlib.Omega.{arith}
+use mathlib.Core.Path.{refl}
 use borrow.Author.Needs.{needs}
 use Rattle.stages.specs.Units.{marked}
 use Rattle.row.specs.Marks.{markOf}
@@ -13,7 +14,11 @@ sub-room c = search needs
 returns : tie.Need-returns
 returns c =
     let a = c .before .before .before .before .args in
-    measured-full (a .row .units) (marked (markOf (a .row .mark)) (a .text .now)) (omega (arith, marked-count (markOf (a .row .mark)) (a .text .now)))
+    record {
+      adds = measured-full (a .row .units) (marked (markOf (a .row .mark)) (a .text .now))
+          (omega (arith, marked-count (markOf (a .row .mark)) (a .text .now)));
+      leaves = refl;
+    }
 
 put-marked-requires : tie.Need-put-marked-requires
 put-marked-requires c κs = search needs
@@ -24,8 +29,11 @@ same-length c = search needs
 returns-2 : tie.Need-returns-2
 returns-2 c =
     let a = c .before .before .before .before .before .before .before .before .args in
-    fronted-fits (a .row .units) (a .on) _ (marked (markOf (a .row .mark)) (a .text .now)) (a .area .now) _
-    (marked-count (markOf (a .row .mark)) (a .text .now)) (omega arith) (c .before .before .put-marked .ensures)
+    record {
+      adds = fronted-fits (a .row .units) (a .on) _ (marked (markOf (a .row .mark)) (a .text .now)) (a .area .now) _
+          (marked-count (markOf (a .row .mark)) (a .text .now)) (omega arith) (c .before .before .put-marked .ensures);
+      leaves = c .before .before .put-marked .ensures;
+    }
 
 pub give-text-spec : {M : Type 1} → statement M
 give-text-spec = tie.close (tie.spec sub-room returns put-marked-requires same-length returns-2)

@@ -36,7 +36,7 @@ returns c =
     let put = c .before .before .before .before .before .before .before in
     let a = put .before .before .before .before .args in
     adds-text (a .row .units) (a .on) (expandedMark (markOf (a .row .mark))) (g .last .1 .1 .1 .0) (g .result) (puts-front (put .put-decimal .ensures))
-    (g .ensures)
+    (g .ensures .adds)
 
 pub give-count-spec : {M : Type 1} → statement M
 give-count-spec = tie.close

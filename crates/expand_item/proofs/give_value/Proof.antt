@@ -20,7 +20,7 @@ returns c =
     let g = c .before .before .give-expanded in
     let found = c .before .before .before .before in
     let a = found .before .before .before .before .before .args in
-    adds-text (a .row .units) (a .on) (expandedMark (markOf (a .row .mark))) (g .last .1 .1 .1 .0) (g .result) (found .value-of .ensures) (g .ensures)
+    adds-text (a .row .units) (a .on) (expandedMark (markOf (a .row .mark))) (g .last .1 .1 .1 .0) (g .result) (found .value-of .ensures) (g .ensures .adds)
 
 pub give-value-spec : {M : Type 1} → statement M
 give-value-spec = tie.close (tie.spec value-of-requires give-expanded-requires same-length returns)

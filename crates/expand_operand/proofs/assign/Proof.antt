@@ -95,7 +95,7 @@ returns-2 c =
     assign-given (a .extent .«vars_room») (a .row .units) (a .name .now) (markOf (a .row .mark)) (rowAt (a .work .now) (a .operand .units))
     (held (take (a .extent .«vars_used») (a .vars .now)))
     (record { next = a .operand .next; «vars_used» = h .kept .given .0 .0; «of_none» = false }) refl (g .last .1 .1 .1 .0) (left s) (g .result)
-    (stores s (h .kept .given .1)) (v .value-of .ensures) (g .ensures)
+    (stores s (h .kept .given .1)) (v .value-of .ensures) (g .ensures .adds)
 
 pub assign-spec : {M : Type 1} → statement M
 assign-spec =

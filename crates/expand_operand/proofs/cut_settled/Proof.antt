@@ -121,7 +121,7 @@ returns-3 c =
     let a = s .args in
     let e = settled k in
     cut-given (sideOf (a .removal .suffix)) (reachOf (a .removal .long)) (a .value .now) (a .row) (a .on) (s .pre .0 .full)
-    (g .last .1 .1 .1 .0) (g .result) (e .served) (x .before .removed .ensures _ (e .shows)) (x .expanded-end .ensures) (g .ensures)
+    (g .last .1 .1 .1 .0) (g .result) (e .served) (x .before .removed .ensures _ (e .shows)) (x .expanded-end .ensures) (g .ensures .adds)
 
 pub cut-settled-spec : {M : Type 1} → statement M
 cut-settled-spec =

@@ -102,7 +102,7 @@ returns-2 c =
     (at-give-number .give-number .result)
     (comes-known (lentOf (a .extent .«vars_room») (a .extent .shouts) homes params) _ (a .vars .now) (a .extent .«vars_used») _
     (at-evaluate-text .evaluate-text .ensures homes params) (at-got2 .got2 .given .1))
-    (kept (at-got2 .got2 .given .0 .0) (at-known-told2 .known-told2 .given .0 .1)) (at-give-number .give-number .ensures)
+    (kept (at-got2 .got2 .given .0 .0) (at-known-told2 .known-told2 .given .0 .1)) (at-give-number .give-number .ensures .adds)
 
 pub sum-up-spec : {M : Type 1} → statement M
 sum-up-spec =
