@@ -1,8 +1,8 @@
--- What the contract of `put_field` allows for one input is one answer, and where it accepts, one output. Its exceptions: after a refusal the
+-- What the contract of `put_field` allows for one input is one answer, and where it accepts or refuses a class, one output. Its exceptions: after 21 the
 -- bytes of the output from `used` on, and the spent field in every case.
 use Prim.Native.Nat.{ℕ}
 use native.Mathlib.Omega.{arith}
-use mathlib.Core.Path.{_≡_, refl, sym, ap, _∙_}
+use mathlib.Core.Path.{_≡_, refl, sym, ap, _∙_, subst}
 use mathlib.Core.List.{List}
 use Rattle.stages.specs.Numbers.{bracketClass, outputRoom}
 use Rattle.stages.specs.Bytes.{Text}
@@ -10,7 +10,7 @@ use Rattle.stages.specs.Outcome.{Outcome, refused}
 use Rattle.stages.specs.Images.{written}
 use Rattle.stages.proofs.Outcomes.{done-same, never}
 use Rattle.table_store.specs.Splice.{placed}
-use Rattle.split_field.specs.Answers.{writtenOutcome, Says}
+use Rattle.split_field.specs.Answers.{writtenOutcome, Says, Spares, PutsOne}
 use Rattle.split_field.specs.declared.Written.{Written}
 use Rattle.split_field.specs.declared.Written.the-variants.{Len, Class, NoRoom}
 use Rattle.split_field.proofs.Placing.{says-answers}
@@ -31,13 +31,28 @@ written-one NoRoom (Len m) e = absurd (never (sym e))
 written-one NoRoom Class e = absurd (other-number (sym e))
 written-one NoRoom NoRoom e = refl
 
+-- every writer of fields
 module _ {o : Outcome (List Text)} {used : ℕ} {old left left′ : Text} {r s : Written} (p : Says o used old left r) (q : Says o used old left′ s) where
-  pub put-field-determined : r ≡ s
-  put-field-determined = written-one r s (says-answers p ∙ sym (says-answers q))
+  pub says-determined : r ≡ s
+  says-determined = written-one r s (says-answers p ∙ sym (says-answers q))
 
   -- every byte of the output where it is accepted
-  pub put-field-output : {n : ℕ} → r ≡ Len n → left ≡ left′
-  put-field-output {n} e =
+  pub says-output : {n : ℕ} → r ≡ Len n → left ≡ left′
+  says-output {n} e =
       let a : Given o used old left n = says-len p e in
-      let b : Given o used old left′ n = says-len q (sym put-field-determined ∙ e) in
+      let b : Given o used old left′ n = says-len q (sym says-determined ∙ e) in
       a .filled .is ∙ ap (λ (l : List Text). placed used (written l) old) (done-same (sym (a .gives) ∙ b .gives)) ∙ sym (b .filled .is)
+
+-- one field: of the output also where a class refuses it
+module _ {o : Outcome (List Text)} {used : ℕ} {old left left′ : Text} {r s : Written} (p : PutsOne o used old left r) (q : PutsOne o used old left′ s) where
+  pub put-field-determined : r ≡ s
+  put-field-determined = says-determined (p .puts .says) (q .puts .says)
+
+  pub put-field-output : {n : ℕ} → r ≡ Len n → left ≡ left′
+  put-field-output e = says-output (p .puts .says) (q .puts .says) e
+
+  pub put-field-spared : r ≡ Class → left ≡ left′
+  put-field-spared e =
+      let a : left ≡ old = subst (λ (x : Written). Spares x old left) e (p .spares) in
+      let b : left′ ≡ old = subst (λ (x : Written). Spares x old left′) (sym put-field-determined ∙ e) (q .spares) in
+      a ∙ sym b

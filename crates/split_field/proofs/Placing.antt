@@ -25,7 +25,7 @@ use Rattle.table_store.specs.declared.Put.{Put}
 use Rattle.table_store.specs.declared.Put.the-variants.{Len as PutLen, NoRoom as PutNoRoom}
 use Rattle.table_store.proofs.Callers.{put-len, put-none}
 use Rattle.table_store.specs.Splice.{placed}
-use Rattle.split_field.specs.Answers.{writtenOutcome, lengthWith, Says, len, class, noRoom}
+use Rattle.split_field.specs.Answers.{writtenOutcome, answered, lengthWith, Says, len, class, noRoom, Spares, Puts}
 use Rattle.split_field.specs.declared.Written.{Written}
 use Rattle.split_field.specs.declared.Written.the-variants.{Len, NoRoom}
 
@@ -109,12 +109,20 @@ module _ (t : Text) (used : ℕ) (old ys : Text) (r : Put) (h : used ≤ length 
 
 -- what is answered, in document 01's numbers
 
+-- a writer that looks at no pattern never answers 19
+pub spares-put : (p : Put) (old left : Text) → Spares (answered p) old left
+spares-put (PutLen n) old left = tt
+spares-put PutNoRoom old left = tt
+
 pub says-answers : {o : Outcome (List Text)} {used : ℕ} {old left : Text} {r : Written} → Says o used old left r → writtenOutcome r ≡
     lengthWith (length old) used o
 unfolding lengthWith
 says-answers {o} {used} {old} (len l e m h q) = sym (rw (e, le-leb (used + recordBytes l) (length old) (omega (arith, m)), m))
 says-answers (class e) = sym (rw e)
 says-answers {o} {used} {old} (noRoom l e h) = sym (rw (e, lt-leb (used + recordBytes l) (length old) h))
+
+pub puts-says : {o : Outcome (List Text)} {used : ℕ} {old left : Text} {r : Written} → Says o used old left r → Puts o used old left r
+puts-says h = record { answers = says-answers h; says = h }
 
 -- `put_own`: a field's bytes without marks stand at its front
 

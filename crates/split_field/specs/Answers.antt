@@ -1,5 +1,5 @@
--- What the writers answer, and every byte that they leave: the records of a stage's texts stand behind what was used, all else is as it was. After
--- a refusal nothing is said of the bytes, since no caller keeps them.
+-- What the writers answer, and every byte that they leave: the records of a stage's texts stand behind what was used, all else is as it was. A field that
+-- 19 refuses touches no byte of the output; else nothing is said of the bytes after a refusal, since no caller keeps them.
 use Prim.Native.Nat.{ℕ, _+_, _*_, _≤_, _<_}
 use mathlib.Core.Path.{_≡_}
 use mathlib.Core.List.{List}
@@ -39,11 +39,22 @@ pub data Says (o : Outcome (List Text)) (used : ℕ) (old left : Text) : Written
   class : o ≡ refused bracketClass → Says o used old left Class
   noRoom : (l : List Text) → o ≡ done l → length old < used + recordBytes l → Says o used old left NoRoom
 
+-- a field with a bracket class is refused before a byte is written
+abbrev pub Spares : Written → Text → Text → Type 0
+Spares (Len n) old left = Unit {0}
+Spares Class old left = left ≡ old
+Spares NoRoom old left = Unit {0}
+
 -- what comes of a field that is settled in a table of so many words: an answer, or that the field has too many units for them, and all is as it was
 abbrev pub TriedSays : Outcome (List Text) → ℕ → Text → Text → ℕ → Text → Text → Tried → Type 0
-TriedSays o used old left words field spent (Done r) = Says o used old left r
+TriedSays o used old left words field spent (Done r) = Says o used old left r × Spares r old left
 TriedSays o used old left words field spent TooManySets = (left ≡ old) × (spent ≡ field) × (3 * (2 * words) < 4 * length field)
 
 pub record Puts (o : Outcome (List Text)) (used : ℕ) (old left : Text) (r : Written) : Type 0 where
   pub answers : writtenOutcome r ≡ lengthWith (length old) used o
   pub says : Says o used old left r
+
+-- the same of one field
+pub record PutsOne (o : Outcome (List Text)) (used : ℕ) (old left : Text) (r : Written) : Type 0 where
+  pub puts : Puts o used old left r
+  pub spares : Spares r old left

@@ -14,7 +14,7 @@ ghost use Rattle.text.specs.Rows.{rowOf};
 ghost use Rattle.table.specs.Places.{Listed};
 ghost use Rattle.pattern_cell.specs.Cells.{Shows, Shown};
 ghost use Rattle.pattern_row.specs.Kept.{NoEmpty};
-ghost use Rattle.split_field.specs.Answers.{Says, answered, TriedSays};
+ghost use Rattle.split_field.specs.Answers.{Says, answered, Spares, TriedSays, PutsOne};
 ghost use Rattle.split_field.specs.Fields.{fieldTexts};
 use pattern_paths::Next;
 use pattern_settle::Settled;
@@ -180,7 +180,8 @@ fn with_all_sets(field: &mut [u8], paths: &[u8], out: &mut [u8], used: usize) ->
 fn put_pattern(field: &mut [u8], paths: &[u8], out: &mut [u8], used: usize) -> Written
     requires { ⌜ (used ≤ length (now out)) × (length (now out) ≤ imageLimit) ⌝ }
     requires { ⌜ Listed (now paths) × NoEmpty (now field) × (length (now field) ≤ 2 * rowLimit) ⌝ }
-    ensures { λ r. ⌜ Says (fieldTexts (heldTexts (now (paths .entry))) (rowOf (now (field .entry)))) used (now (out .entry)) (now (out .exit)) r ⌝ }
+    ensures { λ r. ⌜ Says (fieldTexts (heldTexts (now (paths .entry))) (rowOf (now (field .entry)))) used (now (out .entry)) (now (out .exit)) r
+        × Spares r (now (out .entry)) (now (out .exit)) ⌝ }
 {
     match with_few_sets(field, paths, out, used) {
         Tried::Done(answer) => answer,
@@ -195,7 +196,7 @@ fn put_pattern(field: &mut [u8], paths: &[u8], out: &mut [u8], used: usize) -> W
 pub fn put_field(field: &mut [u8], paths: &[u8], out: &mut [u8], used: usize) -> Written
     requires { ⌜ (used ≤ length (now out)) × (length (now out) ≤ imageLimit) ⌝ }
     requires { ⌜ Listed (now paths) × (length (now field) ≤ 2 * rowLimit) ⌝ }
-    ensures { λ r. ⌜ Says (fieldTexts (heldTexts (now (paths .entry))) (rowOf (now (field .entry)))) used (now (out .entry)) (now (out .exit)) r ⌝ }
+    ensures { λ r. ⌜ PutsOne (fieldTexts (heldTexts (now (paths .entry))) (rowOf (now (field .entry)))) used (now (out .entry)) (now (out .exit)) r ⌝ }
 {
     let n = pattern_row::drop_empty(field);
     if pattern_row::is_plain(&field[..n]) {

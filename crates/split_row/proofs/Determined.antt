@@ -8,12 +8,12 @@ use Rattle.stages.specs.Outcome.{Outcome}
 use Rattle.split_field.specs.Answers.{Puts}
 use Rattle.split_field.specs.declared.Written.{Written}
 use Rattle.split_field.specs.declared.Written.the-variants.{Len}
-use Rattle.split_field.proofs.Determined.{put-field-determined, put-field-output}
+use Rattle.split_field.proofs.Determined.{says-determined, says-output}
 
 module _ (o : Outcome (List Text)) (used : ℕ) (old left left′ : Text) (r s : Written) (p : Puts o used old left r) (q : Puts o used old left′ s) where
   pub put-word-fields-determined : r ≡ s
-  put-word-fields-determined = put-field-determined (p .says) (q .says)
+  put-word-fields-determined = says-determined (p .says) (q .says)
 
   -- every byte of the output where it is accepted
   pub put-word-fields-output : {n : ℕ} → r ≡ Len n → left ≡ left′
-  put-word-fields-output = put-field-output (p .says) (q .says)
+  put-word-fields-output = says-output (p .says) (q .says)

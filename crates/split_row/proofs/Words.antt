@@ -13,7 +13,7 @@ use Rattle.table.specs.declared.Found.the-variants.{At, Missing}
 use Rattle.table.proofs.Finds.{is-shown, is-absent}
 use Rattle.split_field.specs.Answers.{Says, Puts}
 use Rattle.split_field.specs.declared.Written.{Written}
-use Rattle.split_field.proofs.Placing.{says-answers}
+use Rattle.split_field.proofs.Placing.{puts-says}
 
 module _ {vars : Text} {r : Found} (s : Looked vars (text "IFS") r) where
   pub ifs-set : {from to : ℕ} → r ≡ At from to → part vars from to ≡ ifsOr (lookup (text "IFS") (held vars))
@@ -32,4 +32,4 @@ pub word-puts : (v : Pairs) (paths : List Text) (row : Row) {ifs : Text} {used :
     → Says (textsOfFields paths (splitParts ifs (broken row))) used old left w → Puts (textsOfFields paths (fieldsOfRow v row)) used old left w
 word-puts v paths row {ifs} {used} {old} {left} {w} e s =
     let t : Says (textsOfFields paths (fieldsOfRow v row)) used old left w = rw (fields-are v row, ← e) s in
-    record { answers = says-answers t; says = t }
+    puts-says t

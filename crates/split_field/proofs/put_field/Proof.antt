@@ -6,6 +6,7 @@ use lib.ListN.{length}
 use lib.Seq.{length-take-le}
 use Rattle.stages.specs.Images.{heldTexts}
 use Rattle.pattern_row.proofs.Keeping.{dropped-fits, dropped-few}
+use Rattle.split_field.proofs.Placing.{spares-put, puts-says}
 use Rattle.split_field.proofs.Choosing.{plain-own, dropped-says, dropped-full}
 use borrow.Author.Needs.{needs}
 use Rattle.split_field.proofs.put_field.Statement.{statement}
@@ -60,8 +61,11 @@ returns c =
     let d = dropped (t .before) in
     let paths = heldTexts (start d .args .paths .now) in
     let e = d .drop-empty .ensures in
-    dropped-says paths e
-    (plain-own paths (dropped-full paths e) (sym (t .before .is-plain .ensures) ∙ t .if1 .taken) (rw (c .answer-of .ensures) (o .put-own .ensures)))
+    rw (c .answer-of .ensures) (record {
+      puts = puts-says (dropped-says paths e
+          (plain-own paths (dropped-full paths e) (sym (t .before .is-plain .ensures) ∙ t .if1 .taken) (o .put-own .ensures)));
+      spares = spares-put (o .put-own .result) _ _;
+    })
 
 slice-relend-prefix-put-pattern : tie.Need-slice-relend-prefix-put-pattern
 slice-relend-prefix-put-pattern c = fits (dropped (c .before))
@@ -87,7 +91,10 @@ returns-2 : tie.Need-returns-2
 returns-2 c =
     let p = c .before .before .before .before in
     let d = dropped (p .before .before .before .before) in
-    dropped-says (heldTexts (start d .args .paths .now)) (d .drop-empty .ensures) (p .put-pattern .ensures)
+    record {
+      puts = puts-says (dropped-says (heldTexts (start d .args .paths .now)) (d .drop-empty .ensures) (p .put-pattern .ensures .0));
+      spares = p .put-pattern .ensures .1;
+    }
 
 pub put-field-spec : {M : Type 1} → statement M
 put-field-spec =

@@ -2,10 +2,11 @@
 use mathlib.Core.Path.{_≡_, sym, ap, subst}
 use native.Mathlib.Omega.{arith}
 use lib.ListN.{length}
+use Rattle.stages.specs.Bytes.{Text}
 use Rattle.stages.specs.Images.{heldTexts}
 use Rattle.text.specs.Rows.{rowOf}
 use Rattle.pattern_row.specs.Kept.{NoEmpty}
-use Rattle.split_field.specs.Answers.{TriedSays}
+use Rattle.split_field.specs.Answers.{Spares, TriedSays}
 use Rattle.split_field.specs.Fields.{fieldTexts}
 use Rattle.split_field.specs.declared.Tried.{Tried}
 use Rattle.split_field.specs.declared.Tried.the-variants.{TooManySets}
@@ -93,7 +94,10 @@ returns-2 : tie.Need-returns-2
 returns-2 c =
     let w = c .before .before .before .before .before .before .before in
     let u = untouched (told w) in
-    says-again (heldTexts (start (tried (told w)) .args .paths .now)) (u .0) (u .1) (all w (c .before .answer2 .given .1))
+    let k = all w (c .before .answer2 .given .1) in (
+      says-again (heldTexts (start (tried (told w)) .args .paths .now)) (u .0) (u .1) (k .0),
+      subst (λ (x : Text). Spares (c .before .answer2 .given .0 .0) x (w .with-all-sets .last .1 .1 .0)) (u .0) (k .1),
+    )
 
 same-length-5 : tie.Need-same-length-5
 same-length-5 c = search needs

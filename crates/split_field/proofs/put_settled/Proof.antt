@@ -8,6 +8,7 @@ use Rattle.pattern_unit.specs.declared.Width.the-variants.{Marked}
 use Rattle.pattern_settle.specs.Settled.{SettleSays}
 use Rattle.pattern_settle.specs.declared.Settled.{Settled}
 use Rattle.pattern_settle.specs.declared.Settled.the-variants.{Cells}
+use Rattle.split_field.proofs.Placing.{spares-put}
 use Rattle.split_field.proofs.Choosing.{settled-class, settled-texts}
 use borrow.Author.Needs.{needs}
 use Rattle.split_field.proofs.put_settled.Statement.{statement}
@@ -73,7 +74,7 @@ returns : tie.Need-returns
 returns c =
     let t = c .before .before .before .before .before .before in
     let s = start t in
-    settled-class (heldTexts (s .args .paths .now)) (s .pre .1 .1) (known t (c .enum-told .given .1))
+    (settled-class (heldTexts (s .args .paths .now)) (s .pre .1 .1) (known t (c .enum-told .given .1)), refl)
 
 same-length-4 : tie.Need-same-length-4
 same-length-4 c = search needs
@@ -107,8 +108,10 @@ returns-3 c =
     let k = w .before .before .before .before .before in
     let s = start (settling k) in
     let g = settled k in
-    settled-texts (heldTexts (s .args .paths .now)) (s .pre .1 .1) (g .served)
-    (rw (c .answer-of .ensures) (w .put-paths-or-own .ensures _ (g .shows) (g .active)))
+    rw (c .answer-of .ensures) (
+      settled-texts (heldTexts (s .args .paths .now)) (s .pre .1 .1) (g .served) (w .put-paths-or-own .ensures _ (g .shows) (g .active)),
+      spares-put (w .put-paths-or-own .result) _ _,
+    )
 
 pub put-settled-spec : {M : Type 1} → statement M
 put-settled-spec =

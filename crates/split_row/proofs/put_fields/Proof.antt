@@ -62,7 +62,7 @@ turn p =
       run = e .loop2 .inv;
       stops = sym (b .before .before .before .goes-on .ensures) ∙ not-true _ (b .before .before .if1 .taken);
       behind = b .behind-field .ensures;
-      says = p .put-field .ensures;
+      says = p .put-field .ensures .puts .says;
       units = p .put-field .kept .0;
       kept = p .put-field .kept .1 .1 .0;
     }
