@@ -59,6 +59,22 @@ class Code:
         self.names = {(module.crate, module.name): module for module in self.modules}
         self.functions = {key: module for module in self.modules for key in module.functions}
 
+    def is_open(self, module):
+        """Can another crate name the module?"""
+        root = os.path.join(crates.ROOT, "crates", module.crate, "src", "lib.rt")
+        if not os.path.exists(root):
+            return False
+        with open(root, encoding="utf-8") as file:
+            return f"\npub mod {module.name};" in file.read()
+
+    def theorems(self, crate):
+        """The names of the theorems that contracts of the crate determine what is answered."""
+        path = os.path.join(crates.ROOT, "crates", crate, "proofs", "Determined.antt")
+        if not os.path.exists(path):
+            return set()
+        with open(path, encoding="utf-8") as file:
+            return set(re.findall(r"(?m)^\s*pub ([\w-]+-determined) :", file.read()))
+
     def resolved(self, module, path, name):
         """The function that a call in a module names, or None."""
         parts = [part for part in path.split("::") if part]

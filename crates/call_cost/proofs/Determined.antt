@@ -16,6 +16,10 @@ hands-determined a r s left left′ p q = (
   p .work ∙ sym (q .work),
 )
 
+pub cost-determined : (g : stage.Costing) (r s : Costed) (left left′ : Text) → Hands (stage.coster g) r left → Hands (stage.coster g) s left′
+    → (r ≡ s) × (left ≡ left′)
+cost-determined g = hands-determined (stage.coster g)
+
 -- "The report equals that count", which is the contract, "and never exceeds (p+1) times (n+1)."
 pub cost-most : (g : stage.Costing) (r : Costed) (left : Text) → Hands (stage.coster g) r left
     → r .pairs ≤ (length (elementsOf g) + 1) * (length (g .text) + 1)

@@ -10,7 +10,7 @@ use Rattle.quote.specs.declared.Quoted.{Quoted}
 use Rattle.quote.proofs.Determined.{quoted-determined}
 use Rattle.call_check.specs.declared.Job.{Job}
 use Rattle.text.proofs.Determined.{one-answer}
-use Rattle.call_deliver.specs.Hands.{Gives, Accepts, writingOf}
+use Rattle.call_deliver.specs.Hands.{Gives, Accepts, refusedAs, writingOf}
 use Rattle.call_deliver.specs.Awaits.{refusedWith, HandsOver}
 use Rattle.call_deliver.specs.declared.Answer.{Answer}
 use Rattle.call_deliver.specs.declared.Draft.{Draft}
@@ -19,6 +19,9 @@ pub answer-same : (r s : Answer) → r .number ≡ s .number → r .place ≡ s 
     s .«vars_used» → r .«message_len» ≡ s .«message_len» → r ≡ s
 answer-same r s a b c d e i =
     record { number = a i; place = b i; «out_len» = c i; «vars_used» = d i; «message_len» = e i }
+
+pub refuse-determined : (n place used : ℕ) (r s : Answer) → r ≡ refusedAs n place used → s ≡ refusedAs n place used → r ≡ s
+refuse-determined n place used r s = one-answer
 
 pub accept-determined : (n used : ℕ) (image old : Text) (r s : Answer) (vars vars' : Text) → Accepts n used image old r vars → Accepts n used image old s vars'
     → (r ≡ s) × (vars ≡ vars')

@@ -14,3 +14,10 @@ hands-determined g a r s left left′ p q = (
       ∙ ap (λ (n : ℕ). record { number = s .number; place = s .place; used = n }) (p .used ∙ sym (q .used)),
   p .paths ∙ sym (q .paths),
 )
+
+module _ (g : stage.Updating) (r s : Updated) (left left′ : Text) where
+  pub insert-path-determined : Hands g (stage.inserter g) r left → Hands g (stage.inserter g) s left′ → (r ≡ s) × (left ≡ left′)
+  insert-path-determined = hands-determined g (stage.inserter g) r s left left′
+
+  pub delete-path-determined : Hands g (stage.deleter g) r left → Hands g (stage.deleter g) s left′ → (r ≡ s) × (left ≡ left′)
+  delete-path-determined = hands-determined g (stage.deleter g) r s left left′

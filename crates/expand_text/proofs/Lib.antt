@@ -1,3 +1,4 @@
 pub mod Items
 pub mod Looping
 pub mod Inside
+pub mod Determined

@@ -8,6 +8,7 @@ use Rattle.stages.specs.Program.{Variables}
 use Rattle.stages.proofs.Bools.{clash, some-same}
 use Rattle.text.proofs.Determined.{one-answer}
 use Rattle.text.proofs.Filling.{puts-once}
+use Rattle.recipe_cut.specs.Lines.{lastLine}
 use Rattle.recipe_answer.specs.Says.{variables, Says}
 use Rattle.recipe_answer.specs.Turns.{Buffers, Turned, stays, tells}
 use Rattle.recipe_answer.specs.declared.Said.{Said}
@@ -15,8 +16,8 @@ use Rattle.recipe_answer.specs.declared.Carried.{Carried}
 use Rattle.recipe_answer.specs.declared.Turn.{Turn}
 use Rattle.recipe_answer.specs.declared.Turn.the-variants.{Open, Answered}
 
--- `say` and `answer_last`
-pub says-determined : (homes paths params : Text) (v : Variables) (n : ℕ) (lines : List Text) (old left left′ vars vars′ : Text) (r s : Said)
+-- what is said of lines
+says-determined : (homes paths params : Text) (v : Variables) (n : ℕ) (lines : List Text) (old left left′ vars vars′ : Text) (r s : Said)
     → Says homes paths params v n lines old left vars r → Says homes paths params v n lines old left′ vars′ s → (r ≡ s) × (left ≡ left′) × (vars ≡ vars′)
 says-determined homes paths params v n lines old left left′ vars vars′ r s g h =
     let e : variables vars (r .«vars_used») (v .shouts) ≡ variables vars′ (s .«vars_used») (v .shouts) = one-answer (g .after) (h .after) in
@@ -30,16 +31,20 @@ says-determined homes paths params v n lines old left left′ vars vars′ r s g
       ap (λ (w : Variables). w .buffer) e,
     )
 
--- `answer_next`
+pub answer-last-determined : (homes paths params : Text) (v : Variables) (n : ℕ) (kept old left left′ vars vars′ : Text) (r s : Said)
+    → Says homes paths params v n (lastLine kept) old left vars r → Says homes paths params v n (lastLine kept) old left′ vars′ s
+    → (r ≡ s) × (left ≡ left′) × (vars ≡ vars′)
+answer-last-determined homes paths params v n kept = says-determined homes paths params v n (lastLine kept)
+
 module _ (homes paths params : Text) (k : Carried) (block : Text) (at : ℕ) (b : Buffers) where
-  pub turned-determined : (c d : Buffers) (r s : Turn) → Turned homes paths params k block at b c r → Turned homes paths params k block at b d s
+  pub answer-next-determined : (c d : Buffers) (r s : Turn) → Turned homes paths params k block at b c r → Turned homes paths params k block at b d s
       → (r ≡ s) × (c ≡ d)
-  turned-determined c d (Open n) (Open m) (stays g) (stays h) =
+  answer-next-determined c d (Open n) (Open m) (stays g) (stays h) =
       let p : (n ≡ m) × (c .line ≡ d .line) = puts-once (g .keeps) (h .keeps) in
       (ap Open (p .0), rw (p .1, one-answer (g .sameVars) (h .sameVars), one-answer (g .sameSaid) (h .sameSaid)))
-  turned-determined c d (Open n) (Answered len told used next) (stays g) (tells h) = absurd (clash (sym (g .runsOut) ∙ h .ends))
-  turned-determined c d (Answered len told used next) (Open n) (tells g) (stays h) = absurd (clash (sym (h .runsOut) ∙ g .ends))
-  turned-determined c d (Answered len told used next) (Answered len′ told′ used′ next′) (tells g) (tells h) =
+  answer-next-determined c d (Open n) (Answered len told used next) (stays g) (tells h) = absurd (clash (sym (g .runsOut) ∙ h .ends))
+  answer-next-determined c d (Answered len told used next) (Open n) (tells g) (stays h) = absurd (clash (sym (h .runsOut) ∙ g .ends))
+  answer-next-determined c d (Answered len told used next) (Answered len′ told′ used′ next′) (tells g) (tells h) =
       let n : next ≡ next′ = some-same (sym (g .ends) ∙ h .ends) in
       let v : Variables = variables (b .vars) (k .«vars_used») (k .shouts) in
       let p = says-determined homes paths params v (k .line) _ (b .said) (c .said) (d .said) (c .vars) (d .vars) _ _ (g .says) (h .says) in (

@@ -3,13 +3,15 @@
 use Prim.Native.Nat.{ℕ, _+_, _-_, _*_, _≤_}
 use native.Mathlib.Omega.{arith}
 use mathlib.Core.Path.{_≡_, sym, ap, _∙_}
+use mathlib.Core.Bool.{Bool}
 use mathlib.Core.List.{[], _∷_}
 use lib.ListN.{length, drop, length-drop}
 use Rattle.stages.specs.Bytes.{Text, part}
 use Rattle.stages.specs.Units.{Row}
 use Rattle.stages.specs.Split.{dropWhite, dropHard}
 use Rattle.text.specs.Rows.{rowOf}
-use Rattle.split_delimiter.specs.Places.{ahead, Reaches}
+use Rattle.text.proofs.Determined.{one-answer}
+use Rattle.split_delimiter.specs.Places.{ahead, goesOn, Reaches}
 use Rattle.split_delimiter.specs.Parts.{behindBreak, PartEnds}
 
 -- two bytes for each unit, and perhaps an odd last one
@@ -21,6 +23,9 @@ row-length (a ∷ b ∷ t) = (omega (arith, row-length t .0), omega (arith, row-
 
 ahead-length : (row : Text) (at : ℕ) → (2 * length (ahead row at) ≤ length row - at) × (length row - at ≤ 2 * length (ahead row at) + 1)
 ahead-length row at = (omega (arith, row-length (drop at row) .0, length-drop at row), omega (arith, row-length (drop at row) .1, length-drop at row))
+
+pub goes-on-determined : (ifs row : Text) (at : ℕ) (r s : Bool) → r ≡ goesOn ifs (ahead row at) → s ≡ goesOn ifs (ahead row at) → r ≡ s
+goes-on-determined ifs row at r s = one-answer
 
 module _ {row : Text} {at : ℕ} where
   one-place : {to to′ : ℕ} {r : Row} → Reaches row at to r → Reaches row at to′ r → to ≡ to′

@@ -1,11 +1,15 @@
--- The contract of reading determines the answer and every byte of the buffer.
+-- The contracts determine the answer and every byte of the buffer.
+use Prim.Native.Nat.{ℕ}
 use mathlib.Core.Path.{_≡_, sym, ap, _∙_}
 use lib.ListN.{length}
 use Rattle.stages.specs.Bytes.{Text}
 use Rattle.stages.specs.Call.{over}
-use Rattle.tab_escape.specs.Escapes.{Reading, bad, good, Reads, reads, fails}
+use Rattle.tab_escape.specs.Escapes.{upTo, Reading, bad, good, Reads, reads, fails}
 use Rattle.tab_escape.specs.declared.Read.{Read}
 use Rattle.tab_escape.specs.declared.Read.the-variants as read
+
+pub find-determined : (b : ℕ) (text : Text) (r s : ℕ) → r ≡ upTo b text → s ≡ upTo b text → r ≡ s
+find-determined b text r s p q = p ∙ sym q
 
 abbrev answerOf : Reading → Read
 answerOf (bad f t) = read.Bad f
