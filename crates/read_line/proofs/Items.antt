@@ -23,6 +23,8 @@ use Rattle.read_brace.specs.declared.Param.{Param}
 use Rattle.read_brace.specs.declared.Item.{Item}
 use Rattle.read_brace.specs.declared.Item.the-variants.{Fault, Stop, Byte, Paren, Quote, Value, Count, Total, Spread, Inner, Sum, Home}
 use Rattle.read_item.specs.After.{ItemAt, modeAfter, isStop}
+use Rattle.read_run.specs.Literals.{lits, Passed}
+use Rattle.read_run.proofs.Parts.{put-same, put-put, run-parts, run-open}
 use Rattle.read_line.specs.Says.{ReadTo, ReadSays, readFrom, Here, ReadMore, ItemSays}
 use Rattle.read_line.specs.declared.Reading.{Reading}
 use Rattle.read_line.specs.declared.Reading.the-variants as reading
@@ -180,20 +182,23 @@ pub record Reads (text : Text) (from here : Cursor) : Type 0 where
   pub within : here .at ≤ length text
   pub few : openIn (here .mode) ≤ here .at
 
-put-same : (r : Taken) → r ≡ put (λ p. p) r
-put-same (refused e) = refl
-put-same (demands t) = refl
-put-same (done p) = refl
-
-put-put : (f g : Parts → Parts) (r : Taken) → put f (put g r) ≡ put (λ p. f (g p)) r
-put-put f g (refused e) = refl
-put-put f g (demands t) = refl
-put-put f g (done p) = refl
-
 pub reads-start : (text : Text) (from : Cursor) → from .at ≤ length text → openIn (from .mode) ≤ from .at → Reads text from from
 reads-start text from l k = record { before = λ p. p; is = put-same (readFrom text from); onward = omega arith; within = l; few = k }
 
 module _ {text : Text} {from here : Cursor} (g : Reads text from here) where
+  -- behind a run
+  pub reads-run : {place : Cursor} → Passed text here place → Reads text from place
+  reads-run {place = place} p =
+      let a = g .onward in
+      let b = p .run .onward in
+      record {
+        before = λ q. g .before (lits (part text (here .at) (place .at)) q);
+        is = g .is ∙ ap (put (g .before)) (run-parts p) ∙ put-put (g .before) (lits (part text (here .at) (place .at))) (readFrom text place);
+        onward = omega arith;
+        within = p .run .within;
+        few = omega (arith, run-open p, g .few);
+      }
+
   pub reads-fault : {e : ℕ} → readFrom text here ≡ refused e → readFrom text from ≡ refused e
   reads-fault h = g .is ∙ ap (put (g .before)) h
 

@@ -99,15 +99,16 @@ fn read_item(item: Item, text: &[u8], from: Cursor) -> Reading
     }
 }
 
-// Reads a text to its end.
+// Reads a text to its end: runs of bytes that stand for themselves, and the items behind them.
 pub fn read_text(text: &[u8], from: Cursor) -> Reading
     requires { ⌜ (from .at ≤ length (now text)) × (openIn (from .mode) ≤ from .at) ⌝ }
     ensures { λ r. ⌜ ReadSays (now (text .entry)) (from .at) (parts (modeOf (from .mode)) (from .depth) (drop (from .at) (now (text .entry)))) r ⌝ }
 {
     let mut here = from;
     loop {
-        let item = read_item::item_at(text, here);
-        let got = read_item(item, text, here);
+        let place = read_run::behind_literals(text, here);
+        let item = read_item::item_at(text, place);
+        let got = read_item(item, text, place);
         match got {
             Reading::Fault(number) => {
                 return Reading::Fault(number);
@@ -116,8 +117,8 @@ pub fn read_text(text: &[u8], from: Cursor) -> Reading
                 if read_item::is_stop(item) {
                     return Reading::End(next);
                 }
-                let mode = here.mode;
-                let depth = here.depth;
+                let mode = place.mode;
+                let depth = place.depth;
                 here = Cursor {
                     at: next,
                     mode: read_item::mode_after(item, mode),

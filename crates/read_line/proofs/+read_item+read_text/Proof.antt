@@ -29,6 +29,7 @@ use Rattle.read_line.proofs.Items.{
   reads-start,
   reads-fault,
   reads-end,
+  reads-run,
   reads-next,
 }
 use borrow.Author.Needs.{needs}
@@ -41,6 +42,7 @@ use Rattle.read_line.proofs.+read_item+read_text.Lts-read_item as read-
 use Rattle.read_line.proofs.read_text.Reads as read-text
 use Rattle.read_line.proofs.read_text.Kinds as read-text-kinds
 use Rattle.read_line.proofs.+read_item+read_text.Lts-read_text as read-text-lts
+use Rattle.read_run.proofs.behind_literals.Reads as behind-literals-reads
 use Rattle.read_item.proofs.item_at.Reads as item-at-reads
 use Rattle.read_item.proofs.is_stop.Reads as is-stop-reads
 use Rattle.read_item.proofs.mode_after.Reads as mode-after-reads
@@ -180,6 +182,8 @@ module _ (t : ℕ) where
 
 abbrev read-text-callees : ℕ → read-text-lts.Claims
 read-text-callees t = (
+  behind-literals-reads.Asked,
+  behind-literals-reads.Learnt,
   item-at-reads.Asked,
   item-at-reads.Learnt,
   read-item-below t,
@@ -197,33 +201,43 @@ abbrev μ-loop : read-text-lts.MeasureT-loop
 μ-loop text from here = length text - here .at
 
 module _ (t : ℕ) where
+  -- what is read up to the end of a run
+  ran : (c : read-text-lts.After-behind-literals (read-text-callees t) (read-text-at t) read-text.Post Inv-loop μ-loop) →
+      let s = c .before .before .before in
+      Reads (s .args .text .now) (s .args .from) (c .behind-literals .result)
+  ran c = reads-run (c .before .loop .inv) (c .behind-literals .ensures)
+
   -- what the item is read as, where it is no fault
   went : (c : read-text-lts.After-got2 (read-text-callees t) (read-text-at t) read-text.Post Inv-loop μ-loop) →
       let i = c .before .before .before in
-      ItemSays (i .item-at .result) (i .before .before .before .args .text .now) (i .before .loop .here) (reading.End (c .got2 .given .0 .0))
+      let p = i .before in
+      ItemSays (i .item-at .result) (p .before .before .before .args .text .now) (p .behind-literals .result) (reading.End (c .got2 .given .0 .0))
   went c = read-shown _ _ _ (c .before .before .read-item .ensures) (c .got2 .given .1)
 
   -- and where the text goes on after it
   on-from : (c : read-text-lts.Else1 (read-text-callees t) (read-text-at t) read-text.Post Inv-loop μ-loop) →
       let g = c .before .before .before in
       let i = g .before .before .before in
-      let here = i .before .loop .here in
-      ReadMore (i .before .before .before .args .text .now) here (g .got2 .given .0 .0) (modeAfter (i .item-at .result) (here .mode))
+      let place = i .before .behind-literals .result in
+      ReadMore (i .before .before .before .before .args .text .now) place (g .got2 .given .0 .0) (modeAfter (i .item-at .result) (place .mode))
   on-from c =
       let g = c .before .before .before in
       let i = g .before .before .before in
-      goes-on (i .item-at .result) _ (i .before .loop .here) (went g) (sym (c .before .is-stop .ensures) ∙ c .if1 .left)
+      goes-on (i .item-at .result) _ (i .before .behind-literals .result) (went g) (sym (c .before .is-stop .ensures) ∙ c .if1 .left)
 
   read-text-loop-holds : read-text-lts.Need-loop-holds (read-text-callees t) (read-text-at t) read-text.Post Inv-loop μ-loop
   read-text-loop-holds c = let b = c .before in reads-start (b .args .text .now) (b .args .from) (b .pre .1 .0) (b .pre .1 .1)
 
+  read-text-behind-literals-requires : read-text-lts.Need-behind-literals-requires (read-text-callees t) (read-text-at t) read-text.Post Inv-loop μ-loop
+  read-text-behind-literals-requires c κs = c .loop .inv .within
+
   read-text-item-at-requires : read-text-lts.Need-item-at-requires (read-text-callees t) (read-text-at t) read-text.Post Inv-loop μ-loop
-  read-text-item-at-requires c κs = (c .loop .inv .within, c .loop .inv .few)
+  read-text-item-at-requires c κs = (ran c .within, ran c .few)
 
   read-text-read-item-requires : read-text-lts.Need-read-item-requires (read-text-callees t) (read-text-at t) read-text.Post Inv-loop μ-loop
   read-text-read-item-requires c κs =
-      let l = c .before .loop in
-      (omega (arith, c .before .before .before .pre .0, l .inv .onward, l .inv .within), record { is = c .item-at .ensures; few = l .inv .few })
+      let r = ran (c .before) in
+      (omega (arith, c .before .before .before .before .pre .0, r .onward, r .within), record { is = c .item-at .ensures; few = r .few })
 
   read-text-enum-known-got : read-text-lts.Need-enum-known-got (read-text-callees t) (read-text-at t) read-text.Post Inv-loop μ-loop
   read-text-enum-known-got c = search needs
@@ -231,7 +245,7 @@ module _ (t : ℕ) where
   read-text-returns : read-text-lts.Need-returns (read-text-callees t) (read-text-at t) read-text.Post Inv-loop μ-loop
   read-text-returns c =
       let r = c .before .before .before in
-      reads-fault (r .before .before .loop .inv) (read-shown _ _ _ (r .read-item .ensures) (c .before .got .given .1))
+      reads-fault (ran (r .before .before)) (read-shown _ _ _ (r .read-item .ensures) (c .before .got .given .1))
 
   read-text-enum-known-got-2 : read-text-lts.Need-enum-known-got-2 (read-text-callees t) (read-text-at t) read-text.Post Inv-loop μ-loop
   read-text-enum-known-got-2 c = search needs
@@ -243,17 +257,21 @@ module _ (t : ℕ) where
   read-text-returns-2 c =
       let g = c .before .before .before in
       let i = g .before .before .before in
-      reads-end (i .before .loop .inv) (ends (i .item-at .result) _ (i .before .loop .here) (went g) (sym (c .before .is-stop .ensures) ∙ c .if1 .taken))
+      reads-end (ran (i .before))
+      (ends (i .item-at .result) _ (i .before .behind-literals .result) (went g) (sym (c .before .is-stop .ensures) ∙ c .if1 .taken))
 
   read-text-mode-after-requires : read-text-lts.Need-mode-after-requires (read-text-callees t) (read-text-at t) read-text.Post Inv-loop μ-loop
   read-text-mode-after-requires c κs = search needs
 
   read-text-loop-less : read-text-lts.Need-loop-less (read-text-callees t) (read-text-at t) read-text.Post Inv-loop μ-loop
-  read-text-loop-less c = let m = on-from (c .before) in omega (arith, m .place .onward, m .place .within)
+  read-text-loop-less c =
+      let m = on-from (c .before) in
+      let p = c .before .before .before .before .before .before .before .before in
+      omega (arith, p .behind-literals .ensures .run .onward, m .place .onward, m .place .within)
 
   read-text-loop-again : read-text-lts.Need-loop-again (read-text-callees t) (read-text-at t) read-text.Post Inv-loop μ-loop
   read-text-loop-again c =
-      reads-next (c .before .before .before .before .before .before .before .before .loop .inv) (on-from (c .before)) (c .mode-after .ensures)
+      reads-next (ran (c .before .before .before .before .before .before .before .before)) (on-from (c .before)) (c .mode-after .ensures)
 
 pub +read-item+read-text-spec : {M : Type 1} → statement M
 +read-item+read-text-spec = close μ-read-item μ-read-text (λ t. read-item-lts.spec (read-item-callees t) (read-item-at t)
@@ -293,6 +311,7 @@ pub +read-item+read-text-spec : {M : Type 1} → statement M
     Inv-loop
     μ-loop
     (read-text-loop-holds t)
+    (read-text-behind-literals-requires t)
     (read-text-item-at-requires t)
     (read-text-read-item-requires t)
     (read-text-enum-known-got t)

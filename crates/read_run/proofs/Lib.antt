@@ -1,0 +1,4 @@
+pub mod Determined
+pub mod Table
+pub mod Running
+pub mod Parts
