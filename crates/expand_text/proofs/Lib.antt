@@ -1,4 +1,5 @@
 pub mod Items
+pub mod Running
 pub mod Looping
 pub mod Inside
 pub mod Determined

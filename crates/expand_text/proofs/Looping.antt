@@ -1,41 +1,62 @@
 -- The loop over the items of a text: what is expanded stands before what is still to be expanded.
-use Prim.Native.Nat.{ℕ, _+_, _-_, _*_, _≤_}
+use Prim.Native.Nat.{ℕ, _+_, _-_, _*_, _≤_, _<_}
 use native.Mathlib.Omega.{arith}
 use native.Mathlib.Nat.{add-zero}
 use mathlib.Core.Path.{_≡_, refl, sym, ap, _∙_, subst}
 use mathlib.Core.Bool.{Bool, true, false, _||_}
 use mathlib.Core.List.{[], _++_, append-nil}
+use borrow.Author.Tests.{leb-true, leb-false}
 use lib.ListN.{length, take, drop, length-append}
 use lib.Seq.{length-take-le}
-use Rattle.stages.specs.Numbers.{rowLimit}
-use Rattle.stages.specs.Bytes.{Text, all, notZero}
+use Rattle.stages.specs.Numbers.{rowLimit, tooManyUnits}
+use Rattle.stages.specs.Bytes.{Text, part, all, notZero}
 use Rattle.stages.specs.Outcome.{refused, done}
 use Rattle.stages.specs.Images.{Pairs, held}
 use Rattle.stages.specs.Syntax.{Parts}
 use Rattle.stages.specs.Read.{Taken, parts}
-use Rattle.stages.specs.Units.{Mark, Row}
+use Rattle.stages.specs.Units.{Mark, Row, marked}
 use Rattle.stages.specs.Params.{Lent}
 use Rattle.stages.specs.Expand.{Made, expand, onto}
 use Rattle.text.specs.Rows.{rowBytes}
-use Rattle.row.specs.Stands.{Stands}
+use Rattle.row.specs.Stands.{Stands, fronted}
 use Rattle.read_mode.specs.Modes.{modeOf, openIn}
 use Rattle.read_mode.specs.declared.Mode.{Mode}
+use Rattle.read_mode.specs.declared.Cursor.{Cursor}
+use Rattle.read_run.specs.Literals.{lits, Passed}
+use Rattle.read_run.proofs.Parts.{run-parts, run-open}
 use Rattle.table_store.specs.Holding.{Holds}
 use Rattle.expand_add.specs.Answers.{Ready, IsDemand, Says}
-use Rattle.expand_text.specs.Items.{Moves, Closes, Passes, ItemAnswers, ItemRead}
+use Rattle.expand_text.specs.Items.{PutsRun, Moves, Closes, Passes, ItemAnswers, ItemRead}
 use Rattle.expand_add.specs.declared.answers.Expanded.{Expanded}
 use Rattle.expand_add.specs.declared.answers.Expanded.the-variants as answer
+use Rattle.stages.proofs.Read.{Behind, behind}
+use Rattle.text.proofs.Parts.{part-length}
+use Rattle.expand_add.proofs.Fitting.{marked-count}
 use Rattle.expand_add.proofs.Steps.{onto-none, onto-onto}
 use Rattle.expand_add.proofs.Standing.{stands-inside, stands-nest, stands-kept}
 use Rattle.expand_add.proofs.Waiting.{waits-nest}
+use Rattle.expand_text.proofs.Running.{lits-fit, lits-full}
 
 -- a flag that was set before, or is set now
+
+or-false : (g : Bool) → (g || false) ≡ g
+or-false true = refl
+or-false false = refl
 
 pub came-before : (g h : Bool) {f : Bool} → (g ≡ true) × (f ≡ g) → f ≡ (g || h)
 came-before g h w = w .1 ∙ rw (w .0)
 
 pub came-now : (g h : Bool) {f : Bool} → (g ≡ false) × (f ≡ h) → f ≡ (g || h)
 came-now g h w = w .1 ∙ rw (w .0)
+
+-- a run that was put, where there is room for it and where there is none
+
+module _ {m : Mark} {units : ℕ} {run before area : Text} {r : Bool} (h : PutsRun m units run before area r) where
+  pub run-fits : r ≡ true → (units + length run ≤ rowLimit) × (area ≡ fronted (rowBytes (marked m run)) before)
+  run-fits e = (leb-true _ _ (sym (h .fits) ∙ e), h .puts ∙ rw e)
+
+  pub run-full : r ≡ false → rowLimit < units + length run
+  run-full e = leb-false _ _ (sym (h .fits) ∙ e)
 
 pub read-known : (stops : Bool) (after : Mode) (lent : Lent) (text : Text) (at depth : ℕ) (m : Mark) (units : ℕ) (own : Parts → Made)
     {o : Taken} {p : Parts × Text} (area vars : Text) {r s : Expanded}
@@ -116,6 +137,62 @@ module _ {lent : Lent} {text : Text} {at : ℕ} {mode₀ : Mode} {d : ℕ} {k : 
     going-ready c size e l =
         let a = g .long in
         record { start = g .within; opens = g .opens; few = g .fits; area = omega arith; clean = c; tree = g .left; rest = g .rest; is = g .read }
+
+  -- a run of literal bytes, and behind it the place where the text goes on
+  module _ {place : Cursor} (g : Going lent text at mode₀ d k units v area₀ vars₀ area vars n i mode varsUsed ofNone)
+      (p : Passed text (record { at = i; mode = mode; depth = d }) place) where
+    abbrev run : Text
+    run = part text i (place .at)
+
+    run-long : length run ≡ place .at - i
+    run-long = part-length text i (place .at) (p .run .onward) (p .run .within)
+
+    cut : Behind (lits run) (parts (modeOf (place .mode)) (place .depth) (drop (place .at) text)) (g .left) (g .rest)
+    cut = behind (lits run) (parts (modeOf (place .mode)) (place .depth) (drop (place .at) text)) (g .left) (g .rest) (sym (run-parts p) ∙ g .read)
+
+    abbrev held-now : Pairs
+    held-now = held (take varsUsed vars)
+
+    pub run-refused : (z : Text) → rowLimit < units + n + length run
+        → Says (lent .room) text at units (λ q. expand lent q k units v) (parts (modeOf mode₀) d (drop at text)) z vars (answer.Refused tooManyUnits)
+    run-refused z l =
+        rw (g .whole)
+        (g .is ∙ ap (onto (g .row) ofNone)
+        (ap (λ (q : Parts). expand lent q k (units + n) held-now) (cut .whole) ∙ lits-full lent k held-now (cut .next) run (units + n) (g .fits) l))
+
+    pub going-run : {ys : Text} → units + n + length run ≤ rowLimit → (b : Text) → ys ≡ fronted (rowBytes (marked k run)) b → (z : Text)
+        → length (take (2 * n) area ++ (ys ++ z)) ≡ length area
+        → Going lent text at mode₀ d k units v area₀ vars₀ (take (2 * n) area ++ (ys ++ z)) vars (n + (place .at - i)) (place .at) (place .mode)
+        varsUsed ofNone
+    going-run {ys} l b e z len =
+        let a = g .onward in
+        let o = p .run .onward in
+        let w = run-long in
+        let s : units + n + length run ≡ units + (n + (place .at - i)) = omega arith in
+        record {
+          tree = g .tree;
+          rest = g .rest;
+          whole = g .whole;
+          left = cut .next;
+          read = ap (λ (j : ℕ). parts (modeOf (place .mode)) j (drop (place .at) text)) (sym (p .depth)) ∙ cut .read;
+          opens = omega (arith, run-open p, g .opens);
+          onward = omega arith;
+          within = p .run .within;
+          fits = omega arith;
+          long = len ∙ g .long;
+          same = g .same;
+          row = g .row ++ marked k run;
+          counts = length-append (g .row) (marked k run) ∙ rw (g .counts, marked-count k run, run-long);
+          stands = stands-nest (g .row) (marked k run) area ys z n (g .stands) (g .counts)
+              (record { rest = drop (length (rowBytes (marked k run))) b; is = e });
+          holds = g .holds;
+          is =
+              g .is ∙ ap (onto (g .row) ofNone)
+              (ap (λ (q : Parts). expand lent q k (units + n) held-now) (cut .whole) ∙ lits-fit lent k held-now (cut .next) run (units + n) l)
+              ∙ onto-onto (g .row) (marked k run) ofNone false (expand lent (cut .next) k (units + n + length run) held-now)
+              ∙ ap (λ (f : Bool). onto (g .row ++ marked k run) f (expand lent (cut .next) k (units + n + length run) held-now)) (or-false ofNone)
+              ∙ ap (λ (j : ℕ). onto (g .row ++ marked k run) ofNone (expand lent (cut .next) k j held-now)) s;
+        }
 
   module _ {stops : Bool} {after : Mode} {ys us : Text} {r : Expanded}
       (x : Expanding lent text at mode₀ d k units v area₀ vars₀ area vars n i mode varsUsed ofNone stops after ys us r) where

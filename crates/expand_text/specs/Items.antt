@@ -3,7 +3,7 @@ use Prim.Native.Nat.{ℕ, suc, _+_, _≤_, _<_}
 use mathlib.Core.Path.{_≡_}
 use mathlib.Core.Bool.{Bool, true, false, _&&_}
 use mathlib.Core.List.{[]}
-use lib.Dec.{eqb}
+use lib.Dec.{eqb, leb}
 use lib.ListN.{length, take, drop}
 use Rattle.stages.specs.Numbers.{rowLimit}
 use Rattle.stages.specs.Bytes.{Text}
@@ -11,11 +11,12 @@ use Rattle.stages.specs.Outcome.{refused, demands, done, pick}
 use Rattle.stages.specs.Images.{Pairs, held}
 use Rattle.stages.specs.Syntax.{Parts}
 use Rattle.stages.specs.Read.{Taken, parts}
-use Rattle.stages.specs.Units.{Mark, Row}
+use Rattle.stages.specs.Units.{Mark, Row, marked}
 use Rattle.stages.specs.Params.{Lent}
 use Rattle.stages.specs.Expand.{Made, expand, onto}
 use Rattle.row.specs.Marks.{markOf}
-use Rattle.row.specs.Stands.{Stands}
+use Rattle.text.specs.Rows.{rowBytes}
+use Rattle.row.specs.Stands.{Stands, fronted}
 use Rattle.row.specs.declared.RowEnd.{RowEnd}
 use Rattle.read_mode.specs.Modes.{modeOf, openIn}
 use Rattle.read_mode.specs.declared.Mode.{Mode}
@@ -30,6 +31,11 @@ use Rattle.expand_add.specs.declared.answers.Expanded.the-variants as expanded
 -- how many units quotes give whose text gave so many, by whether `$@` of no parameters came in them
 abbrev pub unitsInQuotes : Bool → ℕ → ℕ
 unitsInQuotes ofNone count = pick (ofNone && eqb count 0) 0 (suc count)
+
+-- a run of literal bytes is added to the units before it, or there is no room for all of them and nothing is written
+pub record PutsRun (m : Mark) (units : ℕ) (run before area : Text) (r : Bool) : Type 0 where
+  pub fits : r ≡ leb (units + length run) rowLimit
+  pub puts : area ≡ pick r (fronted (rowBytes (marked m run)) before) before
 
 -- one item is expanded: its units stand in the area, and what is after it is to be expanded after them
 pub record Moves (lent : Lent) (text : Text) (at depth : ℕ) (mode : Mode) (m : Mark) (units : ℕ) (made : Made) (rest area vars : Text)

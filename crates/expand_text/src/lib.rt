@@ -1,7 +1,7 @@
 // The expander, which calls itself: a text is a row of items, and an item may hold a text. Every call is on a later place of the text; the depth falls at
 // each operand and arithmetic text, so that there is room for each open row.
 ghost use mathlib.Core.Path.{_≡_};
-ghost use Prim.Native.Nat.{_≤_};
+ghost use Prim.Native.Nat.{_+_, _*_, _≤_};
 ghost use lib.ListN.{length, take, drop};
 ghost use Rattle.stages.specs.Numbers.{rowLimit};
 ghost use Rattle.stages.specs.Images.{held};
@@ -18,7 +18,7 @@ ghost use Rattle.expand_add.specs.Steps.{placed, quoted, summing};
 ghost use Rattle.table_store.specs.Holding.{Holds};
 ghost use Rattle.expand_add.specs.Answers.{Ready, Says};
 ghost use Rattle.expand_operand.specs.Operands.{IsNamed};
-ghost use Rattle.expand_text.specs.Items.{ItemSays, unitsInQuotes};
+ghost use Rattle.expand_text.specs.Items.{ItemSays, PutsRun, unitsInQuotes};
 use expand_add::answers::Expanded;
 use expand_add::answers::Extent;
 use expand_add::answers::Onward;
@@ -45,6 +45,7 @@ use read_line::Reading;
 use read_mode::Cursor;
 use read_mode::Form;
 use read_mode::Mode;
+use read_run::behind_literals;
 use row::Mark;
 use row::RowEnd;
 use text::numbers;
@@ -403,6 +404,20 @@ fn expand_item(
     }
 }
 
+// Adds a run of literal bytes, each with the row's mark, and says whether there is room for all of them; if not, nothing is written.
+fn put_run(run: &[u8], row: RowEnd, area: &mut [u8]) -> bool
+    requires { ⌜ (row .units ≤ rowLimit) × (2 * rowLimit ≤ length (now area) + 2 * row .units) ⌝ }
+    ensures { λ r. ⌜ PutsRun (markOf (row .mark)) (row .units) (now (run .entry)) (now (area .entry)) (now (area .exit)) r ⌝ }
+{
+    let room = numbers::ROW_LIMIT - row.units;
+    if run.len() > room {
+        return false;
+    }
+    let mark = row.mark;
+    row::put_marked(run, mark, area);
+    true
+}
+
 // A text that has been read, from its place on, as a row at the front of work, where the row's units before it end. A message that an item demands waits
 // behind the units that were given before it.
 pub fn expand_text(
@@ -429,22 +444,41 @@ pub fn expand_text(
     let mut left = extent.vars_used;
     let mut of_none = false;
     loop {
+        let behind = behind_literals(
+            text,
+            Cursor {
+                at: i,
+                mode: inside,
+                depth: from.depth,
+            },
+        );
+        let place = behind.at;
+        let mode = behind.mode;
         let here = Cursor {
-            at: i,
-            mode: inside,
+            at: place,
+            mode: mode,
             depth: from.depth,
         };
+        let before = RowEnd {
+            mark: mark,
+            units: row.units + n,
+        };
+        let front = 2 * n;
+        if !put_run(&text[i..place], before, &mut work[front..]) {
+            return Expanded::Refused(numbers::REFUSED_UNITS);
+        }
+        let ran = n + (place - i);
         let item = item_at(text, here);
         let end = RowEnd {
             mark: mark,
-            units: row.units + n,
+            units: row.units + ran,
         };
         let held = Extent {
             vars_used: left,
             vars_room: extent.vars_room,
             shouts: extent.shouts,
         };
-        let start = 2 * n;
+        let start = 2 * ran;
         let got = expand_item(
             item,
             text,
@@ -472,7 +506,7 @@ pub fn expand_text(
                 vars_used,
                 of_none: came,
             } => {
-                n = n + units;
+                n = ran + units;
                 i = next;
                 left = vars_used;
                 of_none = of_none || came;
@@ -484,7 +518,7 @@ pub fn expand_text(
                         of_none: of_none,
                     };
                 }
-                inside = mode_after(item, inside);
+                inside = mode_after(item, mode);
             }
         }
     }
