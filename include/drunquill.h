@@ -1,12 +1,20 @@
 /* Drunquill: POSIX words expanded, fields quoted, variables assigned, paths kept, patterns priced. Seven functions over buffers that the caller lends.
  *
+ * To begin with, see `struct drunquill_call` near the end of this file: it holds what is lent from call to call, and what is not needed may be left NULL there.
+ * man/drunquill.3 has a short program.
+ *
  * The functions are proved to answer as docs/01-scope.md says, with the requests of docs/02-change-requests.md that have landed, for any bytes in any
- * buffers: they call nothing but memcpy and memset, keep nothing between calls, use no heap, always return, and may run in several threads at once on
- * buffers of their own. How soon they return is measured and not proved: a removal costs at most its pattern times its value, a field its pattern
- * times the paths, a store the image of variables that it walks over, the coster at most the square of its pattern (where many brackets are never
- * closed), and all else is in proportion to the line
- * (docs/TRUST.md has the dearest lines known and what they take).
- * Link target/staticlib/libdrunquill_c.a, which `rt staticlib drunquill_c` builds (x86-64 Linux).
+ * buffers: they call nothing but memcpy and memset, use no heap and always return. How soon they return is measured and not proved: a removal costs at most
+ * its pattern times its value, a field its pattern times the paths, a store the image of variables that it walks over, the coster at most the square of its
+ * pattern (where many brackets are never closed), and all else is in proportion to the line (docs/TRUST.md has the dearest lines known and what they take).
+ * Link by `pkg-config --cflags --libs drunquill` what ./install has put there, or target/staticlib/libdrunquill_c.a, which `rt staticlib drunquill_c` builds
+ * (x86-64 Linux).
+ *
+ * THREADS. The functions have no state: any number of threads may call them at once, each with its own `vars`, `work`, `out` and `message`. Buffers that
+ * are only read may be shared by them.
+ * LIFETIME. A buffer is lent for the time of the call: the functions keep no pointer, nothing that they give back points anywhere, and nothing is to be freed.
+ * STACK. A call may need DRUNQUILL_STACK bytes of it: a thread's stack that is made smaller than that must not call. None of the buffers is on it but those that
+ * the caller puts there.
  *
  * BUFFERS. Each is a pointer and a length in bytes.
  *  - No pointer may be NULL, also where the length is 0. Each must have that many bytes, readable; `vars`, `work`, `out` and `message` writable too,
@@ -53,8 +61,8 @@ extern "C" {
  * proved. */
 #define DRUNQUILL_STACK 524288
 
-/* The numbers. 0 is the acceptance, each other one a refusal. */
-enum {
+/* The numbers. 0 is the acceptance, each other one a refusal. drunquill_words has a sentence for each. */
+enum drunquill_number {
     DRUNQUILL_ACCEPTED = 0,
     DRUNQUILL_WORK_TOO_SMALL = 1,     /* the work area has fewer than DRUNQUILL_WORK_LEAST bytes */
     DRUNQUILL_BAD_VARIABLES = 2,      /* variables malformed, above their limit, or the used length beyond the buffer */
@@ -195,6 +203,159 @@ struct drunquill_updated drunquill_delete_path(uint8_t *paths, size_t paths_len,
  * than DRUNQUILL_ELEMENTS_MAX elements or DRUNQUILL_COMPARED_MAX bytes of text.
  */
 struct drunquill_costed drunquill_cost(const uint8_t *pattern, size_t pattern_len, const uint8_t *text, size_t text_len, uint8_t *work, size_t work_len);
+
+/* What a number says, in words, without a full stop: those of commands/numbers.txt. The text is not to be freed. */
+static inline const char *drunquill_words(uint8_t number)
+{
+    static const char *const words[] = {
+        "accepted",
+        "the work area has fewer than 65,536 bytes",
+        "the table of variables is spoiled or too long",
+        "the table of homes is spoiled or too long",
+        "the table of paths is spoiled or too long, or a path is empty or holds a zero byte",
+        "the line has more than 2,048 bytes",
+        "a zero byte stands in the line",
+        "an apostrophe or quote, a brace or a calculation is not closed, or a backslash ends the line",
+        "one of |&;<>() is not quoted, or a word begins with #",
+        "a command, as $(...) or in backquotes, is never run",
+        "a parameter that is not served, as $? or $0, or one where it may not stand",
+        "bad syntax, or among assignments a word that is none",
+        "nested too deep: more than 8 expansions, or 32 parentheses and signs, are open at once",
+        "a value that the line demands is missing",
+        "too long: a word, value or calculation above 2,048 units, or a pattern or text to be priced",
+        "a calculation has something that is not a number",
+        "a calculation cannot be read",
+        "a calculation leaves the range of 64 bits, or shifts by a count that is not 0 to 63",
+        "a calculation divides by zero",
+        "a class in the brackets of a pattern is not served",
+        "no room for a variable",
+        "no room for the answer",
+        "the image of fields is malformed or too long",
+        "the positional parameters are malformed or too long",
+        "the path to insert is there already, or the one to delete is not there",
+        "a name that is not set, while unset names shout",
+    };
+    return number < sizeof words / sizeof words[0] ? words[number] : "no number of Drunquill";
+}
+
+/* What is lent to the calls of the three functions below, which call those of the same name above. A struct of zeros with a work area is enough to begin with: a
+ * table that is NULL has no records, variables that are NULL are none and have no room, and a message that is NULL is not wanted. Its buffers are those of the
+ * caller, and stay lent as long as the struct is used; nothing else changes it but `vars_used`.
+ */
+struct drunquill_call {
+    uint8_t *vars;         /* the variables' buffer: to begin without variables, put the byte 1 at its front and 1 in `vars_used` */
+    size_t vars_len;       /* DRUNQUILL_IMAGE_MAX bytes are enough for all that can be accepted */
+    size_t vars_used;      /* their used length; a call that is accepted puts the new one here, so that the next call goes on with them */
+    const uint8_t *homes;
+    size_t homes_len;
+    const uint8_t *params;
+    size_t params_len;
+    const uint8_t *paths;
+    size_t paths_len;
+    uint8_t *work;         /* at least DRUNQUILL_WORK_LEAST bytes */
+    size_t work_len;
+    uint8_t *message;
+    size_t message_len;
+    bool shouts;           /* whether unset names shout */
+};
+
+/* The call with bytes of `instead`, the image without records and then a byte to write to, in the place of what is NULL. */
+static inline struct drunquill_call drunquill_filled(const struct drunquill_call *call, uint8_t instead[3])
+{
+    struct drunquill_call filled = *call;
+    instead[0] = instead[1] = 1;
+    instead[2] = 0;
+    if (filled.vars == NULL) {
+        filled.vars = instead + 1;
+        filled.vars_len = filled.vars_used = 1;
+    }
+    if (filled.homes == NULL) {
+        filled.homes = instead;
+        filled.homes_len = 1;
+    }
+    if (filled.params == NULL) {
+        filled.params = instead;
+        filled.params_len = 1;
+    }
+    if (filled.paths == NULL) {
+        filled.paths = instead;
+        filled.paths_len = 1;
+    }
+    if (filled.message == NULL) {
+        filled.message = instead + 2;
+        filled.message_len = 0;
+    }
+    return filled;
+}
+
+/* Takes over what a call left. */
+static inline struct drunquill_answer drunquill_carried(struct drunquill_call *call, struct drunquill_answer answer)
+{
+    if (answer.number == DRUNQUILL_ACCEPTED && call->vars != NULL)
+        call->vars_used = answer.vars_used;
+    return answer;
+}
+
+/* The expander, with what a call is lent. */
+static inline struct drunquill_answer drunquill_expand_with(struct drunquill_call *call, const char *line, size_t line_len, uint8_t *out, size_t out_len)
+{
+    uint8_t instead[3];
+    const struct drunquill_call c = drunquill_filled(call, instead);
+    return drunquill_carried(call, drunquill_expand((const uint8_t *)line, line_len, c.vars, c.vars_len, c.vars_used, c.shouts, c.homes, c.homes_len, c.params,
+                                                    c.params_len, c.paths, c.paths_len, c.work, c.work_len, out, out_len, c.message, c.message_len));
+}
+
+/* The normaliser, with what a call is lent. */
+static inline struct drunquill_answer drunquill_normalise_with(struct drunquill_call *call, const char *line, size_t line_len, uint8_t *out, size_t out_len)
+{
+    uint8_t instead[3];
+    const struct drunquill_call c = drunquill_filled(call, instead);
+    return drunquill_carried(call, drunquill_normalise((const uint8_t *)line, line_len, c.vars, c.vars_len, c.vars_used, c.shouts, c.homes, c.homes_len, c.params,
+                                                       c.params_len, c.paths, c.paths_len, c.work, c.work_len, out, out_len, c.message, c.message_len));
+}
+
+/* The assigner, with what a call is lent; the paths are not looked at. */
+static inline struct drunquill_answer drunquill_assign_with(struct drunquill_call *call, const char *line, size_t line_len)
+{
+    uint8_t instead[3];
+    const struct drunquill_call c = drunquill_filled(call, instead);
+    return drunquill_carried(call, drunquill_assign((const uint8_t *)line, line_len, c.vars, c.vars_len, c.vars_used, c.shouts, c.homes, c.homes_len, c.params,
+                                                    c.params_len, c.work, c.work_len, c.message, c.message_len));
+}
+
+/* The next text of a well formed image, as the expander writes one: begin with `*at` 0. Answers false, and changes nothing, where there is no further one. The
+ * text is a part of the image, and no zero byte ends it. Of an image that is not well formed it reads no byte outside either.
+ */
+static inline bool drunquill_next_text(const uint8_t *image, size_t image_len, size_t *at, const uint8_t **text, size_t *text_len)
+{
+    const size_t record = *at == 0 ? 1 : *at;
+    if (image_len < 2 || record > image_len - 2)
+        return false;
+    const size_t length = (size_t)image[record] << 8 | image[record + 1];
+    if (length > image_len - 2 - record)
+        return false;
+    *text = image + record + 2;
+    *text_len = length;
+    *at = record + 2 + length;
+    return true;
+}
+
+/* A text put behind the others of an image of fields, so as to make one of positional parameters: the image stands in the first `used` of `room` bytes, with
+ * `used` 0 for a new one. Answers the new used length, or 0 if it has no room or is longer than DRUNQUILL_IMAGE_MAX; then nothing is changed. A zero byte in
+ * the text is for the functions to refuse.
+ */
+static inline size_t drunquill_add_text(uint8_t *image, size_t room, size_t used, const char *text, size_t text_len)
+{
+    const size_t front = used == 0 ? 1 : used, most = room < DRUNQUILL_IMAGE_MAX ? room : DRUNQUILL_IMAGE_MAX;
+    if (front > most || most - front < 2 || most - front - 2 < text_len)
+        return 0;
+    image[0] = 1;
+    image[front] = (uint8_t)(text_len >> 8);
+    image[front + 1] = (uint8_t)(text_len & 255);
+    for (size_t i = 0; i < text_len; i++)
+        image[front + 2 + i] = (uint8_t)text[i];
+    return front + 2 + text_len;
+}
 
 #ifdef __cplusplus
 }
