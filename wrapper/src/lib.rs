@@ -8,6 +8,15 @@
 //!
 //! Lines, images and numbers are those of docs/01-scope.md, and of docs/02-change-requests.md as far as it has landed; man/drunquill.3 has them in short.
 //!
+//! [`Call`] is where to begin: it is built from names and texts, and owns its buffers.
+//!
+//! ```
+//! let mut call = drunquill::Call::new().variables([("job", "a b")]);
+//! assert_eq!(call.expand("cp \"$job\" $job").unwrap(), [b"cp".as_slice(), b"a b", b"a", b"b"]);
+//! ```
+//!
+//! The functions themselves take images in buffers that are lent, and use no heap but for a message:
+//!
 //! ```
 //! use drunquill::{assign, delete_path, insert_path, normalise, Number, Paths, Tables, Variables};
 //!
@@ -50,9 +59,13 @@
 //! ```
 
 mod archive;
+mod call;
 mod number;
+mod table;
 
+pub use call::Call;
 pub use number::{Number, Refusal};
+pub use table::{pairs, texts, Pairs, Table, Texts};
 
 /// The least length of the work area, in bytes.
 pub const WORK_LEAST: usize = 65_536;

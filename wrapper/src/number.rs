@@ -70,34 +70,38 @@ impl Number {
         Number::ALL.into_iter().find(|known| *known as u8 == number)
     }
 
-    /// What docs/01-scope.md says of the number; of 23, 24 and 25, what E5, E11 and E14 of docs/02-change-requests.md add.
+    /// What the number says, in words: those of commands/numbers.txt.
     pub fn words(self) -> &'static str {
         match self {
-            Number::WorkTooSmall => "work area below 65,536 bytes",
-            Number::BadVariables => "variables malformed, too long, or used length beyond the buffer",
-            Number::BadHomes => "homes malformed or too long",
-            Number::BadPaths => "paths malformed or too long",
-            Number::LineTooLong => "line above 2,048 bytes",
-            Number::ZeroByte => "zero byte in the line",
-            Number::Unended => "line ends inside a quote, brace or arithmetic, or after a backslash",
-            Number::BareOperator => "bare operator",
-            Number::Substitution => "command substitution",
-            Number::Unserved => "parameter not served",
-            Number::BadSyntax => "other bad syntax",
-            Number::TooDeep => "too deep",
-            Number::Demanded => "`?` form on a missing value",
-            Number::TooManyUnits => "above 2,048 units",
-            Number::NotNumber => "not a number",
-            Number::ArithmeticSyntax => "arithmetic syntax",
-            Number::Overflow => "overflow",
-            Number::ZeroDivisor => "zero divisor",
-            Number::BracketClass => "bracket class",
+            Number::WorkTooSmall => "the work area has fewer than 65,536 bytes",
+            Number::BadVariables => "the table of variables is spoiled or too long",
+            Number::BadHomes => "the table of homes is spoiled or too long",
+            Number::BadPaths => "the table of paths is spoiled or too long, or a path is empty or holds a zero byte",
+            Number::LineTooLong => "the line has more than 2,048 bytes",
+            Number::ZeroByte => "a zero byte stands in the line",
+            Number::Unended => {
+                "an apostrophe or quote, a brace or a calculation is not closed, or a backslash ends the line"
+            }
+            Number::BareOperator => "one of |&;<>() is not quoted, or a word begins with #",
+            Number::Substitution => "a command, as $(...) or in backquotes, is never run",
+            Number::Unserved => "a parameter that is not served, as $? or $0, or one where it may not stand",
+            Number::BadSyntax => "bad syntax, or among assignments a word that is none",
+            Number::TooDeep => "nested too deep: more than 8 expansions, or 32 parentheses and signs, are open at once",
+            Number::Demanded => "a value that the line demands is missing",
+            Number::TooManyUnits => {
+                "too long: a word, value or calculation above 2,048 units, or a pattern or text to be priced"
+            }
+            Number::NotNumber => "a calculation has something that is not a number",
+            Number::ArithmeticSyntax => "a calculation cannot be read",
+            Number::Overflow => "a calculation leaves the range of 64 bits, or shifts by a count that is not 0 to 63",
+            Number::ZeroDivisor => "a calculation divides by zero",
+            Number::BracketClass => "a class in the brackets of a pattern is not served",
             Number::VariableRoom => "no room for a variable",
-            Number::OutputRoom => "no room for output",
-            Number::BadFields => "fields image malformed or too long",
-            Number::BadParameters => "parameters malformed or too long",
-            Number::BadPath => "path already there, or not there to delete",
-            Number::UnsetName => "unset parameter looked up",
+            Number::OutputRoom => "no room for the answer",
+            Number::BadFields => "the image of fields is malformed or too long",
+            Number::BadParameters => "the positional parameters are malformed or too long",
+            Number::BadPath => "the path to insert is there already, or the one to delete is not there",
+            Number::UnsetName => "a name that is not set, while unset names shout",
         }
     }
 }
@@ -130,7 +134,7 @@ impl Refusal {
 
 impl fmt::Display for Refusal {
     fn fmt(&self, out: &mut fmt::Formatter) -> fmt::Result {
-        write!(out, "refused with {} at byte {}: {}", self.number as u8, self.place, self.number.words())?;
+        write!(out, "refused at place {}: {} ({})", self.place, self.number.words(), self.number as u8)?;
         match self.message.as_slice() {
             [] => Ok(()),
             message => write!(out, ": {}", String::from_utf8_lossy(message)),

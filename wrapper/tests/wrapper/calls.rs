@@ -308,11 +308,12 @@ fn threads_call_at_once() {
 #[test]
 fn a_refusal_says_itself() {
     let refusal = quote(&[], &mut []).unwrap_err();
-    assert_eq!(refusal.to_string(), "refused with 22 at byte 0: fields image malformed or too long");
+    assert_eq!(refusal.to_string(), "refused at place 0: the image of fields is malformed or too long (22)");
     assert_eq!(format!("{refusal:?}"), "Refusal { number: BadFields, place: 0, message: b\"\" }");
     let message = b"no \"b\xc3\xa4se\"\n".to_vec();
     let refusal = Refusal { number: Number::Demanded, place: 5, message };
-    assert_eq!(refusal.to_string(), "refused with 13 at byte 5: `?` form on a missing value: no \"b\u{e4}se\"\n");
+    let told = "refused at place 5: a value that the line demands is missing (13): no \"b\u{e4}se\"\n";
+    assert_eq!(refusal.to_string(), told);
     let shown = r#"Refusal { number: Demanded, place: 5, message: b"no \"b\xc3\xa4se\"\n" }"#;
     assert_eq!(format!("{refusal:?}"), shown);
     assert_eq!(Number::of(0), None);

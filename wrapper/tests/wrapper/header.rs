@@ -1,4 +1,4 @@
-//! Numbers, names and limits are those of include/drunquill.h, and the words those of docs/01-scope.md.
+//! Numbers, names and limits are those of include/drunquill.h. The words are held against commands/numbers.txt by tests/quick/numbers.
 
 use std::fs;
 use std::path::Path;
@@ -54,13 +54,4 @@ fn limits_are_those_of_the_header() {
         .map(|(name, rest)| (name, rest.split(' ').next().and_then(|limit| limit.parse().ok()).expect("a limit")))
         .collect();
     assert_eq!(listed, limits);
-}
-
-#[test]
-fn words_are_those_of_document_01() {
-    let document = read("docs/01-scope.md");
-    for number in Number::ALL.into_iter().filter(|number| *number as u8 <= 22) {
-        let row = format!("| {} | {} |", number as u8, number.words());
-        assert!(document.lines().any(|line| line == row), "{row}");
-    }
 }

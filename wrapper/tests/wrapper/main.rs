@@ -1,6 +1,7 @@
-//! The wrapper on good and bad input, with every byte of every buffer compared; on the vectors; and beside the header and document 01.
+//! The wrapper on good and bad input, with every byte of every buffer compared; calls built from texts; on the vectors; and beside the header.
 
 mod buffers;
+mod builder;
 mod calls;
 mod header;
 mod shouts;
