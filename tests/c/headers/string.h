@@ -5,5 +5,6 @@
 int memcmp(const void *one, const void *other, size_t count);
 void *memcpy(void *restrict to, const void *restrict from, size_t count);
 void *memset(void *to, int byte, size_t count);
+int strcmp(const char *one, const char *other);
 size_t strlen(const char *text);
 #endif
