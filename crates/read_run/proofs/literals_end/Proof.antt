@@ -39,7 +39,8 @@ returns c =
     let m = c .before .before .before .before .before .before .before .before .args .mode in
     let l = c .before .before .before .before .before .before .low-literals .ensures in
     let h = c .before .before .before .before .before .high-literals .ensures in
-    run-stops (modeOf m) _ _ _ (c .before .before .before .before .loop .inv m l h) (omega arith) (set-is m l h (c .before .is-set .ensures .1) (c .before .is-set .ensures .0) (not-true _ (c .if1 .taken)))
+    let s = c .before .is-set .ensures in
+    run-stops (modeOf m) _ _ _ (c .before .before .before .before .loop .inv m l h) (omega arith) (set-is m l h (s .1) (s .0) (not-true _ (c .if1 .taken)))
 
 add-i : tie.Need-add-i Inv-loop μ-loop
 add-i c = omega arith
@@ -49,7 +50,9 @@ loop-less c = omega arith
 
 loop-again : tie.Need-loop-again Inv-loop μ-loop
 loop-again c mode l h =
-    run-goes (modeOf mode) _ _ _ (c .before .before .before .before .loop .inv mode l h) (omega arith) (set-is mode l h (c .before .is-set .ensures .1) (c .before .is-set .ensures .0) (not-false _ (c .if1 .left)))
+    let s = c .before .is-set .ensures in
+    run-goes (modeOf mode) _ _ _ (c .before .before .before .before .loop .inv mode l h) (omega arith)
+    (set-is mode l h (s .1) (s .0) (not-false _ (c .if1 .left)))
 
 returns-2 : tie.Need-returns-2 Inv-loop μ-loop
 returns-2 c =
