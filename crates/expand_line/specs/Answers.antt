@@ -1,11 +1,13 @@
 -- What a word and a line give: by cases on the code's answer, an equation with the stage, and what stands in the lent bytes then.
-use Prim.Native.Nat.{ℕ, _+_, _≤_}
+use Prim.Native.Nat.{ℕ, _+_, _≤_, _<_}
+use Prim.Native.Char.{code}
 use mathlib.Core.Path.{_≡_}
 use mathlib.Core.Bool.{true}
-use mathlib.Core.List.{List}
-use lib.ListN.{length, take}
-use Rattle.stages.specs.Numbers.{depthLimit, workLeast, imageLimit, outputRoom}
-use Rattle.stages.specs.Bytes.{Text, all, notZero}
+use mathlib.Core.List.{List, [], _∷_}
+use mathlib.Core.Logic.{_⊎_}
+use lib.ListN.{length, take, getD}
+use Rattle.stages.specs.Numbers.{depthLimit, lineLimit, workLeast, imageLimit, outputRoom}
+use Rattle.stages.specs.Bytes.{Text, part, all, notZero, isBareByte}
 use Rattle.stages.specs.Outcome.{Outcome, refused, demands, done, _>>=_, Placed, refusedAt, demandsAt, doneAt, _then_, pick}
 use Rattle.stages.specs.Images.{Pairs, held, isSome, homesOf, pathsOf, fieldsOf, written, image, recordBytes}
 use Rattle.stages.specs.Syntax.{Parts, Word}
@@ -38,6 +40,21 @@ pub record WordReady (text : Text) (at : ℕ) (vars : Text) (varsUsed room : ℕ
   pub listed : isSome (pathsOf paths) ≡ true
   pub low : used ≤ length out
   pub few : length out ≤ imageLimit
+
+-- the word from `at` to r is bare, and a blank or the line's end stands behind it; or r is `at`
+pub record BareTo (line : Text) (at r : ℕ) : Type 0 where
+  pub onward : at ≤ r
+  pub within : r ≤ length line
+  pub few : r ≤ at + lineLimit
+  pub bare : all isBareByte (part line at r) ≡ true
+  pub ends : at < r → (r ≡ length line) ⊎ ((r < length line) × (getD line r 0 ≡ code " "))
+
+-- a bare word is written behind the first `used` bytes, or there is no room for it
+abbrev pub PutsBare : Text → ℕ → ℕ → ℕ → Text → Text → WordExpanded → Type 0
+PutsBare t next varsUsed used old out (word.Refused e) = (e ≡ outputRoom) × (length old < used + recordBytes (t ∷ []))
+PutsBare t next varsUsed used old out (word.Demanded from len) = ⊥
+PutsBare t next varsUsed used old out (word.Fields len to left) =
+    (len ≡ used + recordBytes (t ∷ [])) × (len ≤ length old) × (out ≡ placed used (written (t ∷ [])) old) × (to ≡ next) × (left ≡ varsUsed)
 
 -- a word's fields are written, and behind it stands `rest`
 pub record IsFields (a : Around) (made : Outcome (Fields × Pairs)) (rest text : Text) (at used : ℕ) (vars old out : Text) (len next varsUsed : ℕ) :

@@ -8,14 +8,17 @@ use read_mode::Mode;
 use row::Mark;
 use row::RowEnd;
 use split_field::Written;
+use table_store::Put;
+use text::Class;
 use text::numbers;
+ghost use Prim.Native.Nat.{_≤_};
 ghost use lib.ListN.{length, take, drop};
-ghost use Rattle.stages.specs.Numbers.{depthLimit};
+ghost use Rattle.stages.specs.Numbers.{depthLimit, imageLimit};
 ghost use Rattle.stages.specs.Images.{held};
 ghost use Rattle.stages.specs.Syntax.{fresh, word};
 ghost use Rattle.stages.specs.Read.{parts};
 ghost use Rattle.table.specs.Around.{among};
-ghost use Rattle.expand_line.specs.Answers.{lineOutcome, WordReady, WordSays, LineReady, LineSays};
+ghost use Rattle.expand_line.specs.Answers.{lineOutcome, BareTo, PutsBare, WordReady, WordSays, LineReady, LineSays};
 
 // What a line's words give: the fields' image is the first `used` bytes of the output, and the variables' the first `vars_used` of their buffer; or the
 // number that refuses a word, and that word's place; or the message that a word demands, which is the work area's `len` bytes from `at` on, and its place.
@@ -45,9 +48,43 @@ enum WordExpanded {
     },
 }
 
-// The word at a place: its fields, after the bytes of the output that are written. "Fields are checked for 19 in order.", and "21 is met at the end of
+// Where the word at a place ends, if it is one that the quoter would write bare, and a blank or the line's end stands behind it; else the place itself.
+fn bare_end(line: &[u8], at: usize) -> usize
+    requires { ⌜ at ≤ length (now line) ⌝ }
+    ensures { λ r. ⌜ BareTo (now (line .entry)) at r ⌝ }
+{
+    let end = text::run_end(line, at, Class::BareByte);
+    if end - at > numbers::LINE_LIMIT {
+        return at;
+    }
+    if end == line.len() {
+        return end;
+    }
+    if line[end] == b' ' {
+        return end;
+    }
+    at
+}
+
+// A bare word: its bytes are its one field, whatever the tables are. The line goes on at `next`.
+fn put_bare(word: &[u8], next: usize, vars_used: usize, out: &mut [u8], used: usize) -> WordExpanded
+    requires { ⌜ (used ≤ length (now out)) × (length (now out) ≤ imageLimit) ⌝ }
+    ensures { λ r. ⌜ PutsBare (now (word .entry)) next «vars_used» used (now (out .entry)) (now (out .exit)) r ⌝ }
+{
+    let put = split_field::put_text(word, out, used);
+    match put {
+        Put::Len(len) => WordExpanded::Fields {
+            used: len,
+            next: next,
+            vars_used: vars_used,
+        },
+        Put::NoRoom => WordExpanded::Refused(numbers::REFUSED_OUTPUT),
+    }
+}
+
+// Any word at a place: its fields, after the bytes of the output that are written. "Fields are checked for 19 in order.", and "21 is met at the end of
 // the word".
-fn put_word(
+fn put_expanded(
     line: &[u8],
     from: Progress,
     vars: &mut [u8],
@@ -104,6 +141,33 @@ fn put_word(
             }
         }
     }
+}
+
+// The word at a place: its fields, after the bytes of the output that are written. A bare word is written as it stands in the line.
+fn put_word(
+    line: &[u8],
+    from: Progress,
+    vars: &mut [u8],
+    extent: Extent,
+    homes: &[u8],
+    params: &[u8],
+    paths: &[u8],
+    work: &mut [u8],
+    out: &mut [u8],
+) -> WordExpanded
+    requires { ⌜ WordReady (now line) (from .at) (now vars) (extent .«vars_used») (extent .«vars_room») (now homes) (now params) (now paths) (now work)
+        (now out) (from .used) ⌝ }
+    ensures { λ r. ⌜ WordSays
+        (among (extent .«vars_room») (extent .shouts) (now (homes .entry)) (now (params .entry)) (now (paths .entry)) (length (now (out .entry))))
+        (parts (word fresh) depthLimit (drop (from .at) (now (line .entry)))) (now (line .entry)) (from .at) (from .used)
+        (held (take (extent .«vars_used») (now (vars .entry)))) (now (vars .exit)) (now (out .entry)) (now (out .exit)) (now (work .exit)) r ⌝ }
+{
+    let at = from.at;
+    let end = bare_end(line, at);
+    if at < end {
+        return put_bare(&line[at..end], end, extent.vars_used, out, from.used);
+    }
+    put_expanded(line, from, vars, extent, homes, params, paths, work, out)
 }
 
 // Expands a line that has been read, "left to right, first fault met": the image of its fields stands at the front of `out`, that of the variables at the

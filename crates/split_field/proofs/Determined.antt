@@ -1,5 +1,5 @@
--- What the contract of `put_field` allows for one input is one answer, and where it accepts or refuses a class, one output. Its exceptions: after 21 the
--- bytes of the output from `used` on, and the spent field in every case.
+-- What the contracts of `put_field` and `put_text` allow for one input is one answer, and where it accepts or refuses a class, one output. Their exceptions:
+-- after 21 the bytes of the output from `used` on, and the spent field in every case.
 use Prim.Native.Nat.{ℕ}
 use native.Mathlib.Omega.{arith}
 use mathlib.Core.Path.{_≡_, refl, sym, ap, _∙_, subst}
@@ -10,7 +10,9 @@ use Rattle.stages.specs.Outcome.{Outcome, refused}
 use Rattle.stages.specs.Images.{written}
 use Rattle.stages.proofs.Outcomes.{done-same, never}
 use Rattle.table_store.specs.Splice.{placed}
-use Rattle.split_field.specs.Answers.{writtenOutcome, Says, Spares, PutsOne}
+use Rattle.table_store.specs.declared.Put.{Put}
+use Rattle.table_store.specs.declared.Put.the-variants as put
+use Rattle.split_field.specs.Answers.{writtenOutcome, answered, Says, Spares, PutsOne}
 use Rattle.split_field.specs.declared.Written.{Written}
 use Rattle.split_field.specs.declared.Written.the-variants.{Len, Class, NoRoom}
 use Rattle.split_field.proofs.Placing.{says-answers}
@@ -42,6 +44,16 @@ module _ {o : Outcome (List Text)} {used : ℕ} {old left left′ : Text} {r s :
       let a : Given o used old left n = says-len p e in
       let b : Given o used old left′ n = says-len q (sym says-determined ∙ e) in
       a .filled .is ∙ ap (λ (l : List Text). placed used (written l) old) (done-same (sym (a .gives) ∙ b .gives)) ∙ sym (b .filled .is)
+
+answered-one : (r s : Put) → answered r ≡ answered s → r ≡ s
+answered-one (put.Len n) (put.Len m) e = ap put.Len (let k : n ≡ m = cc in k)
+answered-one (put.Len n) put.NoRoom e = absurd (let z : _≡_ {A = ℕ} 0 1 = cc in omega arith)
+answered-one put.NoRoom (put.Len m) e = absurd (let z : _≡_ {A = ℕ} 0 1 = cc in omega arith)
+answered-one put.NoRoom put.NoRoom e = refl
+
+pub put-text-determined : {o : Outcome (List Text)} {used : ℕ} {old left left′ : Text} (r s : Put) → Says o used old left (answered r)
+    → Says o used old left′ (answered s) → r ≡ s
+put-text-determined r s p q = answered-one r s (says-determined p q)
 
 -- one field: of the output also where a class refuses it
 module _ {o : Outcome (List Text)} {used : ℕ} {old left left′ : Text} {r s : Written} (p : PutsOne o used old left r) (q : PutsOne o used old left′ s) where

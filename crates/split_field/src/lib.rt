@@ -50,7 +50,7 @@ fn answer_of(put: Put) -> Written
 }
 
 // Writes a text's record behind the first `used` bytes: the free part of the output is lent to the record writer.
-fn put_text(text: &[u8], out: &mut [u8], used: usize) -> Put
+pub fn put_text(text: &[u8], out: &mut [u8], used: usize) -> Put
     requires { ⌜ (used ≤ length (now out)) × (length (now out) ≤ imageLimit) ⌝ }
     ensures { λ r. ⌜ Says (done (now (text .entry) ∷ [])) used (now (out .entry)) (now (out .exit)) (answered r) ⌝ }
 {
