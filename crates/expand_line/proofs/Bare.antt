@@ -127,7 +127,8 @@ module _ {line : Text} {at : ℕ} {vars : Text} {varsUsed room : ℕ} {houses pa
   ends =
       ⊎-elim
       (λ e. subst (λ (u : Text). EndsField u) (sym (drop-of-length-le line {i = end} (omega (arith, e)))) line-ends)
-      (λ e. subst (λ (u : Text). EndsField u) (sym (drop-cons line end 0 (e .0) ∙ ap (λ (c : ℕ). c ∷ drop (suc end) line) (e .1))) (blank (drop (suc end) line)))
+      (λ e. subst (λ (u : Text). EndsField u) (sym (drop-cons line end 0 (e .0) ∙ ap (λ (c : ℕ). c ∷ drop (suc end) line) (e .1)))
+      (blank (drop (suc end) line)))
       (b .ends some)
 
   reads : parts (words fresh) depthLimit (drop at line) ≡ done (wayParts bare t, drop end line)
