@@ -49,7 +49,8 @@ fn program() {
         let lines = fs::read(folder.join("stdin")).expect("stdin");
         let wanted = fs::read(folder.join("stdout")).expect("stdout");
         let mut out = Vec::new();
-        run(&folder, &Started::by(arguments(&folder)).expect("no options"), lines.as_slice(), &mut out, sink()).expect("an answer");
+        run(&folder, &Started::by(arguments(&folder)).expect("no options"), lines.as_slice(), &mut out, sink())
+            .expect("an answer");
         assert!(out == wanted, "{} differs", folder.display());
         folders += 1;
     }
