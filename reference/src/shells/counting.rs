@@ -2,13 +2,11 @@
 //! with what sees the stores beside them.
 
 use super::sums::is_alike;
-use super::{lines, Given, Shell, Table, PATHS};
-use crate::case::{Job, Lent};
+use super::{lines, Given, Shell, Table};
+use crate::case::Job;
 use crate::generate::random::Random;
 use crate::generate::walk::walk;
 use crate::generate::{counters, counting};
-use crate::image::{self, of_texts};
-use crate::limits;
 
 /// Where a text `T` stands. None is in a removal's operand, which the shells expand on a set name alone, and after they have read its value; none stores IFS
 /// or HOME.
@@ -50,22 +48,7 @@ pub fn line(random: &mut Random) -> Vec<u8> {
 impl Shell {
     /// Whether the shell reads all texts of an accepted line as the documents do, each as its expansions have made it, and works out their assignments so.
     pub fn counts_alike(self, line: &[u8], given: &Given) -> bool {
-        let texts: Vec<&Vec<u8>> = given.variables.iter().flat_map(|(key, value)| [key, value]).collect();
-        let variables = of_texts(&texts);
-        let lent = Lent {
-            line: line.to_vec(),
-            used: variables.len(),
-            variables,
-            variables_buffer: limits::IMAGE,
-            homes: image::empty(),
-            paths: of_texts(&PATHS),
-            work: limits::WORK_AREA,
-            out: limits::IMAGE,
-            parameters: of_texts(&given.parameters),
-            message: 0,
-            shout: false,
-        };
         let alike = |text: &[u8]| !matches!(self, Shell::Bash) || is_alike(text);
-        walk(Job::Expand, &lent).sums.iter().all(|sum| alike(&sum.text) && self.assigns_alike(&sum.text))
+        walk(Job::Expand, &given.lent(line)).sums.iter().all(|sum| alike(&sum.text) && self.assigns_alike(&sum.text))
     }
 }

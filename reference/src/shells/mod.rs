@@ -18,6 +18,7 @@ use std::path::{Path, PathBuf};
 use std::process::{Command, Stdio};
 
 use crate::calls::{assign, expand, Tables};
+use crate::case::Lent;
 use crate::image::{self, of_texts};
 use crate::limits;
 use crate::number::ACCEPTED;
@@ -42,6 +43,27 @@ pub struct Given {
     pub parameters: Vec<Vec<u8>>,
     /// The switch, `set -u` in a shell.
     pub shout: bool,
+}
+
+impl Given {
+    /// What a job is lent for a line, with room for all that may come of it.
+    fn lent(&self, line: &[u8]) -> Lent {
+        let texts: Vec<&Vec<u8>> = self.variables.iter().flat_map(|(key, value)| [key, value]).collect();
+        let variables = of_texts(&texts);
+        Lent {
+            line: line.to_vec(),
+            used: variables.len(),
+            variables,
+            variables_buffer: limits::IMAGE,
+            homes: image::empty(),
+            paths: of_texts(&PATHS),
+            work: limits::WORK_AREA,
+            out: limits::IMAGE,
+            parameters: of_texts(&self.parameters),
+            message: 0,
+            shout: self.shout,
+        }
+    }
 }
 
 /// How a line is taken: as words that become fields, or as assignments.

@@ -1,10 +1,8 @@
 //! Lines beside shells with `set -u`, which is what the switch is there: those that are accepted give the same, and those refused with 25 fail for that reason.
 
-use super::{reference, Given, Shell, Taken, PATHS};
-use crate::case::{Job, Lent};
+use super::{reference, Given, Shell, Taken};
+use crate::case::Job;
 use crate::generate::walk::walk;
-use crate::image::{self, of_texts};
-use crate::limits;
 use crate::number::Number;
 use crate::read::read;
 use crate::seen::SeenUnset;
@@ -41,22 +39,7 @@ impl Shell {
 
 /// Whether 25 comes of a name in arithmetic.
 fn shouts_in_arithmetic(line: &[u8], given: &Given) -> bool {
-    let texts: Vec<&Vec<u8>> = given.variables.iter().flat_map(|(key, value)| [key, value]).collect();
-    let variables = of_texts(&texts);
-    let lent = Lent {
-        line: line.to_vec(),
-        used: variables.len(),
-        variables,
-        variables_buffer: limits::IMAGE,
-        homes: image::empty(),
-        paths: of_texts(&PATHS),
-        work: limits::WORK_AREA,
-        out: limits::IMAGE,
-        parameters: of_texts(&given.parameters),
-        message: 0,
-        shout: true,
-    };
-    walk(Job::Expand, &lent).unset.contains(&SeenUnset::Arithmetic)
+    walk(Job::Expand, &given.lent(line)).unset.contains(&SeenUnset::Arithmetic)
 }
 
 /// Whether there is an expansion in the operand of a removal, or, in one, any expansion.

@@ -2,9 +2,31 @@
 
 use reference::generate::random::Random;
 use reference::shells::script::is_harmless;
-use reference::shells::{assignments, escapes, lines, positional, reference, shouting, Folder, Given, Shell, Taken};
+use reference::shells::{
+    assignments, escapes, lines, positional, reference, shouting, Folder, Given, Outcome, Shell, Taken,
+};
 
 use crate::report;
+
+/// How many of the shells give something else than is wanted of a line; each is reported.
+fn differing(
+    shells: &[Shell],
+    folder: &Folder,
+    line: &[u8],
+    given: &Given,
+    taken: Taken,
+    wanted: &Outcome,
+) -> std::io::Result<usize> {
+    let mut differ = 0;
+    for shell in shells {
+        let said = shell.outcome(folder, line, given, taken)?;
+        if said.as_ref() != Some(wanted) {
+            differ += 1;
+            report(*shell, line, given, Some(wanted), said.as_ref());
+        }
+    }
+    Ok(differ)
+}
 
 /// Compares so many accepted lines, with positional parameters if they are wanted, and says how many have a class or a list and how many differ, and how many
 /// more were made but not compared.
@@ -33,13 +55,7 @@ pub fn compare(seed: u64, count: usize, parameters: bool, shells: &[Shell]) -> s
         compared += 1;
         classes += usize::from(lines::has_class(&line));
         lists += usize::from(positional::has_list(&line));
-        for shell in shells {
-            let said = shell.outcome(&folder, &line, &given, Taken::Fields)?;
-            if said.as_ref() != Some(&wanted) {
-                differ += 1;
-                report(*shell, &line, &given, Some(&wanted), said.as_ref());
-            }
-        }
+        differ += differing(shells, &folder, &line, &given, Taken::Fields, &wanted)?;
     }
     println!("not compared: {refused} lines refused by the reference, {left_out} left out");
     println!("{compared} lines, {classes} with a class, {lists} with a list, {differ} differ");
@@ -69,13 +85,7 @@ pub fn compare_assignments(seed: u64, count: usize, shells: &[Shell]) -> std::io
         }
         compared += 1;
         tildes += usize::from(line.contains(&b'~'));
-        for shell in shells {
-            let said = shell.outcome(&folder, &line, &given, Taken::Assignments)?;
-            if said.as_ref() != Some(&wanted) {
-                differ += 1;
-                report(*shell, &line, &given, Some(&wanted), said.as_ref());
-            }
-        }
+        differ += differing(shells, &folder, &line, &given, Taken::Assignments, &wanted)?;
     }
     println!("not compared: {refused} lines refused by the reference, {left_out} left out");
     println!("{compared} assignment lines, {tildes} with a tilde, {differ} differ");
@@ -103,13 +113,7 @@ pub fn compare_escapes(seed: u64, count: usize, shells: &[Shell]) -> std::io::Re
             continue;
         }
         compared += 1;
-        for shell in shells {
-            let said = shell.outcome(&folder, &line, &given, Taken::Fields)?;
-            if said.as_ref() != Some(&wanted) {
-                differ += 1;
-                report(*shell, &line, &given, Some(&wanted), said.as_ref());
-            }
-        }
+        differ += differing(shells, &folder, &line, &given, Taken::Fields, &wanted)?;
     }
     println!("not compared: {refused} lines refused by the reference, {left_out} left out");
     println!("{compared} lines, {differ} differ");
