@@ -1,10 +1,10 @@
 -- The order of the checks: each refusal is the stage's where those before it are passed.
-use Prim.Native.Nat.{ℕ, zero, suc, _+_, _≤_, _<_}
+use Prim.Native.Nat.{ℕ, _+_, _≤_, _<_}
 use native.Mathlib.Omega.{arith}
 use mathlib.Core.Path.{_≡_, refl, sym, ap, _∙_, subst}
-use mathlib.Core.Bool.{Bool, true, false, _&&_, and-false}
+use mathlib.Core.Bool.{Bool, true, false, not, _&&_, and-false}
 use mathlib.Core.List.{List, [], _∷_, _++_}
-use lib.Dec.{leb, eqb·zero-suc}
+use lib.Dec.{leb}
 use lib.ListN.{length, take}
 use borrow.Author.Tests.{le-leb, lt-leb, leb-true, leb-false}
 use Rattle.stages.specs.Numbers.{workTooSmall, badVariables, badHomes, badPaths, badParameters, lineTooLong, zeroByte, outputRoom}
@@ -18,10 +18,11 @@ use Rattle.stages.specs.Line.{Around, Fields, outFits, wordFields, expandWords,
 use Rattle.stages.specs.Params.{Lent}
 use Rattle.stages.specs.Assign.{readAssignments, assignAll, assignLine}
 use Rattle.stages.specs.Call.{Given, orRefused, expanded, assigned}
-use Rattle.stages.proofs.Bools.{no, apart, and-right}
+use Rattle.stages.proofs.Bools.{no, apart}
 use Rattle.stages.proofs.Tables.{none-of, vars-of, variables-are, homes-of, homes-are, paths-of, paths-are, fields-of, fields-are}
 use Rattle.stages.proofs.Safe.{NoZero}
 use Rattle.stages.proofs.SafeLines.{no-zero}
+use Rattle.text.proofs.Zeros.{zero-among}
 use Rattle.table.specs.Places.{Listed}
 use Rattle.table.specs.Around.{lentOf}
 use Rattle.read_line.specs.Says.{verdict, verdictOf}
@@ -38,9 +39,7 @@ use Rattle.call_check.specs.declared.Checked.the-variants.{Fine, Refused
 
 -- a line that 6 refuses
 zero-in : (t : Text) → isIn 0 t ≡ true → NoZero t → ⊥
-zero-in [] e z = no e
-zero-in (zero ∷ t) e z = no z
-zero-in (suc b ∷ t) e z = zero-in t (rw (eqb·zero-suc b) at e) (and-right (notZero (suc b)) (all notZero t) z)
+zero-in t e z = no (sym (zero-among t ∙ ap not z) ∙ e)
 
 -- what is refused is not read
 refused-read : {A : Type 0} {w : Placed A} {n place : ℕ} {a : A} → w ≡ refusedAt n place → w ≡ doneAt a → ⊥

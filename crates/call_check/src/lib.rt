@@ -82,7 +82,7 @@ fn check_bytes(line: &[u8]) -> Checked
     if numbers::LINE_LIMIT < line.len() {
         return refuse(numbers::REFUSED_LENGTH);
     }
-    if text::is_in(0, line) {
+    if !text::no_zero(line) {
         return refuse(numbers::REFUSED_ZERO);
     }
     Checked::Fine

@@ -4,5 +4,6 @@ pub mod Pieces
 pub mod Writing
 pub mod Walk
 pub mod Keys
+pub mod Words
 pub mod Tables
 pub mod Determined

@@ -9,17 +9,14 @@ use mathlib.Core.List.{List, [], _∷_}
 use mathlib.Core.Option.{Option, none, some}
 use lib.Dec.{leb}
 use lib.ListN.{length, take, drop, getD, drop-of-length-le, length-drop}
-use lib.Seq.{drop-cons, drop-drop, length-take-le}
-use borrow.Author.Tests.{le-leb, lt-leb}
+use lib.Seq.{drop-cons, drop-drop}
+use borrow.Author.Tests.{le-leb, lt-leb, leb-true}
 use Rattle.stages.specs.Bytes.{Text, part, all, notZero}
 use Rattle.stages.specs.Outcome.{pick}
 use Rattle.stages.specs.Images.{textsIn, texts, push, orEmpty}
 use Rattle.stages.proofs.Bools.{clash, some-same}
 use Rattle.stages.proofs.Images.{whole, whole-fits, texts-nil, texts-single, texts-bad, texts-good, texts-inside}
-use Rattle.text.specs.Classes.{Runs}
-use Rattle.text.specs.declared.Class.the-variants.{NotZero}
-use Rattle.text.proofs.Runs.{run-passes, run-fails}
-use Rattle.table.specs.Pieces.{sizeAt, pieceOf, pieceAt, textsFrom}
+use Rattle.table.specs.Pieces.{sizeAt, pieceOf, pieceAt, frameOf, frameAt, textsFrom}
 use Rattle.table.specs.declared.Piece.{Piece}
 use Rattle.table.specs.declared.Piece.the-variants.{End, Bad, At}
 
@@ -63,17 +60,39 @@ module _ (t : Text) (at : ℕ) where
       inside : part t (at + 2) (at + 2 + n) ≡ take n (drop (at + 2) t)
       inside = let c : at + 2 + n - (at + 2) ≡ n = omega arith in ap (λ (m : ℕ). take m (drop (at + 2) t)) c
 
-      size : length (part t (at + 2) (at + 2 + n)) ≡ n
-      size = ap length inside ∙ length-take-le n (drop (at + 2) t) (omega (arith, left))
+      -- whether the bytes are all not zero
+      module _ (r : Bool) (p : r ≡ all notZero (part t (at + 2) (at + 2 + n))) where
+        pub piece-text : r ≡ true → At (at + 2 + n) ≡ pieceAt t at
+        piece-text q = sym (by-test ∙ rw (fits, ap (all notZero) (sym inside) ∙ sym p ∙ q))
 
-      -- the run of bytes that are not zero
-      module _ (r : ℕ) (p : Runs (part t (at + 2) (at + 2 + n)) 0 NotZero r) where
-        pub piece-text : r ≡ n → At (at + 2 + n) ≡ pieceAt t at
-        piece-text q = sym (by-test ∙ rw (fits, ap (all notZero) (sym inside) ∙ run-passes (part t (at + 2) (at + 2 + n)) 0 NotZero r p (q ∙ sym size)))
+        pub piece-zero : r ≡ false → Bad ≡ pieceAt t at
+        piece-zero q = sym (by-test ∙ rw (fits, ap (all notZero) (sym inside) ∙ sym p ∙ q))
 
-        pub piece-zero : (r ≡ n → ⊥) → Bad ≡ pieceAt t at
-        piece-zero q = sym (by-test ∙ rw
-            (fits, ap (all notZero) (sym inside) ∙ run-fails (part t (at + 2) (at + 2 + n)) 0 NotZero r p (λ e. q (e ∙ size))))
+-- the ways of `frame_at`
+module _ (t : Text) (at : ℕ) where
+  pub frame-end : length t ≤ at → End ≡ frameAt t at
+  unfolding frameAt frameOf
+  frame-end h = rw (drop-of-length-le t h)
+
+  pub frame-one : length t - at ≡ 1 → Bad ≡ frameAt t at
+  unfolding frameAt frameOf
+  frame-one e =
+      let h : at < length t = omega arith in
+      let k : length t ≤ suc at = omega arith in
+      rw (drop-cons t at 0, drop-of-length-le t k)
+
+  module _ (n : ℕ) (e : n ≡ sizeAt t at) (h : 2 ≤ length t - at) where
+    by-size : frameAt t at ≡ pick (leb n (length (drop (at + 2) t))) (At (at + 2 + n)) Bad
+    unfolding frameAt frameOf
+    by-size = rw (two t at h, e)
+
+    pub frame-long : length t - at - 2 < n → Bad ≡ frameAt t at
+    frame-long k =
+        let l : length (drop (at + 2) t) < n = omega (arith, left t at n e h) in
+        sym (by-size ∙ rw (lt-leb n (length (drop (at + 2) t)) l))
+
+    pub frame-text : n ≤ length t - at - 2 → At (at + 2 + n) ≡ frameAt t at
+    frame-text k = sym (by-size ∙ rw (fits t at n e h k))
 
 -- a text stands at `at` and ends at `end`
 pub record Stands (t : Text) (at end : ℕ) : Type 0 where
@@ -146,6 +165,85 @@ module _ (t : Text) (at : ℕ) {r : Piece} (s : r ≡ pieceAt t at) where
   pub is-text : {end : ℕ} → r ≡ At end → Stands t at end
   unfolding pieceAt
   is-text {end} e = stands-of t at end (drop at t) refl (sym s ∙ e)
+
+-- what each answer says where zero bytes are not looked for
+framed-end : (at : ℕ) (u : Text) → frameOf at u ≡ End → pieceOf at u ≡ End
+unfolding pieceOf frameOf
+framed-end at [] e = refl
+framed-end at (a ∷ []) e = absurd (let z : _≡_ {A = ℕ} 0 1 = cc in omega arith)
+framed-end at (a ∷ b ∷ u) e = go (leb (a * 256 + b) (length u)) refl
+  where
+    go : (x : Bool) → leb (a * 256 + b) (length u) ≡ x → pieceOf at (a ∷ b ∷ u) ≡ End
+    go true w = absurd (other (rw w at e))
+      where
+        other : At (at + 2 + (a * 256 + b)) ≡ End → ⊥
+        other e = let z : _≡_ {A = ℕ} 0 1 = cc in omega arith
+    go false w = absurd (other (rw w at e))
+      where
+        other : Bad ≡ End → ⊥
+        other e = let z : _≡_ {A = ℕ} 0 1 = cc in omega arith
+
+framed-bad : (at : ℕ) (u : Text) → frameOf at u ≡ Bad → pieceOf at u ≡ Bad
+unfolding pieceOf frameOf
+framed-bad at [] e = absurd (let z : _≡_ {A = ℕ} 0 1 = cc in omega arith)
+framed-bad at (a ∷ []) e = refl
+framed-bad at (a ∷ b ∷ u) e = go (leb (a * 256 + b) (length u)) refl
+  where
+    go : (x : Bool) → leb (a * 256 + b) (length u) ≡ x → pieceOf at (a ∷ b ∷ u) ≡ Bad
+    go true w = absurd (other (rw w at e))
+      where
+        other : At (at + 2 + (a * 256 + b)) ≡ Bad → ⊥
+        other e = let z : _≡_ {A = ℕ} 0 1 = cc in omega arith
+    go false w = rw w
+
+-- a text that may hold zero bytes
+pub record Framed (t : Text) (at end : ℕ) : Type 0 where
+  pub low : at + 2 ≤ end
+  pub high : end ≤ length t
+  pub piece : pieceAt t at ≡ pick (all notZero (part t (at + 2) end)) (At end) Bad
+
+framed-of : (t : Text) (at end : ℕ) (u : Text) → drop at t ≡ u → frameOf at u ≡ At end → Framed t at end
+unfolding pieceAt pieceOf frameOf
+framed-of t at end [] d e = absurd (let z : _≡_ {A = ℕ} 0 1 = cc in omega arith)
+framed-of t at end (a ∷ []) d e = absurd (let z : _≡_ {A = ℕ} 0 1 = cc in omega arith)
+framed-of t at end (a ∷ b ∷ u) d e = go (leb (a * 256 + b) (length u)) refl
+  where
+    inside : drop (at + 2) t ≡ u
+    inside = sym (drop-drop 2 at t) ∙ ap (drop 2) d
+
+    go : (x : Bool) → leb (a * 256 + b) (length u) ≡ x → Framed t at end
+    go true w =
+        let m : end ≡ at + 2 + (a * 256 + b) = cc (rw w at e) in
+        let l : end - (at + 2) ≡ a * 256 + b = omega arith in
+        record {
+          low = omega arith;
+          high = omega (arith, leb-true (a * 256 + b) (length u) w, length-drop at t, ap length d);
+          piece = rw (d, l, inside, w, m);
+        }
+    go false w = absurd (other (rw w at e))
+      where
+        other : Bad ≡ At end → ⊥
+        other e = let z : _≡_ {A = ℕ} 0 1 = cc in omega arith
+
+module _ (t : Text) (at : ℕ) {r : Piece} (s : r ≡ frameAt t at) where
+  pub is-end-framed : r ≡ End → drop at t ≡ []
+  unfolding pieceAt frameAt
+  is-end-framed e = is-end t at refl (framed-end at (drop at t) (sym s ∙ e))
+
+  pub is-bad-framed : r ≡ Bad → textsIn (drop at t) ≡ none
+  unfolding pieceAt frameAt
+  is-bad-framed e = is-bad t at refl (framed-bad at (drop at t) (sym s ∙ e))
+
+  pub is-framed : {end : ℕ} → r ≡ At end → Framed t at end
+  unfolding frameAt
+  is-framed {end} e = framed-of t at end (drop at t) refl (sym s ∙ e)
+
+module _ {t : Text} {at end : ℕ} (f : Framed t at end) where
+  pub framed-whole : all notZero (part t (at + 2) end) ≡ true → Stands t at end
+  framed-whole z = is-text t at refl (f .piece ∙ rw z)
+
+  pub framed-zero : all notZero (part t (at + 2) end) ≡ false → textsIn (drop at t) ≡ none
+  framed-zero z = is-bad t at refl (f .piece ∙ rw z)
 
 -- the texts from a place on
 pub record Ahead (t : Text) (at : ℕ) (l : List Text) : Type 0 where

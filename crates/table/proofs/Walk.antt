@@ -1,14 +1,15 @@
 -- The walk over a table's records, one for the four kinds: what is still to be tested of the texts ahead says the same as the stage.
-use Prim.Native.Nat.{ℕ, _+_, _≤_, _<_}
+use Prim.Native.Nat.{ℕ, zero, suc, _+_, _≤_, _<_}
 use native.Mathlib.Omega.{arith}
 use mathlib.Core.Path.{_≡_, refl, sym, _∙_}
 use mathlib.Core.Bool.{Bool, true, false, _&&_, and-false}
 use mathlib.Core.List.{List, [], _∷_}
 use mathlib.Core.Option.{Option, none, some}
+use mathlib.Core.Logic.{_⊎_, inl, inr, ⊎-elim}
 use lib.ListN.{length, drop, getD}
-use borrow.Author.Tests.{lt-leb, ne-eqb}
+use borrow.Author.Tests.{le-leb, lt-leb, ne-eqb}
 use Rattle.stages.specs.Numbers.{imageLimit, pathsLimit}
-use Rattle.stages.specs.Bytes.{Text, part, ltText}
+use Rattle.stages.specs.Bytes.{Text, part, all, notZero, isLetter, isDigit, isNameStart, isNameByte, isLoginByte, ltText}
 use Rattle.stages.specs.Images.{
   Pairs,
   isName,
@@ -31,16 +32,19 @@ use Rattle.stages.specs.Images.{
   sized,
   push,
 }
-use Rattle.stages.proofs.Bools.{either}
+use Rattle.stages.proofs.Bools.{no, either, and-left}
+use Rattle.stages.proofs.Texts.{all-weaker}
+use Rattle.stages.proofs.Stores.{name-fine}
 use Rattle.stages.proofs.Images.{texts-nil}
 use Rattle.stages.proofs.Tables.{sized-fits}
-use Rattle.table.specs.Kinds.{wellFormed, limitOf, inTwos, keyFits, recordEnd}
-use Rattle.table.specs.Pieces.{pieceAt}
+use Rattle.table.specs.Kinds.{wellFormed, limitOf, inTwos, keyFits, keyAt, recordEnd}
+use Rattle.table.specs.Pieces.{pieceAt, frameAt}
 use Rattle.table.specs.declared.Kind.{Kind}
 use Rattle.table.specs.declared.Kind.the-variants.{Variables, Homes, Paths, Fields}
 use Rattle.table.specs.declared.Piece.{Piece}
 use Rattle.table.specs.declared.Piece.the-variants.{End, Bad, At}
 use Rattle.table.proofs.Pieces.{Stands, is-end, is-bad, is-text}
+use Rattle.table.proofs.Pieces.{Framed, is-end-framed, is-bad-framed, is-framed, framed-whole, framed-zero}
 
 -- what is still to be tested of the texts ahead, p being the key before them
 abbrev inPairs : (Text → Text → Bool) → Text → List Text → Bool
@@ -246,18 +250,78 @@ begins k (a ∷ t) h n e = record {
 }
 
 module _ {k : Kind} {t : Text} {at from to : ℕ} (g : Going k t at from to) where
-  pub at-end : drop at t ≡ [] → true ≡ wellFormed k t
+  at-end : drop at t ≡ [] → true ≡ wellFormed k t
   at-end e = sym (g .same ∙ rw (e, texts-nil) (go (inTwos k)))
     where
       go : (w : Bool) → goes w (keyFits k) (part t from to) [] ≡ true
       go true = refl
       go false = refl
 
-  pub at-bad : textsIn (drop at t) ≡ none → false ≡ wellFormed k t
+  at-bad : textsIn (drop at t) ≡ none → false ≡ wellFormed k t
   at-bad e = sym (g .same ∙ rw e)
 
-  pub bad-key : {end : ℕ} → Stands t at end → keyFits k (part t from to) (part t (at + 2) end) ≡ false → false ≡ wellFormed k t
+  bad-key : {end : ℕ} → Stands t at end → keyFits k (part t from to) (part t (at + 2) end) ≡ false → false ≡ wellFormed k t
   bad-key {end} s e = sym (g .same ∙ rw (s .reads) (fails (inTwos k) (keyFits k) _ _ (textsIn (drop end t)) e))
+
+-- a key at a place, where zero bytes may not have been looked for: one that may stand there is a text
+pub record Key (k : Kind) (t : Text) (at end : ℕ) : Type 0 where
+  pub low : at + 2 ≤ end
+  pub high : end ≤ length t
+  pub fitting : (p : Text) → keyFits k p (part t (at + 2) end) ≡ true → Stands t at end
+  pub failing : Stands t at end ⊎ (textsIn (drop at t) ≡ none)
+
+login-byte-fine : (b : ℕ) → isLoginByte b ≡ true → notZero b ≡ true
+unfolding isLoginByte isNameByte isNameStart isLetter isDigit
+login-byte-fine zero e = absurd (no e)
+login-byte-fine (suc b) e = le-leb 1 (suc b) (omega arith)
+
+login-fine : (t : Text) → isLogin t ≡ true → all notZero t ≡ true
+unfolding isLogin
+login-fine [] e = absurd (no e)
+login-fine (b ∷ t) e = all-weaker isLoginByte notZero login-byte-fine (b ∷ t) e
+
+key-fine : (k : Kind) (p key : Text) → inTwos k ≡ true → keyFits k p key ≡ true → all notZero key ≡ true
+key-fine Variables p key w e = name-fine key (and-left (isName key) (ltText p key) e)
+key-fine Homes p key w e = login-fine key (and-left (isLogin key) (ltText p key) e)
+key-fine Paths p key w e = absurd (no w)
+key-fine Fields p key w e = absurd (no w)
+
+module _ (k : Kind) (t : Text) (at : ℕ) {r : Piece} (s : r ≡ keyAt k t at) where
+  two-key : inTwos k ≡ true → r ≡ frameAt t at
+  two-key w = s ∙ rw w
+
+  one-key : inTwos k ≡ false → r ≡ pieceAt t at
+  one-key w = s ∙ rw w
+
+  key-end : r ≡ End → drop at t ≡ []
+  key-end e = either (inTwos k) (λ w. is-end-framed t at (two-key w) e) (λ w. is-end t at (one-key w) e)
+
+  key-bad : r ≡ Bad → textsIn (drop at t) ≡ none
+  key-bad e = either (inTwos k) (λ w. is-bad-framed t at (two-key w) e) (λ w. is-bad t at (one-key w) e)
+
+  pub key-text : {end : ℕ} → r ≡ At end → Key k t at end
+  key-text {end} e = either (inTwos k) (λ w. framed w (is-framed t at (two-key w) e)) (λ w. whole (is-text t at (one-key w) e))
+    where
+      framed : inTwos k ≡ true → Framed t at end → Key k t at end
+      framed w f = record {
+        low = f .low;
+        high = f .high;
+        fitting = λ p q. framed-whole f (key-fine k p (part t (at + 2) end) w q);
+        failing = either (all notZero (part t (at + 2) end)) (λ z. inl (framed-whole f z)) (λ z. inr (framed-zero f z));
+      }
+
+      whole : Stands t at end → Key k t at end
+      whole z = record { low = z .low; high = z .high; fitting = λ p q. z; failing = inl z }
+
+module _ {k : Kind} {t : Text} {at from to : ℕ} (g : Going k t at from to) where
+  pub no-key : {r : Piece} → r ≡ keyAt k t at → r ≡ End → true ≡ wellFormed k t
+  no-key s e = at-end g (key-end k t at s e)
+
+  pub broken-key : {r : Piece} → r ≡ keyAt k t at → r ≡ Bad → false ≡ wellFormed k t
+  broken-key s e = at-bad g (key-bad k t at s e)
+
+  pub key-fails : {end : ℕ} → Key k t at end → keyFits k (part t from to) (part t (at + 2) end) ≡ false → false ≡ wellFormed k t
+  key-fails f e = ⊎-elim (λ z. bad-key g z e) (λ z. at-bad g z) (f .failing)
 
 -- a record whose key may stand after the last one
 pub record Keyed (k : Kind) (t : Text) (at from to end : ℕ) : Type 0 where

@@ -5,7 +5,7 @@ use Rattle.stages.specs.Numbers.{imageLimit, pathsLimit}
 use Rattle.stages.specs.Bytes.{Text, ltText}
 use Rattle.stages.specs.Outcome.{pick}
 use Rattle.stages.specs.Images.{isName, isLogin, isSome, variablesOf, homesOf, pathsOf, fieldsOf}
-use Rattle.table.specs.Pieces.{pieceAt}
+use Rattle.table.specs.Pieces.{frameAt, pieceAt}
 use Rattle.table.specs.declared.Kind.{Kind}
 use Rattle.table.specs.declared.Kind.the-variants.{Variables, Homes, Paths, Fields}
 use Rattle.table.specs.declared.Piece.{Piece}
@@ -38,6 +38,10 @@ keyFits Variables last key = isName key && ltText last key
 keyFits Homes last key = isLogin key && ltText last key
 keyFits Paths last key = ltText last key
 keyFits Fields last key = true
+
+-- where a key ends that begins at a place: neither a name nor a login has a zero byte, so none is looked for
+abbrev pub keyAt : Kind → Text → ℕ → Piece
+keyAt kind t at = pick (inTwos kind) (frameAt t at) (pieceAt t at)
 
 -- where a record ends whose first text ends at a place
 abbrev pub recordEnd : Kind → Text → ℕ → Piece

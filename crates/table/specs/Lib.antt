@@ -1,4 +1,5 @@
 pub mod Kinds
 pub mod Pieces
+pub mod Words
 pub mod Places
 pub mod Around

@@ -24,6 +24,16 @@ unfoldable pub pieceAt : Text → ℕ → Piece
 unfolding pieceOf
 pieceAt t at = pieceOf at (drop at t)
 
+-- the same where zero bytes are not looked for
+unfoldable pub frameOf : ℕ → Text → Piece
+frameOf at [] = End
+frameOf at (a ∷ []) = Bad
+frameOf at (a ∷ b ∷ t) = pick (leb (a * 256 + b) (length t)) (At (at + 2 + (a * 256 + b))) Bad
+
+unfoldable pub frameAt : Text → ℕ → Piece
+unfolding frameOf
+frameAt t at = frameOf at (drop at t)
+
 -- the texts of an image from a place on
 unfoldable pub textsFrom : Text → ℕ → List Text
 unfolding textsIn

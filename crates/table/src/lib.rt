@@ -1,11 +1,14 @@
 // Images of the four kinds of table: is one well formed, and what stands at a place of it.
 ghost use mathlib.Core.Path.{_≡_};
 ghost use Prim.Native.Nat.{_+_, _<_};
+ghost use lib.Dec.{ltb};
 ghost use lib.ListN.{length};
 ghost use Rattle.stages.specs.Bytes.{ltText};
+ghost use Rattle.stages.specs.Outcome.{pick};
 ghost use Rattle.stages.specs.Images.{isName, isLogin};
-ghost use Rattle.table.specs.Kinds.{wellFormed, limitOf, keyFits, recordEnd};
-ghost use Rattle.table.specs.Pieces.{sizeAt, pieceAt};
+ghost use Rattle.table.specs.Kinds.{wellFormed, limitOf, inTwos, keyFits, keyAt, recordEnd};
+ghost use Rattle.table.specs.Pieces.{sizeAt, frameAt, pieceAt};
+ghost use Rattle.table.specs.Words.{Weighs};
 use text::Class;
 use text::Order;
 use text::numbers;
@@ -62,11 +65,29 @@ pub fn text_at(image: &[u8], at: usize) -> Piece
     }
     let start = at + 2;
     let end = start + n;
-    if text::run_end(&image[start..end], 0, Class::NotZero) == n {
+    if text::no_zero(&image[start..end]) {
         Piece::At(end)
     } else {
         Piece::Bad
     }
+}
+
+// The same of a text that may hold zero bytes: they are not looked for.
+fn frame_at(image: &[u8], at: usize) -> Piece
+    ensures { λ r. ⌜ r ≡ frameAt (now (image .entry)) at ⌝ }
+{
+    if image.len() <= at {
+        return Piece::End;
+    }
+    let rest = image.len() - at;
+    if rest == 1 {
+        return Piece::Bad;
+    }
+    let n = size_at(image, at);
+    if rest - 2 < n {
+        return Piece::Bad;
+    }
+    Piece::At(at + 2 + n)
 }
 
 // Is it "a letter or `_`, then letters, digits, `_`"?
@@ -92,11 +113,48 @@ fn is_login(key: &[u8]) -> bool
     text::run_end(key, 0, Class::LoginByte) == key.len()
 }
 
-// Is the first text below the second?
+// The number that eight bytes are, the first weighing most: it stands to another as the texts do.
+fn word(text: &[u8]) -> u64
+    requires { ⌜ length (now text) ≡ 8 ⌝ }
+    ensures { λ r. ⌜ Weighs (now (text .entry)) r ⌝ }
+{
+    let high = (text[0] as u64) * 0x0100_0000_0000_0000
+        + (text[1] as u64) * 0x0001_0000_0000_0000
+        + (text[2] as u64) * 0x0000_0100_0000_0000
+        + (text[3] as u64) * 0x0000_0001_0000_0000;
+    let low = (text[4] as u64) * 0x0100_0000
+        + (text[5] as u64) * 0x0001_0000
+        + (text[6] as u64) * 0x0000_0100
+        + (text[7] as u64);
+    high + low
+}
+
+// The lesser of two lengths.
+fn lesser(a: usize, b: usize) -> usize
+    ensures { λ r. ⌜ r ≡ pick (ltb b a) b a ⌝ }
+{
+    if b < a { b } else { a }
+}
+
+// Is the first text below the second? Eight bytes of each are compared at once while both have so many.
 fn rises(last: &[u8], key: &[u8]) -> bool
     ensures { λ r. ⌜ r ≡ ltText (now (last .entry)) (now (key .entry)) ⌝ }
 {
-    let order = text::compare(last, key);
+    let both = lesser(last.len(), key.len());
+    let mut i: usize = 0;
+    while 8 <= both - i {
+        let end = i + 8;
+        let x = word(&last[i..end]);
+        let y = word(&key[i..end]);
+        if x < y {
+            return true;
+        }
+        if y < x {
+            return false;
+        }
+        i = end;
+    }
+    let order = text::compare(&last[i..], &key[i..]);
     match order {
         Order::Less => true,
         Order::Same => false,
@@ -140,15 +198,37 @@ fn limit(kind: Kind) -> usize
     }
 }
 
+// Is a record of the kind two texts?
+fn in_twos(kind: Kind) -> bool
+    ensures { λ r. ⌜ r ≡ inTwos kind ⌝ }
+{
+    match kind {
+        Kind::Variables => true,
+        Kind::Homes => true,
+        Kind::Paths => false,
+        Kind::Fields => false,
+    }
+}
+
+// A record's key at a place: one that must be a name or a login is not looked at for zero bytes, which neither has.
+fn key_at(kind: Kind, image: &[u8], at: usize) -> Piece
+    ensures { λ r. ⌜ r ≡ keyAt kind (now (image .entry)) at ⌝ }
+{
+    if in_twos(kind) {
+        frame_at(image, at)
+    } else {
+        text_at(image, at)
+    }
+}
+
 // The end of a record whose first text ends at a place: that of the text there, or the place itself.
 fn record_end(kind: Kind, image: &[u8], at: usize) -> Piece
     ensures { λ r. ⌜ r ≡ recordEnd kind (now (image .entry)) at ⌝ }
 {
-    match kind {
-        Kind::Variables => text_at(image, at),
-        Kind::Homes => text_at(image, at),
-        Kind::Paths => Piece::At(at),
-        Kind::Fields => Piece::At(at),
+    if in_twos(kind) {
+        text_at(image, at)
+    } else {
+        Piece::At(at)
     }
 }
 
@@ -169,7 +249,7 @@ pub fn well_formed(kind: Kind, image: &[u8]) -> bool
     let mut from: usize = 0;
     let mut to: usize = 0;
     loop {
-        let first = text_at(image, at);
+        let first = key_at(kind, image, at);
         match first {
             Piece::End => return true,
             Piece::Bad => return false,

@@ -4,7 +4,7 @@ use native.Mathlib.Omega.{arith}
 use mathlib.Core.Path.{_≡_, sym, ap, _∙_}
 use mathlib.Core.Bool.{Bool}
 use lib.ListN.{length, drop, length-drop}
-use Rattle.stages.specs.Bytes.{Text, isIn, eqText}
+use Rattle.stages.specs.Bytes.{Text, isIn, all, notZero, eqText}
 use Rattle.text.specs.Classes.{inClass, Runs}
 use Rattle.text.specs.Orders.{orderOf}
 use Rattle.text.specs.Rows.{isMark}
@@ -20,6 +20,9 @@ in-class-determined class b r s = one-answer
 
 pub is-in-determined : (b : ℕ) (set : Text) (r s : Bool) → r ≡ isIn b set → s ≡ isIn b set → r ≡ s
 is-in-determined b set r s = one-answer
+
+pub no-zero-determined : (text : Text) (r s : Bool) → r ≡ all notZero text → s ≡ all notZero text → r ≡ s
+no-zero-determined text r s = one-answer
 
 pub same-determined : (a b : Text) (r s : Bool) → r ≡ eqText a b → s ≡ eqText a b → r ≡ s
 same-determined a b r s = one-answer

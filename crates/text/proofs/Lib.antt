@@ -1,6 +1,7 @@
 pub mod Every
 pub mod ClassTable
 pub mod Scans
+pub mod Zeros
 pub mod Rows
 pub mod Determined
 pub mod Orders

@@ -2,7 +2,7 @@
 ghost use mathlib.Core.Path.{_≡_};
 ghost use Prim.Native.Nat.{ℕ, _≤_};
 ghost use lib.ListN.{length};
-ghost use Rattle.stages.specs.Bytes.{isIn, eqText};
+ghost use Rattle.stages.specs.Bytes.{isIn, all, notZero, eqText};
 ghost use Rattle.text.specs.Classes.{inClass, lowBytes, highBytes, upperBytes, Runs};
 ghost use Rattle.text.specs.Orders.{orderOf};
 
@@ -113,6 +113,49 @@ pub fn is_in(b: u8, set: &[u8]) -> bool
         i += 1;
     }
     false
+}
+
+// Has the text no zero byte? All its bytes are looked at, and no step hangs on what another met, so that many can be taken at once.
+fn none_zero(text: &[u8]) -> bool
+    ensures { λ r. ⌜ r ≡ all notZero (now (text .entry)) ⌝ }
+{
+    let mut met = false;
+    let mut i: usize = 0;
+    while i < text.len() {
+        if text[i] == 0 {
+            met = true;
+        }
+        i += 1;
+    }
+    !met
+}
+
+// Has the text no zero byte? It is looked at in blocks of one length, which the compiler makes one step each; the last block may share bytes with the one
+// before it.
+pub fn no_zero(text: &[u8]) -> bool
+    ensures { λ r. ⌜ r ≡ all notZero (now (text .entry)) ⌝ }
+{
+    let n = text.len();
+    if n < 8 {
+        return !is_in(0, &text[..n]);
+    }
+    if n < 16 {
+        if !none_zero(&text[..8]) {
+            return false;
+        }
+        let back = n - 8;
+        return none_zero(&text[back..]);
+    }
+    let last = n - 16;
+    let mut i: usize = 0;
+    while i < last {
+        let end = i + 16;
+        if !none_zero(&text[i..end]) {
+            return false;
+        }
+        i = end;
+    }
+    none_zero(&text[last..])
 }
 
 // The end of the longest run of bytes of the class that begins at `at`.

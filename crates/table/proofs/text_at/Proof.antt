@@ -1,4 +1,4 @@
--- `table::text_at` meets its contract: the bytes that are left, the length that the first two say, and the run of bytes that are not zero decide.
+-- `table::text_at` meets its contract: the bytes that are left, the length that the first two say, and whether one of the others is zero decide.
 use native.Mathlib.Omega.{arith}
 use Rattle.table.proofs.Pieces.{piece-end, piece-one, piece-long, piece-text, piece-zero}
 use borrow.Author.Needs.{needs}
@@ -30,27 +30,27 @@ add-start c = search needs
 add-end : tie.Need-add-end
 add-end c = search needs
 
-sub-run-end : tie.Need-sub-run-end
-sub-run-end c = search needs
+sub-no-zero : tie.Need-sub-no-zero
+sub-no-zero c = search needs
 
-part-run-end-start : tie.Need-part-run-end-start
-part-run-end-start c = search needs
+part-no-zero-start : tie.Need-part-no-zero-start
+part-no-zero-start c = search needs
 
-part-run-end-end : tie.Need-part-run-end-end
-part-run-end-end c = search needs
+part-no-zero-end : tie.Need-part-no-zero-end
+part-no-zero-end c = search needs
 
-run-end-requires : tie.Need-run-end-requires
-run-end-requires c κs = search needs
+no-zero-requires : tie.Need-no-zero-requires
+no-zero-requires c κs = search needs
 
 returns-4 : tie.Need-returns-4
 returns-4 c = piece-text (c .before .before .before .before .before .before .before .before .args .image .now)
     (c .before .before .before .before .before .before .before .before .args .at) _ (c .before .before .before .before .size-at .ensures)
-    (omega arith) (omega arith) _ (c .before .run-end .ensures) (c .if4 .taken)
+    (omega arith) (omega arith) _ (c .before .no-zero .ensures) (c .if4 .taken)
 
 returns-5 : tie.Need-returns-5
 returns-5 c = piece-zero (c .before .before .before .before .before .before .before .before .args .image .now)
     (c .before .before .before .before .before .before .before .before .args .at) _ (c .before .before .before .before .size-at .ensures)
-    (omega arith) (omega arith) _ (c .before .run-end .ensures) (c .if4 .left)
+    (omega arith) (omega arith) _ (c .before .no-zero .ensures) (c .if4 .left)
 
 pub text-at-spec : {M : Type 1} → statement M
 text-at-spec =
@@ -64,9 +64,9 @@ text-at-spec =
     returns-3
     add-start
     add-end
-    sub-run-end
-    part-run-end-start
-    part-run-end-end
-    run-end-requires
+    sub-no-zero
+    part-no-zero-start
+    part-no-zero-end
+    no-zero-requires
     returns-4
     returns-5)

@@ -5,7 +5,6 @@ use mathlib.Core.Path.{sym, _∙_}
 use lib.ListN.{length}
 use borrow.Author.Tests.{not-true, not-false}
 use Rattle.table.specs.Kinds.{limitOf}
-use Rattle.table.proofs.Pieces.{Stands, is-end, is-bad, is-text}
 use Rattle.table.proofs.Walk.{
   Going,
   Keyed,
@@ -13,9 +12,11 @@ use Rattle.table.proofs.Walk.{
   too-long,
   empty,
   other-version,
-  at-end,
-  at-bad,
-  bad-key,
+  Key,
+  key-text,
+  no-key,
+  broken-key,
+  key-fails,
   no-second,
   bad-second,
   next-record,
@@ -35,14 +36,14 @@ abbrev μ-loop : tie.MeasureT-loop
 small : (c : tie.Else1 Inv-loop μ-loop) → let a = c .before .before .before .args in length (a .image .now) ≤ limitOf (a .kind)
 small c = omega (arith, c .before .limit .ensures, c .if1 .left)
 
--- the text that was read at the walk's place
+-- the key that was read at the walk's place
 stood : (c : tie.After-first Inv-loop μ-loop) →
     let l = c .before .before .before in
     let a = l .before .before .before .before .before .before .before .args in
-    Stands (a .image .now) (l .loop .at) (c .first .given .0 .0)
-stood c = is-text _ _ (c .before .before .text-at .ensures) (c .first .given .1)
+    Key (a .kind) (a .image .now) (l .loop .at) (c .first .given .0 .0)
+stood c = key-text _ _ _ (c .before .before .key-at .ensures) (c .first .given .1)
 
--- and it is a key that may stand there
+-- and it may stand there
 keyed : (c : tie.Else4 Inv-loop μ-loop) →
     let f = c .before .before .before .before .before in
     let l = f .before .before .before in
@@ -50,11 +51,8 @@ keyed : (c : tie.Else4 Inv-loop μ-loop) →
     Keyed (a .kind) (a .image .now) (l .loop .at) (l .loop .from) (l .loop .to) (f .first .given .0 .0)
 keyed c =
     let f = c .before .before .before .before .before in
-    record {
-      going = f .before .before .before .loop .inv;
-      stands = stood f;
-      fits = sym (c .before .key-fits .ensures) ∙ not-false _ (c .if4 .left);
-    }
+    let e = sym (c .before .key-fits .ensures) ∙ not-false _ (c .if4 .left) in
+    record { going = f .before .before .before .loop .inv; stands = stood f .fitting _ e; fits = e }
 
 limit-requires : tie.Need-limit-requires Inv-loop μ-loop
 limit-requires c κs = tt
@@ -77,20 +75,20 @@ returns-3 c =
 loop-holds : tie.Need-loop-holds Inv-loop μ-loop
 loop-holds c = begins _ _ (small (c .before .before .before)) (c .before .before .if2 .left) (c .if3 .left)
 
-text-at-requires : tie.Need-text-at-requires Inv-loop μ-loop
-text-at-requires c κs = tt
+key-at-requires : tie.Need-key-at-requires Inv-loop μ-loop
+key-at-requires c κs = tt
 
 enum-told : tie.Need-enum-told Inv-loop μ-loop
 enum-told c = search needs
 
 returns-4 : tie.Need-returns-4 Inv-loop μ-loop
-returns-4 c = at-end (c .before .before .before .loop .inv) (is-end _ _ (c .before .before .text-at .ensures) (c .enum-told .given .1))
+returns-4 c = no-key (c .before .before .before .loop .inv) (c .before .before .key-at .ensures) (c .enum-told .given .1)
 
 enum-told-2 : tie.Need-enum-told-2 Inv-loop μ-loop
 enum-told-2 c = search needs
 
 returns-5 : tie.Need-returns-5 Inv-loop μ-loop
-returns-5 c = at-bad (c .before .before .before .loop .inv) (is-bad _ _ (c .before .before .text-at .ensures) (c .enum-told2 .given .1))
+returns-5 c = broken-key (c .before .before .before .loop .inv) (c .before .before .key-at .ensures) (c .enum-told2 .given .1)
 
 enum-known-first : tie.Need-enum-known-first Inv-loop μ-loop
 enum-known-first c = search needs
@@ -122,7 +120,7 @@ key-fits-requires c κs = tt
 returns-6 : tie.Need-returns-6 Inv-loop μ-loop
 returns-6 c =
     let f = c .before .before .before .before .before in
-    bad-key (f .before .before .before .loop .inv) (stood f) (sym (c .before .key-fits .ensures) ∙ not-true _ (c .if4 .taken))
+    key-fails (f .before .before .before .loop .inv) (stood f) (sym (c .before .key-fits .ensures) ∙ not-true _ (c .if4 .taken))
 
 record-end-requires : tie.Need-record-end-requires Inv-loop μ-loop
 record-end-requires c κs = tt
@@ -162,7 +160,7 @@ well-formed-spec =
     shared-slice-read-if3
     returns-3
     loop-holds
-    text-at-requires
+    key-at-requires
     enum-told
     returns-4
     enum-told-2
