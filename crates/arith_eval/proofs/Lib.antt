@@ -6,3 +6,5 @@ pub mod Working
 pub mod Storing
 pub mod Texts
 pub mod Determined
+pub mod Plainly
+pub mod Decimals

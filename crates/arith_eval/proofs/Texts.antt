@@ -1,19 +1,22 @@
--- Laws of a whole text: what one run says of its tree, and what the two runs say together.
-use Prim.Native.Nat.{ℕ}
+-- Laws of a whole text: what one run says of its tree, and what two runs say together.
+use Prim.Native.Nat.{ℕ, _≤_}
+use native.Mathlib.Omega.{arith}
 use mathlib.Core.Path.{_≡_, refl, sym, ap, _∙_, subst}
 use mathlib.Core.Bool.{Bool, true, false}
+use mathlib.Core.List.{[], _∷_}
 use lib.IntN.{ℤ}
-use Rattle.stages.specs.Numbers.{openLimit}
+use lib.ListN.{length, set}
+use Rattle.stages.specs.Numbers.{openLimit, imageLimit}
 use Rattle.stages.specs.Bytes.{Text}
 use Rattle.stages.specs.Outcome.{Outcome, refused, demands, done, _>>=_}
-use Rattle.stages.specs.Images.{Pairs}
+use Rattle.stages.specs.Images.{Pairs, texts, textsIn, pairsOf, sized, pairsChecked, variablesOf}
 use Rattle.stages.specs.Params.{Lent}
 use Rattle.stages.specs.Constants.{signed}
 use Rattle.stages.specs.Arith.{wholeLevel, stop, token, Tree, Grown, expression, grow, ended, upTo, tree, evaluate, arithmeticOf}
 use Rattle.stages.proofs.Outcomes.{done-same}
 use Rattle.table_store.specs.Holding.{Holds}
 use Rattle.arith_eval.specs.Climbs.{inside, Fails, Says}
-use Rattle.arith_eval.specs.Answers.{Errs, Answers, Finishes, comesTo, ComesTo}
+use Rattle.arith_eval.specs.Answers.{Errs, Answers, Finishes, comesTo, Prevails, ComesTo}
 use Rattle.arith_eval.specs.declared.Worked.{Worked}
 use Rattle.arith_eval.specs.declared.Worked.the-variants as worked
 use Rattle.arith_eval.specs.declared.answers.Climbed.the-variants as climbed
@@ -68,33 +71,33 @@ module _ (lent : Lent) (text : Text) (vars : Text) (used : ℕ) (counts : Bool) 
         c .1,
       ))
 
--- the two runs
-module _ (lent : Lent) (text : Text) (vars : Text) (used : ℕ) where
-  abbrev before : Pairs
-  before = inside vars used
-
-  comes : (l : Tree) → tree text ≡ done l → comesTo lent before text ≡ evaluate lent before l
+-- the run that counts, and where it is refused the run that does not
+module _ (lent : Lent) (v : Pairs) (text : Text) where
+  comes : (l : Tree) → tree text ≡ done l → comesTo lent v text ≡ evaluate lent v l
   unfolding comesTo
-  comes l q = ap (λ (o : Outcome Tree). o >>= λ l. evaluate lent before l) q
+  comes l q = ap (λ (o : Outcome Tree). o >>= λ l. evaluate lent v l) q
 
-  pub first-refused : (left : Text) (e : ℕ) → Errs lent before false (tree text) e → ComesTo lent text vars used left (worked.Refused e)
+  not-read : (e : ℕ) → tree text ≡ refused e → comesTo lent v text ≡ refused e
   unfolding comesTo
-  first-refused left e r = ap (λ (o : Outcome Tree). o >>= λ l. evaluate lent before l) (r .reads refl)
+  not-read e q = ap (λ (o : Outcome Tree). o >>= λ l. evaluate lent v l) q
 
-  -- the first run leaves the variables as they are
-  module _ (mid : Text) (z : ℤ) (now : ℕ) (f : Answers lent vars used false (tree text) mid (worked.Value z now)) where
-    pub second-holds : Holds (lent .room) mid now
-    second-holds = f .1 .holds
+pub counted-says : (lent : Lent) (text : Text) (vars : Text) (used : ℕ) (left : Text) (z : ℤ) (now : ℕ)
+    → Answers lent vars used true (tree text) left (worked.Value z now) → ComesTo lent text vars used left (worked.Value z now)
+counted-says lent text vars used left z now s = (comes lent (inside vars used) text (s .0 .tree) (s .0 .is) ∙ s .0 .worth refl, s .1 .holds)
 
-    second-from : (left : Text) (r : Worked) → Answers lent vars used true (tree text) left r → ComesTo lent text vars used left r
-    second-from left (worked.Refused e) s = comes (f .0 .tree) (f .0 .is) ∙ s .works (f .0 .tree) (f .0 .is)
-    second-from left (worked.Value y last) s = (comes (s .0 .tree) (s .0 .is) ∙ s .0 .worth refl, s .1 .holds)
+-- reading faults come first
+module _ (lent : Lent) (text : Text) (vars : Text) (used : ℕ) (left : Text) (e : ℕ) where
+  pub read-refused : (f : ℕ) → Answers lent vars used false (tree text) left (worked.Refused f) → Prevails text e f
+  read-refused f r = λ a v h. not-read a v text f (r .reads refl)
 
-    pub second-says : (left : Text) (r : Worked) → Answers lent mid now true (tree text) left r → ComesTo lent text vars used left r
-    second-says left r s =
-        second-from left r
-        (subst (λ (x : Text). Answers lent x used true (tree text) left r) (f .1 .bytes refl)
-        (subst (λ (n : ℕ). Answers lent mid n true (tree text) left r) (f .1 .length refl) s))
+  pub read-done : (z : ℤ) (now : ℕ) → Answers lent vars used false (tree text) left (worked.Value z now) → Prevails text e e
+  read-done z now r = λ a v h. comes a v text (r .0 .tree) (r .0 .is) ∙ h .works (r .0 .tree) (r .0 .is)
+
+-- a version and no record
+pub none-held : (vars : Text) → imageLimit ≤ length vars → Holds 1 (set vars 0 1) 1
+unfolding variablesOf sized pairsChecked pairsOf texts textsIn
+none-held [] l = absurd (omega arith)
+none-held (b ∷ t) l = record { formed = refl; inside = omega arith; fits = omega arith; long = l }
 
 -- what is lent beside the room and the switch is not asked for
 module _ (a b : Lent) (same : a .room ≡ b .room) (alike : a .shouts ≡ b .shouts) (text : Text) (vars : Text) (used : ℕ) where

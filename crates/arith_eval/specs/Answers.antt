@@ -1,7 +1,7 @@
 -- What a whole text comes to.
 use Prim.Native.Nat.{ℕ}
 use mathlib.Core.Path.{_≡_}
-use mathlib.Core.Bool.{Bool, false}
+use mathlib.Core.Bool.{Bool, true, false}
 use mathlib.Core.List.{[]}
 use lib.IntN.{ℤ}
 use lib.ListN.{drop}
@@ -39,6 +39,10 @@ Finishes text at z used (worked.Value y now) = (y ≡ z) × (now ≡ used) × ((
 unfoldable pub comesTo : Lent → Pairs → Text → Evaluated
 unfolding tree evaluate
 comesTo a v t = tree t >>= λ l. evaluate a v l
+
+-- of a text that is refused with e where it counts, the number that comes first
+abbrev pub Prevails : Text → ℕ → ℕ → Type 0
+Prevails text e r = (lent : Lent) (v : Pairs) → Errs lent v true (tree text) e → comesTo lent v text ≡ refused r
 
 abbrev pub ComesTo : Lent → Text → Text → ℕ → Text → Worked → Type 0
 ComesTo a text vars used left (worked.Refused e) = comesTo a (inside vars used) text ≡ refused e

@@ -1,3 +1,4 @@
 pub mod Climbs
 pub mod Wholes
 pub mod Answers
+pub mod Plains

@@ -7,6 +7,7 @@ use super::answers::Step;
 use arith_token::Setting;
 use arith_token::Token;
 use arith_token::token_at;
+use text::Class;
 use text::numbers;
 
 // What `?:` asks of a token.
@@ -116,17 +117,13 @@ pub fn target_at(text: &[u8], at: usize, first: bool) -> Target
     if !first {
         return Target::Missing;
     }
-    let token = token_at(text, at);
-    match token {
-        Token::Name { from, to } => setting_at(text, from, to),
-        Token::Refused(_) => Target::Missing,
-        Token::Stop => Target::Missing,
-        Token::Number { value: _, next: _ } => Target::Missing,
-        Token::Op(_, _) => Target::Missing,
-        Token::Opens(_) => Target::Missing,
-        Token::Shuts(_) => Target::Missing,
-        Token::Query(_) => Target::Missing,
-        Token::Colon(_) => Target::Missing,
-        Token::Gets(_, _) => Target::Missing,
+    let from = text::run_end(text, at, Class::Blank);
+    if from == text.len() {
+        return Target::Missing;
     }
+    if !text::in_class(Class::NameStart, text[from]) {
+        return Target::Missing;
+    }
+    let to = text::run_end(text, from, Class::NameByte);
+    setting_at(text, from, to)
 }

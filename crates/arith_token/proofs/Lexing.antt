@@ -7,18 +7,21 @@ use mathlib.Core.Path.{_≡_, refl, sym, ap, _∙_, subst}
 use mathlib.Core.Bool.{Bool, true, false, not, _&&_}
 use mathlib.Core.List.{[], _∷_, _++_}
 use mathlib.Core.Option.{Option, none, some}
+use mathlib.Core.Logic.{_⊎_, inl, inr}
 use lib.Dec.{eqb}
 use lib.IntN.{ℤ, pos}
 use lib.ListN.{length, drop, getD, length-take, drop-of-length-le}
 use lib.Seq.{drop-cons}
-use borrow.Author.Tests.{eq-eqb, ne-eqb, not-true}
+use borrow.Author.Tests.{eq-eqb, ne-eqb, eqb-true, not-true}
 use Rattle.stages.specs.Numbers.{arithmeticSyntax}
-use Rattle.stages.specs.Bytes.{Text, part, all, span, isBlank, isDigit, isNameStart, isNameByte}
-use Rattle.stages.specs.Outcome.{Outcome, refused, done, _>>=_, choose}
+use Rattle.stages.specs.Bytes.{Text, part, between, all, span, isBlank, isLetter, isDigit, isNameStart, isNameByte}
+use Rattle.stages.specs.Outcome.{Outcome, refused, demands, done, _>>=_, choose}
 use Rattle.stages.specs.Images.{isName}
 use Rattle.stages.specs.Constants.{number, constant}
 use Rattle.stages.specs.Arith.{Token as Kind, operator, level, Lexed, num, name, Spellings, written, behind, spelled, token}
-use Rattle.stages.proofs.Bools.{no, and-left, and-right, and-both}
+use Rattle.stages.proofs.Bools.{no, not-passed, either, and-left, and-right, and-both, or-cases, between-bounds}
+use Rattle.stages.proofs.Outcomes.{done-same, never, never-asks}
+use Rattle.stages.proofs.Ended.{isNamed}
 use Rattle.stages.proofs.Texts.{Stops, span-join, span-all, span-stops, span-more, start-name-byte}
 use Rattle.stages.proofs.Arith.{digit-name-byte}
 use Rattle.text.specs.Classes.{Runs}
@@ -137,7 +140,7 @@ none-fits : (b : ℕ) (u : Text) → isBlank b ≡ false → isDigit b ≡ false
 unfolding token choose
 none-fits b u x y z e = rw (x, y, z) (spelled-other written b u (others-begin-none b e))
 
-constant-first : (b : ℕ) (u : Text) → isBlank b ≡ false → isDigit b ≡ true → (x y : Text) → span isNameByte (b ∷ u) ≡ (x, y)
+pub constant-first : (b : ℕ) (u : Text) → isBlank b ≡ false → isDigit b ≡ true → (x y : Text) → span isNameByte (b ∷ u) ≡ (x, y)
     → token (b ∷ u) ≡ (number pos (constant x) >>= λ z. done (num z, y))
 unfolding token choose
 constant-first b u e f x y s = rw (e, f, s)
@@ -147,6 +150,59 @@ name-first : (b : ℕ) (u : Text) → isBlank b ≡ false → isDigit b ≡ fals
     → token (b ∷ u) ≡ done (name x, y)
 unfolding token choose
 name-first b u e f g x y s = rw (e, f, g, s)
+
+symbol-first : (b : ℕ) (u : Text) → isBlank b ≡ false → isDigit b ≡ false → isNameStart b ≡ false → token (b ∷ u) ≡ spelled written (b ∷ u)
+unfolding token choose
+symbol-first b u e f g = rw (e, f, g)
+
+-- no digit begins a name
+pub start-no-digit : (b : ℕ) → isNameStart b ≡ true → isDigit b ≡ false
+unfolding isNameStart isLetter isDigit
+start-no-digit b e = not-passed (isDigit b) (λ d. go (between-bounds 48 b 57 d) (or-cases (isLetter b) (eqb b 95) e))
+  where
+    letter : (48 ≤ b) × (b ≤ 57) → (between 65 b 90 ≡ true) ⊎ (between 97 b 122 ≡ true) → ⊥
+    letter w (inl h) = let k = between-bounds 65 b 90 h in omega arith
+    letter w (inr h) = let k = between-bounds 97 b 122 h in omega arith
+
+    go : (48 ≤ b) × (b ≤ 57) → (isLetter b ≡ true) ⊎ (eqb b 95 ≡ true) → ⊥
+    go w (inl h) = letter w (or-cases (between 65 b 90) (between 97 b 122) h)
+    go w (inr h) = let k = eqb-true b 95 h in omega arith
+
+-- nor does a byte that begins none of another kind
+abbrev namesNone : Spellings → Bool
+namesNone [] = true
+namesNone (r ∷ l) = not (isNamed (r .1)) && namesNone l
+
+other-kind : (k : Kind) (u x v : Text) → isNamed k ≡ false → _≡_ {A = Lexed} (done (k, u)) (done (name x, v)) → ⊥
+other-kind k u x v n q = no (sym n ∙ ap (λ (p : Kind × Text). isNamed (p .0)) (done-same q))
+
+row-kind : (k : Kind) (o : Option Text) (l : Lexed) (x v : Text) → isNamed k ≡ false → (l ≡ done (name x, v) → ⊥)
+    → _≡_ {A = Lexed} (elim o [ some u ↦ done (k, u) | none ↦ l ]) (done (name x, v)) → ⊥
+row-kind k (some u) l x v n i q = other-kind k u x v n q
+row-kind k none l x v n i q = i q
+
+spelled-kind : (l : Spellings) (t x v : Text) → namesNone l ≡ true → spelled l t ≡ done (name x, v) → ⊥
+unfolding spelled
+spelled-kind [] t x v p q = never (sym q)
+spelled-kind (r ∷ l) t x v p q =
+    row-kind (r .1) (behind (r .0) t) (spelled l t) x v (not-true (isNamed (r .1)) (and-left (not (isNamed (r .1))) (namesNone l) p))
+    (spelled-kind l t x v (and-right (not (isNamed (r .1))) (namesNone l) p)) q
+
+written-kind : namesNone written ≡ true
+unfolding written
+written-kind = refl
+
+constant-kind : (o : Outcome ℤ) (u x v : Text) → _≡_ {A = Lexed} (o >>= λ z. done (num z, u)) (done (name x, v)) → ⊥
+constant-kind (refused e) u x v q = never (sym q)
+constant-kind (demands t) u x v q = never-asks q
+constant-kind (done z) u x v q = other-kind (num z) u x v refl q
+
+no-name-first : (b : ℕ) (u : Text) → isBlank b ≡ false → isNameStart b ≡ false → (x v : Text) → token (b ∷ u) ≡ done (name x, v) → ⊥
+no-name-first b u e f x v q =
+    either (isDigit b)
+    (λ d. constant-kind (number pos (constant (span isNameByte (b ∷ u) .0))) (span isNameByte (b ∷ u) .1) x v
+    (sym (constant-first b u e d (span isNameByte (b ∷ u) .0) (span isNameByte (b ∷ u) .1) refl) ∙ q))
+    (λ d. spelled-kind written (b ∷ u) x v written-kind (sym (symbol-first b u e d f) ∙ q))
 
 -- the byte at a place, and what is behind it
 pub here : (text : Text) (at : ℕ) → at < length text → drop at text ≡ getD text at 0 ∷ drop (at + 1) text
@@ -248,6 +304,11 @@ module _ (text : Text) (at i : ℕ) (r : Runs text at Blank i) where
   not-blank h =
       let s : Stops isBlank (drop i text) = subst (λ (p : Text × Text). Stops isBlank (p .1)) (r .is) (span-stops isBlank (drop at text)) in
       subst (Stops isBlank) (here text i h) s
+
+  -- where it begins no name, there is none
+  pub no-name-at : i < length text → isNameStart (getD text i 0) ≡ false → (x v : Text) → token (drop at text) ≡ done (name x, v) → ⊥
+  no-name-at h e x v q =
+      no-name-first (getD text i 0) (drop (i + 1) text) (not-blank h) e x v (ap token (sym (here text i h)) ∙ sym past-blanks ∙ q)
 
 -- a run of name bytes: a constant, or a name
 module _ (text : Text) (at to : ℕ) (h : at < length text) (r : Runs text at NameByte to) where
