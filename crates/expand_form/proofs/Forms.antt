@@ -15,8 +15,9 @@ use Rattle.stages.proofs.Bools.{either}
 use Rattle.text.specs.Cases.{isSuffix, isLongest}
 use Rattle.table.specs.declared.Found.{Found}
 use Rattle.expand_param.specs.Holding.{Shown, missingIn}
-use Rattle.expand_param.proofs.Holding.{missing-found}
-use Rattle.expand_form.specs.Plans.{planOf, operandMark, settled, finished}
+use Rattle.expand_param.proofs.Holding.{holding-held, missing-found}
+use Rattle.table.specs.Around.{lentOf}
+use Rattle.expand_form.specs.Plans.{missingHeld, planOf, operandMark, settled, finished}
 use Rattle.expand_add.specs.Steps.{beside}
 use Rattle.expand_form.specs.declared.Plan.{Plan}
 use Rattle.expand_form.specs.declared.Plan.the-variants as plan
@@ -88,22 +89,37 @@ module _ (a : Lent) (operand : Mark → Pairs → Made) (x : Param) (m : Mark) (
   parameter-plan (removal side reach) =
       ap (λ (o : Outcome Text). o >>= λ _. operand L v >>= λ p. cutBy a side reach x m p) sought-plan ∙ removal-plan side reach shout
 
--- the same by where the value was found in its image
+-- "missing", as the images hold the parameter
+missing-held : (a : Lent) (c : Colon) (x : Param) (vars params : Text) → a .params ≡ heldTexts params → missing a c x (held vars) ≡ missingHeld vars params x c
+unfolding missing
+missing-held a c x vars params e = ap (absent c) (holding-held a (heldTexts params) e (held vars) x)
+
+-- a plan by where the value was found, and that of a removal by nothing, the switch being off
+module _ (f : Form) (x : Param) (vars params : Text) (s : Bool) where
+  pub found-plan : {found : Found} {own : Plan} → Shown vars params x found → own ≡ planOf f (missingIn found) s → own ≡ planOf f (missingHeld vars params x) s
+  found-plan {found} h e =
+      let a = lentOf 0 s [] params in
+      e ∙ plan-same f (missingIn found) (missingHeld vars params x) (λ c. missing-found a refl h c ∙ missing-held a c x vars params refl) s
+
+pub removal-plans : (side : Side) (reach : Reach) (g h : Colon → Bool) → planOf (removal side reach) g false ≡ planOf (removal side reach) h false
+removal-plans side reach g h = refl
+
+-- the same by what the images hold
 module _ (a : Lent) (operand : Mark → Pairs → Made) (x : Param) (m : Mark) (vars params : Text) (lent : a .params ≡ heldTexts params) (f : Form)
-    (found : Found) (s : Shown vars params x found) {own : Plan} (e : own ≡ planOf f (missingIn found) (a .shouts)) where
-  by-found : {known : Plan} → own ≡ known → parameter a operand x f m (held vars) ≡ byPlan a operand x m (held vars) known
-  by-found k =
+    {own : Plan} (e : own ≡ planOf f (missingHeld vars params x) (a .shouts)) where
+  by-held : {known : Plan} → own ≡ known → parameter a operand x f m (held vars) ≡ byPlan a operand x m (held vars) known
+  by-held k =
       parameter-plan a operand x m (held vars) f
       ∙ ap (byPlan a operand x m (held vars))
-      (sym (sym k ∙ e ∙ plan-same f (missingIn found) (λ c. missing a c x (held vars)) (missing-found a lent s) (a .shouts)))
+      (sym (sym k ∙ e ∙ plan-same f (missingHeld vars params x) (λ c. missing a c x (held vars)) (λ c. sym (missing-held a c x vars params lent)) (a .shouts)))
 
   pub unused-operand : {unused : Unused} → own ≡ plan.Unused unused
       → parameter a operand x f m (held vars) ≡ beside (held vars) false (settled unused a x m (held vars))
-  unused-operand = by-found
+  unused-operand = by-held
 
   pub used-operand : {used : Used} → own ≡ plan.Used used
       → parameter a operand x f m (held vars) ≡ (operand (operandMark used m) (held vars) >>= λ p. finished used a x m p)
-  used-operand = by-found
+  used-operand = by-held
 
   pub shouted-operand : own ≡ plan.Shout → parameter a operand x f m (held vars) ≡ refused unsetName
-  shouted-operand = by-found
+  shouted-operand = by-held

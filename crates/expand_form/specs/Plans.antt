@@ -1,12 +1,14 @@
 -- What a form of a parameter asks for, and what each plan gives: document 01's forms with "missing" tested once.
 use mathlib.Core.Bool.{Bool, _&&_}
 use mathlib.Core.List.{[]}
+use Rattle.stages.specs.Bytes.{Text}
 use Rattle.stages.specs.Outcome.{Outcome, done, pick}
-use Rattle.stages.specs.Images.{Pairs}
+use Rattle.stages.specs.Images.{Pairs, held, heldTexts}
 use Rattle.stages.specs.Syntax.{Colon, noColon, Param, Form, plain, minus, equals, query, plus, removal}
 use Rattle.stages.specs.Units.{Mark, L, Row, marked, expandedMark}
-use Rattle.stages.specs.Params.{Lent, value}
+use Rattle.stages.specs.Params.{Lent, value, absent}
 use Rattle.stages.specs.Expand.{Made, assigned, demand, cutBy}
+use Rattle.expand_param.specs.Holding.{holdingIn}
 use Rattle.text.specs.Cases.{sideOf, isSuffix, reachOf, isLongest}
 use Rattle.expand_form.specs.declared.Plan.{Plan}
 use Rattle.expand_form.specs.declared.Plan.the-variants as plan
@@ -14,6 +16,10 @@ use Rattle.expand_form.specs.declared.Unused.{Unused}
 use Rattle.expand_form.specs.declared.Unused.the-variants.{Value, Nothing}
 use Rattle.expand_form.specs.declared.Used.{Used}
 use Rattle.expand_form.specs.declared.Used.the-variants.{Given, Stored, Removed, Demanded}
+
+-- whether a parameter is missing, with the colon or without, as the images hold it
+abbrev pub missingHeld : Text → Text → Param → Colon → Bool
+missingHeld vars params x c = absent c (holdingIn (heldTexts params) (held vars) x)
 
 -- what a form asks for, by whether the value is missing, with the colon and without, and whether unset ones shout
 abbrev pub planOf : Form → (Colon → Bool) → Bool → Plan

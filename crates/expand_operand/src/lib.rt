@@ -35,6 +35,9 @@ use row::RowEnd;
 use table_store::Stored;
 use text::numbers;
 
+// The cells of a short pattern: few patterns have more units, and a small table is quickly made.
+const FEW_CELLS: usize = 64;
+
 // An operand that was expanded: its row has so many units, the text goes on at `next`, and `of_none` says whether `$@` of no parameters came in it.
 pub struct Operand {
     pub units: usize,
@@ -133,7 +136,8 @@ fn cut_settled(
     cells: &mut [u16],
     sets: &mut [u64],
 ) -> Tried
-    requires { ⌜ Pattern (now work) (removal .end) × (row .units ≤ rowLimit) × (2 * rowLimit ≤ length (now work)) × (length (now cells) ≡ rowLimit) ⌝ }
+    requires { ⌜ Pattern (now work) (removal .end) × (row .units ≤ rowLimit) × (2 * rowLimit ≤ length (now work)) ×
+        (removal .end ≤ 2 * length (now cells)) × (length (now cells) ≤ rowLimit) ⌝ }
     ensures { λ r. ⌜ TriedSays (row .units) on
         (cutOf (sideOf (removal .suffix)) (reachOf (removal .long)) (now (value .entry)) (markOf (row .mark)) (rowOf (take (removal .end) (now (work .entry)))))
         (removal .end) (now (work .entry))
@@ -156,8 +160,21 @@ fn cut_settled(
     }
 }
 
-// Holds the cells, and a table of a few sets.
-fn with_few_sets(value: &[u8], removal: Removal, row: RowEnd, on: Onward, work: &mut [u8]) -> Tried
+// Holds the cells of a short pattern, and a table of a few sets.
+fn with_few_cells(value: &[u8], removal: Removal, row: RowEnd, on: Onward, work: &mut [u8]) -> Tried
+    requires { ⌜ Pattern (now work) (removal .end) × (row .units ≤ rowLimit) × (2 * rowLimit ≤ length (now work)) × (removal .end ≤ 128) ⌝ }
+    ensures { λ r. ⌜ TriedSays (row .units) on
+        (cutOf (sideOf (removal .suffix)) (reachOf (removal .long)) (now (value .entry)) (markOf (row .mark)) (rowOf (take (removal .end) (now (work .entry)))))
+        (removal .end) (now (work .entry))
+        (now (work .exit)) 64 r ⌝ }
+{
+    let mut cells = [0u16; FEW_CELLS];
+    let mut sets = [0u64; pattern_settle::FEW_SETS];
+    cut_settled(value, removal, row, on, work, &mut cells, &mut sets)
+}
+
+// Holds the cells of every pattern, and a table of a few sets.
+fn with_all_cells(value: &[u8], removal: Removal, row: RowEnd, on: Onward, work: &mut [u8]) -> Tried
     requires { ⌜ Pattern (now work) (removal .end) × (row .units ≤ rowLimit) × (2 * rowLimit ≤ length (now work)) ⌝ }
     ensures { λ r. ⌜ TriedSays (row .units) on
         (cutOf (sideOf (removal .suffix)) (reachOf (removal .long)) (now (value .entry)) (markOf (row .mark)) (rowOf (take (removal .end) (now (work .entry)))))
@@ -167,6 +184,20 @@ fn with_few_sets(value: &[u8], removal: Removal, row: RowEnd, on: Onward, work: 
     let mut cells = [0u16; numbers::ROW_LIMIT];
     let mut sets = [0u64; pattern_settle::FEW_SETS];
     cut_settled(value, removal, row, on, work, &mut cells, &mut sets)
+}
+
+// The same with as many cells as the pattern asks for.
+fn with_few_sets(value: &[u8], removal: Removal, row: RowEnd, on: Onward, work: &mut [u8]) -> Tried
+    requires { ⌜ Pattern (now work) (removal .end) × (row .units ≤ rowLimit) × (2 * rowLimit ≤ length (now work)) ⌝ }
+    ensures { λ r. ⌜ TriedSays (row .units) on
+        (cutOf (sideOf (removal .suffix)) (reachOf (removal .long)) (now (value .entry)) (markOf (row .mark)) (rowOf (take (removal .end) (now (work .entry)))))
+        (removal .end) (now (work .entry))
+        (now (work .exit)) 64 r ⌝ }
+{
+    if removal.end <= 2 * FEW_CELLS {
+        return with_few_cells(value, removal, row, on, work);
+    }
+    with_all_cells(value, removal, row, on, work)
 }
 
 // Holds the cells, and a table with room for the sets of every row.

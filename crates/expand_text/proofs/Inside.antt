@@ -35,10 +35,8 @@ use Rattle.read_line.specs.Says.{ReadTo, ReadSays}
 use Rattle.read_line.specs.declared.Reading.{Reading}
 use Rattle.table.specs.Places as places
 use Rattle.table.specs.Around.{lentOf}
-use Rattle.table.specs.declared.Found.{Found}
 use Rattle.expand_add.specs.Added.{Adds}
-use Rattle.expand_param.specs.Holding.{Shown, missingIn}
-use Rattle.expand_form.specs.Plans.{planOf, operandMark, settled, finished}
+use Rattle.expand_form.specs.Plans.{missingHeld, planOf, operandMark, settled, finished}
 use Rattle.expand_add.specs.Steps.{placed, quoted, summed, summing}
 use Rattle.expand_operand.specs.Operands.{IsNamed, Storable}
 use Rattle.expand_text.specs.Items.{unitsInQuotes}
@@ -236,9 +234,9 @@ module _ {lent : Lent} {text : Text} {at : ℕ} {mode : Mode} {d units size : �
 
 -- An operand.
 
-module _ {lent : Lent} {text : Text} {at : ℕ} {mode : Mode} {d size : ℕ} {vars₀ : Text} {varsUsed : ℕ} {params : Text} {x : Param} {found : Found}
-    (units : ℕ) (form : Form) (m : Mark) (y : Ready text at mode d 0 size) (w : Lends lent vars₀ varsUsed) (l : lent .params ≡ heldTexts params)
-    (s : Shown (take varsUsed vars₀) params x found) {own : Plan} (e : own ≡ planOf form (missingIn found) (lent .shouts)) where
+module _ {lent : Lent} {text : Text} {at : ℕ} {mode : Mode} {d size : ℕ} {vars₀ : Text} {varsUsed : ℕ}
+    (units : ℕ) (params : Text) (x : Param) (form : Form) (m : Mark) (y : Ready text at mode d 0 size) (w : Lends lent vars₀ varsUsed)
+    (l : lent .params ≡ heldTexts params) {own : Plan} (e : own ≡ planOf form (missingHeld (take varsUsed vars₀) params x) (lent .shouts)) where
   abbrev v : Pairs
   v = held (take varsUsed vars₀)
 
@@ -266,7 +264,7 @@ module _ {lent : Lent} {text : Text} {at : ℕ} {mode : Mode} {d size : ℕ} {va
   pub shouted : own ≡ plan.Shout → (area vars : Text) → Given area vars (answer.Refused unsetName)
   shouted n area vars =
       rw (y .is)
-      (ap (placed units) (shouted-operand lent (λ k u. expand lent (y .tree) k 0 u) x m (take varsUsed vars₀) params l form found s e n)
+      (ap (placed units) (shouted-operand lent (λ k u. expand lent (y .tree) k 0 u) x m (take varsUsed vars₀) params l form e n)
       ∙ placed-refused units (refused unsetName) unsetName refl)
 
   pub unused-given : {what : Unused} → own ≡ plan.Unused what → {next : ℕ} → ReadTo text at (parts (modeOf mode) d (drop at text)) next
@@ -276,7 +274,7 @@ module _ {lent : Lent} {text : Text} {at : ℕ} {mode : Mode} {d size : ℕ} {va
       let u : _≡_ {A = Taken} (done (r .tree, drop next text)) (done (y .tree, y .rest)) = sym (r .is) ∙ y .is in
       let z : _≡_ {A = Parts × Text} (r .tree, drop next text) (y .tree, y .rest) = cc in
       finished-given next (record { ends = ap (λ (p : Parts × Text). p .1) z; onward = r .onward; within = r .within })
-      (ap (placed units) (unused-operand lent (λ k u. expand lent (y .tree) k 0 u) x m (take varsUsed vars₀) params l form found s e n))
+      (ap (placed units) (unused-operand lent (λ k u. expand lent (y .tree) k 0 u) x m (take varsUsed vars₀) params l form e n))
       area vars₀ g
       (adds-finishes (lent .room) units (record { next = next; «vars_used» = varsUsed; «of_none» = false }) (settled what lent x m v) area vars₀ g h
       (w .holds))
@@ -286,10 +284,10 @@ pub record OperandExpanded (lent : Lent) (text : Text) (at : ℕ) (mode : Mode) 
     (x : Param) (units : ℕ) (form : Form) (m : Mark) (what : Used) (ys us : Text) (g : Expanded) : Type 0 where
   pub ready : Ready text at mode d 0 size
   pub lends : Lends lent vars₀ varsUsed
-  pub found : Found
   pub listed : lent .params ≡ heldTexts params
-  pub shows : Shown (take varsUsed vars₀) params x found
-  pub planned : plan.Used what ≡ planOf form (missingIn found) (lent .shouts)
+  pub own : Plan
+  pub known : own ≡ plan.Used what
+  pub planned : own ≡ planOf form (missingHeld (take varsUsed vars₀) params x) (lent .shouts)
   pub mark : Mark
   pub is : mark ≡ operandMark what m
   pub says : Says (lent .room) text at 0 (λ p. expand lent p mark 0 (held (take varsUsed vars₀))) (parts (modeOf mode) d (drop at text)) ys us g
@@ -298,10 +296,10 @@ module _ {lent : Lent} {text : Text} {at : ℕ} {mode : Mode} {d size : ℕ} {va
     {p : Param} {units : ℕ} {form : Form} {m : Mark} {what : Used} {ys us : Text} {g : Expanded}
     (x : OperandExpanded lent text at mode d size vars₀ varsUsed params p units form m what ys us g) where
   abbrev GivenIn : Text → Text → Expanded → Type 0
-  GivenIn area vars r = Given units form m (x .ready) (x .lends) (x .listed) (x .shows) (x .planned) area vars r
+  GivenIn area vars r = Given units params p form m (x .ready) (x .lends) (x .listed) (x .planned) area vars r
 
   abbrev givenIn : Made
-  givenIn = given units form m (x .ready) (x .lends) (x .listed) (x .shows) (x .planned)
+  givenIn = given units params p form m (x .ready) (x .lends) (x .listed) (x .planned)
 
   operand-answer : Answers (lent .room) text at 0 (expand lent (x .ready .tree) (x .mark) 0 (held (take varsUsed vars₀))) (x .ready .rest) ys us g
   operand-answer = says-known (lent .room) text at 0 (λ p. expand lent p (x .mark) 0 (held (take varsUsed vars₀))) ys us g (x .says) (x .ready .is)
@@ -310,8 +308,8 @@ module _ {lent : Lent} {text : Text} {at : ℕ} {mode : Mode} {d size : ℕ} {va
       → givenIn ≡ placed units (o >>= λ r. finished what lent p m r)
   withal o h =
       ap (placed units)
-      (used-operand lent (λ k u. expand lent (x .ready .tree) k 0 u) p m (take varsUsed vars₀) params (x .listed) form (x .found) (x .shows) (x .planned)
-      refl
+      (used-operand lent (λ k u. expand lent (x .ready .tree) k 0 u) p m (take varsUsed vars₀) params (x .listed) form (x .planned)
+      (x .known)
       ∙ ap (λ (j : Mark). expand lent (x .ready .tree) j 0 (held (take varsUsed vars₀)) >>= λ r. finished what lent p m r) (sym (x .is))
       ∙ ap (λ (o : Made). o >>= λ r. finished what lent p m r) h)
 
@@ -347,7 +345,7 @@ module _ {lent : Lent} {text : Text} {at : ℕ} {mode : Mode} {d size : ℕ} {va
         (placed units (finished what lent p m (rowOf (take (2 * count) ys), held (take left us), came))) next area vars f
         → GivenIn area vars f
     used-given area vars f h =
-        finished-given units form m (x .ready) (x .lends) (x .listed) (x .shows) (x .planned) next (operand-row .1)
+        finished-given units params p form m (x .ready) (x .lends) (x .listed) (x .planned) next (operand-row .1)
         (withal (done (operand-row .0 .row, held (take left us), came)) (operand-row .0 .is)
         ∙ ap (λ (r : Row). placed units (finished what lent p m (r, held (take left us), came))) (sym at-front))
         area vars f h

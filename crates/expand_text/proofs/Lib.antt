@@ -3,3 +3,4 @@ pub mod Running
 pub mod Looping
 pub mod Inside
 pub mod Determined
+pub mod Planning

@@ -6,13 +6,14 @@ use mathlib.Core.Path.{_≡_, refl, sym, ap, _∙_, subst}
 use mathlib.Core.Bool.{Bool, true, false, _||_}
 use mathlib.Core.List.{[], _++_, append-nil}
 use borrow.Author.Tests.{leb-true, leb-false}
-use lib.ListN.{length, take, drop, length-append}
+use lib.ListN.{length, take, drop, length-append, take-append-drop}
 use lib.Seq.{length-take-le}
 use Rattle.stages.specs.Numbers.{rowLimit, tooManyUnits}
 use Rattle.stages.specs.Bytes.{Text, part, all, notZero}
 use Rattle.stages.specs.Outcome.{refused, done}
 use Rattle.stages.specs.Images.{Pairs, held}
-use Rattle.stages.specs.Syntax.{Parts}
+use Rattle.stages.specs.Syntax.{Parts, end}
+use Rattle.stages.specs.Items.{closerLength}
 use Rattle.stages.specs.Read.{Taken, parts}
 use Rattle.stages.specs.Units.{Mark, Row, marked}
 use Rattle.stages.specs.Params.{Lent}
@@ -22,6 +23,9 @@ use Rattle.row.specs.Stands.{Stands, fronted}
 use Rattle.read_mode.specs.Modes.{modeOf, openIn}
 use Rattle.read_mode.specs.declared.Mode.{Mode}
 use Rattle.read_mode.specs.declared.Cursor.{Cursor}
+use Rattle.read_brace.specs.declared.Item.the-variants.{Stop}
+use Rattle.read_item.specs.After.{ItemAt, isEnd}
+use Rattle.read_item.proofs.Ending.{end-item}
 use Rattle.read_run.specs.Literals.{lits, Passed}
 use Rattle.read_run.proofs.Parts.{run-parts, run-open}
 use Rattle.table_store.specs.Holding.{Holds}
@@ -29,7 +33,7 @@ use Rattle.expand_add.specs.Answers.{Ready, IsDemand, Says}
 use Rattle.expand_text.specs.Items.{PutsRun, Moves, Closes, Passes, ItemAnswers, ItemRead}
 use Rattle.expand_add.specs.declared.answers.Expanded.{Expanded}
 use Rattle.expand_add.specs.declared.answers.Expanded.the-variants as answer
-use Rattle.stages.proofs.Read.{Behind, behind}
+use Rattle.stages.proofs.Read.{Behind, behind, at-stop}
 use Rattle.text.proofs.Parts.{part-length}
 use Rattle.expand_add.proofs.Fitting.{marked-count}
 use Rattle.expand_add.proofs.Steps.{onto-none, onto-onto}
@@ -296,3 +300,39 @@ module _ {lent : Lent} {text : Text} {at : ℕ} {mode₀ : Mode} {d : ℕ} {k : 
                   ∙ onto-onto (g .row) (h .row) ofNone came (expand lent (h .more) k (units + n + count) (held (take left us)))
                   ∙ ap (λ (j : ℕ). onto (g .row ++ h .row) (ofNone || came) (expand lent (h .more) k j (held (take left us)))) s;
             })
+
+-- The next byte, or the line's end, says that the text ends here.
+
+module _ {lent : Lent} {text : Text} {at : ℕ} {mode₀ : Mode} {d : ℕ} {k : Mark} {units : ℕ} {v : Pairs}
+    {area₀ vars₀ area vars : Text} {n i : ℕ} {mode : Mode} {varsUsed : ℕ} {ofNone : Bool}
+    (g : Going lent text at mode₀ d k units v area₀ vars₀ area vars n i mode varsUsed ofNone) (e : isEnd mode (drop i text) ≡ true) where
+  abbrev behind-end : ℕ
+  behind-end = i + closerLength (modeOf mode)
+
+  stop-there : ItemAt text (record { at = i; mode = mode; depth = d }) (Stop behind-end)
+  stop-there = end-item text (record { at = i; mode = mode; depth = d }) (g .within) e
+
+  closing : Expanding lent text at mode₀ d k units v area₀ vars₀ area vars n i mode varsUsed ofNone true mode area vars
+      (answer.Row 0 behind-end varsUsed false)
+  unfolding expand
+  closing =
+      let s = stop-there in
+      let p : parts (modeOf mode) d (drop i text) ≡ done (end, drop behind-end text) = at-stop text i (modeOf mode) d behind-end (s .0) (s .1) in
+      record {
+        going = g;
+        says = rw p (record { is = refl; none = refl; holds = g .holds; ends = record { ends = refl; onward = s .1; within = s .2 } });
+      }
+
+  abbrev Closed : Text → ℕ → ℕ → Type 0
+  Closed z count next =
+      Says (lent .room) text at units (λ p. expand lent p k units v) (parts (modeOf mode₀) d (drop at text)) z vars (answer.Row count next varsUsed ofNone)
+
+  pub going-close : {j : ℕ} → j ≡ closerLength (modeOf mode) → Closed area n (i + j)
+  going-close {j} q =
+      let h : Closed (take (2 * n) area ++ drop (2 * n) area) (n + 0) behind-end =
+      going-end closing refl (sym (or-false ofNone)) refl (drop (2 * n) area) in
+      subst (λ (c : ℕ). Closed area n (i + c)) (sym q)
+      (subst (λ (c : ℕ). Closed area c behind-end) (add-zero n) (subst (λ (z : Text). Closed z (n + 0) behind-end) (take-append-drop (2 * n) area) h))
+
+  pub going-close-within : {j : ℕ} → j ≡ closerLength (modeOf mode) → i + j ≤ length text
+  going-close-within q = let w = stop-there .2 in omega arith

@@ -21,6 +21,8 @@ use Rattle.row.specs.declared.RowEnd.{RowEnd}
 use Rattle.read_mode.specs.Modes.{modeOf, openIn}
 use Rattle.read_mode.specs.declared.Mode.{Mode}
 use Rattle.read_mode.specs.declared.Cursor.{Cursor}
+use Rattle.read_mode.specs.declared.Form.{Form}
+use Rattle.read_mode.specs.declared.Form.the-variants as form
 use Rattle.read_brace.specs.declared.Item.{Item}
 use Rattle.read_item.specs.After.{modeAfter, isStop}
 use Rattle.table_store.specs.Holding.{Holds}
@@ -31,6 +33,15 @@ use Rattle.expand_add.specs.declared.answers.Expanded.the-variants as expanded
 -- how many units quotes give whose text gave so many, by whether `$@` of no parameters came in them
 abbrev pub unitsInQuotes : Bool → ℕ → ℕ
 unitsInQuotes ofNone count = pick (ofNone && eqb count 0) 0 (suc count)
+
+-- the form is a removal
+abbrev pub isRemoval : Form → Bool
+isRemoval (form.Minus colon) = false
+isRemoval (form.Equals colon) = false
+isRemoval (form.Query colon) = false
+isRemoval (form.Plus colon) = false
+isRemoval (form.Suffix doubled) = true
+isRemoval (form.Prefix doubled) = true
 
 -- a run of literal bytes is added to the units before it, or there is no room for all of them and nothing is written
 pub record PutsRun (m : Mark) (units : ℕ) (run before area : Text) (r : Bool) : Type 0 where

@@ -17,8 +17,9 @@ ghost use Rattle.read_item.specs.After.{ItemAt};
 ghost use Rattle.expand_add.specs.Steps.{placed, quoted, summing};
 ghost use Rattle.table_store.specs.Holding.{Holds};
 ghost use Rattle.expand_add.specs.Answers.{Ready, Says};
+ghost use Rattle.expand_form.specs.Plans.{planOf, missingHeld};
 ghost use Rattle.expand_operand.specs.Operands.{IsNamed};
-ghost use Rattle.expand_text.specs.Items.{ItemSays, PutsRun, unitsInQuotes};
+ghost use Rattle.expand_text.specs.Items.{ItemSays, PutsRun, isRemoval, unitsInQuotes};
 use expand_add::answers::Expanded;
 use expand_add::answers::Extent;
 use expand_add::answers::Onward;
@@ -38,6 +39,8 @@ use expand_operand::settle;
 use expand_operand::sum_up;
 use read_brace::Item;
 use read_brace::Param;
+use read_item::end_length;
+use read_item::is_end;
 use read_item::is_stop;
 use read_item::item_at;
 use read_item::mode_after;
@@ -48,6 +51,7 @@ use read_mode::Mode;
 use read_run::behind_literals;
 use row::Mark;
 use row::RowEnd;
+use table::Found;
 use text::numbers;
 
 // How many units quotes give whose text gave so many: an N before them, but nothing at all where `$@` of no parameters came and no unit.
@@ -128,6 +132,35 @@ struct Named {
     form: Form,
 }
 
+// Is the form a removal?
+fn is_removal(form: Form) -> bool
+    ensures { λ r. ⌜ r ≡ isRemoval form ⌝ }
+{
+    match form {
+        Form::Minus(_) => false,
+        Form::Equals(_) => false,
+        Form::Query(_) => false,
+        Form::Plus(_) => false,
+        Form::Suffix(_) => true,
+        Form::Prefix(_) => true,
+    }
+}
+
+// What a parameter's form asks for. A removal's value is not looked up for that, unless the switch is on.
+fn plan_at(text: &[u8], named: Named, vars: &[u8], params: &[u8], shouts: bool) -> Plan
+    requires { ⌜ Name (now text) (named .param .from) (named .param .to) × Table (now vars) × Listed (now params) ⌝ }
+    ensures { λ r. ⌜ r ≡ planOf (formOf (named .form))
+        (missingHeld (now (vars .entry)) (now (params .entry)) (paramOf (now (text .entry)) (named .param))) shouts ⌝ }
+{
+    let param = named.param;
+    let form = named.form;
+    if !shouts && is_removal(form) {
+        return plan_of(form, Found::Missing, shouts);
+    }
+    let found = expand_param::look_up(text, param, vars, params);
+    plan_of(form, found, shouts)
+}
+
 // A parameter with a form, whose operand is the text. A message that the operand itself demands comes before what the form asks for.
 fn expand_inner(
     text: &[u8],
@@ -151,9 +184,7 @@ fn expand_inner(
 {
     let vars_used = extent.vars_used;
     let param = named.param;
-    let form = named.form;
-    let found = expand_param::look_up(text, param, &vars[..vars_used], params);
-    let plan = plan_of(form, found, extent.shouts);
+    let plan = plan_at(text, named, &vars[..vars_used], params, extent.shouts);
     match plan {
         Plan::Unused(what) => {
             let got = read_line::read_text(text, from);
@@ -468,6 +499,14 @@ pub fn expand_text(
             return Expanded::Refused(numbers::REFUSED_UNITS);
         }
         let ran = n + (place - i);
+        if is_end(text, place, mode) {
+            return Expanded::Row {
+                units: ran,
+                next: place + end_length(mode),
+                vars_used: left,
+                of_none: of_none,
+            };
+        }
         let item = item_at(text, here);
         let end = RowEnd {
             mark: mark,

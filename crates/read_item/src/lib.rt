@@ -13,10 +13,10 @@ ghost use Prim.Native.Nat.{_+_, _≤_, _<_};
 ghost use lib.ListN.{length, drop, getD};
 ghost use Rattle.stages.specs.Syntax.{arith};
 ghost use Rattle.stages.specs.Escapes.{escapeAt};
-ghost use Rattle.stages.specs.Items.{item, isBareText, behindBackslash, saidItem, expansion, parenthesis, spreadAt, listsIn, closed, behindTilde};
+ghost use Rattle.stages.specs.Items.{item, isBareText, behindBackslash, saidItem, expansion, parenthesis, spreadAt, listsIn, closed, behindTilde, closerLength};
 ghost use Rattle.read_mode.specs.Modes.{modeOf, openIn};
 ghost use Rattle.read_brace.specs.Shows.{Shows};
-ghost use Rattle.read_item.specs.After.{modeAfter, isStop, dollarQuote, special};
+ghost use Rattle.read_item.specs.After.{modeAfter, isStop, isEnd, dollarQuote, special};
 
 // What a backslash is.
 fn escaped_at(text: &[u8], from: Cursor) -> Item
@@ -291,6 +291,36 @@ pub fn item_at(text: &[u8], from: Cursor) -> Item
             byte: b,
             next: at + 1,
         },
+    }
+}
+
+// Does the text end at the place, as its next byte or the line's end says in this mode? Never said of arithmetic, which two bytes end.
+pub fn is_end(text: &[u8], at: usize, mode: Mode) -> bool
+    ensures { λ r. ⌜ r ≡ isEnd mode (drop at (now (text .entry))) ⌝ }
+{
+    if at >= text.len() {
+        return read_mode::may_end(mode);
+    }
+    let b = text[at];
+    match mode {
+        Mode::Word(_) => text::in_class(Class::Blank, b),
+        Mode::Value(_) => text::in_class(Class::Blank, b),
+        Mode::Bare { fresh: _, lists: _ } => b == b'}',
+        Mode::Single(_) => b == b'\'',
+        Mode::Double(_) => b == b'"',
+        Mode::Operand(_) => b == b'}',
+        Mode::Arith(_) => false,
+    }
+}
+
+// How many bytes the end of a text takes in this mode: a word's blank is not part of it.
+pub fn end_length(mode: Mode) -> usize
+    ensures { λ r. ⌜ r ≡ closerLength (modeOf mode) ⌝ }
+{
+    match mode {
+        Mode::Word(_) => 0,
+        Mode::Value(_) => 0,
+        _ => 1,
     }
 }
 

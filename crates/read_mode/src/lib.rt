@@ -6,6 +6,7 @@ ghost use Rattle.stages.specs.Bytes.{isIn, text};
 ghost use Rattle.stages.specs.Syntax.{word, bare, single, double, quotedOperand, arith};
 ghost use Rattle.text.specs.Cases.{colonOf, startOf, listsOf, escapesOf};
 ghost use Rattle.stages.specs.Items.{quotable, notServed, listsIn, both, letBy, ended, wrong, fault, signForm, beginsTilde, loginEnds, endsLogin};
+ghost use Rattle.stages.specs.Items.{sort, isCloser};
 ghost use Rattle.read_mode.specs.Modes.{modeOf, formOf, modeOnward, opensTilde, modeBehind, Operands, Sorted, Shared, quotesSort, plainSort, endsLine};
 use text::numbers;
 
@@ -347,6 +348,21 @@ pub fn behind_byte(mode: Mode, quoted: bool, b: u8) -> Mode
     }
 }
 
+// Does a text of this mode end at the byte? Never said of arithmetic, which two bytes end.
+fn is_closer(mode: Mode, b: u8) -> bool
+    ensures { λ r. ⌜ r ≡ isCloser (sort (modeOf mode) b) ⌝ }
+{
+    match mode {
+        Mode::Word(_) => text::in_class(text::Class::Blank, b),
+        Mode::Value(_) => text::in_class(text::Class::Blank, b),
+        Mode::Bare { fresh: _, lists: _ } => b == b'}',
+        Mode::Single(_) => b == b'\'',
+        Mode::Double(_) => b == b'"',
+        Mode::Operand(_) => b == b'}',
+        Mode::Arith(_) => false,
+    }
+}
+
 // Is the byte one at which a login ends in this mode?
 fn is_login_end(mode: Mode, b: u8) -> bool
     ensures { λ r. ⌜ r ≡ isIn b (loginEnds (modeOf mode)) ⌝ }
@@ -364,11 +380,7 @@ pub fn ends_login(mode: Mode, b: u8) -> bool
     if is_login_end(mode, b) {
         return true;
     }
-    let sort = sort_at(mode, b);
-    match sort {
-        Sort::Closes(_) => true,
-        _ => false,
-    }
+    is_closer(mode, b)
 }
 
 // The number of a byte that does not fit: that of a backquote, else the one given.

@@ -45,7 +45,7 @@ settle-requires : tie.Need-settle-requires
 settle-requires c κs =
     let s = c .before .before .before .before .before .before .before in
     let p = s .pre in
-    (omega (arith, length-take-le (s .args .removal .end) (s .args .work .now) (p .0 .inside), p .0 .few, p .3), omega (arith, p .3))
+    (omega (arith, length-take-le (s .args .removal .end) (s .args .work .now) (p .0 .inside), p .3), omega (arith, p .4))
 
 enum-told : tie.Need-enum-told
 enum-told c = search needs

@@ -38,8 +38,8 @@ use Rattle.expand_text.proofs.+expand_inner+expand_item+expand_quote+ex
 pub +expand-inner+expand-item+expand-quote+expand-sum+expand-text-spec : {M : Type 1} → statement M
 +expand-inner+expand-item+expand-quote+expand-sum+expand-text-spec =
     close μ-expand-inner μ-expand-item μ-expand-quote μ-expand-sum μ-expand-text
-    (λ t. inner-lts.spec (inner.callees t) (expand-inner-at t) expand-inner.Post (inner.slice-reshare-prefix-look-up t) (inner.slice-aggregate-look-up t)
-    (inner.look-up-requires t) (inner.plan-of-requires t) (inner.enum-known-plan t) (inner.read-text-requires t) (inner.enum-known-got t)
+    (λ t. inner-lts.spec (inner.callees t) (expand-inner-at t) expand-inner.Post (inner.slice-reshare-prefix-plan-at t) (inner.slice-aggregate-plan-at t)
+    (inner.plan-at-requires t) (inner.enum-known-plan t) (inner.read-text-requires t) (inner.enum-known-got t)
     (inner.enum-known-got-2 t) (inner.slice-reshare-prefix-settle t) (inner.slice-aggregate-settle t) (inner.settle-requires t) (inner.enum-known-plan-2 t)
     (inner.operand-mark-requires t) (inner.expand-text-requires t) (inner.enum-known-got-3 t) (inner.enum-known-got-4 t) (inner.enum-known-got-5 t)
     (inner.finish-requires t) (inner.enum-told t) (inner.same-length t) (inner.returns t) (inner.same-length-2 t) (inner.same-length-3 t) (inner.returns-2 t)
@@ -71,8 +71,9 @@ pub +expand-inner+expand-item+expand-quote+expand-sum+expand-text-spec : {M : Ty
     λ t. text-lts.spec (text.callees t) (expand-text-at t) expand-text.Post text.Inv-loop text.μ-loop (text.loop-holds t)
     (text.behind-literals-requires t) (text.add-put-run t) (text.mul-front t) (text.sub-put-run t) (text.part-put-run-start t) (text.part-put-run-end t)
     (text.sub-put-run-2 t) (text.part-put-run-start-2 t) (text.part-put-run-end-2 t) (text.put-run-requires t) (text.same-length t) (text.same-length-2 t)
-    (text.returns t) (text.sub-ran t) (text.add-ran t) (text.item-at-requires t) (text.add-t41 t) (text.mul-start t) (text.sub-expand-item t)
-    (text.part-expand-item-start t) (text.part-expand-item-end t) (text.expand-item-requires t) (text.enum-known-got t) (text.same-length-3 t)
-    (text.same-length-4 t) (text.returns-2 t) (text.enum-known-got-2 t) (text.add-t50 t) (text.same-length-5 t) (text.same-length-6 t) (text.returns-3 t)
-    (text.enum-known-got-3 t) (text.add-n t) (text.is-stop-requires t) (text.same-length-7 t) (text.same-length-8 t) (text.returns-4 t)
+    (text.returns t) (text.sub-ran t) (text.add-ran t) (text.is-end-requires t) (text.end-length-requires t) (text.add-t47 t) (text.same-length-3 t)
+    (text.same-length-4 t) (text.returns-2 t) (text.item-at-requires t) (text.add-t41 t) (text.mul-start t) (text.sub-expand-item t)
+    (text.part-expand-item-start t) (text.part-expand-item-end t) (text.expand-item-requires t) (text.enum-known-got t) (text.same-length-5 t)
+    (text.same-length-6 t) (text.returns-3 t) (text.enum-known-got-2 t) (text.add-t53 t) (text.same-length-7 t) (text.same-length-8 t) (text.returns-4 t)
+    (text.enum-known-got-3 t) (text.add-n t) (text.is-stop-requires t) (text.same-length-9 t) (text.same-length-10 t) (text.returns-5 t)
     (text.mode-after-requires t) (text.loop-less t) (text.loop-again t)

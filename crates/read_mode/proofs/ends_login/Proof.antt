@@ -1,9 +1,7 @@
--- A byte at which a login ends, or one whose sort ends the text.
-use mathlib.Core.Path.{sym, ap, _∙_}
-use Rattle.stages.specs.Items.{isCloser}
-use Rattle.read_mode.specs.Modes.{modeOf, sortOf}
-use Rattle.read_mode.specs.declared.Sort.{Sort}
-use Rattle.read_mode.proofs.Closing.{no-closer, byte-ends, sort-ends}
+-- A byte at which a login ends, or one at which the text ends.
+use mathlib.Core.Path.{sym, _∙_}
+use Rattle.read_mode.specs.Modes.{modeOf}
+use Rattle.read_mode.proofs.Closing.{byte-ends, sort-ends}
 use borrow.Author.Needs.{needs}
 use Rattle.read_mode.proofs.ends_login.Statement.{statement}
 use Rattle.read_mode.proofs.ends_login.Tie as tie
@@ -16,26 +14,13 @@ returns c =
     let e = c .before in
     byte-ends (modeOf (e .before .args .mode)) (e .before .args .b) (sym (e .is-login-end .ensures) ∙ c .if1 .taken)
 
-sort-at-requires : tie.Need-sort-at-requires
-sort-at-requires c κs = search needs
-
-enum-told : tie.Need-enum-told
-enum-told c = search needs
+is-closer-requires : tie.Need-is-closer-requires
+is-closer-requires c κs = search needs
 
 returns-2 : tie.Need-returns-2
-unfolding isCloser
 returns-2 c =
-    let s = c .before .before in
-    let e = s .before .before in
-    sym (sort-ends (modeOf (e .before .args .mode)) (e .before .args .b) (sym (e .is-login-end .ensures) ∙ s .before .if1 .left) (s .sort-at .ensures)
-    ∙ ap (λ (x : Sort). isCloser (sortOf x)) (c .enum-told .given .1))
-
-returns-3 : tie.Need-returns-3
-returns-3 c =
-    let s = c .before in
-    let e = s .before .before in
-    sym (sort-ends (modeOf (e .before .args .mode)) (e .before .args .b) (sym (e .is-login-end .ensures) ∙ s .before .if1 .left) (s .sort-at .ensures)
-    ∙ no-closer (s .sort-at .result) (c .match .keys2))
+    let e = c .before .before in
+    c .is-closer .ensures ∙ sort-ends (modeOf (e .before .args .mode)) (e .before .args .b) (sym (e .is-login-end .ensures) ∙ c .before .if1 .left)
 
 pub ends-login-spec : {M : Type 1} → statement M
-ends-login-spec = tie.close (tie.spec is-login-end-requires returns sort-at-requires enum-told returns-2 returns-3)
+ends-login-spec = tie.close (tie.spec is-login-end-requires returns is-closer-requires returns-2)

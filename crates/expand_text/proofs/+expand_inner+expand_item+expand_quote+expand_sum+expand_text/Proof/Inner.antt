@@ -1,6 +1,6 @@
 -- A parameter with an operand: the operand is expanded or only read, and its plan does the rest.
 use Prim.Native.Nat.{ℕ}
-use mathlib.Core.Path.{refl, sym, _∙_}
+use mathlib.Core.Path.{refl, sym}
 use lib.ListN.{length}
 use lib.Seq.{length-take-le}
 use Rattle.read_mode.specs.Modes.{formOf}
@@ -26,8 +26,7 @@ use native.Mathlib.Omega.{arith}
 use Rattle.expand_text.proofs.+expand_inner+expand_item+expand_quote+expand_sum+expand_text.Lts-expand_inner as lts
 use Rattle.expand_text.proofs.expand_inner.Reads as expand-inner
 use Rattle.expand_text.proofs.expand_text.Reads as expand-text
-use Rattle.expand_param.proofs.look_up.Reads as look-up
-use Rattle.expand_form.proofs.plan_of.Reads as plan-of
+use Rattle.expand_text.proofs.plan_at.Reads as plan-at
 use Rattle.read_line.proofs.read_text.Reads as read-text
 use Rattle.expand_operand.proofs.settle.Reads as settle
 use Rattle.expand_form.proofs.operand_mark.Reads as operand-mark
@@ -39,10 +38,8 @@ use Rattle.expand_text.proofs.+expand_inner+expand_item+expand_quote+ex
 
 abbrev pub callees : ℕ → lts.Claims
 callees t = (
-  look-up.Asked,
-  look-up.Learnt,
-  plan-of.Asked,
-  plan-of.Learnt,
+  plan-at.Asked,
+  plan-at.Learnt,
   read-text.Asked,
   read-text.Learnt,
   settle.Asked,
@@ -56,18 +53,18 @@ callees t = (
 )
 
 module _ (t : ℕ) where
-  abbrev began : lts.After-plan-of (callees t) (expand-inner-at t) expand-inner.Post
+  abbrev began : lts.After-plan-at (callees t) (expand-inner-at t) expand-inner.Post
       → lts.Start (callees t) (expand-inner-at t) expand-inner.Post
-  began c = c .before .before .before .before .before .before .before .before .before
+  began c = c .before .before .before .before .before .before .before .before
 
   -- the plan of an operand that is not used, and that is only read
   abbrev unused : lts.After-read-text (callees t) (expand-inner-at t) expand-inner.Post
-      → lts.After-plan-of (callees t) (expand-inner-at t) expand-inner.Post
+      → lts.After-plan-at (callees t) (expand-inner-at t) expand-inner.Post
   unused c = c .before .before .before .before
 
   -- the plan of an operand that is used, and that is expanded
   abbrev used : lts.After-expand-text (callees t) (expand-inner-at t) expand-inner.Post
-      → lts.After-plan-of (callees t) (expand-inner-at t) expand-inner.Post
+      → lts.After-plan-at (callees t) (expand-inner-at t) expand-inner.Post
   used c = c .before .before .before .before .before .before .before
 
   -- the operand was expanded, where it is refused, where it demands a message itself and where it has a row
@@ -102,34 +99,31 @@ module _ (t : ℕ) where
         ready = s .pre .1 .0;
         lends = lending (s .args .params .now) (s .pre .1 .1) (s .pre .1 .2) (s .pre .1 .3);
         listed = refl;
-        found = p .before .look-up .result;
-        shows = p .before .look-up .ensures .shows;
-        planned = sym (c .before .before .before .before .before .plan2 .given .1) ∙ p .plan-of .ensures;
+        own = p .plan-at .result;
+        known = c .before .before .before .before .before .plan2 .given .1;
+        planned = p .plan-at .ensures;
         mark = markOf (c .before .before .before .operand-mark .result);
         is = c .before .before .before .operand-mark .ensures;
         says = c .expand-text .ensures;
       }
 
-  pub slice-reshare-prefix-look-up : lts.Need-slice-reshare-prefix-look-up (callees t) (expand-inner-at t) expand-inner.Post
-  slice-reshare-prefix-look-up c = c .before .before .before .before .before .before .pre .1 .1 .inside
+  pub slice-reshare-prefix-plan-at : lts.Need-slice-reshare-prefix-plan-at (callees t) (expand-inner-at t) expand-inner.Post
+  slice-reshare-prefix-plan-at c = c .before .before .before .before .before .before .pre .1 .1 .inside
 
-  pub slice-aggregate-look-up : lts.Need-slice-aggregate-look-up (callees t) (expand-inner-at t) expand-inner.Post
-  slice-aggregate-look-up c =
+  pub slice-aggregate-plan-at : lts.Need-slice-aggregate-plan-at (callees t) (expand-inner-at t) expand-inner.Post
+  slice-aggregate-plan-at c =
       let s = c .before .before .before .before .before .before .before in
       sym (length-take-le (s .args .extent .«vars_used») (s .args .vars .now) (s .pre .1 .1 .inside))
 
-  pub look-up-requires : lts.Need-look-up-requires (callees t) (expand-inner-at t) expand-inner.Post
-  look-up-requires c κs = let s = c .before .before .before .before .before .before .before in (s .pre .1 .5, table-held _ _ _ (s .pre .1 .1), s .pre .1 .3)
-
-  pub plan-of-requires : lts.Need-plan-of-requires (callees t) (expand-inner-at t) expand-inner.Post
-  plan-of-requires c κs = search needs
+  pub plan-at-requires : lts.Need-plan-at-requires (callees t) (expand-inner-at t) expand-inner.Post
+  plan-at-requires c κs = let s = c .before .before .before .before .before .before .before in (s .pre .1 .5, table-held _ _ _ (s .pre .1 .1), s .pre .1 .3)
 
   pub enum-known-plan : lts.Need-enum-known-plan (callees t) (expand-inner-at t) expand-inner.Post
   enum-known-plan c = search needs
 
   pub read-text-requires : lts.Need-read-text-requires (callees t) (expand-inner-at t) expand-inner.Post
   read-text-requires c κs =
-      let y = c .before .before .before .before .before .before .before .before .before .before .before .before .pre .1 .0 in (y .start, y .opens)
+      let y = began (c .before .before .before) .pre .1 .0 in (y .start, y .opens)
 
   pub enum-known-got : lts.Need-enum-known-got (callees t) (expand-inner-at t) expand-inner.Post
   enum-known-got c = search needs
@@ -158,7 +152,7 @@ module _ (t : ℕ) where
 
   pub expand-text-requires : lts.Need-expand-text-requires (callees t) (expand-inner-at t) expand-inner.Post
   expand-text-requires c κs =
-      let s = c .before .before .before .before .before .before .before .before .before .before .before .before .before .before .before in
+      let s = began (c .before .before .before .before .before .before) in
       (omega (arith, s .pre .0), (s .pre .1 .0, s .pre .1 .1, s .pre .1 .2, s .pre .1 .3))
 
   pub enum-known-got-3 : lts.Need-enum-known-got-3 (callees t) (expand-inner-at t) expand-inner.Post
@@ -193,9 +187,9 @@ module _ (t : ℕ) where
       let p = unused r in
       let s = began p in
       let a = s .args in
-      unused-fault (a .row .units) (formOf (a .named .form)) (markOf (a .row .mark)) (s .pre .1 .0)
-      (lending (a .params .now) (s .pre .1 .1) (s .pre .1 .2) (s .pre .1 .3)) refl (p .before .look-up .ensures .shows)
-      (p .plan-of .ensures) _ _ (reading-known (a .text .now) (a .from .at) _ (r .read-text .ensures) (c .before .got .given .1)) _
+      unused-fault (a .row .units) (a .params .now) (paramOf (a .text .now) (a .named .param)) (formOf (a .named .form)) (markOf (a .row .mark)) (s .pre .1 .0)
+      (lending (a .params .now) (s .pre .1 .1) (s .pre .1 .2) (s .pre .1 .3)) refl
+      (p .plan-at .ensures) _ _ (reading-known (a .text .now) (a .from .at) _ (r .read-text .ensures) (c .before .got .given .1)) _
 
   pub same-length-2 : lts.Need-same-length-2 (callees t) (expand-inner-at t) expand-inner.Post
   same-length-2 c = search needs
@@ -211,9 +205,9 @@ module _ (t : ℕ) where
       let p = unused r in
       let s = began p in
       let a = s .args in
-      unused-given (a .row .units) (formOf (a .named .form)) (markOf (a .row .mark)) (s .pre .1 .0)
-      (lending (a .params .now) (s .pre .1 .1) (s .pre .1 .2) (s .pre .1 .3)) refl (p .before .look-up .ensures .shows)
-      (p .plan-of .ensures) (r .before .before .plan .given .1)
+      unused-given (a .row .units) (a .params .now) (paramOf (a .text .now) (a .named .param)) (formOf (a .named .form)) (markOf (a .row .mark)) (s .pre .1 .0)
+      (lending (a .params .now) (s .pre .1 .1) (s .pre .1 .2) (s .pre .1 .3)) refl
+      (p .plan-at .ensures) (r .before .before .plan .given .1)
       (reading-known (a .text .now) (a .from .at) _ (r .read-text .ensures) (q .got2 .given .1)) _ (g .result)
       (g .ensures (a .extent .«vars_room») (a .extent .shouts) (a .homes .now))
 
@@ -262,6 +256,6 @@ module _ (t : ℕ) where
       let p = c .before .before in
       let s = began p in
       let a = s .args in
-      shouted (a .row .units) (formOf (a .named .form)) (markOf (a .row .mark)) (s .pre .1 .0)
-      (lending (a .params .now) (s .pre .1 .1) (s .pre .1 .2) (s .pre .1 .3)) refl (p .before .look-up .ensures .shows)
-      (p .plan-of .ensures) (c .enum-told .given .1) _ _
+      shouted (a .row .units) (a .params .now) (paramOf (a .text .now) (a .named .param)) (formOf (a .named .form)) (markOf (a .row .mark)) (s .pre .1 .0)
+      (lending (a .params .now) (s .pre .1 .1) (s .pre .1 .2) (s .pre .1 .3)) refl
+      (p .plan-at .ensures) (c .enum-told .given .1) _ _

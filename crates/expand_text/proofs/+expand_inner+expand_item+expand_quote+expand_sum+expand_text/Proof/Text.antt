@@ -1,9 +1,9 @@
 -- A text item by item: the rows of the items that were passed stand at the front of the area, one after the other.
 use Prim.Native.Nat.{ℕ, _+_, _*_, _-_}
 use mathlib.Core.Path.{_≡_, sym, _∙_}
-use mathlib.Core.Bool.{_||_, not}
+use mathlib.Core.Bool.{true, _||_, not}
 use mathlib.Core.Logic.{⊎-elim}
-use lib.ListN.{length, take}
+use lib.ListN.{length, take, drop}
 use borrow.Author.Tests.{not-true, not-false}
 use borrow.Rule.Slice.PartMut.{putMid, same-len-mid, mid-len}
 use Rattle.stages.specs.Bytes.{Text}
@@ -11,7 +11,7 @@ use Rattle.stages.specs.Images.{held}
 use Rattle.row.specs.Marks.{markOf}
 use Rattle.table.specs.Around.{lentOf}
 use Rattle.read_mode.specs.declared.Cursor.{Cursor}
-use Rattle.read_item.specs.After.{modeAfter, isStop}
+use Rattle.read_item.specs.After.{modeAfter, isStop, isEnd}
 use Rattle.expand_text.proofs.Looping.{
   run-fits,
   run-full,
@@ -27,6 +27,8 @@ use Rattle.expand_text.proofs.Looping.{
   going-demanded,
   going-fits,
   going-end,
+  going-close,
+  going-close-within,
   moved,
   going-row,
   came-before,
@@ -39,6 +41,8 @@ use Rattle.expand_text.proofs.expand_item.Reads as expand-item
 use Rattle.expand_text.proofs.expand_text.Reads as expand-text
 use Rattle.read_run.proofs.behind_literals.Reads as behind-literals
 use Rattle.expand_text.proofs.put_run.Reads as put-run
+use Rattle.read_item.proofs.is_end.Reads as is-end
+use Rattle.read_item.proofs.end_length.Reads as end-length
 use Rattle.read_item.proofs.item_at.Reads as item-at
 use Rattle.read_item.proofs.is_stop.Reads as is-stop
 use Rattle.read_item.proofs.mode_after.Reads as mode-after
@@ -53,6 +57,10 @@ callees t = (
   behind-literals.Learnt,
   put-run.Asked,
   put-run.Learnt,
+  is-end.Asked,
+  is-end.Learnt,
+  end-length.Asked,
+  end-length.Learnt,
   item-at.Asked,
   item-at.Learnt,
   expand-item-below t,
@@ -118,7 +126,7 @@ module _ (t : ℕ) where
   -- what stood before an item was expanded
   abbrev stood : lts.After-expand-item (callees t) (expand-text-at t) expand-text.Post Inv-loop μ-loop
       → lts.Else1 (callees t) (expand-text-at t) expand-text.Post Inv-loop μ-loop
-  stood c = c .before .before .before .before .before
+  stood c = c .before .before .before .before .before .before .before
 
   -- an item that was expanded, where it refuses the text, where it demands a message and where it has a row
   abbrev refused : lts.After-known-told (callees t) (expand-text-at t) expand-text.Post Inv-loop μ-loop
@@ -160,13 +168,13 @@ module _ (t : ℕ) where
       (c .expand-item .kept .1 .1 .1 .1 .1 .1 .1 .1 .0)
 
   -- `$@` of no parameters came before the item or in it
-  flagged : (c : lts.Joined2 (callees t) (expand-text-at t) expand-text.Post Inv-loop μ-loop) →
+  flagged : (c : lts.Joined3 (callees t) (expand-text-at t) expand-text.Post Inv-loop μ-loop) →
       let g = c .before in
-      c .if2 .of-none ≡ (run-from (put (stood (given g))) .loop .of-none || g .before .got3 .given .0 .1 .1 .1 .0)
+      c .if3 .of-none ≡ (run-from (put (stood (given g))) .loop .of-none || g .before .got3 .given .0 .1 .1 .1 .0)
   flagged c =
       let g = c .before in
       let before = run-from (put (stood (given g))) .loop .of-none in
-      ⊎-elim (λ w. came-before before _ (w .0 .taken, w .1)) (λ w. came-now before _ (w .0 .left, w .1)) (c .if2 .came)
+      ⊎-elim (λ w. came-before before _ (w .0 .taken, w .1)) (λ w. came-now before _ (w .0 .left, w .1)) (c .if3 .came)
 
   pub loop-holds : lts.Need-loop-holds (callees t) (expand-text-at t) expand-text.Post Inv-loop μ-loop
   loop-holds c =
@@ -225,27 +233,51 @@ module _ (t : ℕ) where
   pub add-ran : lts.Need-add-ran (callees t) (expand-text-at t) expand-text.Post Inv-loop μ-loop
   add-ran c = omega (arith, ran c .fits)
 
+  -- where the text ends, as the next byte says
+  closes : (c : lts.After-end-length (callees t) (expand-text-at t) expand-text.Post Inv-loop μ-loop) →
+      let p = put (c .before .before .before) in
+      isEnd (behind p .mode) (drop (behind p .at) (began p .args .text .now)) ≡ true
+  closes c = sym (c .before .before .is-end .ensures) ∙ c .before .if2 .taken
+
+  pub is-end-requires : lts.Need-is-end-requires (callees t) (expand-text-at t) expand-text.Post Inv-loop μ-loop
+  is-end-requires c κs = search needs
+
+  pub end-length-requires : lts.Need-end-length-requires (callees t) (expand-text-at t) expand-text.Post Inv-loop μ-loop
+  end-length-requires c κs = search needs
+
+  pub add-t47 : lts.Need-add-t47 (callees t) (expand-text-at t) expand-text.Post Inv-loop μ-loop
+  add-t47 c = omega (arith, going-close-within (ran (c .before .before .before)) (closes c) (c .end-length .ensures))
+
+  pub same-length-3 : lts.Need-same-length-3 (callees t) (expand-text-at t) expand-text.Post Inv-loop μ-loop
+  same-length-3 c = ran (c .before .before .before) .same
+
+  pub same-length-4 : lts.Need-same-length-4 (callees t) (expand-text-at t) expand-text.Post Inv-loop μ-loop
+  same-length-4 c = ran (c .before .before .before) .long
+
+  pub returns-2 : lts.Need-returns-2 (callees t) (expand-text-at t) expand-text.Post Inv-loop μ-loop
+  returns-2 c = going-close (ran (c .before .before .before)) (closes c) (c .end-length .ensures)
+
   pub item-at-requires : lts.Need-item-at-requires (callees t) (expand-text-at t) expand-text.Post Inv-loop μ-loop
-  item-at-requires c κs = (ran c .within, ran c .opens)
+  item-at-requires c κs = let r = ran (c .before .before) in (r .within, r .opens)
 
   pub add-t41 : lts.Need-add-t41 (callees t) (expand-text-at t) expand-text.Post Inv-loop μ-loop
-  add-t41 c = omega (arith, ran (c .before .before) .fits)
+  add-t41 c = omega (arith, ran (c .before .before .before .before) .fits)
 
   pub mul-start : lts.Need-mul-start (callees t) (expand-text-at t) expand-text.Post Inv-loop μ-loop
-  mul-start c = omega (arith, ran (c .before .before) .fits)
+  mul-start c = omega (arith, ran (c .before .before .before .before) .fits)
 
   pub sub-expand-item : lts.Need-sub-expand-item (callees t) (expand-text-at t) expand-text.Post Inv-loop μ-loop
-  sub-expand-item c = omega (arith, going-room (ran (c .before .before .before)))
+  sub-expand-item c = omega (arith, going-room (ran (c .before .before .before .before .before)))
 
   pub part-expand-item-start : lts.Need-part-expand-item-start (callees t) (expand-text-at t) expand-text.Post Inv-loop μ-loop
-  part-expand-item-start c = omega (arith, going-room (ran (c .before .before .before)))
+  part-expand-item-start c = omega (arith, going-room (ran (c .before .before .before .before .before)))
 
   pub part-expand-item-end : lts.Need-part-expand-item-end (callees t) (expand-text-at t) expand-text.Post Inv-loop μ-loop
-  part-expand-item-end c = omega (arith, going-room (ran (c .before .before .before)))
+  part-expand-item-end c = omega (arith, going-room (ran (c .before .before .before .before .before)))
 
   pub expand-item-requires : lts.Need-expand-item-requires (callees t) (expand-text-at t) expand-text.Post Inv-loop μ-loop
   expand-item-requires c κs =
-      let e = c .before .before .before .before in
+      let e = c .before .before .before .before .before .before in
       let p = put e in
       let s = began p in
       let y = s .pre .1 .0 in
@@ -264,20 +296,20 @@ module _ (t : ℕ) where
   pub enum-known-got : lts.Need-enum-known-got (callees t) (expand-text-at t) expand-text.Post Inv-loop μ-loop
   enum-known-got c = search needs
 
-  pub same-length-3 : lts.Need-same-length-3 (callees t) (expand-text-at t) expand-text.Post Inv-loop μ-loop
-  same-length-3 c = same-vars (refused c) ∙ ran (stood (refused c)) .same
+  pub same-length-5 : lts.Need-same-length-5 (callees t) (expand-text-at t) expand-text.Post Inv-loop μ-loop
+  same-length-5 c = same-vars (refused c) ∙ ran (stood (refused c)) .same
 
-  pub same-length-4 : lts.Need-same-length-4 (callees t) (expand-text-at t) expand-text.Post Inv-loop μ-loop
-  same-length-4 c = same-work (refused c) ∙ ran (stood (refused c)) .long
+  pub same-length-6 : lts.Need-same-length-6 (callees t) (expand-text-at t) expand-text.Post Inv-loop μ-loop
+  same-length-6 c = same-work (refused c) ∙ ran (stood (refused c)) .long
 
-  pub returns-2 : lts.Need-returns-2 (callees t) (expand-text-at t) expand-text.Post Inv-loop μ-loop
-  returns-2 c = going-refused (expanding (refused c)) _ (c .before .got .given .1)
+  pub returns-3 : lts.Need-returns-3 (callees t) (expand-text-at t) expand-text.Post Inv-loop μ-loop
+  returns-3 c = going-refused (expanding (refused c)) _ (c .before .got .given .1)
 
   pub enum-known-got-2 : lts.Need-enum-known-got-2 (callees t) (expand-text-at t) expand-text.Post Inv-loop μ-loop
   enum-known-got-2 c = search needs
 
-  pub add-t50 : lts.Need-add-t50 (callees t) (expand-text-at t) expand-text.Post Inv-loop μ-loop
-  add-t50 c =
+  pub add-t53 : lts.Need-add-t53 (callees t) (expand-text-at t) expand-text.Post Inv-loop μ-loop
+  add-t53 c =
       let e = demanded c in
       let p = put (stood e) in
       let r = ran (stood e) in
@@ -291,14 +323,14 @@ module _ (t : ℕ) where
         began p .good .1 .1 .1 .1 .1 .1 .1 .0,
       )
 
-  pub same-length-5 : lts.Need-same-length-5 (callees t) (expand-text-at t) expand-text.Post Inv-loop μ-loop
-  same-length-5 c = same-vars (demanded c) ∙ ran (stood (demanded c)) .same
+  pub same-length-7 : lts.Need-same-length-7 (callees t) (expand-text-at t) expand-text.Post Inv-loop μ-loop
+  same-length-7 c = same-vars (demanded c) ∙ ran (stood (demanded c)) .same
 
-  pub same-length-6 : lts.Need-same-length-6 (callees t) (expand-text-at t) expand-text.Post Inv-loop μ-loop
-  same-length-6 c = same-work (demanded c) ∙ ran (stood (demanded c)) .long
+  pub same-length-8 : lts.Need-same-length-8 (callees t) (expand-text-at t) expand-text.Post Inv-loop μ-loop
+  same-length-8 c = same-work (demanded c) ∙ ran (stood (demanded c)) .long
 
-  pub returns-3 : lts.Need-returns-3 (callees t) (expand-text-at t) expand-text.Post Inv-loop μ-loop
-  returns-3 c = going-demanded (expanding (demanded c)) (c .before .got2 .given .1) _
+  pub returns-4 : lts.Need-returns-4 (callees t) (expand-text-at t) expand-text.Post Inv-loop μ-loop
+  returns-4 c = going-demanded (expanding (demanded c)) (c .before .got2 .given .1) _
 
   pub enum-known-got-3 : lts.Need-enum-known-got-3 (callees t) (expand-text-at t) expand-text.Post Inv-loop μ-loop
   enum-known-got-3 c = search needs
@@ -309,16 +341,16 @@ module _ (t : ℕ) where
   pub is-stop-requires : lts.Need-is-stop-requires (callees t) (expand-text-at t) expand-text.Post Inv-loop μ-loop
   is-stop-requires c κs = search needs
 
-  pub same-length-7 : lts.Need-same-length-7 (callees t) (expand-text-at t) expand-text.Post Inv-loop μ-loop
-  same-length-7 c = let e = given (c .before .before .before) in same-vars e ∙ ran (stood e) .same
+  pub same-length-9 : lts.Need-same-length-9 (callees t) (expand-text-at t) expand-text.Post Inv-loop μ-loop
+  same-length-9 c = let e = given (c .before .before .before) in same-vars e ∙ ran (stood e) .same
 
-  pub same-length-8 : lts.Need-same-length-8 (callees t) (expand-text-at t) expand-text.Post Inv-loop μ-loop
-  same-length-8 c = let e = given (c .before .before .before) in same-work e ∙ ran (stood e) .long
+  pub same-length-10 : lts.Need-same-length-10 (callees t) (expand-text-at t) expand-text.Post Inv-loop μ-loop
+  same-length-10 c = let e = given (c .before .before .before) in same-work e ∙ ran (stood e) .long
 
-  pub returns-4 : lts.Need-returns-4 (callees t) (expand-text-at t) expand-text.Post Inv-loop μ-loop
-  returns-4 c =
+  pub returns-5 : lts.Need-returns-5 (callees t) (expand-text-at t) expand-text.Post Inv-loop μ-loop
+  returns-5 c =
       let g = c .before .before .before in
-      going-end (expanding (given g)) (g .before .got3 .given .1) (flagged (c .before .before)) (sym (c .before .is-stop .ensures) ∙ c .if3 .taken) _
+      going-end (expanding (given g)) (g .before .got3 .given .1) (flagged (c .before .before)) (sym (c .before .is-stop .ensures) ∙ c .if4 .taken) _
 
   pub mode-after-requires : lts.Need-mode-after-requires (callees t) (expand-text-at t) expand-text.Post Inv-loop μ-loop
   mode-after-requires c κs = search needs
@@ -326,12 +358,12 @@ module _ (t : ℕ) where
   pub loop-less : lts.Need-loop-less (callees t) (expand-text-at t) expand-text.Post Inv-loop μ-loop
   loop-less c =
       let g = c .before .before .before .before in
-      let m = moved (expanding (given g)) (g .before .got3 .given .1) (sym (c .before .before .is-stop .ensures) ∙ c .before .if3 .left) in
+      let m = moved (expanding (given g)) (g .before .got3 .given .1) (sym (c .before .before .is-stop .ensures) ∙ c .before .if4 .left) in
       let p = put (stood (given g)) in
       omega (arith, p .before .before .before .before .behind-literals .ensures .run .onward, m .onward, m .within)
 
   pub loop-again : lts.Need-loop-again (callees t) (expand-text-at t) expand-text.Post Inv-loop μ-loop
   loop-again c =
       let g = c .before .before .before .before in
-      going-row (expanding (given g)) (g .before .got3 .given .1) (sym (c .before .before .is-stop .ensures) ∙ c .before .if3 .left)
+      going-row (expanding (given g)) (g .before .got3 .given .1) (sym (c .before .before .is-stop .ensures) ∙ c .before .if4 .left)
       (flagged (c .before .before .before)) (c .mode-after .ensures) _ (same-work (given g)) (same-vars (given g))
