@@ -21,7 +21,7 @@ use Rattle.pattern_unit.proofs.Units.{two-on}
 use Rattle.pattern_row.specs.Kept.{withoutEmpty, kept, NoEmpty, Dropped}
 
 -- the first unit of a row stays if its mark is that of a byte
-kept-first : (b m : ℕ) (t : Text) → kept (b ∷ m ∷ t) ≡ pick (isMark m) (b ∷ m ∷ kept t) (kept t)
+pub kept-first : (b m : ℕ) (t : Text) → kept (b ∷ m ∷ t) ≡ pick (isMark m) (b ∷ m ∷ kept t) (kept t)
 unfolding kept withoutEmpty rowBytes rowOf unitOf
 kept-first b m t = go (eqb m 1) (eqb m 2) (eqb m 3) (eqb m 4) (λ e. eqb-true m 1 e) (λ e. eqb-true m 2 e) (λ e. eqb-true m 3 e)
   where
@@ -34,7 +34,7 @@ kept-first b m t = go (eqb m 1) (eqb m 2) (eqb m 3) (eqb m 4) (λ e. eqb-true m 
     go false false false true e f g = refl
     go false false false false e f g = refl
 
-kept-few : (t : Text) → length t ≤ 1 → kept t ≡ []
+pub kept-few : (t : Text) → length t ≤ 1 → kept t ≡ []
 unfolding kept withoutEmpty rowBytes rowOf
 kept-few [] h = refl
 kept-few (b ∷ []) h = refl

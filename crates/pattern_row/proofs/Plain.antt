@@ -12,9 +12,11 @@ use Rattle.stages.specs.Outcome.{pick}
 use Rattle.stages.specs.Pattern.{Sign, Signs, element, extra, elements, hasClass}
 use Rattle.stages.specs.Paths.{active}
 use Rattle.stages.proofs.Bools.{and-left, and-right, or-neither}
-use Rattle.text.specs.Rows.{signsOf}
+use Rattle.text.specs.Rows.{isMark, signsOf}
 use Rattle.pattern_unit.proofs.Units.{two-on}
+use Rattle.pattern_row.specs.Kept.{kept}
 use Rattle.pattern_row.specs.Plain.{plain}
+use Rattle.pattern_row.proofs.Keeping.{kept-first, kept-few}
 
 pub sign : (b k : ℕ) → isIn k (text "*?[") ≡ true → b ≡ k → isIn b (text "*?[") ≡ true
 sign b k h e = ap (λ (n : ℕ). isIn n (text "*?[")) e ∙ h
@@ -89,3 +91,15 @@ module _ (path : Bool) where
   plain-still (b ∷ m ∷ t) e =
       still-active path (pick (eqb m 3) false true) (signsOf t) (still-byte b (and-left (not (isIn b (text "*?["))) (plain t) e))
       ∙ plain-still t (and-right (not (isIn b (text "*?["))) (plain t) e)
+
+-- what is kept of plain units is plain
+pub plain-kept : (t : Text) → plain t ≡ true → plain (kept t) ≡ true
+unfolding plain
+plain-kept [] e = ap plain (kept-few [] (omega arith))
+plain-kept (b ∷ []) e = ap plain (kept-few (b ∷ []) (omega arith))
+plain-kept (b ∷ m ∷ t) e = ap plain (kept-first b m t) ∙ go (isMark m)
+    (plain-kept t (and-right (not (isIn b (text "*?["))) (plain t) e))
+  where
+    go : (x : Bool) → plain (kept t) ≡ true → plain (pick x (b ∷ m ∷ kept t) (kept t)) ≡ true
+    go true h = ap (λ (y : Bool). y && plain (kept t)) (and-left (not (isIn b (text "*?["))) (plain t) e) ∙ h
+    go false h = h

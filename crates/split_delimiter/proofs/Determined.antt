@@ -11,7 +11,7 @@ use Rattle.stages.specs.Units.{Row}
 use Rattle.stages.specs.Split.{dropWhite, dropHard}
 use Rattle.text.specs.Rows.{rowOf}
 use Rattle.text.proofs.Determined.{one-answer}
-use Rattle.split_delimiter.specs.Places.{ahead, goesOn, Reaches}
+use Rattle.split_delimiter.specs.Places.{ahead, goesOn, highest, Reaches}
 use Rattle.split_delimiter.specs.Parts.{behindBreak, PartEnds}
 
 -- two bytes for each unit, and perhaps an odd last one
@@ -26,6 +26,9 @@ ahead-length row at = (omega (arith, row-length (drop at row) .0, length-drop at
 
 pub goes-on-determined : (ifs row : Text) (at : ℕ) (r s : Bool) → r ≡ goesOn ifs (ahead row at) → s ≡ goesOn ifs (ahead row at) → r ≡ s
 goes-on-determined ifs row at r s = one-answer
+
+pub highest-of-determined : (ifs : Text) (r s : ℕ) → r ≡ highest 0 ifs → s ≡ highest 0 ifs → r ≡ s
+highest-of-determined ifs r s = one-answer
 
 module _ {row : Text} {at : ℕ} where
   one-place : {to to′ : ℕ} {r : Row} → Reaches row at to r → Reaches row at to′ r → to ≡ to′

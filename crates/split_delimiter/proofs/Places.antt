@@ -2,18 +2,19 @@
 use Prim.Native.Nat.{ℕ, suc, _+_, _-_, _*_, _≤_, _<_}
 use native.Mathlib.Omega.{arith}
 use mathlib.Core.Path.{_≡_, refl, sym, ap, _∙_}
-use mathlib.Core.Bool.{Bool, true, false}
+use native.Mathlib.Numerals.{add-one}
+use mathlib.Core.Bool.{Bool, true, false, _||_}
 use mathlib.Core.List.{[], _∷_}
 use lib.Dec.{eqb, ltb}
-use lib.ListN.{length, drop, getD, length-drop}
+use lib.ListN.{length, drop, getD, length-drop, drop-of-length-le}
 use lib.Seq.{drop-cons}
-use borrow.Author.Tests.{ltb-true, ltb-false, ne-eqb}
+use borrow.Author.Tests.{lt-ltb, le-ltb, ltb-true, ltb-false, ne-eqb, eqb-true, eqb-false}
 use Rattle.stages.specs.Bytes.{Text, isIn, isBlank}
 use Rattle.stages.specs.Outcome.{pick}
 use Rattle.stages.specs.Units.{L, E, Q, Cell, cell, N, B, Row}
 use Rattle.stages.specs.Split.{Delimiter, white, hard, other, delimiter, dropWhite, dropHard}
 use Rattle.text.specs.Rows.{unitOf, rowOf}
-use Rattle.split_delimiter.specs.Places.{ahead, first, isOther, goesOn, Reaches}
+use Rattle.split_delimiter.specs.Places.{ahead, first, isOther, goesOn, highest, Reaches}
 
 -- a place
 
@@ -91,6 +92,59 @@ module _ (ifs row : Text) (at : ℕ) where
   goes-unit d l e =
       let f : d ≡ delimiter ifs (unitOf (getD row at 0) (getD row (at + 1) 0)) = e ∙ rw (unit-ahead row at l) in
       rw (unit-ahead row at l) (ap isOther f)
+
+  -- whatever its mark is, a unit whose byte is not in IFS is no delimiter
+  goes-outside : 1 < length row - at → isIn (getD row at 0) ifs ≡ false → true ≡ goesOn ifs (ahead row at)
+  goes-outside l e = goes-unit other l (go (eqb (getD row (at + 1) 0) 2) refl)
+    where
+      go : (x : Bool) → eqb (getD row (at + 1) 0) 2 ≡ x → other ≡ first ifs (ahead row at)
+      go true q = place-outside l (eqb-true (getD row (at + 1) 0) 2 q) e
+      go false q = place-other l (eqb-false (getD row (at + 1) 0) 2 q)
+
+-- `highest_of`
+
+-- the bytes before a place are looked at
+pub record Topping (t : Text) (i top : ℕ) : Type 0 where
+  pub within : i ≤ length t
+  pub same : highest 0 t ≡ highest top (drop i t)
+
+pub top-start : (t : Text) → Topping t 0 0
+top-start t = record { within = omega arith; same = refl }
+
+module _ {t : Text} {i top : ℕ} (p : Topping t i top) where
+  pub top-end : length t ≤ i → top ≡ highest 0 t
+  unfolding highest
+  top-end h = sym (p .same ∙ rw (drop-of-length-le t h))
+
+  module _ (h : i < length t) where
+    on : Topping t (i + 1) (pick (ltb top (getD t i 0)) (getD t i 0) top)
+    unfolding highest
+    on = record { within = omega arith; same = p .same ∙ rw (drop-cons t i 0, add-one i) }
+
+    pub top-higher : top < getD t i 0 → Topping t (i + 1) (getD t i 0)
+    top-higher l = rw (lt-ltb top (getD t i 0) l) at on
+
+    pub top-stays : getD t i 0 ≤ top → Topping t (i + 1) top
+    top-stays l = rw (le-ltb top (getD t i 0) l) at on
+
+-- a byte above the highest is none of them
+above : (k top : ℕ) (t : Text) → highest top t < k → (top < k) × (isIn k t ≡ false)
+unfolding highest
+above k top [] h = (h, refl)
+above k top (b ∷ t) h = go (ltb top b) refl (above k (pick (ltb top b) b top) t h)
+  where
+    go : (x : Bool) → ltb top b ≡ x → (pick (ltb top b) b top < k) × (isIn k t ≡ false) → (top < k) × (isIn k (b ∷ t) ≡ false)
+    go true e p =
+        let l = ltb-true top b e in
+        let u : b < k = rw e at (p .0) in
+        (omega arith, rw (ne-eqb k b (λ q. omega (arith, q, u)), p .1))
+    go false e p =
+        let l = ltb-false top b e in
+        let u : top < k = rw e at (p .0) in
+        (u, rw (ne-eqb k b (λ q. omega (arith, q, u, l)), p .1))
+
+pub goes-above : (ifs row : Text) (at top : ℕ) → highest 0 ifs ≤ top → 1 < length row - at → top < getD row at 0 → true ≡ goesOn ifs (ahead row at)
+goes-above ifs row at top h l k = goes-outside ifs row at l (above (getD row at 0) 0 ifs (omega arith) .1)
 
 -- `skip_white` and `behind_field`
 

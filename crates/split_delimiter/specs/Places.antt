@@ -3,8 +3,10 @@ use Prim.Native.Nat.{ℕ, _+_, _*_, _≤_}
 use mathlib.Core.Path.{_≡_}
 use mathlib.Core.Bool.{Bool, true, false}
 use mathlib.Core.List.{[], _∷_}
+use lib.Dec.{ltb}
 use lib.ListN.{length, drop}
 use Rattle.stages.specs.Bytes.{Text}
+use Rattle.stages.specs.Outcome.{pick}
 use Rattle.stages.specs.Units.{Row}
 use Rattle.stages.specs.Split as stage
 use Rattle.text.specs.Rows.{rowOf}
@@ -37,6 +39,11 @@ unfoldable pub goesOn : Text → Row → Bool
 unfolding stage.delimiter
 goesOn ifs [] = false
 goesOn ifs (c ∷ r) = isOther (stage.delimiter ifs c)
+
+-- the highest of a number and a text's bytes
+unfoldable pub highest : ℕ → Text → ℕ
+highest top [] = top
+highest top (b ∷ t) = highest (pick (ltb top b) b top) t
 
 -- the place `to`, whole units behind `at`, has these units ahead of it
 pub record Reaches (row : Text) (at to : ℕ) (r : Row) : Type 0 where

@@ -1,10 +1,11 @@
-// What divides a row: its break marks; what a unit is by IFS, whether a field goes on with it, and the place behind the delimiters at a place.
+// What divides a row: its break marks; what a unit is by IFS, whether a field goes on with it, and the place behind the delimiters at a place. The
+// highest byte of IFS tells most units that are no delimiters by one comparison.
 ghost use mathlib.Core.Path.{_≡_};
 ghost use Prim.Native.Nat.{_≤_};
 ghost use lib.ListN.{length};
 ghost use Rattle.stages.specs.Split.{dropWhite, dropHard};
 ghost use Rattle.split_delimiter.specs.Parts.{PartEnds};
-ghost use Rattle.split_delimiter.specs.Places.{delimiterOf, ahead, first, goesOn, Reaches};
+ghost use Rattle.split_delimiter.specs.Places.{delimiterOf, ahead, first, goesOn, highest, Reaches};
 use text::Class;
 use text::marks;
 
@@ -36,13 +37,32 @@ fn delimiter_at(row: &[u8], at: usize, ifs: &[u8]) -> Delimiter
     Delimiter::Hard
 }
 
-// Does a field go on with the unit at a place?
-pub fn goes_on(row: &[u8], at: usize, ifs: &[u8]) -> bool
-    requires { ⌜ at ≤ length (now row) ⌝ }
+// The highest byte of IFS, 0 if there is none.
+pub fn highest_of(ifs: &[u8]) -> u8
+    ensures { λ r. ⌜ r ≡ highest 0 (now (ifs .entry)) ⌝ }
+{
+    let mut top: u8 = 0;
+    let mut i: usize = 0;
+    while i < ifs.len() {
+        let b = ifs[i];
+        if top < b {
+            top = b;
+        }
+        i += 1;
+    }
+    top
+}
+
+// Does a field go on with the unit at a place? No byte of IFS is above `top`.
+pub fn goes_on(row: &[u8], at: usize, ifs: &[u8], top: u8) -> bool
+    requires { ⌜ (at ≤ length (now row)) × (highest 0 (now ifs) ≤ top) ⌝ }
     ensures { λ r. ⌜ r ≡ goesOn (now (ifs .entry)) (ahead (now (row .entry)) at) ⌝ }
 {
     if row.len() - at <= 1 {
         return false;
+    }
+    if top < row[at] {
+        return true;
     }
     match delimiter_at(row, at, ifs) {
         Delimiter::White => false,

@@ -18,7 +18,7 @@ use Rattle.text.specs.Rows.{rowOf, signsOf}
 use Rattle.pattern_row.specs.Kept.{kept, NoEmpty, Dropped}
 use Rattle.pattern_row.specs.Plain.{plain}
 use Rattle.pattern_row.proofs.Keeping.{kept-bytes, kept-full, kept-pattern, full-refused, full-done, dropped-front}
-use Rattle.pattern_row.proofs.Plain.{plain-served, plain-still}
+use Rattle.pattern_row.proofs.Plain.{plain-served, plain-still, plain-kept}
 use Rattle.table.specs.Pieces.{textsFrom}
 use Rattle.pattern_paths.specs.Chosen.{Walks, Tells, nothing, path, NextSays}
 use Rattle.pattern_paths.specs.declared.Next.{Next}
@@ -179,9 +179,9 @@ module _ (paths : List Text) {field : Text} (f : NoEmpty field) {used : ℕ} {ol
   settled-texts n s = rw (full-done forPaths f n) s
 
   -- among the signs of a plain one is none that is special
-  pub plain-own : plain field ≡ true → {r : Written} → Says (done (bytes (rowOf field) ∷ [])) used old after r
+  plain-full : plain field ≡ true → {r : Written} → Says (done (bytes (rowOf field) ∷ [])) used old after r
       → Says (fieldTexts paths (rowOf field)) used old after r
-  plain-own e s =
+  plain-full e s =
       settled-texts (plain-served true field e)
       (own-only paths (rowOf field) (elements true 0 (signsOf field)) (plain-still true field e) s)
 
@@ -191,7 +191,7 @@ pub says-again : (paths : List Text) {field spent : Text} {used : ℕ} {old left
     → Says (fieldTexts paths (rowOf spent)) used left after r → Says (fieldTexts paths (rowOf field)) used old after r
 says-again paths e f s = rw (← e, ← f) s
 
--- `put_field`: N vanishes first, which neither patterns nor a field's bytes see
+-- `put_field`: N vanishes, which neither patterns nor a field's bytes see
 
 paths-bytes : (paths : List Text) (p : List Element) (r s : Row) → bytes r ≡ bytes s → pathsFor paths r p ≡ pathsFor paths s p
 unfolding pathsFor
@@ -201,19 +201,25 @@ paths-bytes paths p r s e = go (active p) refl
     go true q = rw (q, pathsFor, e)
     go false q = rw (q, pathsFor, e)
 
-module _ (paths : List Text) {field row : Text} {n : ℕ} (d : Dropped field row n) where
+module _ (paths : List Text) (field : Text) where
   texts-of : (o : Outcome (List Element)) → (o >>= λ p. done (pathsFor paths (rowOf (kept field)) p)) ≡ (o >>= λ p. done (pathsFor paths (rowOf field) p))
   texts-of (refused e) = refl
   texts-of (demands t) = refl
   texts-of (done p) = ap done (paths-bytes paths p (rowOf (kept field)) (rowOf field) (kept-bytes field))
 
-  same-texts : fieldTexts paths (rowOf (take n row)) ≡ fieldTexts paths (rowOf field)
+  same-texts : fieldTexts paths (rowOf (kept field)) ≡ fieldTexts paths (rowOf field)
   unfolding fieldTexts
-  same-texts = rw (dropped-front d, kept-pattern forPaths field) (texts-of (pattern forPaths (rowOf field)))
+  same-texts = rw (kept-pattern forPaths field) (texts-of (pattern forPaths (rowOf field)))
 
+  -- a plain field is plain without its N
+  pub plain-own : plain field ≡ true → {used : ℕ} {old after : Text} {r : Written} → Says (done (bytes (rowOf field) ∷ [])) used old after r
+      → Says (fieldTexts paths (rowOf field)) used old after r
+  plain-own e s = rw (← same-texts) (plain-full paths (kept-full field) (plain-kept field e) (rw (kept-bytes field) s))
+
+module _ (paths : List Text) {field row : Text} {n : ℕ} (d : Dropped field row n) where
   pub dropped-says : {used : ℕ} {old after : Text} {r : Written} → Says (fieldTexts paths (rowOf (take n row))) used old after r
       → Says (fieldTexts paths (rowOf field)) used old after r
-  dropped-says s = rw (← same-texts) s
+  dropped-says s = rw (← same-texts paths field, ← dropped-front d) s
 
   pub dropped-full : NoEmpty (take n row)
   dropped-full = rw (dropped-front d) (kept-full field)

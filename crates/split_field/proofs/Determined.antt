@@ -1,5 +1,5 @@
--- What the contracts of `put_field` and `put_text` allow for one input is one answer, and where it accepts or refuses a class, one output. Their exceptions:
--- after 21 the bytes of the output from `used` on, and the spent field in every case.
+-- What the contracts of `put_field`, `put_own` and `put_text` allow for one input is one answer, and where it accepts or refuses a class, one output.
+-- Their exceptions: after 21 the bytes of the output from `used` on, and the spent field in every case.
 use Prim.Native.Nat.{ℕ}
 use native.Mathlib.Omega.{arith}
 use mathlib.Core.Path.{_≡_, refl, sym, ap, _∙_, subst}
@@ -54,6 +54,10 @@ answered-one put.NoRoom put.NoRoom e = refl
 pub put-text-determined : {o : Outcome (List Text)} {used : ℕ} {old left left′ : Text} (r s : Put) → Says o used old left (answered r)
     → Says o used old left′ (answered s) → r ≡ s
 put-text-determined r s p q = answered-one r s (says-determined p q)
+
+pub put-own-determined : {o : Outcome (List Text)} {used : ℕ} {old left left′ : Text} (r s : Put) → Says o used old left (answered r)
+    → Says o used old left′ (answered s) → r ≡ s
+put-own-determined = put-text-determined
 
 -- one field: of the output also where a class refuses it
 module _ {o : Outcome (List Text)} {used : ℕ} {old left left′ : Text} {r s : Written} (p : PutsOne o used old left r) (q : PutsOne o used old left′ s) where

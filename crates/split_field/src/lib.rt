@@ -61,8 +61,8 @@ pub fn put_text(text: &[u8], out: &mut [u8], used: usize) -> Put
     }
 }
 
-// Writes a field's own bytes: "At last marks go and N vanishes."
-fn put_own(field: &mut [u8], out: &mut [u8], used: usize) -> Put
+// Writes a field's own bytes: "At last marks go and N vanishes." Its units are spent.
+pub fn put_own(field: &mut [u8], out: &mut [u8], used: usize) -> Put
     requires { ⌜ (used ≤ length (now out)) × (length (now out) ≤ imageLimit) ⌝ }
     ensures { λ r. ⌜ Says (done (bytes (rowOf (now (field .entry))) ∷ [])) used (now (out .entry)) (now (out .exit)) (answered r) ⌝ }
 {
@@ -192,15 +192,15 @@ fn put_pattern(field: &mut [u8], paths: &[u8], out: &mut [u8], used: usize) -> W
     }
 }
 
-// Writes what a field becomes, if it has no class. Its units are spent.
+// Writes what a field becomes, if it has no class. Its units are spent. A plain field keeps its N so far, since its own bytes are without them anyway.
 pub fn put_field(field: &mut [u8], paths: &[u8], out: &mut [u8], used: usize) -> Written
     requires { ⌜ (used ≤ length (now out)) × (length (now out) ≤ imageLimit) ⌝ }
     requires { ⌜ Listed (now paths) × (length (now field) ≤ 2 * rowLimit) ⌝ }
     ensures { λ r. ⌜ PutsOne (fieldTexts (heldTexts (now (paths .entry))) (rowOf (now (field .entry)))) used (now (out .entry)) (now (out .exit)) r ⌝ }
 {
-    let n = pattern_row::drop_empty(field);
-    if pattern_row::is_plain(&field[..n]) {
-        return answer_of(put_own(&mut field[..n], out, used));
+    if pattern_row::is_plain(field) {
+        return answer_of(put_own(field, out, used));
     }
+    let n = pattern_row::drop_empty(field);
     put_pattern(&mut field[..n], paths, out, used)
 }

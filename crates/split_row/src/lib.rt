@@ -1,5 +1,6 @@
-// A row of units to fields, and what those become behind the output's used part. The row is cut at its break marks. The walk over a part is one pass of
-// two nested loops: the outer one takes field by field, the inner one finds a field's end.
+// A row of units to fields, and what those become behind the output's used part. A row with nothing to divide it and no sign of patterns is one field, its
+// own bytes. Any other row is cut at its break marks. The walk over a part is one pass of two nested loops: the outer one takes field by field, the inner
+// one finds a field's end.
 ghost use mathlib.Core.Path.{_≡_};
 ghost use Prim.Native.Nat.{_≤_, _*_};
 ghost use lib.ListN.{length, take};
@@ -11,8 +12,11 @@ ghost use Rattle.stages.specs.Paths.{textsOfFields};
 ghost use Rattle.text.specs.Rows.{rowOf};
 ghost use Rattle.table.specs.Places.{Listed, Table};
 ghost use Rattle.split_field.specs.Answers.{Says, Puts};
+ghost use Rattle.split_row.specs.Quiet.{quietUnit, quiet};
 use split_field::Written;
 use table::Found;
+use table_store::Put;
+use text::marks;
 
 // Splits a part of a row into its fields and writes what they become. Each field is taken where it stands, since the walk never comes back to it. All fields
 // are checked for a class before one that does not fit refuses the part, so the walk goes on behind it.
@@ -22,13 +26,14 @@ fn put_fields(row: &mut [u8], ifs: &[u8], paths: &[u8], out: &mut [u8], used: us
     ensures { λ r. ⌜ Says (textsOfFields (heldTexts (now (paths .entry))) (split (now (ifs .entry)) (rowOf (now (row .entry))))) used (now (out .entry))
         (now (out .exit)) r ⌝ }
 {
+    let top = split_delimiter::highest_of(ifs);
     let mut at = split_delimiter::skip_white(row, 0, ifs);
     let mut len = used;
     let mut full = false;
     while row.len() - at > 1 {
         let mut end = at;
         let next = loop {
-            if !split_delimiter::goes_on(row, end, ifs) {
+            if !split_delimiter::goes_on(row, end, ifs, top) {
                 break split_delimiter::behind_field(row, end, ifs);
             }
             end += 2;
@@ -87,8 +92,38 @@ fn ifs_of<'a>(vars: &'a [u8], unset: &'a [u8]) -> &'a [u8]
     }
 }
 
+// Is a unit nothing but its byte in every row, or N? A quoted one is, and a literal one that is no `*`, `?` or `[`.
+fn is_quiet_unit(b: u8, mark: u8) -> bool
+    ensures { λ r. ⌜ r ≡ quietUnit b mark ⌝ }
+{
+    if mark == marks::QUOTED {
+        return true;
+    }
+    if mark == marks::LITERAL {
+        return !text::is_in(b, b"*?[");
+    }
+    if mark == marks::EXPANDED {
+        return false;
+    }
+    mark != marks::BREAK
+}
+
+// Is every unit of a row such a one?
+fn is_quiet(row: &[u8]) -> bool
+    ensures { λ r. ⌜ r ≡ quiet (now (row .entry)) ⌝ }
+{
+    let mut at: usize = 0;
+    while at + 1 < row.len() {
+        if !is_quiet_unit(row[at], row[at + 1]) {
+            return false;
+        }
+        at += 2;
+    }
+    true
+}
+
 // Writes the fields of a word's row behind the first `used` bytes of the output, IFS being what it is in the variables now: "IFS as it stands after the
-// word's own stores; unset means space, tab, newline". The row is spent.
+// word's own stores; unset means space, tab, newline". Nobody asks for IFS where the row is quiet. The row is spent.
 pub fn put_word_fields(
     row: &mut [u8],
     vars: &[u8],
@@ -103,6 +138,14 @@ pub fn put_word_fields(
     ensures { λ r. ⌜ Puts (textsOfFields (heldTexts (now (paths .entry)))
         (fieldsOfRow (held (take «vars_used» (now (vars .entry)))) (rowOf (now (row .entry))))) used (now (out .entry)) (now (out .exit)) r ⌝ }
 {
+    if row.len() > 1 {
+        if is_quiet(row) {
+            return match split_field::put_own(row, out, used) {
+                Put::Len(n) => Written::Len(n),
+                Put::NoRoom => Written::NoRoom,
+            };
+        }
+    }
     let ifs = ifs_of(&vars[..vars_used], b" \t\n");
     put_parts(row, ifs, paths, out, used)
 }

@@ -1,11 +1,19 @@
--- A field goes on where the unit is no delimiter.
-use mathlib.Core.Path.{sym, ap, _∙_}
-use Rattle.stages.specs.Split.{white, hard, other}
-use Rattle.split_delimiter.specs.Places.{delimiterOf}
-use Rattle.split_delimiter.proofs.Places.{goes-none, goes-unit}
+-- A field goes on where the unit's byte is above those of IFS, or the unit is no delimiter.
+use mathlib.Core.Path.{_≡_, sym, ap, _∙_}
+use Rattle.split_delimiter.specs.Places.{delimiterOf, isOther, ahead, goesOn}
+use Rattle.split_delimiter.proofs.Places.{goes-none, goes-unit, goes-above}
 use borrow.Author.Needs.{needs}
+use Rattle.split_delimiter.specs.declared.Delimiter.{Delimiter}
 use Rattle.split_delimiter.proofs.goes_on.Statement.{statement}
 use Rattle.split_delimiter.proofs.goes_on.Tie as tie
+
+-- what is answered for a kind of unit
+goes : (d : tie.After-delimiter-at) {k : Delimiter} → d .delimiter-at .result ≡ k →
+    let a = d .before .before .before .before .before .before .args in
+    isOther (delimiterOf k) ≡ goesOn (a .ifs .now) (ahead (a .row .now) (a .at))
+goes d {k} e =
+    let a = d .before .before .before .before .before .before .args in
+    goes-unit (a .ifs .now) (a .row .now) (a .at) (delimiterOf k) (d .before .before .before .if1 .left) (sym (ap delimiterOf e) ∙ d .delimiter-at .ensures)
 
 sub-if1 : tie.Need-sub-if1
 sub-if1 c = search needs
@@ -14,6 +22,15 @@ returns : tie.Need-returns
 returns c =
     let a = c .before .before .before .args in
     goes-none (a .ifs .now) (a .row .now) (a .at) (c .if1 .taken)
+
+shared-slice-read-if2 : tie.Need-shared-slice-read-if2
+shared-slice-read-if2 c = search needs
+
+returns-2 : tie.Need-returns-2
+returns-2 c =
+    let s = c .before .before .before .before .before in
+    let a = s .args in
+    goes-above (a .ifs .now) (a .row .now) (a .at) (a .top) (s .pre .1) (c .before .before .if1 .left) (c .if2 .taken)
 
 delimiter-at-requires : tie.Need-delimiter-at-requires
 delimiter-at-requires c κs = search needs
@@ -27,23 +44,14 @@ enum-told-2 c = search needs
 enum-told-3 : tie.Need-enum-told-3
 enum-told-3 c = search needs
 
-returns-2 : tie.Need-returns-2
-returns-2 c =
-    let a = c .before .before .before .before .before .before .args in
-    goes-unit (a .ifs .now) (a .row .now) (a .at) white (c .before .before .before .if1 .left)
-    (sym (ap delimiterOf (c .enum-told .given .1)) ∙ c .before .before .delimiter-at .ensures)
-
 returns-3 : tie.Need-returns-3
-returns-3 c =
-    let a = c .before .before .before .before .before .before .args in
-    goes-unit (a .ifs .now) (a .row .now) (a .at) hard (c .before .before .before .if1 .left)
-    (sym (ap delimiterOf (c .enum-told2 .given .1)) ∙ c .before .before .delimiter-at .ensures)
+returns-3 c = goes (c .before .before) (c .enum-told .given .1)
 
 returns-4 : tie.Need-returns-4
-returns-4 c =
-    let a = c .before .before .before .before .before .before .args in
-    goes-unit (a .ifs .now) (a .row .now) (a .at) other (c .before .before .before .if1 .left)
-    (sym (ap delimiterOf (c .enum-told3 .given .1)) ∙ c .before .before .delimiter-at .ensures)
+returns-4 c = goes (c .before .before) (c .enum-told2 .given .1)
+
+returns-5 : tie.Need-returns-5
+returns-5 c = goes (c .before .before) (c .enum-told3 .given .1)
 
 pub goes-on-spec : {M : Type 1} → statement M
 goes-on-spec =
@@ -51,10 +59,12 @@ goes-on-spec =
     (tie.spec
     sub-if1
     returns
+    shared-slice-read-if2
+    returns-2
     delimiter-at-requires
     enum-told
     enum-told-2
     enum-told-3
-    returns-2
     returns-3
-    returns-4)
+    returns-4
+    returns-5)

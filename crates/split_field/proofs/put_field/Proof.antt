@@ -1,4 +1,4 @@
--- Patterns see the same units when N is gone, and so do the bytes; a plain field is no pattern.
+-- A plain field is no pattern. Patterns see the same units when N is gone, and so do the bytes.
 use Prim.Native.Nat.{_≤_}
 use mathlib.Core.Path.{sym, _∙_}
 use native.Mathlib.Omega.{arith}
@@ -12,35 +12,20 @@ use borrow.Author.Needs.{needs}
 use Rattle.split_field.proofs.put_field.Statement.{statement}
 use Rattle.split_field.proofs.put_field.Tie as tie
 
+-- the call, where the field was looked at
+abbrev asked : tie.After-is-plain → tie.Start
+asked l = l .before .before .before .before .before
+
 -- the call, where N is gone
 abbrev start : tie.After-drop-empty → tie.Start
-start d = d .before .before .before .before .before
+start d = asked (d .before .before .before)
 
 -- what is left stands in the field
 fits : (d : tie.After-drop-empty) → d .drop-empty .result ≤ length (d .drop-empty .last .0)
 fits d = dropped-fits (d .drop-empty .ensures)
 
--- that place, where it was looked at
-abbrev dropped : tie.After-is-plain → tie.After-drop-empty
-dropped l = l .before .before .before .before
-
-drop-empty-requires : tie.Need-drop-empty-requires
-drop-empty-requires c κs = search needs
-
-slice-reshare-prefix-is-plain : tie.Need-slice-reshare-prefix-is-plain
-slice-reshare-prefix-is-plain c = fits (c .before .before)
-
-slice-aggregate-is-plain : tie.Need-slice-aggregate-is-plain
-slice-aggregate-is-plain c = sym (length-take-le _ _ (fits (c .before .before .before)))
-
 is-plain-requires : tie.Need-is-plain-requires
 is-plain-requires c κs = search needs
-
-slice-relend-prefix-put-own : tie.Need-slice-relend-prefix-put-own
-slice-relend-prefix-put-own c = fits (dropped (c .before))
-
-slice-aggregate-put-own : tie.Need-slice-aggregate-put-own
-slice-aggregate-put-own c = sym (length-take-le _ _ (fits (dropped (c .before .before))))
 
 put-own-requires : tie.Need-put-own-requires
 put-own-requires c κs = search needs
@@ -58,24 +43,24 @@ returns : tie.Need-returns
 returns c =
     let o = c .before .before .before .before .before in
     let t = o .before .before .before in
-    let d = dropped (t .before) in
-    let paths = heldTexts (start d .args .paths .now) in
-    let e = d .drop-empty .ensures in
+    let a = asked (t .before) .args in
     rw (c .answer-of .ensures) (record {
-      puts = puts-says (dropped-says paths e
-          (plain-own paths (dropped-full paths e) (sym (t .before .is-plain .ensures) ∙ t .if1 .taken) (o .put-own .ensures)));
+      puts = puts-says (plain-own (heldTexts (a .paths .now)) (a .field .now) (sym (t .before .is-plain .ensures) ∙ t .if1 .taken) (o .put-own .ensures));
       spares = spares-put (o .put-own .result) _ _;
     })
 
+drop-empty-requires : tie.Need-drop-empty-requires
+drop-empty-requires c κs = search needs
+
 slice-relend-prefix-put-pattern : tie.Need-slice-relend-prefix-put-pattern
-slice-relend-prefix-put-pattern c = fits (dropped (c .before))
+slice-relend-prefix-put-pattern c = fits (c .before .before)
 
 slice-aggregate-put-pattern : tie.Need-slice-aggregate-put-pattern
-slice-aggregate-put-pattern c = sym (length-take-le _ _ (fits (dropped (c .before .before))))
+slice-aggregate-put-pattern c = sym (length-take-le _ _ (fits (c .before .before .before)))
 
 put-pattern-requires : tie.Need-put-pattern-requires
 put-pattern-requires c κs =
-    let d = dropped (c .before .before .before) in
+    let d = c .before .before .before .before in
     let s = start d in
     let e = d .drop-empty .ensures in
     let l = length-take-le (d .drop-empty .result) (d .drop-empty .last .0) (fits d) in
@@ -90,7 +75,7 @@ same-length-4 c = search needs
 returns-2 : tie.Need-returns-2
 returns-2 c =
     let p = c .before .before .before .before in
-    let d = dropped (p .before .before .before .before) in
+    let d = p .before .before .before .before .before in
     record {
       puts = puts-says (dropped-says (heldTexts (start d .args .paths .now)) (d .drop-empty .ensures) (p .put-pattern .ensures .0));
       spares = p .put-pattern .ensures .1;
@@ -100,17 +85,13 @@ pub put-field-spec : {M : Type 1} → statement M
 put-field-spec =
     tie.close
     (tie.spec
-    drop-empty-requires
-    slice-reshare-prefix-is-plain
-    slice-aggregate-is-plain
     is-plain-requires
-    slice-relend-prefix-put-own
-    slice-aggregate-put-own
     put-own-requires
     answer-of-requires
     same-length
     same-length-2
     returns
+    drop-empty-requires
     slice-relend-prefix-put-pattern
     slice-aggregate-put-pattern
     put-pattern-requires

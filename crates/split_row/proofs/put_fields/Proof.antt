@@ -19,21 +19,21 @@ use Rattle.split_row.proofs.put_fields.Statement.{statement}
 use Rattle.split_row.proofs.put_fields.Tie as tie
 
 abbrev Inv-loop2 : tie.InvT-loop2
-Inv-loop2 row ifs paths out used at len full end₀ end = Run ifs row at end
+Inv-loop2 row ifs paths out used top at len full end₀ end = Run ifs row at end
 
 abbrev μ-loop2 : tie.MeasureT-loop2
-μ-loop2 row ifs paths out used at len full end₀ end = length row - end
+μ-loop2 row ifs paths out used top at len full end₀ end = length row - end
 
 abbrev Inv-loop : tie.InvT-loop
-Inv-loop row₀ ifs paths out₀ used at₀ len₀ full₀ row out at len full =
+Inv-loop row₀ ifs paths out₀ used top at₀ len₀ full₀ row out at len full =
     Walk (heldTexts paths) ifs (textsOfFields (heldTexts paths) (split ifs (rowOf row₀))) used out₀ (length row₀) row at len full out
 
 abbrev μ-loop : tie.MeasureT-loop
-μ-loop row₀ ifs paths out₀ used at₀ len₀ full₀ row out at len full = length (ahead row at)
+μ-loop row₀ ifs paths out₀ used top at₀ len₀ full₀ row out at len full = length (ahead row at)
 
 -- the places of a turn: the call, the turn's start in the outer loop, the field's end in the inner one, and its texts written
 abbrev start : tie.At-loop Inv-loop2 μ-loop2 Inv-loop μ-loop → tie.Start Inv-loop2 μ-loop2 Inv-loop μ-loop
-start l = l .before .before .before .before .before .before .before
+start l = l .before .before .before .before .before .before .before .before
 
 abbrev outer : tie.At-loop2 Inv-loop2 μ-loop2 Inv-loop μ-loop → tie.At-loop Inv-loop2 μ-loop2 Inv-loop μ-loop
 outer e = e .before .before
@@ -76,11 +76,14 @@ goes : (c : tie.Else1 Inv-loop2 μ-loop2 Inv-loop μ-loop) →
     goesOn (start (outer e) .args .ifs .now) (ahead (outer e .loop .row) (e .loop2 .end)) ≡ true
 goes c = sym (c .before .goes-on .ensures) ∙ not-false _ (c .if1 .left)
 
+highest-of-requires : tie.Need-highest-of-requires Inv-loop2 μ-loop2 Inv-loop μ-loop
+highest-of-requires c κs = search needs
+
 skip-white-requires : tie.Need-skip-white-requires Inv-loop2 μ-loop2 Inv-loop μ-loop
 skip-white-requires c κs = omega arith
 
 loop-holds : tie.Need-loop-holds Inv-loop2 μ-loop2 Inv-loop μ-loop
-loop-holds c = walk-start _ _ _ _ _ _ (c .before .before .before .before .before .before .pre .0 .0) (c .skip-white .ensures)
+loop-holds c = walk-start _ _ _ _ _ _ (c .before .before .before .before .before .before .before .pre .0 .0) (c .skip-white .ensures)
 
 sub-loop : tie.Need-sub-loop Inv-loop2 μ-loop2 Inv-loop μ-loop
 sub-loop c = c .loop .inv .within
@@ -89,7 +92,9 @@ loop2-holds : tie.Need-loop2-holds Inv-loop2 μ-loop2 Inv-loop μ-loop
 loop2-holds c = run-start _ _ _ (c .before .loop .inv .within)
 
 goes-on-requires : tie.Need-goes-on-requires Inv-loop2 μ-loop2 Inv-loop μ-loop
-goes-on-requires c κs = c .before .loop2 .inv .within
+goes-on-requires c κs =
+    let e = c .before in
+    (e .loop2 .inv .within, omega (arith, outer e .before .before .before .highest-of .ensures))
 
 behind-field-requires : tie.Need-behind-field-requires Inv-loop2 μ-loop2 Inv-loop μ-loop
 behind-field-requires c κs = c .before .before .before .before .loop2 .inv .within
@@ -181,6 +186,7 @@ put-fields-spec =
     μ-loop2
     Inv-loop
     μ-loop
+    highest-of-requires
     skip-white-requires
     loop-holds
     sub-loop
