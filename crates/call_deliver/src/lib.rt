@@ -8,6 +8,8 @@ ghost use mathlib.Core.Path.{_≡_};
 ghost use Prim.Native.Nat.{_+_, _≤_};
 ghost use lib.ListN.{length, take};
 ghost use Rattle.stages.specs.Call.{over};
+ghost use mathlib.Core.Option.{some};
+ghost use Rattle.stages.specs.Images.{fieldsOf, heldTexts};
 ghost use Rattle.quote.specs.Answers.{quotingOf};
 ghost use Rattle.call_check.specs.Calls.{roomOf};
 ghost use Rattle.call_deliver.specs.Hands.{refusedAs, writingOf, Accepts};
@@ -79,6 +81,7 @@ pub fn accept(out_len: usize, image: &[u8], vars: &mut [u8], vars_used: usize) -
 // Writes what the job gives of a fields image to the output, if it has room.
 pub fn deliver(job: Job, image: &[u8], out: &mut [u8]) -> Quoted
     requires { ⌜ length (now image) ≤ roomOf job (length (now out)) ⌝ }
+    requires { ⌜ fieldsOf (now image) ≡ some (heldTexts (now image)) ⌝ }
     ensures { λ r. ⌜ quotingOf r (now (out .exit)) ≡ writingOf job (now (image .entry)) (now (out .entry)) ⌝ }
 {
     match job {
@@ -86,7 +89,7 @@ pub fn deliver(job: Job, image: &[u8], out: &mut [u8]) -> Quoted
             text_copy::copy_in(image, out);
             Quoted::Len(image.len())
         }
-        Job::Normaliser => quote::quote_fields(image, out),
+        Job::Normaliser => quote::quote_known(image, out),
     }
 }
 

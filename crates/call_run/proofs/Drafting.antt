@@ -12,7 +12,8 @@ use borrow.Author.Tests.{leb-true, leb-false}
 use Rattle.stages.specs.Numbers.{imageLimit, lineLimit, outputRoom, badFields}
 use Rattle.stages.specs.Bytes.{Text}
 use Rattle.stages.specs.Outcome.{Placed, refusedAt, doneAt, _then_, pick}
-use Rattle.stages.specs.Images.{Pairs, held, image, fieldsOf}
+use Rattle.stages.specs.Images.{Pairs, held, heldTexts, isSome, image, fieldsOf}
+use Rattle.quote.proofs.Answers.{fields-here}
 use Rattle.stages.specs.Quote.{quotedLine}
 use Rattle.stages.specs.Line.{Fields}
 use Rattle.stages.specs.Call.{Quoting, over, orRefused, quotedIn, quoting, quoter}
@@ -157,11 +158,14 @@ module _ {job : Job} {room used : ℕ} {shouts : Bool} {text copy houses params 
           ∙ ap (λ (n : ℕ). take n (over (image (made .fields)) lent)) (made .long)
           ∙ over-front (image (made .fields)) lent
 
-      pub deliver-ready : length (take len whole) ≤ roomOf job (length out)
-      deliver-ready = omega (arith, length-take-le len whole len-within, made .fits, lent-long, room-low .1)
-
       outside-done : outside ≡ doneAt (made .fields, held (take left copy₂))
       outside-done = both ∙ made .is
+
+      pub deliver-ready : (length (take len whole) ≤ roomOf job (length out)) × (fieldsOf (take len whole) ≡ some (heldTexts (take len whole)))
+      deliver-ready = (
+        omega (arith, length-take-le len whole len-within, made .fits, lent-long, room-low .1),
+        fields-here (take len whole) (ap isSome (ap fieldsOf image-there ∙ p .again (made .fields) (held (take left copy₂)) outside-done)),
+      )
 
       pub line-delivered : (out₁ : Text) {q s : Quoted} → quotingOf q out₁ ≡ writingOf job (take len whole) out → q ≡ s
           → DraftOf room (draft job (length out) outside) copy₂ work₁ out out₁ (deliveredAs s left)

@@ -34,3 +34,8 @@ pub quote-fields-determined : (fields out left left′ : Text) (r s : Quoted) �
     quoter fields out
     → (r ≡ s) × (left ≡ left′)
 quote-fields-determined fields out = quoted-determined (quoter fields out)
+
+pub quote-known-determined : (fields out left left′ : Text) (r s : Quoted) → quotingOf r left ≡ quoter fields out → quotingOf s left′ ≡
+    quoter fields out
+    → (r ≡ s) × (left ≡ left′)
+quote-known-determined = quote-fields-determined

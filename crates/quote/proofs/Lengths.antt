@@ -12,7 +12,7 @@ use borrow.Author.Tests.{eq-eqb, ne-eqb, not-true, not-false}
 use Rattle.stages.specs.Bytes.{Text, text, isIn, isControl, notControl}
 use Rattle.stages.specs.Images.{recordBytes}
 use Rattle.stages.specs.Quote.{Way, bare, singled, dollared, wayOf, isSign, octal, quotedByte, quotedBytes, enclosed}
-use Rattle.stages.specs.Quote.{written, quotedField, blanked}
+use Rattle.stages.specs.Quote.{written, quotedField, blanked, quotedLine}
 use Rattle.stages.proofs.Bools.{either}
 use Rattle.stages.proofs.Images.{texts-length}
 use Rattle.table.proofs.Pieces.{Ahead}
@@ -120,6 +120,12 @@ blanked-records (t ∷ l) = rw (blanked-first t l) (omega (arith, field-small t,
 -- the fields from a place of an image on
 pub blanked-small : {t : Text} {at : ℕ} {l : List Text} → Ahead t at l → length (blanked l) ≤ 4 * length t
 blanked-small {t} {at} {l} h = omega (arith, texts-length (drop at t) l (h .is), length-drop at t, blanked-records l)
+
+-- the line is what is left without the first blank
+pub line-blanked : (l : List Text) → length (quotedLine l) ≤ length (blanked l)
+unfolding quotedLine blanked
+line-blanked [] = omega arith
+line-blanked (t ∷ l) = omega arith
 
 -- counting the bytes of a field: n are counted, and those from i on are left
 pub record Counted (way : Way) (field : Text) (n i : ℕ) : Type 0 where

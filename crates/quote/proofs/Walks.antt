@@ -21,7 +21,7 @@ use Rattle.text.specs.Putting.{Puts}
 use Rattle.quote.specs.Rests.{Rest}
 use Rattle.text.proofs.Parts.{part-length}
 use Rattle.text.proofs.Filling.{Filling, fill-starts, fill-byte, fill-piece, fill-next, fill-fits, fill-ends}
-use Rattle.quote.proofs.Lengths.{field-small, blanked-small, blanked-first}
+use Rattle.quote.proofs.Lengths.{field-small, blanked-small, blanked-first, line-blanked}
 
 pub rest-ahead : {t : Text} {at : ℕ} → Rest t at → Ahead t at (textsFrom t at)
 rest-ahead r = record { within = r .within; is = r .is }
@@ -126,22 +126,29 @@ pub record First (t : Text) (end : ℕ) : Type 0 where
   pub rest : Rest t end
   pub is : quotedLine (heldTexts t) ≡ quotedField (part t 3 end) ++ blanked (textsFrom t end)
 
-module _ (t : Text) (h : fieldsOf t ≡ some (heldTexts t)) {r : Piece} (s : r ≡ pieceAt t 1) where
+module _ (t : Text) (h : fieldsOf t ≡ some (heldTexts t)) where
   ahead : Ahead t 1 (heldTexts t)
   ahead = ahead-first t (heldTexts t) (fields-held t (heldTexts t) h .1 .table)
 
+  pub image-small : length t ≤ imageLimit
+  image-small = fields-held t (heldTexts t) h .1 .small
+
+  pub line-small : length (quotedLine (heldTexts t)) ≤ 4 * length t
+  line-small = omega (arith, line-blanked (heldTexts t), blanked-small ahead)
+
+module _ (t : Text) (h : fieldsOf t ≡ some (heldTexts t)) {r : Piece} (s : r ≡ pieceAt t 1) where
   pub line-end : r ≡ End → quotedLine (heldTexts t) ≡ []
   unfolding quotedLine
-  line-end e = ap quotedLine (ahead-end ahead s e)
+  line-end e = ap quotedLine (ahead-end (ahead t h) s e)
 
   pub line-bad : r ≡ Bad → quotedLine (heldTexts t) ≡ []
-  line-bad e = absurd (ahead-bad ahead s e)
+  line-bad e = absurd (ahead-bad (ahead t h) s e)
 
   pub line-first : {end : ℕ} → r ≡ At end → First t end
   unfolding quotedLine
   line-first {end} e =
-      let small : length t ≤ imageLimit = fields-held t (heldTexts t) h .1 .small in
-      let next : Next t 1 end (heldTexts t) = ahead-text ahead s e in
+      let small : length t ≤ imageLimit = image-small t h in
+      let next : Next t 1 end (heldTexts t) = ahead-text (ahead t h) s e in
       record {
         text = field-of t 3 end small (next .low) (next .ahead .within);
         rest = ahead-rest small (next .ahead);

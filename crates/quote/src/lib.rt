@@ -1,6 +1,7 @@
-// The quoter: a fields image becomes one line, each field bare, in '...' or in $'...'. The line is counted first, so that nothing is written unless all of it
-// has room; then it is written once. Counting and writing have a function for each stage of the quoted line: a byte, a field's bytes, a field, the fields
-// behind the first, the line. `way_of` alone chooses the way of a field, and `field_length` and `put_field` alone ask it.
+// The quoter: a fields image becomes one line, each field bare, in '...' or in $'...'. Nothing is written unless all of the line has room: it has if four
+// times the image has, and else the line is counted first; then it is written once. Counting and writing have a function for each stage of the quoted line:
+// a byte, a field's bytes, a field, the fields behind the first, the line. `way_of` alone chooses the way of a field, and `field_length` and `put_field`
+// alone ask it.
 ghost use mathlib.Core.Path.{_≡_};
 ghost use Prim.Native.Nat.{_≤_};
 ghost use lib.ListN.{length};
@@ -11,7 +12,7 @@ ghost use Rattle.stages.specs.Quote.{quotedBytes, enclosed, quotedField, blanke
 ghost use Rattle.stages.specs.Call.{quoter};
 ghost use Rattle.text.specs.Putting.{Puts};
 ghost use Rattle.table.specs.Pieces.{textsFrom};
-ghost use Rattle.quote.specs.Answers.{quotingOf};
+ghost use Rattle.quote.specs.Answers.{hasRoom, quotingOf};
 ghost use Rattle.quote.specs.Ways.{wayIs};
 ghost use Rattle.quote.specs.Rests.{Rest};
 use table::Kind;
@@ -186,20 +187,42 @@ fn put_line(fields: &[u8], out: &mut [u8]) -> usize
     }
 }
 
-// Turns an image of fields into its quoted line at the front of the buffer; the bytes behind the line stay. What is no such image is told first, then a
-// line without room; both leave every byte of the buffer as it was.
+// Has the line of an image of fields room, in a line and in a buffer of so many bytes? No byte of the image becomes more than four of the line.
+fn has_room(fields: &[u8], room: usize) -> bool
+    requires { ⌜ fieldsOf (now fields) ≡ some (heldTexts (now fields)) ⌝ }
+    ensures { λ r. ⌜ r ≡ hasRoom room (heldTexts (now (fields .entry))) ⌝ }
+{
+    let most = 4 * fields.len();
+    if most <= numbers::LINE_LIMIT {
+        if most <= room {
+            return true;
+        }
+    }
+    let n = line_length(fields);
+    if numbers::LINE_LIMIT < n {
+        return false;
+    }
+    n <= room
+}
+
+// Turns an image that is one of fields into its quoted line at the front of the buffer; the bytes behind the line stay. A line without room leaves every
+// byte of the buffer as it was.
+pub fn quote_known(fields: &[u8], out: &mut [u8]) -> Quoted
+    requires { ⌜ fieldsOf (now fields) ≡ some (heldTexts (now fields)) ⌝ }
+    ensures { λ r. ⌜ quotingOf r (now (out .exit)) ≡ quoter (now (fields .entry)) (now (out .entry)) ⌝ }
+{
+    if !has_room(fields, out.len()) {
+        return Quoted::NoRoom;
+    }
+    Quoted::Len(put_line(fields, out))
+}
+
+// The same for any image: what is none of fields is told first, and leaves every byte of the buffer as it was.
 pub fn quote_fields(fields: &[u8], out: &mut [u8]) -> Quoted
     ensures { λ r. ⌜ quotingOf r (now (out .exit)) ≡ quoter (now (fields .entry)) (now (out .entry)) ⌝ }
 {
     if !table::well_formed(Kind::Fields, fields) {
         return Quoted::Malformed;
     }
-    let n = line_length(fields);
-    if numbers::LINE_LIMIT < n {
-        return Quoted::NoRoom;
-    }
-    if out.len() < n {
-        return Quoted::NoRoom;
-    }
-    Quoted::Len(put_line(fields, out))
+    quote_known(fields, out)
 }

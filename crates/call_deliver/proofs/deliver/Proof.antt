@@ -17,13 +17,13 @@ copy-in-requires : tie.Need-copy-in-requires
 copy-in-requires c κs =
     let a = c .before .before .before .before .before .args in
     subst (λ (j : Job). length (a .image .now) ≤ roomOf j (length (a .out .now))) (c .before .enum-told .given .1)
-    (c .before .before .before .before .before .pre)
+    (c .before .before .before .before .before .pre .0)
 
 enum-told-2 : tie.Need-enum-told-2
 enum-told-2 c = search needs
 
-quote-fields-requires : tie.Need-quote-fields-requires
-quote-fields-requires c κs = search needs
+quote-known-requires : tie.Need-quote-known-requires
+quote-known-requires c κs = search needs
 
 same-length : tie.Need-same-length
 same-length c = search needs
@@ -40,7 +40,7 @@ same-length-2 c = search needs
 returns-2 : tie.Need-returns-2
 returns-2 c =
     let a = c .before .before .before .before .before .before .before .before .args in
-    c .before .before .quote-fields .ensures ∙ ap (λ (j : Job). writingOf j (a .image .now) (a .out .now))
+    c .before .before .quote-known .ensures ∙ ap (λ (j : Job). writingOf j (a .image .now) (a .out .now))
     (sym (c .before .before .before .before .enum-told2 .given .1))
 
 pub deliver-spec : {M : Type 1} → statement M
@@ -50,7 +50,7 @@ deliver-spec =
     enum-told
     copy-in-requires
     enum-told-2
-    quote-fields-requires
+    quote-known-requires
     same-length
     returns
     same-length-2
