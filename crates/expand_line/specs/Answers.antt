@@ -15,9 +15,11 @@ use Rattle.stages.specs.Read.{Taken, readLine}
 use Rattle.stages.specs.Line.{Around, Fields, wordFields, outFits, expandWords}
 use Rattle.stages.specs.Call.{over}
 use Rattle.read_mode.specs.declared.Mode.the-variants as mode
+use Rattle.read_still.specs.Walks.{Leaves}
 use Rattle.table_store.specs.Holding.{Holds}
 use Rattle.expand_add.specs.Answers.{Ready, Waits, Ends}
 use Rattle.table_store.specs.Splice.{placed}
+use Rattle.expand_line.specs.declared.Copied.{Copied}
 use Rattle.expand_line.specs.declared.WordExpanded.{WordExpanded}
 use Rattle.expand_line.specs.declared.WordExpanded.the-variants as word
 use Rattle.expand_line.specs.declared.LineExpanded.{LineExpanded}
@@ -48,6 +50,11 @@ pub record BareTo (line : Text) (at r : ℕ) : Type 0 where
   pub few : r ≤ at + lineLimit
   pub bare : all isBareByte (part line at r) ≡ true
   pub ends : at < r → (r ≡ length line) ⊎ ((r < length line) × (getD line r 0 ≡ code " "))
+
+-- the bytes of a word in which nothing is expanded stand at the front of the work area; or the line goes on where it was
+pub record CopiesStill (line : Text) (at : ℕ) (old left : Text) (r : Copied) : Type 0 where
+  pub is : at < r .next → Leaves line at old left (r .len) (r .next)
+  pub few : r .next ≤ at + lineLimit
 
 -- a bare word is written behind the first `used` bytes, or there is no room for it
 abbrev pub PutsBare : Text → ℕ → ℕ → ℕ → Text → Text → WordExpanded → Type 0

@@ -5,6 +5,7 @@ use expand_add::answers::Extent;
 use read_line::NextWord;
 use read_mode::Cursor;
 use read_mode::Mode;
+use read_still::Still;
 use row::Mark;
 use row::RowEnd;
 use split_field::Written;
@@ -13,12 +14,12 @@ use text::Class;
 use text::numbers;
 ghost use Prim.Native.Nat.{_≤_};
 ghost use lib.ListN.{length, take, drop};
-ghost use Rattle.stages.specs.Numbers.{depthLimit, imageLimit};
+ghost use Rattle.stages.specs.Numbers.{depthLimit, imageLimit, lineLimit};
 ghost use Rattle.stages.specs.Images.{held};
 ghost use Rattle.stages.specs.Syntax.{fresh, word};
 ghost use Rattle.stages.specs.Read.{parts};
 ghost use Rattle.table.specs.Around.{among};
-ghost use Rattle.expand_line.specs.Answers.{lineOutcome, BareTo, PutsBare, WordReady, WordSays, LineReady, LineSays};
+ghost use Rattle.expand_line.specs.Answers.{lineOutcome, BareTo, CopiesStill, PutsBare, WordReady, WordSays, LineReady, LineSays};
 
 // What a line's words give: the fields' image is the first `used` bytes of the output, and the variables' the first `vars_used` of their buffer; or the
 // number that refuses a word, and that word's place; or the message that a word demands, which is the work area's `len` bytes from `at` on, and its place.
@@ -46,6 +47,12 @@ enum WordExpanded {
         at: usize,
         len: usize,
     },
+}
+
+// The work area's first `len` bytes are those of a word, and the line goes on at `next`.
+struct Copied {
+    len: usize,
+    next: usize,
 }
 
 // Where the word at a place ends, if it is one that the quoter would write bare, and a blank or the line's end stands behind it; else the place itself.
@@ -79,6 +86,26 @@ fn put_bare(word: &[u8], next: usize, vars_used: usize, out: &mut [u8], used: us
             vars_used: vars_used,
         },
         Put::NoRoom => WordExpanded::Refused(numbers::REFUSED_OUTPUT),
+    }
+}
+
+// The bytes of the word at a place, if nothing is expanded in it and it is no longer than a line may be: they stand at the front of the work area. Else the
+// line goes on at the place itself.
+fn copy_still(line: &[u8], at: usize, work: &mut [u8]) -> Copied
+    requires { ⌜ (at ≤ length (now line)) × (lineLimit ≤ length (now work)) ⌝ }
+    ensures { λ r. ⌜ CopiesStill (now (line .entry)) at (now (work .entry)) (now (work .exit)) r ⌝ }
+{
+    let none = Copied { len: 0, next: at };
+    if line.len() - at > numbers::LINE_LIMIT {
+        return none;
+    }
+    let put = read_still::put_still(line, at, work);
+    match put {
+        Still::Nothing => none,
+        Still::Word { len, next } => Copied {
+            len: len,
+            next: next,
+        },
     }
 }
 
@@ -143,7 +170,8 @@ fn put_expanded(
     }
 }
 
-// The word at a place: its fields, after the bytes of the output that are written. A bare word is written as it stands in the line.
+// The word at a place: its fields, after the bytes of the output that are written. A bare word is written as it stands in the line, and of a word in which
+// nothing is expanded its bytes are.
 fn put_word(
     line: &[u8],
     from: Progress,
@@ -166,6 +194,11 @@ fn put_word(
     let end = bare_end(line, at);
     if at < end {
         return put_bare(&line[at..end], end, extent.vars_used, out, from.used);
+    }
+    let still = copy_still(line, at, work);
+    if at < still.next {
+        let len = still.len;
+        return put_bare(&work[..len], still.next, extent.vars_used, out, from.used);
     }
     put_expanded(line, from, vars, extent, homes, params, paths, work, out)
 }

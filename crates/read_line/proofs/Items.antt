@@ -8,7 +8,7 @@ use Rattle.stages.specs.Bytes.{Text, part}
 use Rattle.stages.specs.Outcome.{refused, demands, done}
 use Rattle.stages.specs.Syntax.{unescaped, Parts, plain, end, lit, quo, par, len, lst, ari, til, bytesOf, parameters, arith as sums}
 use Rattle.stages.specs.Syntax as syntax
-use Rattle.stages.specs.Items.{onward, behindByte}
+use Rattle.stages.specs.Items.{onward, behindByte, closerLength}
 use Rattle.stages.specs.Read.{Taken, put, nest, parts}
 use Rattle.text.specs.Cases.{escapeOf, spreadOf}
 use Rattle.stages.proofs.Read.{at-fault, at-stop, at-byte, at-paren, at-value, at-count, at-spread, at-quote, at-inner, at-sum, at-home}
@@ -22,7 +22,8 @@ use Rattle.read_brace.specs.Shows.{paramOf}
 use Rattle.read_brace.specs.declared.Param.{Param}
 use Rattle.read_brace.specs.declared.Item.{Item}
 use Rattle.read_brace.specs.declared.Item.the-variants.{Fault, Stop, Byte, Paren, Quote, Value, Count, Total, Spread, Inner, Sum, Home}
-use Rattle.read_item.specs.After.{ItemAt, modeAfter, isStop}
+use Rattle.read_item.specs.After.{ItemAt, modeAfter, isStop, isEnd}
+use Rattle.read_item.proofs.Ending.{end-item}
 use Rattle.read_run.specs.Literals.{lits, Passed}
 use Rattle.read_run.proofs.Parts.{put-same, put-put, run-parts, run-open}
 use Rattle.read_line.specs.Says.{ReadTo, ReadSays, readFrom, Here, ReadMore, ItemSays}
@@ -207,6 +208,14 @@ module _ {text : Text} {from here : Cursor} (g : Reads text from here) where
       let a = g .onward in
       let b = h .onward in
       record { tree = g .before (h .tree); is = g .is ∙ ap (put (g .before)) (h .is); onward = omega arith; within = h .within }
+
+  -- the next byte, or the line's end, says that the text ends here
+  pub reads-close : {k : ℕ} → isEnd (here .mode) (drop (here .at) text) ≡ true → k ≡ closerLength (modeOf (here .mode))
+      → ReadTo text (from .at) (readFrom text from) (here .at + k)
+  reads-close e h =
+      let next = here .at + closerLength (modeOf (here .mode)) in
+      let q : Here text here (Stop next) = record { is = end-item text here (g .within) e; few = g .few } in
+      rw h (reads-end (ends (Stop next) text here (item-stop q refl) refl))
 
   pub reads-next : {next : ℕ} {m n : Mode} → ReadMore text here next n → m ≡ n → Reads text from (record { at = next; mode = m; depth = here .depth })
   reads-next {next = next} {m = m} {n = n} h e =

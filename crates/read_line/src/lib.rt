@@ -11,6 +11,7 @@ ghost use Prim.Native.Nat.{ℕ, _≤_, _<_};
 ghost use lib.ListN.{length, drop, getD};
 ghost use Rattle.stages.specs.Numbers.{depthLimit};
 ghost use Rattle.stages.specs.Bytes.{isBlank};
+ghost use Rattle.stages.specs.Syntax.{fresh, word};
 ghost use Rattle.stages.specs.Read.{parts, readLine};
 ghost use Rattle.stages.specs.Assign.{anAssignment, readAssignments};
 ghost use Rattle.read_mode.specs.Modes.{modeOf, openIn};
@@ -107,6 +108,11 @@ pub fn read_text(text: &[u8], from: Cursor) -> Reading
     let mut here = from;
     loop {
         let place = read_run::behind_literals(text, here);
+        let at = place.at;
+        let inside = place.mode;
+        if read_item::is_end(text, at, inside) {
+            return Reading::End(at + read_item::end_length(inside));
+        }
         let item = read_item::item_at(text, place);
         let got = read_item(item, text, place);
         match got {
@@ -186,6 +192,18 @@ fn read_assignment(line: &[u8], place: usize) -> Reading
     }
 }
 
+// Reads the word whose first byte is at `place`: one in which nothing is expanded at once.
+fn read_word(line: &[u8], place: usize) -> Reading
+    requires { ⌜ place < length (now line) ⌝ }
+    ensures { λ r. ⌜ ReadSays (now (line .entry)) place (parts (word fresh) depthLimit (drop place (now (line .entry)))) r ⌝ }
+{
+    let end = read_still::still_end(line, place);
+    if place < end {
+        return Reading::End(end);
+    }
+    read_from(line, place, Mode::Word(true))
+}
+
 // Reads the piece whose first byte is at `place`; an operator or a `#` there begins none.
 fn read_piece(pieces: Pieces, line: &[u8], place: usize) -> Reading
     requires { ⌜ (place < length (now line)) × (isBlank (getD (now line) place 0) ≡ false) ⌝ }
@@ -199,7 +217,7 @@ fn read_piece(pieces: Pieces, line: &[u8], place: usize) -> Reading
         return Reading::Fault(numbers::REFUSED_OPERATOR);
     }
     match pieces {
-        Pieces::Words => read_from(line, place, Mode::Word(true)),
+        Pieces::Words => read_word(line, place),
         Pieces::Assignments => read_assignment(line, place),
     }
 }

@@ -114,17 +114,17 @@ module _ (m : Mode) (d : ℕ) where
     unfolding literalIn
     leaves = not-on (opensTilde m b) (and-right (isLiteral (sort m b)) (not (opensTilde m b)) e)
 
-    first-parts : parts m d (b ∷ t) ≡ put (lit unescaped b) (parts (onward m) d t)
+    pub first-parts : parts m d (b ∷ t) ≡ put (lit unescaped b) (parts (onward m) d t)
     first-parts = byte-parts m (onward m) b t is-literal (goes-behind m b leaves)
 
     more-parts : parts (onward m) d (b ∷ t) ≡ put (lit unescaped b) (parts (onward m) d t)
     more-parts = byte-parts (onward m) (onward m) b t (begun-sort m b is-literal) (stays-behind m b leaves)
 
-  abbrev Cut : Text → Text × Text → Type 0
+  abbrev pub Cut : Text → Text × Text → Type 0
   Cut t s = parts (onward m) d t ≡ put (lits (s .0)) (parts (onward m) d (s .1))
 
   -- a text that has begun
-  begun-parts : (t : Text) → Cut t (span (literalIn m) t)
+  pub begun-parts : (t : Text) → Cut t (span (literalIn m) t)
   unfolding span
   begun-parts [] = put-same (parts (onward m) d [])
   begun-parts (b ∷ t) = go (begun-parts t) (literalIn m b) refl

@@ -6,7 +6,7 @@ use lib.ListN.{length}
 use denote.Ref.{now}
 use Rattle.read_brace.specs.declared.Item.{Item}
 use Rattle.read_item.specs.After.{ItemAt, modeAfter}
-use Rattle.read_line.specs.Says.{ReadMore, ItemSays}
+use Rattle.read_line.specs.Says.{ReadTo, ReadMore, ItemSays, readFrom}
 use Rattle.read_line.specs.declared.Reading.the-variants as reading
 use Rattle.read_line.proofs.Items.{
   item-shown,
@@ -29,6 +29,7 @@ use Rattle.read_line.proofs.Items.{
   reads-start,
   reads-fault,
   reads-end,
+  reads-close,
   reads-run,
   reads-next,
 }
@@ -43,6 +44,8 @@ use Rattle.read_line.proofs.read_text.Reads as read-text
 use Rattle.read_line.proofs.read_text.Kinds as read-text-kinds
 use Rattle.read_line.proofs.+read_item+read_text.Lts-read_text as read-text-lts
 use Rattle.read_run.proofs.behind_literals.Reads as behind-literals-reads
+use Rattle.read_item.proofs.is_end.Reads as is-end-reads
+use Rattle.read_item.proofs.end_length.Reads as end-length-reads
 use Rattle.read_item.proofs.item_at.Reads as item-at-reads
 use Rattle.read_item.proofs.is_stop.Reads as is-stop-reads
 use Rattle.read_item.proofs.mode_after.Reads as mode-after-reads
@@ -184,6 +187,10 @@ abbrev read-text-callees : ℕ → read-text-lts.Claims
 read-text-callees t = (
   behind-literals-reads.Asked,
   behind-literals-reads.Learnt,
+  is-end-reads.Asked,
+  is-end-reads.Learnt,
+  end-length-reads.Asked,
+  end-length-reads.Learnt,
   item-at-reads.Asked,
   item-at-reads.Learnt,
   read-item-below t,
@@ -207,23 +214,35 @@ module _ (t : ℕ) where
       Reads (s .args .text .now) (s .args .from) (c .behind-literals .result)
   ran c = reads-run (c .before .loop .inv) (c .behind-literals .ensures)
 
+  -- the run before an item, and what is read up to its end
+  abbrev behind : read-text-lts.After-item-at (read-text-callees t) (read-text-at t) read-text.Post Inv-loop μ-loop
+      → read-text-lts.After-behind-literals (read-text-callees t) (read-text-at t) read-text.Post Inv-loop μ-loop
+  behind c = c .before .before .before
+
   -- what the item is read as, where it is no fault
   went : (c : read-text-lts.After-got2 (read-text-callees t) (read-text-at t) read-text.Post Inv-loop μ-loop) →
       let i = c .before .before .before in
-      let p = i .before in
+      let p = behind i in
       ItemSays (i .item-at .result) (p .before .before .before .args .text .now) (p .behind-literals .result) (reading.End (c .got2 .given .0 .0))
   went c = read-shown _ _ _ (c .before .before .read-item .ensures) (c .got2 .given .1)
 
   -- and where the text goes on after it
-  on-from : (c : read-text-lts.Else1 (read-text-callees t) (read-text-at t) read-text.Post Inv-loop μ-loop) →
+  on-from : (c : read-text-lts.Else2 (read-text-callees t) (read-text-at t) read-text.Post Inv-loop μ-loop) →
       let g = c .before .before .before in
       let i = g .before .before .before in
-      let place = i .before .behind-literals .result in
-      ReadMore (i .before .before .before .before .args .text .now) place (g .got2 .given .0 .0) (modeAfter (i .item-at .result) (place .mode))
+      let place = behind i .behind-literals .result in
+      ReadMore (behind i .before .before .before .args .text .now) place (g .got2 .given .0 .0) (modeAfter (i .item-at .result) (place .mode))
   on-from c =
       let g = c .before .before .before in
       let i = g .before .before .before in
-      goes-on (i .item-at .result) _ (i .before .behind-literals .result) (went g) (sym (c .before .is-stop .ensures) ∙ c .if1 .left)
+      goes-on (i .item-at .result) _ (behind i .behind-literals .result) (went g) (sym (c .before .is-stop .ensures) ∙ c .if2 .left)
+
+  -- where the text ends, as the next byte says
+  closes : (c : read-text-lts.After-end-length (read-text-callees t) (read-text-at t) read-text.Post Inv-loop μ-loop) →
+      let p = c .before .before .before in
+      let s = p .before .before .before in
+      ReadTo (s .args .text .now) (s .args .from .at) (readFrom (s .args .text .now) (s .args .from)) (p .behind-literals .result .at + c .end-length .result)
+  closes c = reads-close (ran (c .before .before .before)) (sym (c .before .before .is-end .ensures) ∙ c .before .if1 .taken) (c .end-length .ensures)
 
   read-text-loop-holds : read-text-lts.Need-loop-holds (read-text-callees t) (read-text-at t) read-text.Post Inv-loop μ-loop
   read-text-loop-holds c = let b = c .before in reads-start (b .args .text .now) (b .args .from) (b .pre .1 .0) (b .pre .1 .1)
@@ -231,21 +250,33 @@ module _ (t : ℕ) where
   read-text-behind-literals-requires : read-text-lts.Need-behind-literals-requires (read-text-callees t) (read-text-at t) read-text.Post Inv-loop μ-loop
   read-text-behind-literals-requires c κs = c .loop .inv .within
 
+  read-text-is-end-requires : read-text-lts.Need-is-end-requires (read-text-callees t) (read-text-at t) read-text.Post Inv-loop μ-loop
+  read-text-is-end-requires c κs = search needs
+
+  read-text-end-length-requires : read-text-lts.Need-end-length-requires (read-text-callees t) (read-text-at t) read-text.Post Inv-loop μ-loop
+  read-text-end-length-requires c κs = search needs
+
+  read-text-add-t15 : read-text-lts.Need-add-t15 (read-text-callees t) (read-text-at t) read-text.Post Inv-loop μ-loop
+  read-text-add-t15 c = omega (arith, closes c .within)
+
+  read-text-returns : read-text-lts.Need-returns (read-text-callees t) (read-text-at t) read-text.Post Inv-loop μ-loop
+  read-text-returns c = closes c
+
   read-text-item-at-requires : read-text-lts.Need-item-at-requires (read-text-callees t) (read-text-at t) read-text.Post Inv-loop μ-loop
-  read-text-item-at-requires c κs = (ran c .within, ran c .few)
+  read-text-item-at-requires c κs = let r = ran (c .before .before) in (r .within, r .few)
 
   read-text-read-item-requires : read-text-lts.Need-read-item-requires (read-text-callees t) (read-text-at t) read-text.Post Inv-loop μ-loop
   read-text-read-item-requires c κs =
-      let r = ran (c .before) in
-      (omega (arith, c .before .before .before .before .pre .0, r .onward, r .within), record { is = c .item-at .ensures; few = r .few })
+      let r = ran (behind c) in
+      (omega (arith, behind c .before .before .before .pre .0, r .onward, r .within), record { is = c .item-at .ensures; few = r .few })
 
   read-text-enum-known-got : read-text-lts.Need-enum-known-got (read-text-callees t) (read-text-at t) read-text.Post Inv-loop μ-loop
   read-text-enum-known-got c = search needs
 
-  read-text-returns : read-text-lts.Need-returns (read-text-callees t) (read-text-at t) read-text.Post Inv-loop μ-loop
-  read-text-returns c =
+  read-text-returns-2 : read-text-lts.Need-returns-2 (read-text-callees t) (read-text-at t) read-text.Post Inv-loop μ-loop
+  read-text-returns-2 c =
       let r = c .before .before .before in
-      reads-fault (ran (r .before .before)) (read-shown _ _ _ (r .read-item .ensures) (c .before .got .given .1))
+      reads-fault (ran (behind (r .before))) (read-shown _ _ _ (r .read-item .ensures) (c .before .got .given .1))
 
   read-text-enum-known-got-2 : read-text-lts.Need-enum-known-got-2 (read-text-callees t) (read-text-at t) read-text.Post Inv-loop μ-loop
   read-text-enum-known-got-2 c = search needs
@@ -253,12 +284,12 @@ module _ (t : ℕ) where
   read-text-is-stop-requires : read-text-lts.Need-is-stop-requires (read-text-callees t) (read-text-at t) read-text.Post Inv-loop μ-loop
   read-text-is-stop-requires c κs = search needs
 
-  read-text-returns-2 : read-text-lts.Need-returns-2 (read-text-callees t) (read-text-at t) read-text.Post Inv-loop μ-loop
-  read-text-returns-2 c =
+  read-text-returns-3 : read-text-lts.Need-returns-3 (read-text-callees t) (read-text-at t) read-text.Post Inv-loop μ-loop
+  read-text-returns-3 c =
       let g = c .before .before .before in
       let i = g .before .before .before in
-      reads-end (ran (i .before))
-      (ends (i .item-at .result) _ (i .before .behind-literals .result) (went g) (sym (c .before .is-stop .ensures) ∙ c .if1 .taken))
+      reads-end (ran (behind i))
+      (ends (i .item-at .result) _ (behind i .behind-literals .result) (went g) (sym (c .before .is-stop .ensures) ∙ c .if2 .taken))
 
   read-text-mode-after-requires : read-text-lts.Need-mode-after-requires (read-text-callees t) (read-text-at t) read-text.Post Inv-loop μ-loop
   read-text-mode-after-requires c κs = search needs
@@ -266,12 +297,12 @@ module _ (t : ℕ) where
   read-text-loop-less : read-text-lts.Need-loop-less (read-text-callees t) (read-text-at t) read-text.Post Inv-loop μ-loop
   read-text-loop-less c =
       let m = on-from (c .before) in
-      let p = c .before .before .before .before .before .before .before .before in
+      let p = behind (c .before .before .before .before .before .before .before) in
       omega (arith, p .behind-literals .ensures .run .onward, m .place .onward, m .place .within)
 
   read-text-loop-again : read-text-lts.Need-loop-again (read-text-callees t) (read-text-at t) read-text.Post Inv-loop μ-loop
   read-text-loop-again c =
-      reads-next (ran (c .before .before .before .before .before .before .before .before)) (on-from (c .before)) (c .mode-after .ensures)
+      reads-next (ran (behind (c .before .before .before .before .before .before .before))) (on-from (c .before)) (c .mode-after .ensures)
 
 pub +read-item+read-text-spec : {M : Type 1} → statement M
 +read-item+read-text-spec = close μ-read-item μ-read-text (λ t. read-item-lts.spec (read-item-callees t) (read-item-at t)
@@ -312,13 +343,17 @@ pub +read-item+read-text-spec : {M : Type 1} → statement M
     μ-loop
     (read-text-loop-holds t)
     (read-text-behind-literals-requires t)
+    (read-text-is-end-requires t)
+    (read-text-end-length-requires t)
+    (read-text-add-t15 t)
+    (read-text-returns t)
     (read-text-item-at-requires t)
     (read-text-read-item-requires t)
     (read-text-enum-known-got t)
-    (read-text-returns t)
+    (read-text-returns-2 t)
     (read-text-enum-known-got-2 t)
     (read-text-is-stop-requires t)
-    (read-text-returns-2 t)
+    (read-text-returns-3 t)
     (read-text-mode-after-requires t)
     (read-text-loop-less t)
     (read-text-loop-again t)

@@ -31,8 +31,8 @@ returns-2 c =
 enum-told : tie.Need-enum-told
 enum-told c = search needs
 
-read-from-requires : tie.Need-read-from-requires
-read-from-requires c κs = search needs
+read-word-requires : tie.Need-read-word-requires
+read-word-requires c κs = search needs
 
 enum-told-2 : tie.Need-enum-told-2
 enum-told-2 c = search needs
@@ -45,7 +45,7 @@ returns-3 c =
     let h = c .before .before .before in
     let s = h .before .before .before .before .before in
     word-read (s .args .line .now) (s .args .place) (s .pre .0) (s .pre .1) (plain (h .before)) (h .if2 .left) (c .before .enum-told .given .1)
-    (c .read-from .result) (c .read-from .ensures)
+    (c .read-word .result) (c .read-word .ensures)
 
 returns-4 : tie.Need-returns-4
 returns-4 c =
@@ -63,7 +63,7 @@ read-piece-spec =
     returns
     returns-2
     enum-told
-    read-from-requires
+    read-word-requires
     enum-told-2
     read-assignment-requires
     returns-3
