@@ -1,12 +1,15 @@
 // Lines to answers: what the program reads and writes around the turns of `recipe_answer`, which do all that lies between. Each answer is written before
 // the next line is worked out, and right behind it, to standard error, the message that its line demands.
+use call_check::Asked;
 use libc::STDERR_FILENO;
 use libc::STDIN_FILENO;
 use libc::STDOUT_FILENO;
+use recipe_answer::Begun;
 use recipe_answer::Carried;
 use recipe_answer::Turn;
 ghost use mathlib.Core.Path.{_≡_};
 ghost use lib.ListN.{length};
+ghost use Rattle.stages.specs.Numbers.{workLeast};
 ghost use Rattle.recipe_answer.specs.Turns.{Ready};
 ghost use Rattle.recipe.specs.Runs.{inputOf, Comes, Spoken, Passes, Finishes, Follows, Answers};
 
@@ -28,6 +31,12 @@ struct Run {
     vars_used: usize,
     shouts: bool,
     goes_on: bool,
+}
+
+// What a read gave, and where the run stood before it.
+struct Came {
+    input: Input,
+    run: Run,
 }
 
 // What a read gave, by what it answered.
@@ -76,9 +85,10 @@ fn answer_block(
     homes: &[u8],
     params: &[u8],
     paths: &[u8],
+    work: &mut [u8],
     said: &mut [u8],
 ) -> Run
-    requires { ⌜ Ready (now line) (now said) (run .kept) ⌝ }
+    requires { ⌜ Ready (now line) (now said) (run .kept) × (workLeast ≡ length (now work)) ⌝ }
     ensures { λ r. ⌜ Passes (now (homes .entry)) (now (paths .entry)) (now (params .entry)) (now (block .entry)) (now (line .entry))
         (now (vars .entry)) run (now (line .exit)) (now (vars .exit)) r ⌝ }
 {
@@ -91,15 +101,19 @@ fn answer_block(
             vars_used: so_far.vars_used,
             shouts: so_far.shouts,
         };
+        let begun = Begun {
+            carried: carried,
+            at: at,
+        };
         let turn = recipe_answer::answer_next(
-            carried,
+            begun,
             block,
-            at,
             line,
             vars,
             homes,
             params,
             paths,
+            work,
             said,
         );
         match turn {
@@ -143,9 +157,10 @@ fn answer_end(
     homes: &[u8],
     params: &[u8],
     paths: &[u8],
+    work: &mut [u8],
     said: &mut [u8],
 ) -> Run
-    requires { ⌜ Ready (now line) (now said) (run .kept) ⌝ }
+    requires { ⌜ Ready (now line) (now said) (run .kept) × (workLeast ≡ length (now work)) ⌝ }
     ensures { λ r. ⌜ Finishes (now (homes .entry)) (now (paths .entry)) (now (params .entry)) (now (line .entry)) (now (vars .entry))
         (now (said .entry)) run (now (vars .exit)) (now (said .exit)) r ⌝ }
 {
@@ -155,7 +170,7 @@ fn answer_end(
         vars_used: run.vars_used,
         shouts: run.shouts,
     };
-    let spoken = recipe_answer::answer_last(carried, line, vars, homes, params, paths, said);
+    let spoken = recipe_answer::answer_last(carried, line, vars, homes, params, paths, work, said);
     let len = spoken.len;
     if len > 0 {
         let end = len + spoken.told;
@@ -172,23 +187,35 @@ fn answer_end(
 
 // Answers what a read gave.
 fn answer_input(
-    input: Input,
-    run: Run,
+    came: Came,
     block: &[u8],
     line: &mut [u8],
     vars: &mut [u8],
     homes: &[u8],
     params: &[u8],
     paths: &[u8],
+    work: &mut [u8],
     said: &mut [u8],
 ) -> Run
-    requires { ⌜ Ready (now line) (now said) (run .kept) × Comes (now block) input ⌝ }
+    requires { ⌜ Ready (now line) (now said) (came .run .kept) × Comes (now block) (came .input) × (workLeast ≡ length (now work)) ⌝ }
     ensures { λ r. ⌜ Follows (now (homes .entry)) (now (paths .entry)) (now (params .entry)) (now (block .entry)) (now (line .entry))
-        (now (vars .entry)) (now (said .entry)) run (now (line .exit)) (now (vars .exit)) (now (said .exit)) r input ⌝ }
+        (now (vars .entry)) (now (said .entry)) (came .run) (now (line .exit)) (now (vars .exit)) (now (said .exit)) r (came .input) ⌝ }
 {
+    let run = came.run;
+    let input = came.input;
     match input {
-        Input::Block(n) => answer_block(run, &block[..n], line, vars, homes, params, paths, said),
-        Input::Ended => answer_end(run, line, vars, homes, params, paths, said),
+        Input::Block(n) => answer_block(
+            run,
+            &block[..n],
+            line,
+            vars,
+            homes,
+            params,
+            paths,
+            work,
+            said,
+        ),
+        Input::Ended => answer_end(run, line, vars, homes, params, paths, work, said),
         Input::Failed => Run {
             kept: 0,
             line: run.line,
@@ -202,30 +229,35 @@ fn answer_input(
 // Answers all lines, and gives the variables' used length after them. A proved loop has to end, and nothing says that the input does: so it counts its turns
 // down, from a number that no run uses up.
 pub fn answer_all(
-    vars_used: usize,
-    shouts: bool,
+    asked: Asked,
     block: &mut [u8],
     line: &mut [u8],
     vars: &mut [u8],
     homes: &[u8],
     params: &[u8],
     paths: &[u8],
+    work: &mut [u8],
     said: &mut [u8],
 ) -> usize
-    requires { ⌜ Ready (now line) (now said) 0 ⌝ }
-    ensures { λ r. ⌜ Answers (now (homes .entry)) (now (paths .entry)) (now (params .entry)) (now (vars .entry)) «vars_used» shouts (now (vars .exit)) r ⌝ }
+    requires { ⌜ Ready (now line) (now said) 0 × (workLeast ≡ length (now work)) ⌝ }
+    ensures { λ r. ⌜ Answers (now (homes .entry)) (now (paths .entry)) (now (params .entry)) (now (vars .entry)) (asked .«vars_used») (asked .shouts)
+        (now (vars .exit)) r ⌝ }
 {
     let mut so_far = Run {
         kept: 0,
         line: 1,
-        vars_used: vars_used,
-        shouts: shouts,
+        vars_used: asked.vars_used,
+        shouts: asked.shouts,
         goes_on: true,
     };
     let mut turns = u64::MAX;
     while turns > 0 && so_far.goes_on {
         let input = read_block(block);
-        so_far = answer_input(input, so_far, block, line, vars, homes, params, paths, said);
+        let came = Came {
+            input: input,
+            run: so_far,
+        };
+        so_far = answer_input(came, block, line, vars, homes, params, paths, work, said);
         turns -= 1;
     }
     so_far.vars_used

@@ -9,6 +9,7 @@ ghost use lib.ListN.{length};
 ghost use Rattle.stages.specs.Numbers.{imageLimit, pathsLimit, lineLimit};
 ghost use Rattle.recipe_cut.specs.Said.{writtenRoom};
 ghost use Rattle.recipe.specs.Runs.{Answers, Runs};
+use call_check::Asked;
 use libc::STDERR_FILENO;
 use recipe_load::Loaded;
 use text::numbers;
@@ -41,7 +42,8 @@ fn said_room() -> [u8; recipe_cut::WRITTEN_ROOM]
     [0; recipe_cut::WRITTEN_ROOM]
 }
 
-// Answers all lines with the tables that were read and the parameters, and gives the variables' used length after them.
+// Answers all lines with the tables that were read and the parameters, and gives the variables' used length after them. The work area is made once: every
+// call leaves it zero.
 fn answer_with(
     vars: &mut [u8],
     vars_used: usize,
@@ -54,16 +56,21 @@ fn answer_with(
 {
     let mut line = line_room();
     let mut block = io::buffer();
+    let mut work = io::large_buffer();
     let mut said = said_room();
+    let asked = Asked {
+        vars_used: vars_used,
+        shouts: shouts,
+    };
     answering::answer_all(
-        vars_used,
-        shouts,
+        asked,
         &mut block,
         &mut line,
         vars,
         homes,
         params,
         paths,
+        &mut work,
         &mut said,
     )
 }

@@ -14,7 +14,7 @@ use Rattle.stages.specs.Bytes.{Text, text}
 use Rattle.stages.specs.Images.{Pairs, flat, image}
 use Rattle.stages.specs.Outcome.{Placed, refusedAt, demandsAt, doneAt, _then_}
 use Rattle.stages.specs.Units.{decimal}
-use Rattle.stages.specs.Call.{Given, over, padded, shown, expanded, answered, quotedIn, normaliser}
+use Rattle.stages.specs.Call.{Given, over, padded, cleared, shown, expanded, answered, quotedIn, normaliser}
 use Rattle.stages.specs.Call as stage
 use Rattle.stages.specs.Program.{Variables, givenLine, said, told, saidOf, toldOf, afterLine, afterLines}
 use Rattle.stages.proofs.Bools.{either}
@@ -29,6 +29,7 @@ use Rattle.recipe_cut.proofs.Telling.{told-is, told-small}
 use Rattle.call_check.specs.Calls.{given}
 use Rattle.call_deliver.specs.Hands.{Gives}
 use Rattle.call_deliver.specs.declared.Answer.{Answer}
+use Rattle.call_deliver.proofs.Awaiting.{answered-clear}
 use Rattle.recipe_answer.specs.Says.{variables, Lent, Says}
 
 -- answers to the same outcome that differ in the old bytes of the output and the message's buffer, and in the work area, are said and told alike and leave
@@ -128,6 +129,10 @@ module _ (g : Given) {r : Answer} {vars work out message : Text} (h : Gives (nor
 
   demanded-most : length demanded ≤ length (g .message)
   demanded-most = omega (arith, length-take-le (r .«message_len») message message-inside, message-inside, same-message)
+
+  pub area-cleared : work ≡ cleared (g .work)
+  unfolding normaliser outcome
+  area-cleared = h .clears ∙ answered-clear g (outcome g)
 
   pub room-fits : (room : ℕ) → length (g .out) + answerRoom ≤ room → length quoted + answerRoom ≤ room
   room-fits room e = omega (arith, quoted-most)

@@ -9,7 +9,7 @@ use mathlib.Core.List.{List, [], _∷_, _++_, append-assoc, append-nil}
 use lib.ListN.{length, take, drop, length-append, take-append-drop}
 use lib.Seq.{take-at, drop-at}
 use Rattle.stages.specs.Bytes.{Text}
-use Rattle.stages.specs.Call.{over}
+use Rattle.stages.specs.Call.{over, cleared}
 use Rattle.stages.specs.Program.{Variables, linesOf, saidOf, toldOf, nextNumber, numberAfter, afterLines}
 use Rattle.stages.proofs.Program.{
   cutLines,
@@ -41,7 +41,7 @@ use Rattle.recipe_cut.proofs.Callers.{
   open-puts,
 }
 use Rattle.recipe_answer.specs.Says.{variables, Says}
-use Rattle.recipe_answer.specs.Turns.{Buffers, buffers, grown, Stays, Tells, Wrote, Reaches, Ran}
+use Rattle.recipe_answer.specs.Turns.{Buffers, buffers, grown, Stays, Tells, areaAfterLines, Wrote, Reaches, Ran}
 use Rattle.recipe_answer.specs.declared.Said.{Said}
 use Rattle.recipe_answer.specs.declared.Carried.{Carried}
 
@@ -107,6 +107,15 @@ module _ (homes paths params : Text) (v : Variables) (n : ℕ) (line : Text) whe
   unfolding lastLine saidOf toldOf afterLines over
   last-unsaid old e =
       rw e (record { words = refl; messages = refl; leaves = refl; after = refl; within = counts 0 old (omega arith); inside = omega arith })
+
+-- the work area is cleared where there is a line, and else kept
+pub last-cleared : (line work : Text) → hasLine line ≡ true → cleared work ≡ areaAfterLines (lastLine line) work
+unfolding lastLine
+last-cleared line work e = rw e
+
+pub last-kept : (line work : Text) → hasLine line ≡ false → work ≡ areaAfterLines (lastLine line) work
+unfolding lastLine
+last-kept line work e = rw e
 
 -- ALL TURNS
 

@@ -5,7 +5,7 @@ use mathlib.Core.List.{List, [], _∷_, _++_}
 use mathlib.Core.Option.{none, some}
 use lib.ListN.{length, take}
 use Rattle.stages.specs.Bytes.{Text}
-use Rattle.stages.specs.Call.{over}
+use Rattle.stages.specs.Call.{over, cleared}
 use Rattle.stages.specs.Program.{Variables, linesOf, saidOf, toldOf, numberAfter, afterLines}
 use Rattle.text.specs.Putting.{Puts}
 use Rattle.recipe_cut.specs.Lines.{lineKept, keptOf, came, behind, nextPlace, Cuts, Holding}
@@ -52,6 +52,15 @@ pub data Turned (homes paths params : Text) (k : Carried) (block : Text) (at : �
   stays : {n : ℕ} → Stays (k .kept) block at b c n → Turned homes paths params k block at b c (Open n)
   tells : {len told used next : ℕ} → Tells homes paths params k block at b c len told used next
       → Turned homes paths params k block at b c (Answered len told used next)
+
+-- the work area after a turn, and after lines: zero where a line was answered
+abbrev pub areaAfter : Turn → Text → Text
+areaAfter (Open n) work = work
+areaAfter (Answered len told used next) work = cleared work
+
+abbrev pub areaAfterLines : List Text → Text → Text
+areaAfterLines [] work = work
+areaAfterLines (l ∷ ls) work = cleared work
 
 -- what was written so far: words to standard output, messages to standard error
 pub record Wrote : Type 0 where

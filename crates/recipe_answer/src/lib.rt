@@ -1,14 +1,15 @@
 // The program's turns: what lies between what it reads and what it writes, on lent bytes alone. A turn takes the next line from a block and, where it ends
-// there, works out its answer in words and the message that it demands, by the stages.
+// there, works out its answer in words and the message that it demands, by the stages. The work area is the caller's, who keeps it for all lines.
 ghost use Prim.Native.Nat.{_≤_};
 ghost use mathlib.Core.Path.{_≡_};
 ghost use mathlib.Core.List.{[], _∷_};
 ghost use lib.ListN.{length, take};
 ghost use Rattle.stages.specs.Numbers.{workLeast, imageLimit, rowLimit};
+ghost use Rattle.stages.specs.Call.{cleared};
 ghost use Rattle.recipe_cut.specs.Lines.{lastLine};
 ghost use Rattle.recipe_cut.specs.Said.{writtenRoom};
 ghost use Rattle.recipe_answer.specs.Says.{variables, Lent, Says};
-ghost use Rattle.recipe_answer.specs.Turns.{Ready, buffers, Turned};
+ghost use Rattle.recipe_answer.specs.Turns.{Ready, buffers, Turned, areaAfter, areaAfterLines};
 use call_check::Asked;
 use recipe_cut::Taken;
 use text::numbers;
@@ -27,6 +28,12 @@ pub struct Carried {
     pub line: usize,
     pub vars_used: usize,
     pub shouts: bool,
+}
+
+// Where a turn begins: what is carried into it, and the place in the block.
+pub struct Begun {
+    pub carried: Carried,
+    pub at: usize,
 }
 
 // What came of a turn.
@@ -72,7 +79,8 @@ fn say_in(
     requires { ⌜ Lent (now work) (now out) (now message) × (writtenRoom ≤ length (now said)) ⌝ }
     ensures { λ r. ⌜ Says (now (homes .entry)) (now (paths .entry)) (now (params .entry))
         (variables (now (vars .entry)) (carried .«vars_used») (carried .shouts)) (carried .line) (now (line .entry) ∷ [])
-        (now (said .entry)) (now (said .exit)) (now (vars .exit)) r ⌝ }
+        (now (said .entry)) (now (said .exit)) (now (vars .exit)) r
+        × (now (work .exit) ≡ cleared (now (work .entry))) ⌝ }
 {
     let asked = Asked {
         vars_used: carried.vars_used,
@@ -90,7 +98,7 @@ fn say_in(
     }
 }
 
-// Works out what is said and told of a line.
+// Works out what is said and told of a line, in a lent work area.
 fn say(
     carried: Carried,
     line: &[u8],
@@ -98,14 +106,15 @@ fn say(
     homes: &[u8],
     params: &[u8],
     paths: &[u8],
+    work: &mut [u8],
     said: &mut [u8],
 ) -> Said
-    requires { ⌜ writtenRoom ≤ length (now said) ⌝ }
+    requires { ⌜ (workLeast ≡ length (now work)) × (writtenRoom ≤ length (now said)) ⌝ }
     ensures { λ r. ⌜ Says (now (homes .entry)) (now (paths .entry)) (now (params .entry))
         (variables (now (vars .entry)) (carried .«vars_used») (carried .shouts)) (carried .line) (now (line .entry) ∷ [])
-        (now (said .entry)) (now (said .exit)) (now (vars .exit)) r ⌝ }
+        (now (said .entry)) (now (said .exit)) (now (vars .exit)) r
+        × (now (work .exit) ≡ cleared (now (work .entry))) ⌝ }
 {
-    let mut work = io::large_buffer();
     let mut out = out_room();
     let mut message = message_room();
     say_in(
@@ -115,7 +124,7 @@ fn say(
         homes,
         params,
         paths,
-        &mut work,
+        work,
         &mut out,
         &mut message,
         said,
@@ -124,25 +133,36 @@ fn say(
 
 // Takes the next line from a block, from a place on, and answers it if it ends there; else what came of it is kept.
 pub fn answer_next(
-    carried: Carried,
+    begun: Begun,
     block: &[u8],
-    at: usize,
     line: &mut [u8],
     vars: &mut [u8],
     homes: &[u8],
     params: &[u8],
     paths: &[u8],
+    work: &mut [u8],
     said: &mut [u8],
 ) -> Turn
-    requires { ⌜ Ready (now line) (now said) (carried .kept) × (at ≤ length (now block)) ⌝ }
-    ensures { λ r. ⌜ Turned (now (homes .entry)) (now (paths .entry)) (now (params .entry)) carried (now (block .entry)) at
-        (buffers (now (line .entry)) (now (vars .entry)) (now (said .entry))) (buffers (now (line .exit)) (now (vars .exit)) (now (said .exit))) r ⌝ }
+    requires { ⌜ Ready (now line) (now said) (begun .carried .kept) × (begun .at ≤ length (now block)) × (workLeast ≡ length (now work)) ⌝ }
+    ensures { λ r. ⌜ Turned (now (homes .entry)) (now (paths .entry)) (now (params .entry)) (begun .carried) (now (block .entry)) (begun .at)
+        (buffers (now (line .entry)) (now (vars .entry)) (now (said .entry))) (buffers (now (line .exit)) (now (vars .exit)) (now (said .exit))) r
+        × (now (work .exit) ≡ areaAfter r (now (work .entry))) ⌝ }
 {
-    let taken = recipe_cut::take_in(line, carried.kept, block, at);
+    let carried = begun.carried;
+    let taken = recipe_cut::take_in(line, carried.kept, block, begun.at);
     match taken {
         Taken::Open(kept) => Turn::Open(kept),
         Taken::Ended { kept, next } => {
-            let spoken = say(carried, &line[..kept], vars, homes, params, paths, said);
+            let spoken = say(
+                carried,
+                &line[..kept],
+                vars,
+                homes,
+                params,
+                paths,
+                work,
+                said,
+            );
             Turn::Answered {
                 len: spoken.len,
                 told: spoken.told,
@@ -161,16 +181,27 @@ pub fn answer_last(
     homes: &[u8],
     params: &[u8],
     paths: &[u8],
+    work: &mut [u8],
     said: &mut [u8],
 ) -> Said
-    requires { ⌜ Ready (now line) (now said) (carried .kept) ⌝ }
+    requires { ⌜ Ready (now line) (now said) (carried .kept) × (workLeast ≡ length (now work)) ⌝ }
     ensures { λ r. ⌜ Says (now (homes .entry)) (now (paths .entry)) (now (params .entry))
         (variables (now (vars .entry)) (carried .«vars_used») (carried .shouts)) (carried .line)
-        (lastLine (take (carried .kept) (now (line .entry)))) (now (said .entry)) (now (said .exit)) (now (vars .exit)) r ⌝ }
+        (lastLine (take (carried .kept) (now (line .entry)))) (now (said .entry)) (now (said .exit)) (now (vars .exit)) r
+        × (now (work .exit) ≡ areaAfterLines (lastLine (take (carried .kept) (now (line .entry)))) (now (work .entry))) ⌝ }
 {
     let kept = carried.kept;
     if recipe_cut::is_last_line(&line[..kept]) {
-        return say(carried, &line[..kept], vars, homes, params, paths, said);
+        return say(
+            carried,
+            &line[..kept],
+            vars,
+            homes,
+            params,
+            paths,
+            work,
+            said,
+        );
     }
     Said {
         len: 0,

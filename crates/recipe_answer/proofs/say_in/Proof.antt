@@ -9,7 +9,7 @@ use Rattle.stages.specs.Bytes.{Text}
 use Rattle.stages.specs.Call.{Given}
 use Rattle.call_check.specs.Calls.{given}
 use Rattle.recipe_cut.specs.Said.{answerRoom, toldRoom}
-use Rattle.recipe_answer.proofs.Saying.{out-inside, message-inside, room-fits, said-inside, told-fits, said-so}
+use Rattle.recipe_answer.proofs.Saying.{out-inside, message-inside, area-cleared, room-fits, said-inside, told-fits, said-so}
 use Rattle.recipe_answer.proofs.say_in.Statement.{statement}
 use Rattle.recipe_answer.proofs.say_in.Tie as tie
 
@@ -108,10 +108,12 @@ returns c =
     let t = c .before .before in
     let p = t .before .before .before .before .before in
     let n = answered p in
-    let a = entry n .args in
-    said-so (a .line .now) (a .vars .now) (a .carried .«vars_used») (a .carried .shouts) (a .homes .now) (a .params .now) (a .paths .now)
-    (a .work .now) (a .out .now)
-    (a .message .now) (a .carried .line) (entry n .pre .0) (entry n .pre .1) (n .normalise .ensures) (p .put-answer .ensures) (t .put-told .ensures)
+    let a = entry n .args in (
+      said-so (a .line .now) (a .vars .now) (a .carried .«vars_used») (a .carried .shouts) (a .homes .now) (a .params .now) (a .paths .now)
+          (a .work .now) (a .out .now)
+          (a .message .now) (a .carried .line) (entry n .pre .0) (entry n .pre .1) (n .normalise .ensures) (p .put-answer .ensures) (t .put-told .ensures),
+      area-cleared (asked n) (n .normalise .ensures),
+    )
 
 pub say-in-spec : {M : Type 1} → statement M
 say-in-spec =

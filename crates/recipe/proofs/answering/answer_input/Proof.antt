@@ -10,7 +10,7 @@ enum-known-input c = search needs
 
 slice-aggregate-answer-block : tie.Need-slice-aggregate-answer-block
 slice-aggregate-answer-block c =
-    let a = c .before .before .before .before .before .before .before .before .before .before .before in
+    let a = c .before .before .before .before .before .before .before .before .before .before .before .before .before in
     comes-counts (a .args .block .now) (c .before .before .input .given .1) (a .pre .1) .1
 
 answer-block-requires : tie.Need-answer-block-requires
@@ -34,13 +34,13 @@ same-length-2 c = search needs
 same-length-3 : tie.Need-same-length-3
 same-length-3 c = search needs
 
-returns : tie.Need-returns
-returns c =
-    let a = c .before .before .before .before .before .before in
-    follows-block (a .before .before .before .before .before .before .input .given .1) (a .answer-block .ensures)
-
 same-length-4 : tie.Need-same-length-4
 same-length-4 c = search needs
+
+returns : tie.Need-returns
+returns c =
+    let a = c .before .before .before .before .before .before .before .before in
+    follows-block (a .before .before .before .before .before .before .before .input .given .1) (a .answer-block .ensures)
 
 same-length-5 : tie.Need-same-length-5
 same-length-5 c = search needs
@@ -48,10 +48,16 @@ same-length-5 c = search needs
 same-length-6 : tie.Need-same-length-6
 same-length-6 c = search needs
 
+same-length-7 : tie.Need-same-length-7
+same-length-7 c = search needs
+
+same-length-8 : tie.Need-same-length-8
+same-length-8 c = search needs
+
 returns-2 : tie.Need-returns-2
 returns-2 c =
-    let a = c .before .before .before .before in
-    follows-end (a .before .before .before .before .enum-told .given .1) (a .answer-end .ensures)
+    let a = c .before .before .before .before .before .before in
+    follows-end (a .before .before .before .before .before .enum-told .given .1) (a .answer-end .ensures)
 
 returns-3 : tie.Need-returns-3
 returns-3 c =
@@ -70,9 +76,11 @@ answer-input-spec =
     same-length
     same-length-2
     same-length-3
-    returns
     same-length-4
+    returns
     same-length-5
     same-length-6
+    same-length-7
+    same-length-8
     returns-2
     returns-3)
