@@ -114,7 +114,7 @@ module _ (m : Mode) (d : ℕ) where
     unfolding literalIn
     leaves = not-on (opensTilde m b) (and-right (isLiteral (sort m b)) (not (opensTilde m b)) e)
 
-    pub first-parts : parts m d (b ∷ t) ≡ put (lit unescaped b) (parts (onward m) d t)
+    first-parts : parts m d (b ∷ t) ≡ put (lit unescaped b) (parts (onward m) d t)
     first-parts = byte-parts m (onward m) b t is-literal (goes-behind m b leaves)
 
     more-parts : parts (onward m) d (b ∷ t) ≡ put (lit unescaped b) (parts (onward m) d t)

@@ -5,20 +5,20 @@ use native.Mathlib.Omega.{arith}
 use mathlib.Core.Path.{_≡_, refl, sym, ap, _∙_, subst}
 use mathlib.Core.Bool.{Bool, true, false, not, _&&_}
 use mathlib.Core.List.{[], _∷_, _++_, append-nil}
-use mathlib.Core.Logic.{⊎-elim}
 use mathlib.Core.Option.{none, some}
 use lib.Dec.{eqb}
 use lib.ListN.{length, drop, length-append}
 use borrow.Author.Tests.{eqb-true}
-use Rattle.stages.specs.Bytes.{Text, text, isIn, all, span, isBareByte, isBlank, isOperator}
+use Rattle.stages.specs.Bytes.{Text, all, span, isBareByte, isBlank, isOperator}
 use Rattle.stages.specs.Outcome.{Outcome, done, pick}
 use Rattle.stages.specs.Syntax.{escaped, unescaped, Parts, end, lit, quo, Start, fresh, begun, Mode, word, single, double, noEscapes, served}
 use Rattle.stages.specs.Items.{item, itemOf, sort, beginsTilde, closerLength, ended, behindBackslash, quotable, listsIn, byte, onward, behindByte}
 use Rattle.stages.specs.Read.{Taken, put, nest, parts, readItem}
-use Rattle.stages.proofs.Bools.{no, apart, either, and-left, and-right, or-cases, clash, some-same}
+use Rattle.stages.proofs.Bools.{either, and-left, and-right, clash, some-same}
 use Rattle.stages.proofs.Texts.{span-all, span-join}
 use Rattle.stages.proofs.Read.{parts-item}
 use Rattle.stages.proofs.Plain.{Plain, bare-plain}
+use Rattle.read_mode.proofs.Closing.{blank-is}
 use Rattle.read_run.specs.Literals.{isLiteral, opensTilde, literalIn, lits}
 use Rattle.read_run.proofs.Parts.{begun-parts}
 use Rattle.read_still.proofs.Walking.{behind-behind}
@@ -46,13 +46,6 @@ ReadsAs s d t (some p) = Reads s d t (p .0) (p .1)
 
 -- THE END OF A WORD
 
-by-blank : (P : ℕ → Type 0) → P 32 → P 9 → P 10 → (b : ℕ) → isBlank b ≡ true → P b
-unfolding isBlank
-by-blank P x y z b e =
-    ⊎-elim (λ f. subst P (sym (eqb-true b 32 f)) x) (λ f. ⊎-elim (λ g. subst P (sym (eqb-true b 9 g)) y)
-    (λ g. ⊎-elim (λ h. subst P (sym (eqb-true b 10 h)) z) (λ h. absurd (no h)) (or-cases (eqb b 10) false g)) (or-cases (eqb b 9) (isIn b (text "\n")) f))
-    (or-cases (eqb b 32) (isIn b (text "\t\n")) e)
-
 module _ (d : ℕ) where
   line-read : (s : Start) → Reads s d [] [] []
   unfolding item ended readItem
@@ -61,11 +54,11 @@ module _ (d : ℕ) where
   blank-reads : (s : Start) (u : Text) (b : ℕ) → isBlank b ≡ true → parts (word s) d (b ∷ u) ≡ done (end, b ∷ u)
   unfolding item itemOf sort beginsTilde isBlank closerLength readItem
   blank-reads fresh u b e =
-      by-blank (λ c. parts (word fresh) d (c ∷ u) ≡ done (end, c ∷ u)) (parts-item (word fresh) d (32 ∷ u) refl) (parts-item (word fresh) d (9 ∷ u) refl)
-      (parts-item (word fresh) d (10 ∷ u) refl) b e
+      blank-is (λ c. parts (word fresh) d (c ∷ u) ≡ done (end, c ∷ u)) b e (parts-item (word fresh) d (32 ∷ u) refl) (parts-item (word fresh) d (9 ∷ u) refl)
+      (parts-item (word fresh) d (10 ∷ u) refl)
   blank-reads begun u b e =
-      by-blank (λ c. parts (word begun) d (c ∷ u) ≡ done (end, c ∷ u)) (parts-item (word begun) d (32 ∷ u) refl) (parts-item (word begun) d (9 ∷ u) refl)
-      (parts-item (word begun) d (10 ∷ u) refl) b e
+      blank-is (λ c. parts (word begun) d (c ∷ u) ≡ done (end, c ∷ u)) b e (parts-item (word begun) d (32 ∷ u) refl) (parts-item (word begun) d (9 ∷ u) refl)
+      (parts-item (word begun) d (10 ∷ u) refl)
 
   blank-read : (s : Start) (b : ℕ) (u : Text) → isBlank b ≡ true → Reads s d (b ∷ u) [] (b ∷ u)
   blank-read s b u e = record { tree = end; units = 0; is = blank-reads s u b e; still = no-parts; few = omega arith; some-unit = λ h. absurd (omega arith) }
