@@ -1,28 +1,25 @@
 -- Where a text ends by its next byte, the stage's item is the stop.
 use Prim.Native.Nat.{ℕ, _+_, _≤_, _<_}
 use native.Mathlib.Omega.{arith}
-use mathlib.Core.Path.{_≡_, refl, sym, ap, _∙_, subst}
+use mathlib.Core.Path.{_≡_, refl, sym, ap, _∙_}
 use mathlib.Core.Bool.{Bool, true, false}
 use mathlib.Core.List.{[], _∷_}
-use borrow.Author.Tests.{eqb-true}
 use denote.Enum.Declared.{tagOf}
 use types.Run.{OneOf, miss}
-use lib.ListN.{length, drop, getD, drop-of-length-le}
+use lib.ListN.{length, drop, getD, length-drop, drop-of-length-le}
 use lib.Seq.{drop-cons}
-use Rattle.stages.specs.Bytes.{Text, isBlank}
-use Rattle.stages.specs.Syntax.{Start, fresh, begun, word, value}
+use Rattle.stages.specs.Bytes.{Text}
 use Rattle.stages.specs.Syntax as syntax
-use Rattle.stages.specs.Items.{Item, stop, fault, item, itemOf, sort, ended, beginsTilde, closerLength}
-use Rattle.text.specs.Cases.{startOf}
+use Rattle.stages.specs.Items.{Sort, stop, fault, item, itemOf, sort, isCloser, ended, closerLength}
+use Rattle.stages.specs.Items as items
+use Rattle.stages.proofs.Bools.{no}
 use Rattle.read_mode.specs.Modes.{modeOf, endsLine}
 use Rattle.read_mode.specs.declared.Cursor.{Cursor}
-use Rattle.read_mode.proofs.Closing.{blank-is}
 use Rattle.read_mode.proofs.Mode as mode-type
 use Rattle.read_mode.specs.declared.Mode.{Mode}
 use Rattle.read_mode.specs.declared.Mode.the-variants.{Word, Value, Bare, Single, Double, Operand, Arith}
-use Rattle.read_brace.specs.Shows.{isAt}
 use Rattle.read_brace.specs.declared.Item.the-variants.{Stop}
-use Rattle.read_brace.proofs.Showing.{shows-stop, at-within}
+use Rattle.read_brace.proofs.Showing.{shows-stop}
 use Rattle.read_item.specs.After.{ItemAt, isEnd}
 
 -- At the line's end.
@@ -52,59 +49,61 @@ end-of-line text at m r l e = line-end m r e ∙ ap (isEnd m) (sym (drop-of-leng
 
 -- Before a byte.
 
-pub end-at-byte : (text : Text) (at : ℕ) (m : Mode) {r : Bool} → at < length text → r ≡ isEnd m (getD text at 0 ∷ []) → r ≡ isEnd m (drop at text)
-end-at-byte text at m l e = e ∙ alike m (getD text at 0) _ ∙ ap (isEnd m) (sym (drop-cons text at 0 l))
-  where
-    alike : (m : Mode) (b : ℕ) (t : Text) → isEnd m (b ∷ []) ≡ isEnd m (b ∷ t)
-    alike (Word s) b t = refl
-    alike (Value s) b t = refl
-    alike (Bare s l) b t = refl
-    alike (Single x) b t = refl
-    alike (Double l) b t = refl
-    alike (Operand l) b t = refl
-    alike (Arith n) b t = refl
+pub end-at-byte : (text : Text) (at : ℕ) (m : Mode) {r : Bool} → at < length text → r ≡ isCloser (sort (modeOf m) (getD text at 0))
+    → r ≡ isEnd m (drop at text)
+end-at-byte text at m l e = e ∙ ap (isEnd m) (sym (drop-cons text at 0 l))
 
 -- The item there.
 
-word-stops : (s : Start) (d : ℕ) (b : ℕ) (t : Text) → isBlank b ≡ true → item (word s) d (b ∷ t) ≡ stop 0
-unfolding item itemOf sort closerLength isBlank beginsTilde
-word-stops fresh d b t e = blank-is (λ x. item (word fresh) d (x ∷ t) ≡ stop 0) b e refl refl refl
-word-stops begun d b t e = blank-is (λ x. item (word begun) d (x ∷ t) ≡ stop 0) b e refl refl refl
+closer-stops : (s : Sort) (m : syntax.Mode) (d b : ℕ) (t : Text) → isCloser s ≡ true → itemOf s m d b t ≡ stop (closerLength m)
+unfolding isCloser itemOf
+closer-stops items.backquote m d b t e = absurd (no e)
+closer-stops items.closes m d b t e = refl
+closer-stops items.operator m d b t e = absurd (no e)
+closer-stops items.quotes m d b t e = absurd (no e)
+closer-stops items.quotes2 m d b t e = absurd (no e)
+closer-stops items.backslash m d b t e = absurd (no e)
+closer-stops items.escape m d b t e = absurd (no e)
+closer-stops items.dollar m d b t e = absurd (no e)
+closer-stops items.bad m d b t e = absurd (no e)
+closer-stops items.opening m d b t e = absurd (no e)
+closer-stops items.closing m d b t e = absurd (no e)
+closer-stops items.tilde m d b t e = absurd (no e)
+closer-stops items.literal m d b t e = absurd (no e)
 
-value-stops : (s : Start) (d : ℕ) (b : ℕ) (t : Text) → isBlank b ≡ true → item (value s) d (b ∷ t) ≡ stop 0
-unfolding item itemOf sort closerLength isBlank beginsTilde
-value-stops fresh d b t e = blank-is (λ x. item (value fresh) d (x ∷ t) ≡ stop 0) b e refl refl refl
-value-stops begun d b t e = blank-is (λ x. item (value begun) d (x ∷ t) ≡ stop 0) b e refl refl refl
-
--- a byte that ends a text by itself
-byte-stops : (m : syntax.Mode) (d c : ℕ) → ((t : Text) → item m d (c ∷ t) ≡ stop 1) → (t : Text) → isAt c t ≡ true → item m d t ≡ stop 1
-byte-stops m d c h [] e = absurd (let z : _≡_ {A = ℕ} 0 1 = cc in omega arith)
-byte-stops m d c h (b ∷ t) e = subst (λ (x : ℕ). item m d (x ∷ t) ≡ stop 1) (sym (eqb-true b c e)) (h t)
+-- the line's end is a stop in a word and in a value
+line-stops : (m : Mode) → isEnd m [] ≡ true → (ended (modeOf m) ≡ stop (closerLength (modeOf m))) × (closerLength (modeOf m) ≡ 0)
+unfolding ended closerLength
+line-stops (Word s) e = (refl, refl)
+line-stops (Value s) e = (refl, refl)
+line-stops (Bare s l) e = absurd (no e)
+line-stops (Single x) e = absurd (no e)
+line-stops (Double l) e = absurd (no e)
+line-stops (Operand l) e = absurd (no e)
+line-stops (Arith n) e = absurd (no e)
 
 stops : (m : Mode) (d : ℕ) (t : Text) → isEnd m t ≡ true → item (modeOf m) d t ≡ stop (closerLength (modeOf m))
-unfolding item itemOf sort closerLength ended beginsTilde
-stops (Word s) d [] e = refl
-stops (Word s) d (b ∷ t) e = word-stops (startOf s) d b t e
-stops (Value s) d [] e = refl
-stops (Value s) d (b ∷ t) e = value-stops (startOf s) d b t e
-stops (Bare true l) d t e = byte-stops _ d 125 (λ u. refl) t e
-stops (Bare false l) d t e = byte-stops _ d 125 (λ u. refl) t e
-stops (Single true) d t e = byte-stops _ d 39 (λ u. refl) t e
-stops (Single false) d t e = byte-stops _ d 39 (λ u. refl) t e
-stops (Double l) d t e = byte-stops _ d 34 (λ u. refl) t e
-stops (Operand l) d t e = byte-stops _ d 125 (λ u. refl) t e
-stops (Arith n) d t e = absurd (let z : _≡_ {A = ℕ} 0 1 = cc in omega arith)
+unfolding item
+stops m d [] e = line-stops m e .0
+stops m d (b ∷ t) e = closer-stops (sort (modeOf m) b) (modeOf m) d b t e
 
 -- and it lies in the text
-stops-within : (m : Mode) (at : ℕ) (text : Text) → at ≤ length text → isEnd m (drop at text) ≡ true → at + closerLength (modeOf m) ≤ length text
+closer-short : (m : syntax.Mode) → closerLength m ≤ 1
 unfolding closerLength
-stops-within (Word s) at text l e = omega arith
-stops-within (Value s) at text l e = omega arith
-stops-within (Bare s k) at text l e = let w = at-within 125 at text e in omega arith
-stops-within (Single x) at text l e = let w = at-within 39 at text e in omega arith
-stops-within (Double k) at text l e = let w = at-within 34 at text e in omega arith
-stops-within (Operand k) at text l e = let w = at-within 125 at text e in omega arith
-stops-within (Arith n) at text l e = absurd (let z : _≡_ {A = ℕ} 0 1 = cc in omega arith)
+closer-short (syntax.word s) = omega arith
+closer-short (syntax.value s) = omega arith
+closer-short (syntax.bare s l) = omega arith
+closer-short (syntax.single x) = omega arith
+closer-short (syntax.double l) = omega arith
+closer-short (syntax.quotedOperand l) = omega arith
+closer-short (syntax.arith n) = omega arith
+
+stops-within : (m : Mode) (at : ℕ) (text : Text) → at ≤ length text → isEnd m (drop at text) ≡ true → at + closerLength (modeOf m) ≤ length text
+stops-within m at text l e = go (drop at text) refl e
+  where
+    go : (t : Text) → drop at text ≡ t → isEnd m t ≡ true → at + closerLength (modeOf m) ≤ length text
+    go [] k h = omega (arith, line-stops m h .1)
+    go (b ∷ t) k h = omega (arith, closer-short (modeOf m), length-drop at text, ap length k)
 
 pub end-item : (text : Text) (from : Cursor) → from .at ≤ length text → isEnd (from .mode) (drop (from .at) text) ≡ true
     → ItemAt text from (Stop (from .at + closerLength (modeOf (from .mode))))

@@ -6,17 +6,17 @@ use mathlib.Core.List.{[], _∷_}
 use lib.Dec.{eqb}
 use lib.ListN.{drop}
 use Rattle.stages.specs.Numbers.{unserved}
-use Rattle.stages.specs.Bytes.{Text, text, isIn, isBlank}
+use Rattle.stages.specs.Bytes.{Text, text, isIn}
 use Rattle.stages.specs.Outcome.{pick}
 use Rattle.stages.specs.Syntax.{unescaped, nth, parameters, single, withEscapes}
 use Rattle.stages.specs.Syntax as syntax
-use Rattle.stages.specs.Items.{item, fault, byte, quote, valueOf, count, isFirstDigit, listsIn, spreadAt, notServed, isBareText}
+use Rattle.stages.specs.Items.{item, sort, isCloser, fault, byte, quote, valueOf, count, isFirstDigit, listsIn, spreadAt, notServed, isBareText}
 use Rattle.stages.specs.Items as items
 use Rattle.read_mode.specs.Modes.{modeOf, modeOnward, modeBehind}
 use Rattle.read_mode.specs.declared.Cursor.{Cursor}
 use Rattle.read_mode.specs.declared.Mode.{Mode}
 use Rattle.read_mode.specs.declared.Mode.the-variants.{Word, Value, Bare, Single, Double, Operand, Arith}
-use Rattle.read_brace.specs.Shows.{Shows, isAt}
+use Rattle.read_brace.specs.Shows.{Shows}
 use Rattle.read_brace.specs.declared.Item.{Item}
 use Rattle.read_brace.specs.declared.Item.the-variants.{Fault, Stop, Byte, Paren, Quote, Value, Count, Total, Spread, Inner, Sum, Home}
 
@@ -72,11 +72,10 @@ isStop (Home to) = false
 -- the text ends where it is read, as its next byte or the line's end says; never said of arithmetic, which two bytes end
 abbrev pub isEnd : Mode → Text → Bool
 isEnd (Word fresh) [] = true
-isEnd (Word fresh) (b ∷ t) = isBlank b
 isEnd (Value fresh) [] = true
-isEnd (Value fresh) (b ∷ t) = isBlank b
-isEnd (Bare fresh lists) t = isAt (code "}") t
-isEnd (Single escapes) t = isAt (code "'") t
-isEnd (Double lists) t = isAt (code "\"") t
-isEnd (Operand lists) t = isAt (code "}") t
-isEnd (Arith n) t = false
+isEnd (Bare fresh lists) [] = false
+isEnd (Single escapes) [] = false
+isEnd (Double lists) [] = false
+isEnd (Operand lists) [] = false
+isEnd (Arith n) [] = false
+isEnd m (b ∷ t) = isCloser (sort (modeOf m) b)

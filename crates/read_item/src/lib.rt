@@ -301,16 +301,7 @@ pub fn is_end(text: &[u8], at: usize, mode: Mode) -> bool
     if at >= text.len() {
         return read_mode::may_end(mode);
     }
-    let b = text[at];
-    match mode {
-        Mode::Word(_) => text::in_class(Class::Blank, b),
-        Mode::Value(_) => text::in_class(Class::Blank, b),
-        Mode::Bare { fresh: _, lists: _ } => b == b'}',
-        Mode::Single(_) => b == b'\'',
-        Mode::Double(_) => b == b'"',
-        Mode::Operand(_) => b == b'}',
-        Mode::Arith(_) => false,
-    }
+    read_mode::is_closer(mode, text[at])
 }
 
 // How many bytes the end of a text takes in this mode: a word's blank is not part of it.

@@ -8,7 +8,7 @@ use mathlib.Core.List.{[], _∷_}
 use Rattle.stages.specs.Syntax.{word, value, bare, single, double, quotedOperand, arith as sums, plain, minus, equals, query, plus, removal, suffix, prefix}
 use Rattle.stages.specs.Syntax.{Colon}
 use Rattle.stages.specs.Syntax as syntax
-use Rattle.stages.specs.Items.{ended, quotable, notServed, listsIn, letBy, wrong, fault, signForm, closerLength, endsLogin}
+use Rattle.stages.specs.Items.{ended, quotable, notServed, listsIn, letBy, wrong, fault, signForm, closerLength, endsLogin, sort, isCloser}
 use Rattle.stages.specs.Items as items
 use Rattle.text.specs.Cases.{hasColon, isLongest, isFresh, isServed, listsOf, hasEscapes}
 use Rattle.text.proofs.Cases.{colon-back, reach-back, start-back, lists-back, escapes-back}
@@ -145,6 +145,9 @@ onward-determined m r s = one-answer
 
 pub behind-byte-determined : (m : Mode) (q : Bool) (b : ℕ) (r s : Mode) → r ≡ modeBehind m q b → s ≡ modeBehind m q b → r ≡ s
 behind-byte-determined m q b r s = one-answer
+
+pub is-closer-determined : (m : syntax.Mode) (b : ℕ) (r s : Bool) → r ≡ isCloser (sort m b) → s ≡ isCloser (sort m b) → r ≡ s
+is-closer-determined m b r s = one-answer
 
 pub ends-login-determined : (m : syntax.Mode) (b : ℕ) (r s : Bool) → r ≡ endsLogin m (b ∷ []) → s ≡ endsLogin m (b ∷ []) → r ≡ s
 ends-login-determined m b r s = one-answer

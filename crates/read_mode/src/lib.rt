@@ -349,7 +349,7 @@ pub fn behind_byte(mode: Mode, quoted: bool, b: u8) -> Mode
 }
 
 // Does a text of this mode end at the byte? Never said of arithmetic, which two bytes end.
-fn is_closer(mode: Mode, b: u8) -> bool
+pub fn is_closer(mode: Mode, b: u8) -> bool
     ensures { λ r. ⌜ r ≡ isCloser (sort (modeOf mode) b) ⌝ }
 {
     match mode {
