@@ -4,7 +4,7 @@ use mathlib.Core.Path.{_≡_}
 use mathlib.Core.Bool.{Bool}
 use mathlib.Core.List.{List, _++_}
 use lib.ListN.{length}
-use Rattle.stages.specs.Numbers.{workLeast, imageLimit, rowLimit}
+use Rattle.stages.specs.Numbers.{workLeast, rowLimit}
 use Rattle.stages.specs.Bytes.{Text}
 use Rattle.stages.specs.Call.{over}
 use Rattle.stages.specs.Program.{Variables, saidOf, toldOf, afterLines}
@@ -14,10 +14,9 @@ use Rattle.recipe_answer.specs.declared.Said.{Said}
 abbrev pub variables : Text → ℕ → Bool → Variables
 variables vars used shouts = record { buffer = vars; varsUsed = used; shouts = shouts }
 
--- what is lent to the normaliser beside the variables, by its lengths
-pub record Lent (work out message : Text) : Type 0 where
+-- the work area and the message's buffer that are lent to the normaliser, by their lengths
+pub record Lent (work message : Text) : Type 0 where
   pub area : workLeast ≡ length work
-  pub output : imageLimit ≡ length out
   pub row : rowLimit ≡ length message
 
 -- the words of lines, the first of which has the number n, stand at the front of a buffer, what is told of them right behind, and the variables are as the

@@ -4,7 +4,7 @@ ghost use Prim.Native.Nat.{_≤_};
 ghost use mathlib.Core.Path.{_≡_};
 ghost use mathlib.Core.List.{[], _∷_};
 ghost use lib.ListN.{length, take};
-ghost use Rattle.stages.specs.Numbers.{workLeast, imageLimit, rowLimit};
+ghost use Rattle.stages.specs.Numbers.{workLeast, rowLimit};
 ghost use Rattle.stages.specs.Call.{cleared};
 ghost use Rattle.recipe_cut.specs.Lines.{lastLine};
 ghost use Rattle.recipe_cut.specs.Said.{writtenRoom};
@@ -49,13 +49,6 @@ pub enum Turn {
     },
 }
 
-// "they and the output get 8,192 bytes"
-fn out_room() -> [u8; numbers::IMAGE_LIMIT]
-    ensures { λ r. ⌜ imageLimit ≡ length r ⌝ }
-{
-    [0; numbers::IMAGE_LIMIT]
-}
-
 // A row's bytes, so that no message is cut.
 fn message_room() -> [u8; numbers::ROW_LIMIT]
     ensures { λ r. ⌜ rowLimit ≡ length r ⌝ }
@@ -63,7 +56,8 @@ fn message_room() -> [u8; numbers::ROW_LIMIT]
     [0; numbers::ROW_LIMIT]
 }
 
-// Works out what is said and told of a line, in a lent work area, output and message buffer.
+// Works out what is said and told of a line, in a lent work area and message buffer. The normaliser writes the quoted line where it is said: the longest one
+// has room there, and document 01's 8,192 bytes would not change an answer.
 fn say_in(
     carried: Carried,
     line: &[u8],
@@ -72,11 +66,10 @@ fn say_in(
     params: &[u8],
     paths: &[u8],
     work: &mut [u8],
-    out: &mut [u8],
     message: &mut [u8],
     said: &mut [u8],
 ) -> Said
-    requires { ⌜ Lent (now work) (now out) (now message) × (writtenRoom ≤ length (now said)) ⌝ }
+    requires { ⌜ Lent (now work) (now message) × (writtenRoom ≤ length (now said)) ⌝ }
     ensures { λ r. ⌜ Says (now (homes .entry)) (now (paths .entry)) (now (params .entry))
         (variables (now (vars .entry)) (carried .«vars_used») (carried .shouts)) (carried .line) (now (line .entry) ∷ [])
         (now (said .entry)) (now (said .exit)) (now (vars .exit)) r
@@ -86,9 +79,18 @@ fn say_in(
         vars_used: carried.vars_used,
         shouts: carried.shouts,
     };
-    let answer = drunquill::normalise(line, vars, asked, homes, params, paths, work, out, message);
-    let n = answer.out_len;
-    let len = recipe_cut::put_answer(answer.number, answer.place, &out[..n], said);
+    let answer = drunquill::normalise(
+        line,
+        vars,
+        asked,
+        homes,
+        params,
+        paths,
+        work,
+        &mut said[recipe_cut::LINE_AT..recipe_cut::LINE_TO],
+        message,
+    );
+    let len = recipe_cut::put_answer(answer.number, answer.place, answer.out_len, said);
     let m = answer.message_len;
     let told = recipe_cut::put_told(answer.number, carried.line, &message[..m], &mut said[len..]);
     Said {
@@ -115,7 +117,6 @@ fn say(
         (now (said .entry)) (now (said .exit)) (now (vars .exit)) r
         × (now (work .exit) ≡ cleared (now (work .entry))) ⌝ }
 {
-    let mut out = out_room();
     let mut message = message_room();
     say_in(
         carried,
@@ -125,7 +126,6 @@ fn say(
         params,
         paths,
         work,
-        &mut out,
         &mut message,
         said,
     )

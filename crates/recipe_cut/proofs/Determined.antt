@@ -9,7 +9,7 @@ use Rattle.text.proofs.Determined.{one-answer}
 use Rattle.text.specs.Putting.{Puts}
 use Rattle.text.proofs.Filling.{puts-once}
 use Rattle.recipe_cut.specs.Lines.{keptIn, nextIn, Takes, hasLine}
-use Rattle.recipe_cut.specs.Said.{saidBy, toldBy}
+use Rattle.recipe_cut.specs.Said.{saidBy, lineIn, toldBy}
 use Rattle.recipe_cut.specs.declared.Taken.{Taken}
 use Rattle.recipe_cut.specs.declared.Taken.the-variants.{Ended, Open}
 
@@ -29,9 +29,9 @@ take-in-determined line block left left′ kept from r s w w′ =
 pub is-last-line-determined : (line : Text) (r s : Bool) → r ≡ hasLine line → s ≡ hasLine line → r ≡ s
 is-last-line-determined line r s = one-answer
 
-pub put-answer-determined : (number place : ℕ) (line out left left′ : Text) (r s : ℕ) → Puts (saidBy number place line) out left r
-    → Puts (saidBy number place line) out left′ s → (r ≡ s) × (left ≡ left′)
-put-answer-determined number place line out left left′ r s = puts-once
+pub put-answer-determined : (number place len : ℕ) (out left left′ : Text) (r s : ℕ) → Puts (saidBy number place (lineIn len out)) out left r
+    → Puts (saidBy number place (lineIn len out)) out left′ s → (r ≡ s) × (left ≡ left′)
+put-answer-determined number place len out left left′ r s = puts-once
 
 pub next-number-determined : (n r s : ℕ) → r ≡ nextNumber n → s ≡ nextNumber n → r ≡ s
 next-number-determined n r s = one-answer

@@ -1,11 +1,11 @@
 -- What the program says of an answer, written piece by piece. The byte 10 is a newline, 32 a blank.
 use Prim.Native.Nat.{ℕ, zero, suc, _+_, _-_, _/_, _≤_}
 use native.Mathlib.Omega.{arith}
-use mathlib.Core.Path.{_≡_, refl, sym, ap}
-use mathlib.Core.List.{[], _++_}
+use mathlib.Core.Path.{_≡_, refl, sym, ap, _∙_}
+use mathlib.Core.List.{[], _++_, append-assoc}
 use lib.Dec.{eqb, ltb}
-use lib.ListN.{length, take, drop, set, length-append}
-use lib.Seq.{take-length}
+use lib.ListN.{length, take, drop, set, length-append, length-drop, take-append-drop}
+use lib.Seq.{take-length, length-take-le, drop-drop}
 use borrow.Rule.Slice.PartMut.{putMid, midOf}
 use borrow.Author.Tests.{eq-eqb, ne-eqb, eqb-true, eqb-false, ltb-true, ltb-false}
 use Rattle.stages.specs.Bytes.{Text, text}
@@ -16,7 +16,7 @@ use Rattle.stages.proofs.Bools.{either}
 use Rattle.stages.proofs.Digits.{digits-one, digits-more}
 use Rattle.text.specs.Putting.{Puts}
 use Rattle.text.proofs.Filling.{Filling, fill-byte, fill-piece}
-use Rattle.recipe_cut.specs.Said.{saidBy, okText, noText, answerRoom}
+use Rattle.recipe_cut.specs.Said.{saidBy, okText, lineIn, noText, answerRoom}
 
 -- the two kinds of answer
 pub said-ok : (number place : ℕ) (line : Text) → number ≡ 0 → saidBy number place line ≡ okText line
@@ -57,17 +57,38 @@ pub copied : (t old left : Text) → left ≡ t ++ drop (length t) old → Puts 
 unfolding over
 copied t old left e = record { counts = refl; leaves = e }
 
--- `put_ok`
-module _ (line out first : Text) (h : length line + 4 ≤ length out) (e : first ≡ text "ok " ++ drop 3 out) where
-  pub ok-begun : Filling (okText line) (line ++ text "\n") out first 3
-  ok-begun = begun (text "ok ") (line ++ text "\n") out first (simp length-append (omega arith)) e
+-- a piece that stands there already
+fill-kept : {whole rest old out : Text} {used : ℕ} → Filling whole rest old out used → (piece more : Text) (next : ℕ) → rest ≡ piece ++ more
+    → take (length piece) (drop used old) ≡ piece → next ≡ used + length piece → Filling whole more old out next
+unfolding over
+fill-kept {old = old} {out} {used} f piece more next e k n = record {
+  front = f .front ++ piece;
+  splits = f .splits ∙ ap (λ (x : Text). f .front ++ x) e ∙ sym (append-assoc (f .front) piece more);
+  long = omega (arith, n, f .long, length-append (f .front) piece);
+  is = f .is
+      ∙ ap (λ (j : ℕ). f .front ++ drop j old) (sym (f .long))
+      ∙ ap (λ (x : Text). f .front ++ x) (sym (take-append-drop (length piece) (drop used old)))
+      ∙ ap (λ (x : Text). f .front ++ (x ++ drop (length piece) (drop used old))) k
+      ∙ sym (append-assoc (f .front) piece (drop (length piece) (drop used old)))
+      ∙ ap (λ (x : Text). (f .front ++ piece) ++ x) (drop-drop (length piece) used old)
+      ∙ ap (λ (j : ℕ). (f .front ++ piece) ++ drop (j + length piece) old) (f .long)
+      ∙ ap (λ (j : ℕ). (f .front ++ piece) ++ drop j old) (sym (length-append (f .front) piece));
+  fits = f .fits;
+}
 
-  module _ (ys : Text) (p : ys ≡ line ++ drop (length line) (midOf 3 (length first - 3) first)) where
-    pub ok-line : Filling (okText line) (text "\n") out (putMid 3 (length first - 3) first ys) (length line + 3)
-    ok-line = fill-piece ok-begun line (text "\n") ys (length line) (length line + 3) refl (copied line (midOf 3 (length first - 3) first) ys p) (omega arith)
+-- `put_ok`: the line stands already where it is said
+module _ (len : ℕ) (out first : Text) (h : len + 4 ≤ length out) (e : first ≡ text "ok " ++ drop 3 out) where
+  line-long : length (lineIn len out) ≡ len
+  line-long = length-take-le len (drop 3 out) (omega (arith, length-drop 3 out))
 
-    pub ok-ended : Filling (okText line) [] out (set (putMid 3 (length first - 3) first ys) (length line + 3) 10) (length line + 3 + 1)
-    ok-ended = fill-byte ok-line 10 [] (length line + 3 + 1) refl refl
+  ok-begun : Filling (okText (lineIn len out)) (lineIn len out ++ text "\n") out first 3
+  ok-begun = begun (text "ok ") (lineIn len out ++ text "\n") out first (simp length-append (omega (arith, line-long))) e
+
+  ok-line : Filling (okText (lineIn len out)) (text "\n") out first (len + 3)
+  ok-line = fill-kept ok-begun (lineIn len out) (text "\n") (len + 3) refl (ap (λ (n : ℕ). take n (drop 3 out)) line-long) (omega (arith, line-long))
+
+  pub ok-ended : Filling (okText (lineIn len out)) [] out (set first (len + 3) 10) (len + 3 + 1)
+  ok-ended = fill-byte ok-line 10 [] (len + 3 + 1) refl refl
 
 -- `put_no`
 no-small : (number place : ℕ) → length (noText number place) ≤ answerRoom

@@ -1,7 +1,7 @@
 -- What the program writes for an answer: its words, by its number, its place and the quoted line, and what it tells, by the line's number and the message.
 use Prim.Native.Nat.{ℕ, _+_}
 use mathlib.Core.List.{[], _++_}
-use lib.ListN.{length}
+use lib.ListN.{length, take, drop}
 use Rattle.stages.specs.Numbers.{imageLimit, rowLimit}
 use Rattle.stages.specs.Bytes.{Text, text}
 use Rattle.stages.specs.Units.{decimal}
@@ -35,6 +35,10 @@ toldBy number line message = told line (answerBy number 0 [] message)
 -- "`ok `, the quoted line, newline"
 abbrev pub okText : Text → Text
 okText line = text "ok " ++ (line ++ text "\n")
+
+-- the quoted line, so many bytes, where it stands among those words
+abbrev pub lineIn : ℕ → Text → Text
+lineIn len out = take len (drop 3 out)
 
 -- "`no `, number, blank, place, newline"
 abbrev pub noText : ℕ → ℕ → Text

@@ -8,7 +8,7 @@ ghost use lib.ListN.{length, take};
 ghost use Rattle.stages.specs.Program.{nextNumber};
 ghost use Rattle.text.specs.Putting.{Puts};
 ghost use Rattle.recipe_cut.specs.Lines.{lineKept, keptOf, hasLine, LineEnd, Takes};
-ghost use Rattle.recipe_cut.specs.Said.{saidBy, okText, noText, answerRoom, toldBy, demandText, toldRoom};
+ghost use Rattle.recipe_cut.specs.Said.{saidBy, okText, noText, answerRoom, toldBy, demandText, toldRoom, lineIn};
 use text::numbers;
 
 // What came of a line.
@@ -24,6 +24,11 @@ const COUNT_LIMIT: usize = 999999999;
 
 // The most bytes that are written for a line: its answer in words, and what is told of it, `line `, a number, `: `, a message and a newline.
 pub const WRITTEN_ROOM: usize = numbers::SAID_ROOM + numbers::ROW_LIMIT + numbers::MOST_DIGITS + 8;
+
+// Where the quoted line stands among the words of an acceptance, and where the longest one ends there.
+pub const LINE_AT: usize = 3;
+
+pub const LINE_TO: usize = LINE_AT + numbers::LINE_LIMIT;
 
 const NEWLINE: u8 = b'\n';
 
@@ -92,14 +97,13 @@ pub fn next_number(n: usize) -> usize
     if n < COUNT_LIMIT { n + 1 } else { n }
 }
 
-// Writes `ok `, the quoted line and a newline.
-fn put_ok(line: &[u8], out: &mut [u8]) -> usize
-    requires { ⌜ length (now line) + 4 ≤ length (now out) ⌝ }
-    ensures { λ r. ⌜ Puts (okText (now (line .entry))) (now (out .entry)) (now (out .exit)) r ⌝ }
+// Writes `ok ` before the quoted line, so many bytes from `LINE_AT` on, and a newline behind it.
+fn put_ok(len: usize, out: &mut [u8]) -> usize
+    requires { ⌜ len + 4 ≤ length (now out) ⌝ }
+    ensures { λ r. ⌜ Puts (okText (lineIn len (now (out .entry)))) (now (out .entry)) (now (out .exit)) r ⌝ }
 {
     text_copy::copy_in(b"ok ", out);
-    text_copy::copy_in(line, &mut out[3..]);
-    let end = line.len() + 3;
+    let end = len + LINE_AT;
     out[end] = NEWLINE;
     end + 1
 }
@@ -120,13 +124,14 @@ fn put_no(number: u8, place: usize, out: &mut [u8]) -> usize
     end + 1
 }
 
-// Writes what the program says of an answer, the quoted line given for an acceptance; returns its length. The bytes behind it stay.
-pub fn put_answer(number: u8, place: usize, line: &[u8], out: &mut [u8]) -> usize
-    requires { ⌜ length (now line) + answerRoom ≤ length (now out) ⌝ }
-    ensures { λ r. ⌜ Puts (saidBy number place (now (line .entry))) (now (out .entry)) (now (out .exit)) r ⌝ }
+// Writes what the program says of an answer around the quoted line, which stands from `LINE_AT` on and has no byte where the line is refused; returns the
+// words' length. The bytes behind them stay.
+pub fn put_answer(number: u8, place: usize, len: usize, out: &mut [u8]) -> usize
+    requires { ⌜ len + answerRoom ≤ length (now out) ⌝ }
+    ensures { λ r. ⌜ Puts (saidBy number place (lineIn len (now (out .entry)))) (now (out .entry)) (now (out .exit)) r ⌝ }
 {
     if number == numbers::ACCEPTED {
-        put_ok(line, out)
+        put_ok(len, out)
     } else {
         put_no(number, place, out)
     }

@@ -1,69 +1,79 @@
--- The normaliser's answer, put in words, is what the stage says of the line, and what is told behind the words what the stage tells of it.
+-- The normaliser's answer, put in words around the quoted line, is what the stage says of the line, and what is told behind the words what the stage tells
+-- of it.
 use Prim.Native.Nat.{ℕ, _+_, _≤_}
 use native.Mathlib.Omega.{arith}
-use mathlib.Core.Path.{sym}
+use mathlib.Core.Path.{_≡_, refl, sym}
 use lib.ListN.{length}
 use lib.Seq.{length-take-le}
 use borrow.Author.Needs.{needs}
+use borrow.Rule.Slice.PartMut.{midOf}
+use Rattle.stages.specs.Numbers.{lineLimit}
 use Rattle.stages.specs.Bytes.{Text}
 use Rattle.stages.specs.Call.{Given}
+use Rattle.text.specs.Putting.{Puts}
 use Rattle.call_check.specs.Calls.{given}
-use Rattle.recipe_cut.specs.Said.{answerRoom, toldRoom}
-use Rattle.recipe_answer.proofs.Saying.{out-inside, message-inside, area-cleared, room-fits, said-inside, told-fits, said-so}
+use Rattle.recipe_cut.specs.Said.{saidBy, answerRoom, toldRoom}
+use Rattle.recipe_answer.proofs.Saying.{out-inside, message-inside, quoted, area-cleared, lent-long, lined-length, puts-around, said-inside}
+use Rattle.recipe_answer.proofs.Saying.{told-fits, said-so}
 use Rattle.recipe_answer.proofs.say_in.Statement.{statement}
 use Rattle.recipe_answer.proofs.say_in.Tie as tie
 
--- where the normaliser has answered: the call's entry, what it was given, and the output and the message's buffer after it
+-- where the normaliser has answered: the call's entry, what it was given, and the message's buffer after it
 module _ (c : tie.After-normalise) where
   abbrev entry : tie.Start
-  entry = c .before .before .before .before .before .before .before .before .before .before .before .before .before .before
+  entry = c .before .before .before .before .before .before .before .before .before .before .before .before .before
 
   abbrev asked : Given
   asked =
       let a = entry .args in
       given (a .line .now) (a .vars .now) (a .carried .«vars_used») (a .carried .shouts) (a .homes .now) (a .params .now) (a .paths .now)
-      (a .work .now) (a .out .now)
+      (a .work .now) (midOf 3 lineLimit (a .said .now))
       (a .message .now)
-
-  abbrev out : Text
-  out = c .normalise .last .1 .1 .1 .1 .1 .1 .1 .0
 
   abbrev message : Text
   message = c .normalise .last .1 .1 .1 .1 .1 .1 .1 .1 .0
 
-  line-inside : (c .normalise .result .«out_len») ≤ length out
-  line-inside = out-inside asked (c .normalise .ensures)
-
   text-inside : (c .normalise .result .«message_len») ≤ length message
   text-inside = message-inside asked (c .normalise .ensures)
 
-  room : length (entry .args .out .now) + answerRoom + (length (entry .args .message .now) + toldRoom) ≤ length (entry .args .said .now)
-  room = omega (arith, entry .pre .0 .output, entry .pre .0 .row, entry .pre .1)
+  long : length (midOf 3 lineLimit (entry .args .said .now)) ≡ lineLimit
+  long = lent-long asked (c .normalise .ensures) (entry .args .said .now) refl (entry .pre .1)
+
+  room : length (midOf 3 lineLimit (entry .args .said .now)) + answerRoom + (length (entry .args .message .now) + toldRoom) ≤ length (entry .args .said .now)
+  room = omega (arith, long, entry .pre .0 .row, entry .pre .1)
 
 -- where the words are written
 module _ (c : tie.After-put-answer) where
   abbrev answered : tie.After-normalise
-  answered = c .before .before .before .before .before .before .before .before .before .before .before
+  answered = c .before .before .before .before .before .before .before .before .before .before
+
+  words-put : Puts
+      (saidBy (answered .normalise .result .number) (answered .normalise .result .place) (quoted (asked answered) (answered .normalise .ensures)))
+      (entry answered .args .said .now) (c .put-answer .last .1 .1 .1 .0) (c .put-answer .result)
+  words-put =
+      puts-around (asked answered) (answered .normalise .ensures) (entry answered .args .said .now) refl (entry answered .pre .1) (c .put-answer .ensures)
 
   words-inside : (c .put-answer .result) ≤ length (c .put-answer .last .1 .1 .1 .0)
-  words-inside =
-      said-inside (asked answered) (answered .normalise .ensures) (entry answered .args .carried .line) (room answered) (c .put-answer .ensures)
+  words-inside = said-inside (asked answered) (answered .normalise .ensures) (entry answered .args .carried .line) (room answered) words-put
+
+sub-normalise : tie.Need-sub-normalise
+sub-normalise c = search needs
+
+part-normalise-start : tie.Need-part-normalise-start
+part-normalise-start c = search needs
+
+part-normalise-end : tie.Need-part-normalise-end
+part-normalise-end c = search needs
 
 normalise-requires : tie.Need-normalise-requires
 normalise-requires c κs = search needs
 
-slice-reshare-prefix-put-answer : tie.Need-slice-reshare-prefix-put-answer
-slice-reshare-prefix-put-answer c = omega (arith, line-inside (c .before .before .before .before .before .before .before .before))
-
-slice-aggregate-put-answer : tie.Need-slice-aggregate-put-answer
-slice-aggregate-put-answer c =
-    let n = c .before .before .before .before .before .before .before .before .before in
-    sym (length-take-le _ (out n) (omega (arith, line-inside n)))
-
 put-answer-requires : tie.Need-put-answer-requires
 put-answer-requires c κs =
-    let n = c .before .before .before .before .before .before .before .before .before .before in
-    room-fits (asked n) (n .normalise .ensures) (length (entry n .args .said .now)) (omega (arith, room n))
+    let n = c .before .before .before .before .before .before .before .before .before in
+    let g = n .normalise .ensures in
+    let a = entry n in
+    omega (arith, out-inside (asked n) g, long n, room n, lined-length (asked n) g (a .args .said .now) refl (a .pre .1))
 
 slice-reshare-prefix-put-told : tie.Need-slice-reshare-prefix-put-told
 slice-reshare-prefix-put-told c = omega (arith, text-inside (answered (c .before .before)))
@@ -86,7 +96,7 @@ put-told-requires : tie.Need-put-told-requires
 put-told-requires c κs =
     let p = c .before .before .before .before in
     let n = answered p in
-    told-fits (asked n) (n .normalise .ensures) (entry n .args .carried .line) (room n) (p .put-answer .ensures)
+    told-fits (asked n) (n .normalise .ensures) (entry n .args .carried .line) (room n) (words-put p)
 
 same-length : tie.Need-same-length
 same-length c = search needs
@@ -100,9 +110,6 @@ same-length-3 c = search needs
 same-length-4 : tie.Need-same-length-4
 same-length-4 c = search needs
 
-same-length-5 : tie.Need-same-length-5
-same-length-5 c = search needs
-
 returns : tie.Need-returns
 returns c =
     let t = c .before .before in
@@ -110,8 +117,8 @@ returns c =
     let n = answered p in
     let a = entry n .args in (
       said-so (a .line .now) (a .vars .now) (a .carried .«vars_used») (a .carried .shouts) (a .homes .now) (a .params .now) (a .paths .now)
-          (a .work .now) (a .out .now)
-          (a .message .now) (a .carried .line) (entry n .pre .0) (entry n .pre .1) (n .normalise .ensures) (p .put-answer .ensures) (t .put-told .ensures),
+          (a .work .now) (midOf 3 lineLimit (a .said .now))
+          (a .message .now) (a .carried .line) (entry n .pre .0) (long n) (entry n .pre .1) (n .normalise .ensures) (words-put p) (t .put-told .ensures),
       area-cleared (asked n) (n .normalise .ensures),
     )
 
@@ -119,9 +126,10 @@ pub say-in-spec : {M : Type 1} → statement M
 say-in-spec =
     tie.close
     (tie.spec
+    sub-normalise
+    part-normalise-start
+    part-normalise-end
     normalise-requires
-    slice-reshare-prefix-put-answer
-    slice-aggregate-put-answer
     put-answer-requires
     slice-reshare-prefix-put-told
     slice-aggregate-put-told
@@ -133,5 +141,4 @@ say-in-spec =
     same-length-2
     same-length-3
     same-length-4
-    same-length-5
     returns)
