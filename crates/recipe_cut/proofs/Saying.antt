@@ -1,11 +1,11 @@
 -- What the program says of an answer, written piece by piece. The byte 10 is a newline, 32 a blank.
 use Prim.Native.Nat.{ℕ, zero, suc, _+_, _-_, _/_, _≤_}
 use native.Mathlib.Omega.{arith}
-use mathlib.Core.Path.{_≡_, refl, sym, ap, _∙_}
-use mathlib.Core.List.{[], _++_, append-assoc}
+use mathlib.Core.Path.{_≡_, refl, sym, ap}
+use mathlib.Core.List.{[], _++_}
 use lib.Dec.{eqb, ltb}
-use lib.ListN.{length, take, drop, set, length-append, length-drop, take-append-drop}
-use lib.Seq.{take-length, length-take-le, drop-drop}
+use lib.ListN.{length, take, drop, set, length-append, length-drop}
+use lib.Seq.{take-length, length-take-le}
 use borrow.Rule.Slice.PartMut.{putMid, midOf}
 use borrow.Author.Tests.{eq-eqb, ne-eqb, eqb-true, eqb-false, ltb-true, ltb-false}
 use Rattle.stages.specs.Bytes.{Text, text}
@@ -15,7 +15,7 @@ use Rattle.stages.specs.Program.{said}
 use Rattle.stages.proofs.Bools.{either}
 use Rattle.stages.proofs.Digits.{digits-one, digits-more}
 use Rattle.text.specs.Putting.{Puts}
-use Rattle.text.proofs.Filling.{Filling, fill-byte, fill-piece}
+use Rattle.text.proofs.Filling.{Filling, fill-byte, fill-kept, fill-piece}
 use Rattle.recipe_cut.specs.Said.{saidBy, okText, lineIn, noText, answerRoom}
 
 -- the two kinds of answer
@@ -52,29 +52,6 @@ decimal-most n = digits-most 20 n
 pub begun : (t rest old out : Text) → length (t ++ rest) ≤ length old → out ≡ t ++ drop (length t) old → Filling (t ++ rest) rest old out (length t)
 unfolding over
 begun t rest old out h e = record { front = t; splits = refl; long = refl; is = e; fits = h }
-
-pub copied : (t old left : Text) → left ≡ t ++ drop (length t) old → Puts t old left (length t)
-unfolding over
-copied t old left e = record { counts = refl; leaves = e }
-
--- a piece that stands there already
-fill-kept : {whole rest old out : Text} {used : ℕ} → Filling whole rest old out used → (piece more : Text) (next : ℕ) → rest ≡ piece ++ more
-    → take (length piece) (drop used old) ≡ piece → next ≡ used + length piece → Filling whole more old out next
-unfolding over
-fill-kept {old = old} {out} {used} f piece more next e k n = record {
-  front = f .front ++ piece;
-  splits = f .splits ∙ ap (λ (x : Text). f .front ++ x) e ∙ sym (append-assoc (f .front) piece more);
-  long = omega (arith, n, f .long, length-append (f .front) piece);
-  is = f .is
-      ∙ ap (λ (j : ℕ). f .front ++ drop j old) (sym (f .long))
-      ∙ ap (λ (x : Text). f .front ++ x) (sym (take-append-drop (length piece) (drop used old)))
-      ∙ ap (λ (x : Text). f .front ++ (x ++ drop (length piece) (drop used old))) k
-      ∙ sym (append-assoc (f .front) piece (drop (length piece) (drop used old)))
-      ∙ ap (λ (x : Text). (f .front ++ piece) ++ x) (drop-drop (length piece) used old)
-      ∙ ap (λ (j : ℕ). (f .front ++ piece) ++ drop (j + length piece) old) (f .long)
-      ∙ ap (λ (j : ℕ). (f .front ++ piece) ++ drop j old) (sym (length-append (f .front) piece));
-  fits = f .fits;
-}
 
 -- `put_ok`: the line stands already where it is said
 module _ (len : ℕ) (out first : Text) (h : len + 4 ≤ length out) (e : first ≡ text "ok " ++ drop 3 out) where

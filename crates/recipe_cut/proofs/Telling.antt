@@ -15,9 +15,9 @@ use Rattle.stages.specs.Call.{Answer, over}
 use Rattle.stages.specs.Program.{told, nextNumber}
 use Rattle.stages.proofs.Bools.{either}
 use Rattle.text.specs.Putting.{Puts}
-use Rattle.text.proofs.Filling.{Filling, fill-byte, fill-piece}
+use Rattle.text.proofs.Filling.{Filling, puts-copied, fill-byte, fill-piece}
 use Rattle.recipe_cut.specs.Said.{toldBy, demandText, toldRoom}
-use Rattle.recipe_cut.proofs.Saying.{decimal-most, begun, copied}
+use Rattle.recipe_cut.proofs.Saying.{decimal-most, begun}
 
 -- `next_number`
 pub next-more : (n : ℕ) → n < countLimit → n + 1 ≡ nextNumber n
@@ -81,7 +81,7 @@ module _ (line : ℕ) (message out first : Text) (h : length message + toldRoom 
       pub demand-colon : Filling (demandText line message) (message ++ text "\n") out third (a + 5 + 2)
       demand-colon =
           fill-piece demand-number (text ": ") (message ++ text "\n") zs 2 (a + 5 + 2) refl
-          (copied (text ": ") (midOf (a + 5) (length second - (a + 5)) second) zs q) refl
+          (puts-copied (text ": ") (midOf (a + 5) (length second - (a + 5)) second) zs q) refl
 
       module _ (us : Text) (r : us ≡ message ++ drop (length message) (midOf (a + 5 + 2) (length third - (a + 5 + 2)) third)) where
         abbrev fourth : Text
@@ -90,7 +90,7 @@ module _ (line : ℕ) (message out first : Text) (h : length message + toldRoom 
         pub demand-message : Filling (demandText line message) (text "\n") out fourth (a + 5 + 2 + length message)
         demand-message =
             fill-piece demand-colon message (text "\n") us (length message) (a + 5 + 2 + length message) refl
-            (copied message (midOf (a + 5 + 2) (length third - (a + 5 + 2)) third) us r) refl
+            (puts-copied message (midOf (a + 5 + 2) (length third - (a + 5 + 2)) third) us r) refl
 
         pub demand-ended : Filling (demandText line message) [] out (set fourth (a + 5 + 2 + length message) 10) (a + 5 + 2 + length message + 1)
         demand-ended = fill-byte demand-message 10 [] (a + 5 + 2 + length message + 1) refl refl

@@ -8,13 +8,14 @@ use lib.Bits.{bitAnd}
 use borrow.Author.Tests.{lt-ltb, le-ltb}
 use Rattle.stages.specs.Bytes.{isDigit, isNameStart, isNameByte, isLoginByte, isBareByte, isBlank, isOperator, isControl}
 use Rattle.stages.specs.Constants.{digit, isDigitIn}
+use Rattle.stages.specs.Quote.{isSign}
 use Rattle.stages.specs.Outcome.{pick, choose}
 use Rattle.stages.proofs.Bools.{no}
 use Rattle.text.proofs.Every.{every, every-at}
 use Rattle.text.specs.Classes.{inClass, lowBytes, highBytes, upperBytes}
 use Rattle.text.specs.declared.Class.{Class}
 use Rattle.text.specs.declared.Class.the-variants.{NotZero, Digit, NameStart, NameByte, LoginByte, BareByte, Blank, Operator, NotControl}
-use Rattle.text.specs.declared.Class.the-variants.{OctalDigit, HexDigit}
+use Rattle.text.specs.declared.Class.the-variants.{SameByte, OctalDigit, HexDigit}
 
 -- the bit of a number, as the code tests it
 abbrev pub bitAt : ℕ → ℕ → Bool
@@ -36,7 +37,7 @@ same-bools false true e = absurd (no e)
 same-bools false false e = refl
 
 right : Class → ℕ → Bool
-unfolding sameBool isDigit isNameStart isNameByte isLoginByte isBareByte isBlank isOperator isControl isDigitIn digit choose
+unfolding sameBool isDigit isNameStart isNameByte isLoginByte isBareByte isBlank isOperator isControl isSign isDigitIn digit choose
 right class b = sameBool (coded class b) (inClass class b)
 
 tested : (class : Class) → every (right class) 0 256 ≡ true
@@ -50,6 +51,7 @@ tested BareByte = refl
 tested Blank = refl
 tested Operator = refl
 tested NotControl = refl
+tested SameByte = refl
 tested OctalDigit = refl
 tested HexDigit = refl
 

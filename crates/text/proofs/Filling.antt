@@ -3,7 +3,7 @@ use Prim.Native.Nat.{ℕ, suc, _+_, _-_, _≤_, _<_}
 use native.Mathlib.Omega.{arith}
 use mathlib.Core.Path.{_≡_, refl, sym, ap, _∙_}
 use mathlib.Core.List.{[], _∷_, _++_, append-assoc, append-nil}
-use lib.ListN.{length, take, drop, getD, set, length-append, length-drop}
+use lib.ListN.{length, take, drop, getD, set, length-append, length-drop, take-append-drop}
 use lib.Seq.{take-at, drop-at, drop-drop, drop-cons, set-at}
 use borrow.Rule.Slice.PartMut.{putMid, midOf}
 use Rattle.stages.specs.Bytes.{Text}
@@ -16,6 +16,11 @@ use Rattle.text.proofs.Parts.{rest-is, rest-back}
 -- the same text over the same bytes is one length and one buffer
 pub puts-once : {t old left left′ : Text} {r s : ℕ} → Puts t old left r → Puts t old left′ s → (r ≡ s) × (left ≡ left′)
 puts-once p q = (one-answer (p .counts) (q .counts), one-answer (p .leaves) (q .leaves))
+
+-- a text that is copied to the front is put
+pub puts-copied : (t old left : Text) → left ≡ t ++ drop (length t) old → Puts t old left (length t)
+unfolding over
+puts-copied t old left e = record { counts = refl; leaves = e }
 
 -- what was put stands at the front
 pub puts-front : {t old left : Text} {n : ℕ} → Puts t old left n → take n left ≡ t
@@ -97,6 +102,21 @@ module _ {whole rest old out : Text} {used : ℕ} (f : Filling whole rest old ou
       let a : take used out ≡ f .front = ap (take used) (f .is) ∙ take-at (f .front) (drop (length (f .front)) old) used (sym (f .long)) in
       grown piece more (putMid used (length out - used) out ys) next e (omega (arith, q, p .counts))
       (rw (rest-back used out ys, a, y) (sym (append-assoc (f .front) piece (drop (length (f .front ++ piece)) old))))
+
+  -- a piece that stands there already
+  pub fill-kept : (piece more : Text) (next : ℕ) → rest ≡ piece ++ more → take (length piece) (drop used old) ≡ piece → next ≡ used + length piece
+      → Filling whole more old out next
+  unfolding over
+  fill-kept piece more next e k n =
+      grown piece more out next e n
+      (f .is
+      ∙ ap (λ (j : ℕ). f .front ++ drop j old) (sym (f .long))
+      ∙ ap (λ (x : Text). f .front ++ x) (sym (take-append-drop (length piece) (drop used old)))
+      ∙ ap (λ (x : Text). f .front ++ (x ++ drop (length piece) (drop used old))) k
+      ∙ sym (append-assoc (f .front) piece (drop (length piece) (drop used old)))
+      ∙ ap (λ (x : Text). (f .front ++ piece) ++ x) (drop-drop (length piece) used old)
+      ∙ ap (λ (j : ℕ). (f .front ++ piece) ++ drop (j + length piece) old) (f .long)
+      ∙ ap (λ (j : ℕ). (f .front ++ piece) ++ drop j old) (sym (length-append (f .front) piece)))
 
   pub fill-ends : rest ≡ [] → Puts whole old out used
   fill-ends e =

@@ -1,13 +1,14 @@
 -- The classes of bytes by the stage's tests, and what the end of a longest run says of a text.
 use Prim.Native.Nat.{ℕ, _≤_}
 use mathlib.Core.Path.{_≡_}
-use mathlib.Core.Bool.{Bool, true, false}
+use mathlib.Core.Bool.{Bool, true, false, _&&_, not}
 use lib.ListN.{length, drop}
 use Rattle.stages.specs.Bytes.{Text, part, span, notZero, isDigit, isNameStart, isNameByte, isLoginByte, isBareByte, isBlank, isOperator, notControl}
 use Rattle.stages.specs.Constants.{isDigitIn}
+use Rattle.stages.specs.Quote.{isSign}
 use Rattle.text.specs.declared.Class.{Class}
 use Rattle.text.specs.declared.Class.the-variants.{NotZero, Digit, NameStart, NameByte, LoginByte, BareByte, Blank, Operator, NotControl}
-use Rattle.text.specs.declared.Class.the-variants.{OctalDigit, HexDigit}
+use Rattle.text.specs.declared.Class.the-variants.{SameByte, OctalDigit, HexDigit}
 
 -- the test that a class stands for
 abbrev pub inClass : Class → ℕ → Bool
@@ -20,6 +21,7 @@ inClass BareByte b = isBareByte b
 inClass Blank b = isBlank b
 inClass Operator b = isOperator b
 inClass NotControl b = notControl b
+inClass SameByte b = notControl b && not (isSign b)
 inClass OctalDigit b = isDigitIn 8 b
 inClass HexDigit b = isDigitIn 16 b
 
@@ -34,6 +36,7 @@ lowBytes BareByte = 288195191779622912
 lowBytes Blank = 4294968832
 lowBytes Operator = 6341071848750448640
 lowBytes NotControl = 18446744069414584320
+lowBytes SameByte = 18446743519658770432
 lowBytes OctalDigit = 71776119061217280
 lowBytes HexDigit = 287948901175001088
 
@@ -47,6 +50,7 @@ highBytes BareByte = 576460745995190270
 highBytes Blank = 0
 highBytes Operator = 1152921504606846976
 highBytes NotControl = 9223372036854775807
+highBytes SameByte = 9223372036586340351
 highBytes OctalDigit = 0
 highBytes HexDigit = 541165879422
 
@@ -61,6 +65,7 @@ upperBytes BareByte = false
 upperBytes Blank = false
 upperBytes Operator = false
 upperBytes NotControl = true
+upperBytes SameByte = true
 upperBytes OctalDigit = false
 upperBytes HexDigit = false
 

@@ -20,6 +20,8 @@ pub enum Class {
     Blank,
     Operator,
     NotControl,
+    // What the quoter writes as it is in every way: no control byte, no `'` and no backslash.
+    SameByte,
     OctalDigit,
     HexDigit,
 }
@@ -45,6 +47,7 @@ fn low_bytes(class: Class) -> u64
         Class::Blank => 0x0000_0001_0000_0600,
         Class::Operator => 0x5800_0340_0000_0000,
         Class::NotControl => 0xffff_ffff_0000_0000,
+        Class::SameByte => 0xffff_ff7f_0000_0000,
         Class::OctalDigit => 0x00ff_0000_0000_0000,
         Class::HexDigit => 0x03ff_0000_0000_0000,
     }
@@ -64,6 +67,7 @@ fn high_bytes(class: Class) -> u64
         Class::Blank => 0x0000_0000_0000_0000,
         Class::Operator => 0x1000_0000_0000_0000,
         Class::NotControl => 0x7fff_ffff_ffff_ffff,
+        Class::SameByte => 0x7fff_ffff_efff_ffff,
         Class::OctalDigit => 0x0000_0000_0000_0000,
         Class::HexDigit => 0x0000_007e_0000_007e,
     }
@@ -83,6 +87,7 @@ fn upper_bytes(class: Class) -> bool
         Class::Blank => false,
         Class::Operator => false,
         Class::NotControl => true,
+        Class::SameByte => true,
         Class::OctalDigit => false,
         Class::HexDigit => false,
     }
