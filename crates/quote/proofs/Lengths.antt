@@ -1,5 +1,5 @@
 -- How long a quoted line is: at most four times its image, and the sum of its pieces. The byte 39 is `'`, 32 a blank, 92 a backslash.
-use Prim.Native.Nat.{ℕ, suc, _+_, _*_, _≤_, _<_}
+use Prim.Native.Nat.{ℕ, _+_, _*_, _≤_, _<_}
 use native.Mathlib.Omega.{arith}
 use native.Mathlib.Numerals.{add-one}
 use mathlib.Core.Path.{_≡_, refl, sym, ap, _∙_}

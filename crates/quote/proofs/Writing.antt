@@ -1,19 +1,24 @@
--- One field in the buffer: a byte of it in each way, its quotes around its bytes, and a `$` before them. The byte 39 is `'`, 92 a backslash, 36 a `$`.
-use Prim.Native.Nat.{ℕ, suc, _+_, _-_, _/_, _%_, _≤_}
+-- One field in the buffer: a byte of it in each way, a run of same bytes, its quotes around its bytes, and a `$` before them. The byte 39 is `'`, 92 a
+-- backslash, 36 a `$`.
+use Prim.Native.Nat.{ℕ, suc, _+_, _-_, _/_, _%_, _≤_, _<_}
 use native.Mathlib.Omega.{arith}
 use mathlib.Core.Path.{_≡_, refl, sym}
 use mathlib.Core.Bool.{true, false}
 use mathlib.Core.List.{[], _∷_, _++_, append-nil}
-use lib.ListN.{length, set}
+use lib.ListN.{length, drop, getD, set}
 use borrow.Rule.Slice.PartMut.{putMid, midOf}
-use Rattle.stages.specs.Bytes.{Text, text, isIn, notControl}
+use Rattle.stages.specs.Bytes.{Text, part, text, isIn, notControl}
 use Rattle.stages.specs.Quote.{Way, singled, dollared, octal, quotedByte, quotedBytes, enclosed}
+use Rattle.text.specs.Classes.{Runs}
 use Rattle.text.specs.Putting.{Puts}
+use Rattle.text.specs.declared.Class.the-variants.{SameByte}
 use Rattle.quote.specs.Ways.{wayIs}
 use Rattle.quote.specs.declared.ways.Way as code
 use Rattle.quote.specs.declared.ways.Way.the-variants.{Bare}
-use Rattle.text.proofs.Filling.{Filling, fill-starts, fill-byte, fill-piece, fill-ends}
-use Rattle.quote.proofs.Lengths.{byte-bare, byte-quote, byte-other, byte-sign, byte-plain, byte-control, enclosed-is}
+use Rattle.text.proofs.Filling.{Filling, puts-copied, fill-starts, fill-next, fill-fits, fill-byte, fill-piece, fill-ends}
+use Rattle.text.proofs.Parts.{part-length}
+use Rattle.quote.proofs.Lengths.{byte-bare, byte-quote, byte-other, byte-sign, byte-plain, byte-control, bytes-at, bytes-none, enclosed-is}
+use Rattle.quote.proofs.Same.{same-run}
 
 -- a byte as it is
 
@@ -66,6 +71,53 @@ module _ (b : ℕ) (out : Text) (s : isIn b (text "\\'") ≡ false) where
       fourth : Filling (92 ∷ octal b) [] out (set (set (set (set out 0 92) 1 (48 + b / 64)) 2 (48 + b / 8 % 8)) 3 (48 + b % 8)) 4
       fourth = fill-byte third (48 + b % 8) [] 4 refl refl
 
+-- `put_bytes`: the bytes before i are written, and those from it on begin with a run of same bytes or with a byte
+pub record Passed (way : Way) (t old out : Text) (used i : ℕ) : Type 0 where
+  pub within : i ≤ length t
+  pub filling : Filling (quotedBytes way t) (quotedBytes way (drop i t)) old out used
+
+pub passed-none : (way : Way) (t old : Text) → length (quotedBytes way t) ≤ length old → Passed way t old old 0 0
+passed-none way t old h = record { within = omega arith; filling = fill-starts (quotedBytes way t) old h }
+
+module _ {way : Way} {t old out : Text} {used i : ℕ} (p : Passed way t old out used i) where
+  module _ {end : ℕ} (r : Runs t i SameByte end) where
+    pub run-next : used + (end - i) ≤ length old
+    run-next =
+        omega (
+          arith,
+          fill-next (p .filling) (part t i end) (quotedBytes way (drop end t)) (same-run way t i end r),
+          part-length t i end (r .onward) (r .within),
+        )
+
+    pub run-fits : length (part t i end) ≤ length (midOf used (length out - used) out)
+    run-fits = fill-fits (p .filling) (part t i end) (quotedBytes way (drop end t)) (same-run way t i end r)
+
+    pub run-put : (ys : Text) → ys ≡ part t i end ++ drop (length (part t i end)) (midOf used (length out - used) out)
+        → Passed way t old (putMid used (length out - used) out ys) (used + (end - i)) end
+    run-put ys e = record {
+      within = r .within;
+      filling =
+          fill-piece (p .filling) (part t i end) (quotedBytes way (drop end t)) ys (length (part t i end)) (used + (end - i)) (same-run way t i end r)
+          (puts-copied (part t i end) (midOf used (length out - used) out) ys e) (omega (arith, part-length t i end (r .onward) (r .within)));
+    }
+
+  module _ (h : i < length t) where
+    pub byte-next : used + length (quotedByte way (getD t i 0)) ≤ length old
+    byte-next = fill-next (p .filling) (quotedByte way (getD t i 0)) (quotedBytes way (drop (i + 1) t)) (bytes-at way t i h)
+
+    pub byte-fits : length (quotedByte way (getD t i 0)) ≤ length (midOf used (length out - used) out)
+    byte-fits = fill-fits (p .filling) (quotedByte way (getD t i 0)) (quotedBytes way (drop (i + 1) t)) (bytes-at way t i h)
+
+    pub byte-put : (ys : Text) (n : ℕ) → Puts (quotedByte way (getD t i 0)) (midOf used (length out - used) out) ys n
+        → Passed way t old (putMid used (length out - used) out ys) (used + n) (i + 1)
+    byte-put ys n q = record {
+      within = omega arith;
+      filling = fill-piece (p .filling) (quotedByte way (getD t i 0)) (quotedBytes way (drop (i + 1) t)) ys n (used + n) (bytes-at way t i h) q refl;
+    }
+
+  pub passed-all : length t ≤ i → Puts (quotedBytes way t) old out used
+  passed-all h = fill-ends (p .filling) (bytes-none way t i h)
+
 -- `put_enclosed`: the first quote, the bytes, the last quote
 module _ (way : Way) (t out : Text) (h : length (enclosed way t) ≤ length out) where
   pub field-opened : Filling (enclosed way t) (quotedBytes way t ++ (39 ∷ [])) out (set out 0 39) 1
@@ -77,6 +129,10 @@ module _ (way : Way) (t out : Text) (h : length (enclosed way t) ≤ length out)
 
     pub field-closed : Filling (enclosed way t) [] out (set (putMid 1 (length (set out 0 39) - 1) (set out 0 39) ys) (n + 1) 39) (n + 2)
     field-closed = fill-byte field-inside 39 [] (n + 2) refl (omega arith)
+
+-- `put_plain`: a field that is written as it is stands between them
+pub plain-inside : (t old ys : Text) → quotedBytes singled t ≡ t → ys ≡ t ++ drop (length t) old → Puts (quotedBytes singled t) old ys (length t)
+plain-inside t old ys e k = rw e (puts-copied t old ys k)
 
 -- `put_field`: a `$` before the quotes
 module _ (t out : Text) (h : suc (length t) ≤ length out) where

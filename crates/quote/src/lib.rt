@@ -8,7 +8,7 @@ ghost use lib.ListN.{length};
 ghost use Rattle.stages.specs.Numbers.{imageLimit};
 ghost use mathlib.Core.Option.{some};
 ghost use Rattle.stages.specs.Images.{fieldsOf, heldTexts};
-ghost use Rattle.stages.specs.Quote.{quotedBytes, enclosed, quotedField, blanked, quotedLine};
+ghost use Rattle.stages.specs.Quote.{singled, quotedBytes, enclosed, quotedField, blanked, quotedLine};
 ghost use Rattle.stages.specs.Call.{quoter};
 ghost use Rattle.text.specs.Putting.{Puts};
 ghost use Rattle.table.specs.Pieces.{textsFrom};
@@ -17,6 +17,7 @@ ghost use Rattle.quote.specs.Ways.{wayIs};
 ghost use Rattle.quote.specs.Rests.{Rest};
 use table::Kind;
 use table::Piece;
+use text::Class;
 use text::numbers;
 use ways::QUOTE;
 use ways::Way;
@@ -59,6 +60,7 @@ fn field_length(field: &[u8]) -> usize
     let way = ways::way_of(field);
     match way {
         Way::Bare => field.len(),
+        Way::Plain => field.len() + 2,
         Way::Singled => bytes_length(way, field) + 2,
         Way::Dollared => bytes_length(way, field) + 3,
     }
@@ -98,7 +100,7 @@ fn line_length(fields: &[u8]) -> usize
     }
 }
 
-// Writes what stands between the quotes of a field.
+// Writes what stands between the quotes of a field: each run of bytes that are written as they are at once, any other byte by itself.
 fn put_bytes(way: Way, field: &[u8], out: &mut [u8]) -> usize
     requires { ⌜ length (quotedBytes (wayIs way) (now field)) ≤ length (now out) ⌝ }
     ensures { λ r. ⌜ Puts (quotedBytes (wayIs way) (now (field .entry))) (now (out .entry)) (now (out .exit)) r ⌝ }
@@ -106,9 +108,16 @@ fn put_bytes(way: Way, field: &[u8], out: &mut [u8]) -> usize
     let mut used: usize = 0;
     let mut i: usize = 0;
     while i < field.len() {
-        let n = ways::put_byte(way, field[i], &mut out[used..]);
-        used += n;
-        i += 1;
+        let end = text::run_end(field, i, Class::SameByte);
+        if i < end {
+            text_copy::copy_in(&field[i..end], &mut out[used..]);
+            used += end - i;
+            i = end;
+        } else {
+            let n = ways::put_byte(way, field[i], &mut out[used..]);
+            used += n;
+            i += 1;
+        }
     }
     used
 }
@@ -124,6 +133,18 @@ fn put_enclosed(way: Way, field: &[u8], out: &mut [u8]) -> usize
     n + 2
 }
 
+// Writes a field in single quotes whose bytes are all written as they are.
+fn put_plain(field: &[u8], out: &mut [u8]) -> usize
+    requires { ⌜ quotedBytes singled (now field) ≡ now field ⌝ }
+    requires { ⌜ length (enclosed singled (now field)) ≤ length (now out) ⌝ }
+    ensures { λ r. ⌜ Puts (enclosed singled (now (field .entry))) (now (out .entry)) (now (out .exit)) r ⌝ }
+{
+    out[0] = QUOTE;
+    text_copy::copy_in(field, &mut out[1..]);
+    out[field.len() + 1] = QUOTE;
+    field.len() + 2
+}
+
 // Writes a field in its way.
 fn put_field(field: &[u8], out: &mut [u8]) -> usize
     requires { ⌜ length (quotedField (now field)) ≤ length (now out) ⌝ }
@@ -135,6 +156,7 @@ fn put_field(field: &[u8], out: &mut [u8]) -> usize
             text_copy::copy_in(field, out);
             field.len()
         }
+        Way::Plain => put_plain(field, out),
         Way::Singled => put_enclosed(way, field, out),
         Way::Dollared => {
             out[0] = DOLLAR;

@@ -2,15 +2,17 @@
 ghost use mathlib.Core.Path.{_≡_};
 ghost use Prim.Native.Nat.{_≤_};
 ghost use lib.ListN.{length};
-ghost use Rattle.stages.specs.Quote.{singled, dollared, wayOf, quotedByte};
+ghost use Rattle.stages.specs.Quote.{singled, dollared, quotedByte};
 ghost use Rattle.text.specs.Putting.{Puts};
-ghost use Rattle.quote.specs.Ways.{wayIs};
+ghost use Rattle.quote.specs.Ways.{wayIs, HasWay};
 use text::Class;
 
 // The ways of writing a field.
 pub enum Way {
     // As it is.
     Bare,
+    // In single quotes, each byte as it is.
+    Plain,
     // In single quotes.
     Singled,
     // In $'...', control bytes as escapes.
@@ -22,17 +24,22 @@ pub const QUOTE: u8 = b'\'';
 const BACKSLASH: u8 = b'\\';
 
 // The way in which a field is written: bare if it is not empty and holds only letters, digits, `.`, `_`, `-` and `/`, in $'...' if it holds a byte below 32 or
-// byte 127, else in single quotes.
+// byte 127, else in single quotes. Each run begins where the one before it ended: what a class holds is also in the next.
 pub fn way_of(field: &[u8]) -> Way
-    ensures { λ r. ⌜ wayIs r ≡ wayOf (now (field .entry)) ⌝ }
+    ensures { λ r. ⌜ HasWay (now (field .entry)) r ⌝ }
 {
     if field.len() == 0 {
-        return Way::Singled;
+        return Way::Plain;
     }
-    if text::run_end(field, 0, Class::BareByte) == field.len() {
+    let bare = text::run_end(field, 0, Class::BareByte);
+    if bare == field.len() {
         return Way::Bare;
     }
-    if text::run_end(field, 0, Class::NotControl) == field.len() {
+    let same = text::run_end(field, bare, Class::SameByte);
+    if same == field.len() {
+        return Way::Plain;
+    }
+    if text::run_end(field, same, Class::NotControl) == field.len() {
         Way::Singled
     } else {
         Way::Dollared
@@ -66,6 +73,7 @@ pub fn byte_length(way: Way, b: u8) -> usize
 {
     match way {
         Way::Bare => 1,
+        Way::Plain => singled_length(b),
         Way::Singled => singled_length(b),
         Way::Dollared => dollared_length(b),
     }
@@ -117,6 +125,7 @@ pub fn put_byte(way: Way, b: u8, out: &mut [u8]) -> usize
             out[0] = b;
             1
         }
+        Way::Plain => put_singled(b, out),
         Way::Singled => put_singled(b, out),
         Way::Dollared => put_dollared(b, out),
     }

@@ -1,24 +1,22 @@
 -- Document 02, E12: a quoted line holds no byte below 32 and no byte 127, whatever its fields hold, and so no newline. Each answer of the program is then one
 -- line of its output. The byte 39 is `'`, 92 a backslash.
 use Prim.Native.Nat.{ℕ, zero, suc, _+_, _/_, _%_, _≤_, _<_}
-use Prim.Native.Char.{code}
 use native.Mathlib.Omega.{arith}
 use mathlib.Core.Path.{_≡_, refl, sym, ap, _∙_}
-use mathlib.Core.Bool.{Bool, true, false, _||_, not}
+use mathlib.Core.Bool.{Bool, true, false, _||_}
 use mathlib.Core.List.{List, [], _∷_, _++_, append-assoc}
 use mathlib.Core.Option.{Option}
 use lib.Dec.{eqb, ltb}
 use lib.ListN.{length, take}
-use borrow.Author.Tests.{eqb-true, eqb-false, ne-eqb, ltb-true, ltb-false, lt-ltb, le-ltb, lt-leb, not-false}
-use Rattle.stages.specs.Numbers.{accepted}
-use Rattle.stages.specs.Bytes.{Text, text, isIn, all, isBareByte, isControl, notControl}
+use borrow.Author.Tests.{eqb-true, ne-eqb, ltb-true, ltb-false, le-ltb, lt-leb, not-false}
+use Rattle.stages.specs.Bytes.{Text, text, all, isBareByte, isControl, notControl}
 use Rattle.stages.specs.Units.{digits, decimal}
 use Rattle.stages.specs.Quote.{singled, dollared, isBare, hasControl, wayOf, isSign, octal, quotedByte, quotedBytes, enclosed, written}
 use Rattle.stages.specs.Quote.{quotedField, blanked, quotedLine}
 use Rattle.stages.specs.Images.{image, notEmpty}
 use Rattle.stages.specs.Call.{Given, Answer, normaliser}
 use Rattle.stages.specs.Program.{linesOf, Variables, givenLine, said, afterLine, saidOf, tableOr, firstVariables, program}
-use Rattle.stages.proofs.Bools.{apart, either, and-left, and-right, and-both, or-cases, or-neither}
+use Rattle.stages.proofs.Bools.{apart, either, and-left, and-right, and-both}
 use Rattle.stages.proofs.Texts.{all-append, all-weaker}
 use Rattle.stages.proofs.Digits.{digits-one, digits-more}
 use Rattle.stages.proofs.Dollared.{control-below}
@@ -54,7 +52,7 @@ control-bare b e =
     either (ltb b 32) (λ h. low-bare b (ltb-true b 32 h))
     (λ h. let k : b ≡ 127 = eqb-true b 127 (rw h at e) in ap isBareByte k ∙ (unfold isBareByte in refl))
 
-bare-shown : (b : ℕ) → isBareByte b ≡ true → notControl b ≡ true
+pub bare-shown : (b : ℕ) → isBareByte b ≡ true → notControl b ≡ true
 bare-shown b e = either (isControl b) (λ h. absurd (apart (control-bare b h) e)) (λ h. rw h)
 
 -- a byte in single quotes, which is shown itself

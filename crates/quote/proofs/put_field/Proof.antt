@@ -6,10 +6,10 @@ use mathlib.Core.List.{[], _∷_, append-nil}
 use borrow.Author.Needs.{needs}
 use lib.ListN.{length, set}
 use borrow.Rule.Slice.PartMut.{putMid}
-use Rattle.stages.specs.Quote.{enclosed, quotedField}
-use Rattle.text.proofs.Filling.{Filling, fill-room, fill-length, fill-fits, fill-ends}
+use Rattle.stages.specs.Quote.{singled, enclosed, quotedField}
+use Rattle.text.proofs.Filling.{Filling, puts-copied, fill-room, fill-length, fill-fits, fill-ends}
 use Rattle.quote.specs.Ways.{wayIs}
-use Rattle.quote.proofs.Fields.{field-bare, field-singled, field-dollared, bare-put, same-put}
+use Rattle.quote.proofs.Fields.{field-bare, field-singled, field-dollared, same-put}
 use Rattle.quote.proofs.Writing.{dollar-first, dollar-filled}
 use Rattle.quote.proofs.put_field.Statement.{statement}
 use Rattle.quote.proofs.put_field.Tie as tie
@@ -32,31 +32,45 @@ copy-in-requires c κs = omega (arith, ap length (is-bare (c .before)), c .befor
 enum-told-2 : tie.Need-enum-told-2
 enum-told-2 c = search needs
 
--- one in single quotes
-is-singled : (c : tie.After-enum-told2) →
+-- one in single quotes as it is
+is-plain : (c : tie.After-enum-told2) →
     let t = c .before .before .before .before .before .args .field .now in
-    quotedField t ≡ enclosed (wayIs (c .before .before .way-of .result)) t
-is-singled c = field-singled _ (c .before .before .way-of .ensures) (c .enum-told2 .given .1)
+    quotedField t ≡ enclosed singled t
+is-plain c = field-singled _ (c .before .before .way-of .ensures) refl (ap wayIs (c .enum-told2 .given .1))
 
-put-enclosed-requires : tie.Need-put-enclosed-requires
-put-enclosed-requires c κs = omega (arith, ap length (is-singled (c .before)), c .before .before .before .before .before .before .pre)
+put-plain-requires : tie.Need-put-plain-requires
+put-plain-requires c κs =
+    let e = c .before in
+    (e .before .before .way-of .ensures .plain (e .enum-told2 .given .1), omega (arith, ap length (is-plain e), e .before .before .before .before .before .pre))
 
 enum-told-3 : tie.Need-enum-told-3
 enum-told-3 c = search needs
 
+-- one in single quotes
+is-singled : (c : tie.After-enum-told3) →
+    let t = c .before .before .before .before .before .args .field .now in
+    quotedField t ≡ enclosed (wayIs (c .before .before .way-of .result)) t
+is-singled c = field-singled _ (c .before .before .way-of .ensures) (ap wayIs (c .enum-told3 .given .1)) refl
+
+put-enclosed-requires : tie.Need-put-enclosed-requires
+put-enclosed-requires c κs = omega (arith, ap length (is-singled (c .before)), c .before .before .before .before .before .before .pre)
+
+enum-told-4 : tie.Need-enum-told-4
+enum-told-4 c = search needs
+
 -- one in `$'...'`
-is-dollared : (c : tie.After-enum-told3) →
+is-dollared : (c : tie.After-enum-told4) →
     let t = c .before .before .before .before .before .args .field .now in
     quotedField t ≡ 36 ∷ enclosed (wayIs (c .before .before .way-of .result)) t
-is-dollared c = field-dollared _ (c .before .before .way-of .ensures) (c .enum-told3 .given .1)
+is-dollared c = field-dollared _ (c .before .before .way-of .ensures) (c .enum-told4 .given .1)
 
-has-room : (c : tie.After-enum-told3) →
+has-room : (c : tie.After-enum-told4) →
     let a = c .before .before .before .before .before .args in
     suc (length (enclosed (wayIs (c .before .before .way-of .result)) (a .field .now))) ≤ length (a .out .now)
 has-room c = omega (arith, ap length (is-dollared c), c .before .before .before .before .before .pre)
 
 -- the `$` is written
-begun : (c : tie.After-enum-told3) →
+begun : (c : tie.After-enum-told4) →
     let a = c .before .before .before .before .before .args in
     let t = enclosed (wayIs (c .before .before .way-of .result)) (a .field .now) in
     Filling (36 ∷ t) t (a .out .now) (set (a .out .now) 0 36) 1
@@ -81,7 +95,7 @@ put-enclosed-requires-2 c κs =
     fill-fits (begun e) t [] (sym (append-nil t))
 
 -- the whole field
-ended : (c : tie.After-slice-known4) →
+ended : (c : tie.After-slice-known5) →
     let e = c .before .before .before .before in
     let a = e .before .before .before .before .before .args in
     let p = c .before .before .put-enclosed2 in
@@ -98,19 +112,25 @@ same-length : tie.Need-same-length
 same-length c = search needs
 
 returns : tie.Need-returns
-returns c = bare-put _ _ _ (is-bare (c .before .before .before .before)) (c .before .before .copy-in .ensures)
+returns c = same-put _ _ _ _ _ (is-bare (c .before .before .before .before)) (puts-copied _ _ _ (c .before .before .copy-in .ensures))
 
 same-length-2 : tie.Need-same-length-2
 same-length-2 c = search needs
 
 returns-2 : tie.Need-returns-2
-returns-2 c = same-put _ _ _ _ _ (is-singled (c .before .before .before .before)) (c .before .before .put-enclosed .ensures)
+returns-2 c = same-put _ _ _ _ _ (is-plain (c .before .before .before .before)) (c .before .before .put-plain .ensures)
 
 same-length-3 : tie.Need-same-length-3
-same-length-3 c = fill-length (ended c)
+same-length-3 c = search needs
 
 returns-3 : tie.Need-returns-3
-returns-3 c = same-put _ _ _ _ _ (is-dollared (c .before .before .before .before)) (fill-ends (ended c) refl)
+returns-3 c = same-put _ _ _ _ _ (is-singled (c .before .before .before .before)) (c .before .before .put-enclosed .ensures)
+
+same-length-4 : tie.Need-same-length-4
+same-length-4 c = fill-length (ended c)
+
+returns-4 : tie.Need-returns-4
+returns-4 c = same-put _ _ _ _ _ (is-dollared (c .before .before .before .before)) (fill-ends (ended c) refl)
 
 pub put-field-spec : {M : Type 1} → statement M
 put-field-spec =
@@ -120,8 +140,10 @@ put-field-spec =
     enum-told
     copy-in-requires
     enum-told-2
-    put-enclosed-requires
+    put-plain-requires
     enum-told-3
+    put-enclosed-requires
+    enum-told-4
     slice-write-out
     sub-put-enclosed
     part-put-enclosed-start
@@ -133,4 +155,6 @@ put-field-spec =
     same-length-2
     returns-2
     same-length-3
-    returns-3)
+    returns-3
+    same-length-4
+    returns-4)

@@ -20,6 +20,12 @@ singled-length-requires c κs = search needs
 enum-told-3 : tie.Need-enum-told-3
 enum-told-3 c = search needs
 
+singled-length-requires-2 : tie.Need-singled-length-requires-2
+singled-length-requires-2 c κs = search needs
+
+enum-told-4 : tie.Need-enum-told-4
+enum-told-4 c = search needs
+
 dollared-length-requires : tie.Need-dollared-length-requires
 dollared-length-requires c κs = search needs
 
@@ -34,7 +40,12 @@ returns-2 c =
 returns-3 : tie.Need-returns-3
 returns-3 c =
     let b = c .before .before .before .args .b in
-    c .dollared-length .ensures ∙ ap (λ way. length (quotedByte (wayIs way) b)) (sym (c .before .enum-told3 .given .1))
+    c .singled-length2 .ensures ∙ ap (λ way. length (quotedByte (wayIs way) b)) (sym (c .before .enum-told3 .given .1))
+
+returns-4 : tie.Need-returns-4
+returns-4 c =
+    let b = c .before .before .before .args .b in
+    c .dollared-length .ensures ∙ ap (λ way. length (quotedByte (wayIs way) b)) (sym (c .before .enum-told4 .given .1))
 
 pub byte-length-spec : {M : Type 1} → statement M
 byte-length-spec =
@@ -44,7 +55,10 @@ byte-length-spec =
     enum-told-2
     singled-length-requires
     enum-told-3
+    singled-length-requires-2
+    enum-told-4
     dollared-length-requires
     returns
     returns-2
-    returns-3)
+    returns-3
+    returns-4)

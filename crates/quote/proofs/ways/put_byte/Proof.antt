@@ -24,8 +24,14 @@ put-singled-requires c κs = rw (c .before .enum-told2 .given .1) at (c .before 
 enum-told-3 : tie.Need-enum-told-3
 enum-told-3 c = search needs
 
+put-singled-requires-2 : tie.Need-put-singled-requires-2
+put-singled-requires-2 c κs = rw (c .before .enum-told3 .given .1) at (c .before .before .before .before .pre)
+
+enum-told-4 : tie.Need-enum-told-4
+enum-told-4 c = search needs
+
 put-dollared-requires : tie.Need-put-dollared-requires
-put-dollared-requires c κs = rw (c .before .enum-told3 .given .1) at (c .before .before .before .before .pre)
+put-dollared-requires c κs = rw (c .before .enum-told4 .given .1) at (c .before .before .before .before .pre)
 
 same-length : tie.Need-same-length
 same-length c = search needs
@@ -45,7 +51,13 @@ same-length-3 : tie.Need-same-length-3
 same-length-3 c = search needs
 
 returns-3 : tie.Need-returns-3
-returns-3 c = rw (c .before .before .before .before .enum-told3 .given .1) (c .before .before .put-dollared .ensures)
+returns-3 c = rw (c .before .before .before .before .enum-told3 .given .1) (c .before .before .put-singled2 .ensures)
+
+same-length-4 : tie.Need-same-length-4
+same-length-4 c = search needs
+
+returns-4 : tie.Need-returns-4
+returns-4 c = rw (c .before .before .before .before .enum-told4 .given .1) (c .before .before .put-dollared .ensures)
 
 pub put-byte-spec : {M : Type 1} → statement M
 put-byte-spec =
@@ -56,10 +68,14 @@ put-byte-spec =
     enum-told-2
     put-singled-requires
     enum-told-3
+    put-singled-requires-2
+    enum-told-4
     put-dollared-requires
     same-length
     returns
     same-length-2
     returns-2
     same-length-3
-    returns-3)
+    returns-3
+    same-length-4
+    returns-4)
