@@ -2,7 +2,7 @@
 use Prim.Native.Nat.{ℕ, _+_}
 use mathlib.Core.List.{[], _++_}
 use lib.ListN.{length, take, drop}
-use Rattle.stages.specs.Numbers.{imageLimit, rowLimit}
+use Rattle.stages.specs.Numbers.{lineLimit, rowLimit}
 use Rattle.stages.specs.Bytes.{Text, text}
 use Rattle.stages.specs.Units.{decimal}
 use Rattle.stages.specs.Call.{Answer}
@@ -58,4 +58,4 @@ toldRoom = 28
 
 -- all that is written for a line: its words, and behind them what is told of it
 abbrev pub writtenRoom : ℕ
-writtenRoom = imageLimit + answerRoom + (rowLimit + toldRoom)
+writtenRoom = lineLimit + answerRoom + (rowLimit + toldRoom)

@@ -125,6 +125,6 @@ pub const PATHS_KEPT: usize = PATHS_LIMIT + 1;
 // The lines of the longest image that is looked at: a byte takes at most four to show.
 pub const SHOWN_ROOM: usize = 4 * PATHS_KEPT;
 
-// The most bytes of the program's answer to a line: what the output holds, and `no `, two numbers, a blank and a newline, of which `ok ` and a newline
+// The most bytes of the program's answer to a line: the longest quoted line, and `no `, two numbers, a blank and a newline, of which `ok ` and a newline
 // are the fewer.
-pub const SAID_ROOM: usize = IMAGE_LIMIT + 2 * MOST_DIGITS + 5;
+pub const SAID_ROOM: usize = LINE_LIMIT + 2 * MOST_DIGITS + 5;
