@@ -1,19 +1,20 @@
 -- The numbers that hold a mode's runs as bits: by one computed test over all bytes and modes.
 use Prim.Native.Nat.{ℕ, _<_}
-use mathlib.Core.Path.{_≡_, refl, sym, _∙_}
+use mathlib.Core.Path.{_≡_, refl}
 use mathlib.Core.Bool.{Bool, true, false}
 use Rattle.stages.specs.Bytes.{isBlank, isOperator}
 use Rattle.stages.specs.Items.{sort, beginsTilde}
+use Rattle.text.specs.Bits.{hasBit}
 use Rattle.text.proofs.Every.{every, every-at}
 use Rattle.text.proofs.ClassTable.{sameBool, same-bools}
 use Rattle.read_mode.specs.Modes.{modeOf}
 use Rattle.read_mode.specs.declared.Mode.{Mode}
 use Rattle.read_mode.specs.declared.Mode.the-variants.{Word, Value, Bare, Single, Double, Operand, Arith}
-use Rattle.read_run.specs.Literals.{isLiteral, opensTilde, literalIn, lowLiterals, highLiterals, bitOf}
+use Rattle.read_run.specs.Literals.{isLiteral, opensTilde, literalIn, literalWords}
 
 right : Mode → ℕ → Bool
 unfolding sameBool literalIn isLiteral opensTilde sort beginsTilde isBlank isOperator
-right mode b = sameBool (bitOf (lowLiterals mode) (highLiterals mode) b) (literalIn (modeOf mode) b)
+right mode b = sameBool (hasBit (literalWords mode) b) (literalIn (modeOf mode) b)
 
 tested : (mode : Mode) → every (right mode) 0 256 ≡ true
 unfolding right
@@ -29,12 +30,6 @@ tested (Double l) = refl
 tested (Operand l) = refl
 tested (Arith n) = refl
 
-bit-is : (mode : Mode) (b : ℕ) → b < 256 → bitOf (lowLiterals mode) (highLiterals mode) b ≡ literalIn (modeOf mode) b
+pub bit-is : (mode : Mode) (b : ℕ) → b < 256 → hasBit (literalWords mode) b ≡ literalIn (modeOf mode) b
 unfolding right
-bit-is mode b h =
-    same-bools (bitOf (lowLiterals mode) (highLiterals mode) b) (literalIn (modeOf mode) b) (every-at (right mode) 256 (tested mode) b h)
-
--- the same for two numbers that are known
-pub set-is : (mode : Mode) {low high b : ℕ} → low ≡ lowLiterals mode → high ≡ highLiterals mode → b < 256 → {r : Bool} → r ≡ bitOf low high b
-    → {x : Bool} → r ≡ x → literalIn (modeOf mode) b ≡ x
-set-is mode {low} {high} {b} l h k {r} e {x} f = sym (bit-is mode b k) ∙ sym (rw (l, h) at e) ∙ f
+bit-is mode b h = same-bools (hasBit (literalWords mode) b) (literalIn (modeOf mode) b) (every-at (right mode) 256 (tested mode) b h)

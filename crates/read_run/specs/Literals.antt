@@ -1,17 +1,17 @@
--- The bytes that a run has in a mode, by the stage's sorts; as the bits of two numbers; and what the end of a longest run of them says of a text.
-use Prim.Native.Nat.{ℕ, _-_, _/_, _^_, _≤_}
+-- The bytes that a run has in a mode, by the stage's sorts; as the bits of words; and what the end of a longest run of them says of a text.
+use Prim.Native.Nat.{ℕ, _≤_}
 use Prim.Native.Char.{code}
 use mathlib.Core.Path.{_≡_}
 use mathlib.Core.Bool.{Bool, true, false, _&&_, not}
-use mathlib.Core.List.{[], _∷_}
-use lib.Dec.{eqb, ltb}
-use lib.Bits.{bitAnd}
+use mathlib.Core.List.{List, [], _∷_}
+use lib.Dec.{eqb}
 use lib.ListN.{length, drop}
 use Rattle.stages.specs.Bytes.{Text, part, span}
 use Rattle.stages.specs.Outcome.{pick}
 use Rattle.stages.specs.Syntax.{unescaped, Parts, lit, word, value, bare, single, double, quotedOperand, arith}
 use Rattle.stages.specs.Syntax as syntax
 use Rattle.stages.specs.Items.{Sort, sort, backquote, closes, operator, quotes, quotes2, backslash, escape, dollar, bad, opening, closing, tilde, literal}
+use Rattle.text.specs.Bits.{allBits}
 use Rattle.read_mode.specs.Modes.{modeOf, modeOnward}
 use Rattle.read_mode.specs.declared.Cursor.{Cursor}
 use Rattle.read_mode.specs.declared.Mode.{Mode}
@@ -71,13 +71,9 @@ highLiterals (Double lists) = 18446744069146148863
 highLiterals (Operand lists) = 16140901059932454911
 highLiterals (Arith n) = 18446744069146148863
 
--- the bit of a number, as the code tests it
-abbrev pub bitAt : ℕ → ℕ → Bool
-bitAt n k = eqb (bitAnd (n / 2 ^ k) 1) 1
-
--- a byte's bit in the two numbers; from 128 on it counts as set
-abbrev pub bitOf : ℕ → ℕ → ℕ → Bool
-bitOf low high b = pick (ltb b 64) (bitAt low b) (pick (ltb b 128) (bitAt high (b - 64)) true)
+-- all of them as the bits of four words: from 128 on each byte is one
+abbrev pub literalWords : Mode → List ℕ
+literalWords mode = lowLiterals mode ∷ highLiterals mode ∷ allBits ∷ allBits ∷ []
 
 -- the longest run from `at` on ends at r
 pub record Literals (text : Text) (at : ℕ) (m : syntax.Mode) (r : ℕ) : Type 0 where

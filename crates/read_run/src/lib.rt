@@ -5,7 +5,7 @@ ghost use Prim.Native.Nat.{_≤_, _<_};
 ghost use lib.ListN.{length};
 ghost use Rattle.stages.specs.Outcome.{pick};
 ghost use Rattle.read_mode.specs.Modes.{modeOf};
-ghost use Rattle.read_run.specs.Literals.{lowLiterals, highLiterals, bitOf, Literals, Passed};
+ghost use Rattle.read_run.specs.Literals.{lowLiterals, highLiterals, literalWords, Literals, Passed};
 use read_mode::Cursor;
 use read_mode::Mode;
 
@@ -48,17 +48,16 @@ fn high_literals(mode: Mode) -> u64
     }
 }
 
-// Is the byte's bit set?
-fn is_set(low: u64, high: u64, b: u8) -> bool
-    ensures { λ r. ⌜ (r ≡ bitOf low high b) × (b < 256) ⌝ }
+// All bytes that a run has in a mode, a bit for each.
+fn literal_words(mode: Mode) -> [u64; 4]
+    ensures { λ r. ⌜ r ≡ literalWords mode ⌝ }
 {
-    if b < 64 {
-        return (low >> b) & 1 == 1;
-    }
-    if b < 128 {
-        return (high >> (b - 64)) & 1 == 1;
-    }
-    true
+    [
+        low_literals(mode),
+        high_literals(mode),
+        text::ALL_BITS,
+        text::ALL_BITS,
+    ]
 }
 
 // The end of the longest run of bytes from `at` on that stand for themselves in the mode and leave a tilde behind them alone.
@@ -66,11 +65,10 @@ pub fn literals_end(text: &[u8], at: usize, mode: Mode) -> usize
     requires { ⌜ at ≤ length (now text) ⌝ }
     ensures { λ r. ⌜ Literals (now (text .entry)) at (modeOf mode) r ⌝ }
 {
-    let low = low_literals(mode);
-    let high = high_literals(mode);
+    let words = literal_words(mode);
     let mut i = at;
     while i < text.len() {
-        if !is_set(low, high, text[i]) {
+        if !text::has_bit(&words, text[i]) {
             return i;
         }
         i += 1;

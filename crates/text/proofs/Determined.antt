@@ -1,10 +1,12 @@
 -- The contracts determine every answer: two outcomes that a contract allows for one input are equal. No function writes.
-use Prim.Native.Nat.{ℕ}
+use Prim.Native.Nat.{ℕ, _<_}
 use native.Mathlib.Omega.{arith}
 use mathlib.Core.Path.{_≡_, sym, ap, _∙_}
 use mathlib.Core.Bool.{Bool}
+use mathlib.Core.List.{List}
 use lib.ListN.{length, drop, length-drop}
 use Rattle.stages.specs.Bytes.{Text, isIn, all, notZero, eqText}
+use Rattle.text.specs.Bits.{hasBit}
 use Rattle.text.specs.Classes.{inClass, Runs}
 use Rattle.text.specs.Orders.{orderOf}
 use Rattle.text.specs.Rows.{isMark}
@@ -17,6 +19,9 @@ one-answer p q = p ∙ sym q
 
 pub in-class-determined : (class : Class) (b : ℕ) (r s : Bool) → r ≡ inClass class b → s ≡ inClass class b → r ≡ s
 in-class-determined class b r s = one-answer
+
+pub has-bit-determined : (words : List ℕ) (b : ℕ) (r s : Bool) → (r ≡ hasBit words b) × (b < 256) → (s ≡ hasBit words b) × (b < 256) → r ≡ s
+has-bit-determined words b r s p q = one-answer (p .0) (q .0)
 
 pub is-in-determined : (b : ℕ) (set : Text) (r s : Bool) → r ≡ isIn b set → s ≡ isIn b set → r ≡ s
 is-in-determined b set r s = one-answer

@@ -2,10 +2,12 @@
 use Prim.Native.Nat.{ℕ, _≤_}
 use mathlib.Core.Path.{_≡_}
 use mathlib.Core.Bool.{Bool, true, false, _&&_, not}
+use mathlib.Core.List.{List, [], _∷_}
 use lib.ListN.{length, drop}
 use Rattle.stages.specs.Bytes.{Text, part, span, notZero, isDigit, isNameStart, isNameByte, isLoginByte, isBareByte, isBlank, isOperator, notControl}
 use Rattle.stages.specs.Constants.{isDigitIn}
 use Rattle.stages.specs.Quote.{isSign}
+use Rattle.text.specs.Bits.{allBits}
 use Rattle.text.specs.declared.Class.{Class}
 use Rattle.text.specs.declared.Class.the-variants.{NotZero, Digit, NameStart, NameByte, LoginByte, BareByte, Blank, Operator, NotControl}
 use Rattle.text.specs.declared.Class.the-variants.{SameByte, OctalDigit, HexDigit}
@@ -68,6 +70,14 @@ upperBytes NotControl = true
 upperBytes SameByte = true
 upperBytes OctalDigit = false
 upperBytes HexDigit = false
+
+-- all bytes of a class as the bits of four words
+abbrev pub upperWord : Bool → ℕ
+upperWord true = allBits
+upperWord false = 0
+
+abbrev pub wordsOf : Class → List ℕ
+wordsOf class = lowBytes class ∷ highBytes class ∷ upperWord (upperBytes class) ∷ upperWord (upperBytes class) ∷ []
 
 -- the longest run of the class from `at` on ends at r
 pub record Runs (text : Text) (at : ℕ) (class : Class) (r : ℕ) : Type 0 where

@@ -1,9 +1,10 @@
 // Bytes and texts read: the classes of bytes, longest runs, comparing.
 ghost use mathlib.Core.Path.{_≡_};
-ghost use Prim.Native.Nat.{ℕ, _≤_};
+ghost use Prim.Native.Nat.{ℕ, _≤_, _<_};
 ghost use lib.ListN.{length};
 ghost use Rattle.stages.specs.Bytes.{isIn, all, notZero, eqText};
-ghost use Rattle.text.specs.Classes.{inClass, lowBytes, highBytes, upperBytes, Runs};
+ghost use Rattle.text.specs.Bits.{hasBit};
+ghost use Rattle.text.specs.Classes.{inClass, lowBytes, highBytes, upperBytes, upperWord, wordsOf, Runs};
 ghost use Rattle.text.specs.Orders.{orderOf};
 
 pub mod marks;
@@ -25,6 +26,9 @@ pub enum Class {
     OctalDigit,
     HexDigit,
 }
+
+// A word with all its bits.
+pub const ALL_BITS: u64 = 0xffff_ffff_ffff_ffff;
 
 // How a text stands to another, "ordered by unsigned value, a prefix first".
 pub enum Order {
@@ -91,6 +95,29 @@ fn upper_bytes(class: Class) -> bool
         Class::OctalDigit => false,
         Class::HexDigit => false,
     }
+}
+
+// The bytes from 128 on that are in a class, for 64 of them.
+fn upper_word(class: Class) -> u64
+    ensures { λ r. ⌜ r ≡ upperWord (upperBytes class) ⌝ }
+{
+    if upper_bytes(class) { ALL_BITS } else { 0 }
+}
+
+// All bytes that are in a class, a bit for each.
+fn words_of(class: Class) -> [u64; 4]
+    ensures { λ r. ⌜ r ≡ wordsOf class ⌝ }
+{
+    let upper = upper_word(class);
+    [low_bytes(class), high_bytes(class), upper, upper]
+}
+
+// Is the byte's bit set, among 256 in four words? No branch hangs on the byte: where bytes of many kinds come, it would often be foreseen wrongly.
+pub fn has_bit(words: &[u64; 4], b: u8) -> bool
+    ensures { λ r. ⌜ (r ≡ hasBit (now (words .entry)) b) × (b < 256) ⌝ }
+{
+    let i = b as usize;
+    (words[i / 64] >> (i % 64)) & 1 == 1
 }
 
 // Is the byte in the class?
@@ -168,9 +195,10 @@ pub fn run_end(text: &[u8], at: usize, class: Class) -> usize
     requires { ⌜ at ≤ length (now text) ⌝ }
     ensures { λ r. ⌜ Runs (now (text .entry)) at class r ⌝ }
 {
+    let words = words_of(class);
     let mut i = at;
     while i < text.len() {
-        if !in_class(class, text[i]) {
+        if !has_bit(&words, text[i]) {
             return i;
         }
         i += 1;

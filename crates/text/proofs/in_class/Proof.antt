@@ -1,7 +1,8 @@
 -- `text::in_class` meets its contract: each of its three ways is the test of a bit, and those were tested at every byte.
 use mathlib.Core.Path.{_∙_, ap}
 use Prim.Native.Nat.{_-_}
-use Rattle.text.proofs.ClassTable.{bitAt, low-bit, high-bit, upper-bit}
+use Rattle.text.specs.Bits.{bitAt}
+use Rattle.text.proofs.ClassTable.{low-bit, high-bit, upper-bit}
 use borrow.Author.Needs.{needs}
 use Rattle.text.proofs.in_class.Statement.{statement}
 use Rattle.text.proofs.in_class.Tie as tie
