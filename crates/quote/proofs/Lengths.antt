@@ -16,18 +16,6 @@ use Rattle.stages.specs.Quote.{written, quotedField, blanked, quotedLine}
 use Rattle.stages.proofs.Bools.{either}
 use Rattle.stages.proofs.Images.{texts-length}
 use Rattle.table.proofs.Pieces.{Ahead}
-use Rattle.quote.specs.Ways.{wayIs}
-use Rattle.quote.specs.declared.ways.Way as code
-use Rattle.quote.specs.declared.ways.Way.the-variants.{Bare}
-
--- a byte as it is
-
-pub byte-bare : {way : code.Way} → way ≡ Bare → (b : ℕ) → quotedByte (wayIs way) b ≡ b ∷ []
-unfolding quotedByte
-byte-bare e b = rw e
-
-pub bare-length : {way : code.Way} → way ≡ Bare → (b : ℕ) → 1 ≡ length (quotedByte (wayIs way) b)
-bare-length e b = ap length (sym (byte-bare e b))
 
 -- a byte in single quotes, by its test
 

@@ -12,18 +12,10 @@ use Rattle.stages.specs.Quote.{Way, singled, dollared, octal, quotedByte, quote
 use Rattle.text.specs.Classes.{Runs}
 use Rattle.text.specs.Putting.{Puts}
 use Rattle.text.specs.declared.Class.the-variants.{SameByte}
-use Rattle.quote.specs.Ways.{wayIs}
-use Rattle.quote.specs.declared.ways.Way as code
-use Rattle.quote.specs.declared.ways.Way.the-variants.{Bare}
 use Rattle.text.proofs.Filling.{Filling, puts-copied, fill-starts, fill-next, fill-fits, fill-byte, fill-piece, fill-ends}
 use Rattle.text.proofs.Parts.{part-length}
-use Rattle.quote.proofs.Lengths.{byte-bare, byte-quote, byte-other, byte-sign, byte-plain, byte-control, bytes-at, bytes-none, enclosed-is}
+use Rattle.quote.proofs.Lengths.{byte-quote, byte-other, byte-sign, byte-plain, byte-control, bytes-at, bytes-none, enclosed-is}
 use Rattle.quote.proofs.Same.{same-run}
-
--- a byte as it is
-
-pub bare-byte-put : {way : code.Way} → way ≡ Bare → (b : ℕ) (out : Text) → 1 ≤ length out → Puts (quotedByte (wayIs way) b) out (set out 0 b) 1
-bare-byte-put e b out h = rw (byte-bare e b) (fill-ends (fill-byte (fill-starts (b ∷ []) out h) b [] 1 refl refl) refl)
 
 -- `put_singled`
 

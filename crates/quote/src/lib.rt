@@ -1,14 +1,15 @@
 // The quoter: a fields image becomes one line, each field bare, in '...' or in $'...'. Nothing is written unless all of the line has room: it has if four
 // times the image has, and else the line is counted first; then it is written once. Counting and writing have a function for each stage of the quoted line:
-// a byte, a field's bytes, a field, the fields behind the first, the line. `way_of` alone chooses the way of a field, and `field_length` and `put_field`
-// alone ask it.
+// a byte, a field's bytes, a field, the fields behind the first, the line. `look_at` alone tells which field needs no byte changed, and `way_of` the
+// quotes of any other.
 ghost use mathlib.Core.Path.{_≡_};
 ghost use Prim.Native.Nat.{_≤_};
 ghost use lib.ListN.{length};
 ghost use Rattle.stages.specs.Numbers.{imageLimit};
+ghost use mathlib.Core.Bool.{false};
 ghost use mathlib.Core.Option.{some};
 ghost use Rattle.stages.specs.Images.{fieldsOf, heldTexts};
-ghost use Rattle.stages.specs.Quote.{singled, quotedBytes, enclosed, quotedField, blanked, quotedLine};
+ghost use Rattle.stages.specs.Quote.{isBare, singled, quotedBytes, enclosed, quotedField, blanked, quotedLine};
 ghost use Rattle.stages.specs.Call.{quoter};
 ghost use Rattle.text.specs.Putting.{Puts};
 ghost use Rattle.table.specs.Pieces.{textsFrom};
@@ -19,6 +20,7 @@ use table::Kind;
 use table::Piece;
 use text::Class;
 use text::numbers;
+use ways::Look;
 use ways::QUOTE;
 use ways::Way;
 
@@ -52,17 +54,28 @@ fn bytes_length(way: Way, field: &[u8]) -> usize
     n
 }
 
+// How many bytes a field takes that is not bare.
+fn changed_length(field: &[u8]) -> usize
+    requires { ⌜ (length (now field) ≤ imageLimit) × (isBare (now field) ≡ false) ⌝ }
+    ensures { λ r. ⌜ r ≡ length (quotedField (now (field .entry))) ⌝ }
+{
+    let way = ways::way_of(field);
+    match way {
+        Way::Singled => bytes_length(way, field) + 2,
+        Way::Dollared => bytes_length(way, field) + 3,
+    }
+}
+
 // How many bytes a field takes.
 fn field_length(field: &[u8]) -> usize
     requires { ⌜ length (now field) ≤ imageLimit ⌝ }
     ensures { λ r. ⌜ r ≡ length (quotedField (now (field .entry))) ⌝ }
 {
-    let way = ways::way_of(field);
-    match way {
-        Way::Bare => field.len(),
-        Way::Plain => field.len() + 2,
-        Way::Singled => bytes_length(way, field) + 2,
-        Way::Dollared => bytes_length(way, field) + 3,
+    let look = ways::look_at(field);
+    match look {
+        Look::Bare => field.len(),
+        Look::Plain => field.len() + 2,
+        Look::Changed => changed_length(field),
     }
 }
 
@@ -145,24 +158,36 @@ fn put_plain(field: &[u8], out: &mut [u8]) -> usize
     field.len() + 2
 }
 
-// Writes a field in its way.
-fn put_field(field: &[u8], out: &mut [u8]) -> usize
+// Writes a field that is not bare.
+fn put_changed(field: &[u8], out: &mut [u8]) -> usize
+    requires { ⌜ isBare (now field) ≡ false ⌝ }
     requires { ⌜ length (quotedField (now field)) ≤ length (now out) ⌝ }
     ensures { λ r. ⌜ Puts (quotedField (now (field .entry))) (now (out .entry)) (now (out .exit)) r ⌝ }
 {
     let way = ways::way_of(field);
     match way {
-        Way::Bare => {
-            text_copy::copy_in(field, out);
-            field.len()
-        }
-        Way::Plain => put_plain(field, out),
         Way::Singled => put_enclosed(way, field, out),
         Way::Dollared => {
             out[0] = DOLLAR;
             let n = put_enclosed(way, field, &mut out[1..]);
             n + 1
         }
+    }
+}
+
+// Writes a field.
+fn put_field(field: &[u8], out: &mut [u8]) -> usize
+    requires { ⌜ length (quotedField (now field)) ≤ length (now out) ⌝ }
+    ensures { λ r. ⌜ Puts (quotedField (now (field .entry))) (now (out .entry)) (now (out .exit)) r ⌝ }
+{
+    let look = ways::look_at(field);
+    match look {
+        Look::Bare => {
+            text_copy::copy_in(field, out);
+            field.len()
+        }
+        Look::Plain => put_plain(field, out),
+        Look::Changed => put_changed(field, out),
     }
 }
 

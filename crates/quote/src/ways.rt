@@ -1,19 +1,26 @@
-// The ways of writing a field: which one a field has, how long a byte of it is there, and that byte written.
+// How a field is written: whether it needs quotes, and which; how long a byte of it is there, and that byte written.
 ghost use mathlib.Core.Path.{_≡_};
 ghost use Prim.Native.Nat.{_≤_};
 ghost use lib.ListN.{length};
-ghost use Rattle.stages.specs.Quote.{singled, dollared, quotedByte};
+ghost use mathlib.Core.Bool.{false};
+ghost use Rattle.stages.specs.Quote.{isBare, singled, dollared, wayOf, quotedByte};
 ghost use Rattle.text.specs.Putting.{Puts};
-ghost use Rattle.quote.specs.Ways.{wayIs, HasWay};
+ghost use Rattle.quote.specs.Ways.{wayIs, Looks};
 use text::Class;
 
-// The ways of writing a field.
-pub enum Way {
+// How a field stands in a line.
+pub enum Look {
     // As it is.
     Bare,
     // In single quotes, each byte as it is.
     Plain,
-    // In single quotes.
+    // In quotes, and not each byte as it is.
+    Changed,
+}
+
+// The quotes in which bytes are written otherwise.
+pub enum Way {
+    // In single quotes, each `'` otherwise.
     Singled,
     // In $'...', control bytes as escapes.
     Dollared,
@@ -23,23 +30,31 @@ pub const QUOTE: u8 = b'\'';
 
 const BACKSLASH: u8 = b'\\';
 
-// The way in which a field is written: bare if it is not empty and holds only letters, digits, `.`, `_`, `-` and `/`, in $'...' if it holds a byte below 32 or
-// byte 127, else in single quotes. Each run begins where the one before it ended: what a class holds is also in the next.
-pub fn way_of(field: &[u8]) -> Way
-    ensures { λ r. ⌜ HasWay (now (field .entry)) r ⌝ }
+// How a field stands in a line: bare if it is not empty and holds only letters, digits, `.`, `_`, `-` and `/`. It is looked at once: what is bare is written as
+// it is in quotes too.
+pub fn look_at(field: &[u8]) -> Look
+    ensures { λ r. ⌜ Looks (now (field .entry)) r ⌝ }
 {
     if field.len() == 0 {
-        return Way::Plain;
+        return Look::Plain;
     }
     let bare = text::run_end(field, 0, Class::BareByte);
     if bare == field.len() {
-        return Way::Bare;
+        return Look::Bare;
     }
-    let same = text::run_end(field, bare, Class::SameByte);
-    if same == field.len() {
-        return Way::Plain;
+    if text::run_end(field, bare, Class::SameByte) == field.len() {
+        Look::Plain
+    } else {
+        Look::Changed
     }
-    if text::run_end(field, same, Class::NotControl) == field.len() {
+}
+
+// The quotes of a field that is not bare: $'...' if it holds a byte below 32 or byte 127, else single quotes.
+pub fn way_of(field: &[u8]) -> Way
+    requires { ⌜ isBare (now field) ≡ false ⌝ }
+    ensures { λ r. ⌜ wayIs r ≡ wayOf (now (field .entry)) ⌝ }
+{
+    if text::run_end(field, 0, Class::NotControl) == field.len() {
         Way::Singled
     } else {
         Way::Dollared
@@ -72,8 +87,6 @@ pub fn byte_length(way: Way, b: u8) -> usize
     ensures { λ r. ⌜ r ≡ length (quotedByte (wayIs way) b) ⌝ }
 {
     match way {
-        Way::Bare => 1,
-        Way::Plain => singled_length(b),
         Way::Singled => singled_length(b),
         Way::Dollared => dollared_length(b),
     }
@@ -121,11 +134,6 @@ pub fn put_byte(way: Way, b: u8, out: &mut [u8]) -> usize
     ensures { λ r. ⌜ Puts (quotedByte (wayIs way) b) (now (out .entry)) (now (out .exit)) r ⌝ }
 {
     match way {
-        Way::Bare => {
-            out[0] = b;
-            1
-        }
-        Way::Plain => put_singled(b, out),
         Way::Singled => put_singled(b, out),
         Way::Dollared => put_dollared(b, out),
     }

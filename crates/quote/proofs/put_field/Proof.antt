@@ -1,160 +1,78 @@
--- `quote::put_field` meets its contract: a bare field is copied, another is written in its quotes, behind a `$` where it holds a control byte.
+-- `quote::put_field` meets its contract: a bare field is copied, one whose bytes stay is copied between quotes, and any other written as its quotes ask.
 use native.Mathlib.Omega.{arith}
-use Prim.Native.Nat.{suc, _+_, _-_, _≤_}
-use mathlib.Core.Path.{_≡_, refl, sym, ap}
-use mathlib.Core.List.{[], _∷_, append-nil}
+use mathlib.Core.Path.{ap}
 use borrow.Author.Needs.{needs}
-use lib.ListN.{length, set}
-use borrow.Rule.Slice.PartMut.{putMid}
-use Rattle.stages.specs.Quote.{singled, enclosed, quotedField}
-use Rattle.text.proofs.Filling.{Filling, puts-copied, fill-room, fill-length, fill-fits, fill-ends}
-use Rattle.quote.specs.Ways.{wayIs}
-use Rattle.quote.proofs.Fields.{field-bare, field-singled, field-dollared, same-put}
-use Rattle.quote.proofs.Writing.{dollar-first, dollar-filled}
+use lib.ListN.{length}
+use Rattle.text.proofs.Filling.{puts-copied}
+use Rattle.quote.proofs.Fields.{same-put}
 use Rattle.quote.proofs.put_field.Statement.{statement}
 use Rattle.quote.proofs.put_field.Tie as tie
 
-way-of-requires : tie.Need-way-of-requires
-way-of-requires c κs = search needs
+look-at-requires : tie.Need-look-at-requires
+look-at-requires c κs = search needs
 
 enum-told : tie.Need-enum-told
 enum-told c = search needs
 
--- a bare field
-is-bare : (c : tie.After-enum-told) →
-    let t = c .before .before .before .before .before .args .field .now in
-    quotedField t ≡ t
-is-bare c = field-bare _ (c .before .before .way-of .ensures) (c .enum-told .given .1)
-
 copy-in-requires : tie.Need-copy-in-requires
-copy-in-requires c κs = omega (arith, ap length (is-bare (c .before)), c .before .before .before .before .before .before .pre)
+copy-in-requires c κs =
+    let e = c .before in
+    omega (arith, ap length (e .before .before .look-at .ensures .leaves (e .enum-told .given .1)), e .before .before .before .before .before .pre)
 
 enum-told-2 : tie.Need-enum-told-2
 enum-told-2 c = search needs
 
--- one in single quotes as it is
-is-plain : (c : tie.After-enum-told2) →
-    let t = c .before .before .before .before .before .args .field .now in
-    quotedField t ≡ enclosed singled t
-is-plain c = field-singled _ (c .before .before .way-of .ensures) refl (ap wayIs (c .enum-told2 .given .1))
-
 put-plain-requires : tie.Need-put-plain-requires
 put-plain-requires c κs =
     let e = c .before in
-    (e .before .before .way-of .ensures .plain (e .enum-told2 .given .1), omega (arith, ap length (is-plain e), e .before .before .before .before .before .pre))
+    let l = e .before .before .look-at .ensures in
+    let h = e .enum-told2 .given .1 in
+    (l .keeps h, omega (arith, ap length (l .encloses h), e .before .before .before .before .before .pre))
 
 enum-told-3 : tie.Need-enum-told-3
 enum-told-3 c = search needs
 
--- one in single quotes
-is-singled : (c : tie.After-enum-told3) →
-    let t = c .before .before .before .before .before .args .field .now in
-    quotedField t ≡ enclosed (wayIs (c .before .before .way-of .result)) t
-is-singled c = field-singled _ (c .before .before .way-of .ensures) (ap wayIs (c .enum-told3 .given .1)) refl
-
-put-enclosed-requires : tie.Need-put-enclosed-requires
-put-enclosed-requires c κs = omega (arith, ap length (is-singled (c .before)), c .before .before .before .before .before .before .pre)
-
-enum-told-4 : tie.Need-enum-told-4
-enum-told-4 c = search needs
-
--- one in `$'...'`
-is-dollared : (c : tie.After-enum-told4) →
-    let t = c .before .before .before .before .before .args .field .now in
-    quotedField t ≡ 36 ∷ enclosed (wayIs (c .before .before .way-of .result)) t
-is-dollared c = field-dollared _ (c .before .before .way-of .ensures) (c .enum-told4 .given .1)
-
-has-room : (c : tie.After-enum-told4) →
-    let a = c .before .before .before .before .before .args in
-    suc (length (enclosed (wayIs (c .before .before .way-of .result)) (a .field .now))) ≤ length (a .out .now)
-has-room c = omega (arith, ap length (is-dollared c), c .before .before .before .before .before .pre)
-
--- the `$` is written
-begun : (c : tie.After-enum-told4) →
-    let a = c .before .before .before .before .before .args in
-    let t = enclosed (wayIs (c .before .before .way-of .result)) (a .field .now) in
-    Filling (36 ∷ t) t (a .out .now) (set (a .out .now) 0 36) 1
-begun c = dollar-first _ _ (has-room c)
-
-slice-write-out : tie.Need-slice-write-out
-slice-write-out c = omega (arith, has-room c)
-
-sub-put-enclosed : tie.Need-sub-put-enclosed
-sub-put-enclosed c = omega (arith, fill-room (begun c), fill-length (begun c))
-
-part-put-enclosed-start : tie.Need-part-put-enclosed-start
-part-put-enclosed-start c = omega (arith, fill-room (begun c), fill-length (begun c))
-
-part-put-enclosed-end : tie.Need-part-put-enclosed-end
-part-put-enclosed-end c = search needs
-
-put-enclosed-requires-2 : tie.Need-put-enclosed-requires-2
-put-enclosed-requires-2 c κs =
+put-changed-requires : tie.Need-put-changed-requires
+put-changed-requires c κs =
     let e = c .before in
-    let t = enclosed (wayIs (e .before .before .way-of .result)) (e .before .before .before .before .before .args .field .now) in
-    fill-fits (begun e) t [] (sym (append-nil t))
-
--- the whole field
-ended : (c : tie.After-slice-known5) →
-    let e = c .before .before .before .before in
-    let a = e .before .before .before .before .before .args in
-    let p = c .before .before .put-enclosed2 in
-    Filling (36 ∷ enclosed (wayIs (e .before .before .way-of .result)) (a .field .now)) [] (a .out .now)
-    (putMid 1 (length (set (a .out .now) 0 36) - 1) (set (a .out .now) 0 36) (p .last .1 .1 .0)) (p .result + 1)
-ended c =
-    let p = c .before .before .put-enclosed2 in
-    dollar-filled _ _ (has-room (c .before .before .before .before)) (p .last .1 .1 .0) (p .result) (p .ensures)
-
-add-result : tie.Need-add-result
-add-result c = omega (arith, fill-room (ended c))
+    (e .before .before .look-at .ensures .changes (e .enum-told3 .given .1), e .before .before .before .before .before .pre)
 
 same-length : tie.Need-same-length
 same-length c = search needs
 
 returns : tie.Need-returns
-returns c = same-put _ _ _ _ _ (is-bare (c .before .before .before .before)) (puts-copied _ _ _ (c .before .before .copy-in .ensures))
+returns c =
+    let e = c .before .before .before .before in
+    same-put _ _ _ _ _ (e .before .before .look-at .ensures .leaves (e .enum-told .given .1)) (puts-copied _ _ _ (c .before .before .copy-in .ensures))
 
 same-length-2 : tie.Need-same-length-2
 same-length-2 c = search needs
 
 returns-2 : tie.Need-returns-2
-returns-2 c = same-put _ _ _ _ _ (is-plain (c .before .before .before .before)) (c .before .before .put-plain .ensures)
+returns-2 c =
+    let e = c .before .before .before .before in
+    same-put _ _ _ _ _ (e .before .before .look-at .ensures .encloses (e .enum-told2 .given .1)) (c .before .before .put-plain .ensures)
 
 same-length-3 : tie.Need-same-length-3
 same-length-3 c = search needs
 
 returns-3 : tie.Need-returns-3
-returns-3 c = same-put _ _ _ _ _ (is-singled (c .before .before .before .before)) (c .before .before .put-enclosed .ensures)
-
-same-length-4 : tie.Need-same-length-4
-same-length-4 c = fill-length (ended c)
-
-returns-4 : tie.Need-returns-4
-returns-4 c = same-put _ _ _ _ _ (is-dollared (c .before .before .before .before)) (fill-ends (ended c) refl)
+returns-3 c = c .before .before .put-changed .ensures
 
 pub put-field-spec : {M : Type 1} → statement M
 put-field-spec =
     tie.close
     (tie.spec
-    way-of-requires
+    look-at-requires
     enum-told
     copy-in-requires
     enum-told-2
     put-plain-requires
     enum-told-3
-    put-enclosed-requires
-    enum-told-4
-    slice-write-out
-    sub-put-enclosed
-    part-put-enclosed-start
-    part-put-enclosed-end
-    put-enclosed-requires-2
-    add-result
+    put-changed-requires
     same-length
     returns
     same-length-2
     returns-2
     same-length-3
-    returns-3
-    same-length-4
-    returns-4)
+    returns-3)

@@ -3,7 +3,6 @@ use mathlib.Core.Path.{sym, ap, _∙_}
 use lib.ListN.{length}
 use Rattle.stages.specs.Quote.{quotedByte}
 use Rattle.quote.specs.Ways.{wayIs}
-use Rattle.quote.proofs.Lengths.{bare-length}
 use borrow.Author.Needs.{needs}
 use Rattle.quote.proofs.ways.byte_length.Statement.{statement}
 use Rattle.quote.proofs.ways.byte_length.Tie as tie
@@ -11,54 +10,26 @@ use Rattle.quote.proofs.ways.byte_length.Tie as tie
 enum-told : tie.Need-enum-told
 enum-told c = search needs
 
-enum-told-2 : tie.Need-enum-told-2
-enum-told-2 c = search needs
-
 singled-length-requires : tie.Need-singled-length-requires
 singled-length-requires c κs = search needs
 
-enum-told-3 : tie.Need-enum-told-3
-enum-told-3 c = search needs
-
-singled-length-requires-2 : tie.Need-singled-length-requires-2
-singled-length-requires-2 c κs = search needs
-
-enum-told-4 : tie.Need-enum-told-4
-enum-told-4 c = search needs
+enum-told-2 : tie.Need-enum-told-2
+enum-told-2 c = search needs
 
 dollared-length-requires : tie.Need-dollared-length-requires
 dollared-length-requires c κs = search needs
 
 returns : tie.Need-returns
-returns c = bare-length (c .enum-told .given .1) (c .before .before .args .b)
+returns c =
+    let b = c .before .before .before .args .b in
+    c .singled-length .ensures ∙ ap (λ way. length (quotedByte (wayIs way) b)) (sym (c .before .enum-told .given .1))
 
 returns-2 : tie.Need-returns-2
 returns-2 c =
     let b = c .before .before .before .args .b in
-    c .singled-length .ensures ∙ ap (λ way. length (quotedByte (wayIs way) b)) (sym (c .before .enum-told2 .given .1))
-
-returns-3 : tie.Need-returns-3
-returns-3 c =
-    let b = c .before .before .before .args .b in
-    c .singled-length2 .ensures ∙ ap (λ way. length (quotedByte (wayIs way) b)) (sym (c .before .enum-told3 .given .1))
-
-returns-4 : tie.Need-returns-4
-returns-4 c =
-    let b = c .before .before .before .args .b in
-    c .dollared-length .ensures ∙ ap (λ way. length (quotedByte (wayIs way) b)) (sym (c .before .enum-told4 .given .1))
+    c .dollared-length .ensures ∙ ap (λ way. length (quotedByte (wayIs way) b)) (sym (c .before .enum-told2 .given .1))
 
 pub byte-length-spec : {M : Type 1} → statement M
 byte-length-spec =
     tie.close
-    (tie.spec
-    enum-told
-    enum-told-2
-    singled-length-requires
-    enum-told-3
-    singled-length-requires-2
-    enum-told-4
-    dollared-length-requires
-    returns
-    returns-2
-    returns-3
-    returns-4)
+    (tie.spec enum-told singled-length-requires enum-told-2 dollared-length-requires returns returns-2)
