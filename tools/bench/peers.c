@@ -3,7 +3,8 @@
    all three, and floor and library must judge every image alike, or the run fails. Expander, floor and wordexp are called again and again in this process,
    each in many short turns, the least of which counts; dash is one process that reads a script of many lines `: LINE`, and what a script without lines takes
    is taken off. The peers have the set's variables as their environment. Patterns go over a table of paths and, for the peers, over a folder of as many files
-   with these names. peers DASH FOLDER SECONDS; run by tools/measure in the folder, which is empty. */
+   with these names. One set has a thousand different lines, in turn, so that a processor cannot foresee what comes; every other has one line. peers DASH
+   FOLDER SECONDS; run by tools/measure in the folder, which is empty. */
 #define _GNU_SOURCE
 #include "floor.h"
 #include <fcntl.h>
@@ -16,7 +17,7 @@
 #include <unistd.h>
 #include <wordexp.h>
 
-enum { PATHS_COUNT = 1500, FEW_PATHS = 28, LONG_LINE = 2000, SCRIPT = 1 << 22, ROUNDS = 20 };
+enum { PATHS_COUNT = 1500, FEW_PATHS = 28, LONG_LINE = 2000, MANY = 1000, MANY_ROOM = 400, SCRIPT = 1 << 22, ROUNDS = 20 };
 static const double turn = 3e-4; /* seconds of a short turn */
 
 static const char *const variables[][2] = {
@@ -29,13 +30,13 @@ static const char *const variables[][2] = {
 /* What is held to a bar: the call to its floor, the call less its floor to wordexp's call, the whole call to wordexp's, or nothing. */
 enum held { TO_THE_FLOOR, ABOVE_THE_FLOOR, WHOLE, NOTHING };
 struct set {
-  const char *name, *line;
+  const char *name, *line; /* no line: the many different ones, in turn */
   enum held held;
   double most;
   struct tables tables;
 };
-enum { ONE_BYTE, PLAIN, QUOTED, PARAMETER, ARITHMETIC, SPLITTING, GLOBBING, LONG_PLAIN, LONG_MIXED, FULL, SETS };
-static char long_plain[LONG_LINE + 1], long_mixed[LONG_LINE + 1];
+enum { ONE_BYTE, PLAIN, QUOTED, PARAMETER, ARITHMETIC, SPLITTING, GLOBBING, LONG_PLAIN, LONG_MIXED, FULL, DIFFERENT, SETS };
+static char long_plain[LONG_LINE + 1], long_mixed[LONG_LINE + 1], many[MANY][MANY_ROOM];
 static struct set sets[SETS] = {
     {"1 byte", "x", TO_THE_FLOOR, 1.3, {0}},
     {"plain", "load base07.dat rover.raw out/north.csv peg17 zone33 lane7 end", ABOVE_THE_FLOOR, 1.0, {0}},
@@ -47,6 +48,7 @@ static struct set sets[SETS] = {
     {"2,000 bytes plain", long_plain, WHOLE, 1.0, {0}},
     {"2,000 bytes mixed", long_mixed, WHOLE, 1.0, {0}},
     {"full tables", "load base07.dat rover.raw out/north.csv peg17 zone33 lane7 end", TO_THE_FLOOR, 1.3, {0}},
+    {"1,000 lines", NULL, NOTHING, 0, {0}},
 };
 enum { VARIABLES_COUNT = sizeof variables / sizeof *variables };
 
@@ -119,8 +121,38 @@ static void make_tables(void) {
   fill(full_vars, sizeof full_vars, true), fill(full_homes, sizeof full_homes, true);
 }
 
+/* A number below n, the same ones in every run. */
+static unsigned draw(unsigned n) {
+  static uint32_t state = 7;
+  state = state * 1103515245 + 12345;
+  return (state >> 16) % n;
+}
+
+/* Lines of eight words, of 3 to 12 bytes that need no quotes, or of two or three such words in quotes, with an apostrophe in double ones. */
+static void make_many(void) {
+  static const char bytes[] = "abcdefghijklmnopqrstuvwxyzabcdefghijklmnopqrstuvwxyz0123456789._-/";
+  for (int i = 0; i < MANY; i++) {
+    char *to = many[i];
+    for (int word = 0; word < 8; word++) {
+      unsigned kind = draw(10), parts = kind < 6 ? 1 : kind < 8 ? 2 : 3;
+      if (word) *to++ = ' ';
+      if (parts > 1) *to++ = parts == 2 ? '\'' : '"';
+      for (unsigned part = 0; part < parts; part++) {
+        if (part) to += sprintf(to, "%s", part == 2 ? "'s " : " ");
+        for (unsigned left = 3 + draw(10); left; left--) *to++ = bytes[draw(sizeof bytes - 1)];
+      }
+      if (parts > 1) *to++ = parts == 2 ? '\'' : '"';
+    }
+    *to = 0;
+  }
+}
+
+/* The line of a set that is called for at its i-th turn. */
+static const char *line_at(const struct set *s, int i) { return s->line ? s->line : many[i % MANY]; }
+
 /* The long lines: the plain line's words again and again; and the five lines behind each other, again and again, as far as whole ones fit. */
 static void make_sets(void) {
+  make_many();
   const char *words = sets[PLAIN].line;
   size_t length = strlen(words), used = 0;
   for (size_t at = 0; at < LONG_LINE; at++) long_plain[at] = at % (length + 1) < length ? words[at % (length + 1)] : ' ';
@@ -203,9 +235,10 @@ static int judge_all(void) {
 /* THE SETS */
 
 static double ours(const struct set *s, int n) {
-  size_t length = strlen(s->line);
+  static size_t lengths[MANY];
+  for (int i = 0; i < MANY; i++) lengths[i] = strlen(line_at(s, i));
   double a = now();
-  for (int i = 0; i < n; i++) sink += call(s->line, length, &s->tables, sizeof work).out_len;
+  for (int i = 0; i < n; i++) sink += call(line_at(s, i), lengths[i % MANY], &s->tables, sizeof work).out_len;
   return now() - a;
 }
 
@@ -219,7 +252,7 @@ static double wordexps(const struct set *s, int n) {
   double a = now();
   for (int i = 0; i < n; i++) {
     wordexp_t fields;
-    if (wordexp(s->line, &fields, WRDE_NOCMD)) die("wordexp refuses it", s->name);
+    if (wordexp(line_at(s, i), &fields, WRDE_NOCMD)) die("wordexp refuses it", s->name);
     sink += fields.we_wordc;
     wordfree(&fields);
   }
@@ -238,12 +271,12 @@ static void set_environment(const struct tables *t) {
   }
 }
 
-/* One dash on a script: the assignments, then n times the command and the line. Its processor time; what it writes goes to a file. */
-static double run_dash(const char *command, const char *line, int n, int to) {
+/* One dash on a script: the assignments, then n times the command and the set's line from turn `at` on. Its processor time; what it writes goes to a file. */
+static double run_dash(const char *command, const struct set *s, int at, int n, int to) {
   size_t used = 0;
   used += (size_t)snprintf(script, sizeof script, "IFS=' \t\n'\n");
-  for (int i = 0; i < n; i++) used += (size_t)snprintf(script + used, sizeof script - used, "%s%s\n", command, line);
-  if (used >= sizeof script - 1) die("the script is too long", line);
+  for (int i = at; i < at + n; i++) used += (size_t)snprintf(script + used, sizeof script - used, "%s%s\n", command, line_at(s, i));
+  if (used >= sizeof script - 1) die("the script is too long", s->name);
   int from = open(".script", O_CREAT | O_TRUNC | O_RDWR, 0600);
   if (from < 0 || write(from, script, used) != (ssize_t)used || lseek(from, 0, SEEK_SET) != 0) die("cannot be written", ".script");
   pid_t child = fork();
@@ -254,19 +287,20 @@ static double run_dash(const char *command, const char *line, int n, int to) {
   }
   int status;
   struct rusage spent;
-  if (wait4(child, &status, 0, &spent) != child || status != 0) die("dash fails", line);
+  if (wait4(child, &status, 0, &spent) != child || status != 0) die("dash fails", s->name);
   close(from);
   return (double)(spent.ru_utime.tv_sec + spent.ru_stime.tv_sec) + (double)(spent.ru_utime.tv_usec + spent.ru_stime.tv_usec) * 1e-6;
 }
 
-/* All three give the same fields. */
-static size_t check(const struct set *s) {
-  struct drunquill_answer a = call(s->line, strlen(s->line), &s->tables, sizeof work);
+/* All three give the same fields of a line. How many. */
+static size_t check(const struct set *s, int turn) {
+  const char *line = line_at(s, turn);
+  struct drunquill_answer a = call(line, strlen(line), &s->tables, sizeof work);
   if (a.number) die("the expander refuses it", s->name);
   wordexp_t fields;
-  if (wordexp(s->line, &fields, WRDE_NOCMD)) die("wordexp refuses it", s->name);
+  if (wordexp(line, &fields, WRDE_NOCMD)) die("wordexp refuses it", s->name);
   int to = open(".fields", O_CREAT | O_TRUNC | O_RDWR, 0600);
-  run_dash("printf '%s\\0' ", s->line, 1, to);
+  run_dash("printf '%s\\0' ", s, turn, 1, to);
   static char said[DRUNQUILL_IMAGE_MAX * 2];
   ssize_t length = pread(to, said, sizeof said, 0);
   close(to);
@@ -290,18 +324,19 @@ static void hold(const char *name, const char *what, double measured, double mos
 
 static void race(const struct set *s, double share, int nowhere) {
   set_environment(&s->tables);
-  size_t fields = check(s);
+  size_t fields = check(s, 0);
+  for (int i = 1; !s->line && i < MANY; i++) fields += check(s, i);
   double (*const who[])(const struct set *, int) = {ours, floors, wordexps};
   double ns[4] = {1e9, 1e9, 1e9, 0}, lines = 0, shell = 0;
-  int n[3], most = SCRIPT / (int)(strlen(s->line) + 4) - 1;
+  int n[3], most = SCRIPT / (s->line ? (int)strlen(s->line) + 4 : MANY_ROOM) - 1;
   for (int i = 0; i < 3; i++) {
     double wanted = turn / (who[i](s, 20) / 20);
-    n[i] = wanted < 5 ? 5 : (int)wanted;
+    n[i] = !s->line ? MANY : wanted < 5 ? 5 : (int)wanted;
   }
-  double one = (run_dash(": ", s->line, 200, nowhere) - run_dash("", "", 0, nowhere)) / 200, wanted = share / ROUNDS / 2 / (one > 2e-7 ? one : 2e-7);
+  double one = (run_dash(": ", s, 0, 200, nowhere) - run_dash("", s, 0, 0, nowhere)) / 200, wanted = share / ROUNDS / 2 / (one > 2e-7 ? one : 2e-7);
   int script_lines = wanted < 50 ? 50 : wanted < most ? (int)wanted : most;
   for (double all = 0; all < share;) {
-    double start = run_dash("", "", 0, nowhere), c = run_dash(": ", s->line, script_lines, nowhere), spent = 0;
+    double start = run_dash("", s, 0, 0, nowhere), c = run_dash(": ", s, 0, script_lines, nowhere), spent = 0;
     shell += c - start, lines += script_lines;
     while (spent < share / ROUNDS / 2)
       for (int i = 0; i < 3; i++) {

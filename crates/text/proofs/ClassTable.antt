@@ -96,5 +96,6 @@ module _ (class : Class) (b : ℕ) where
   pub upper-bit : 128 ≤ b → b < 256 → upperBytes class ≡ inClass class b
   upper-bit l h =
       sym (word-bit (upperBytes class) (b % 64) (omega arith))
-      ∙ ap (λ (w : ℕ). bitAt w (b % 64)) (sym (last-words (lowBytes class) (highBytes class) (upperWord (upperBytes class)) (b / 64) (omega arith) (omega arith)))
+      ∙ ap (λ (w : ℕ). bitAt w (b % 64))
+      (sym (last-words (lowBytes class) (highBytes class) (upperWord (upperBytes class)) (b / 64) (omega arith) (omega arith)))
       ∙ bit-is class b h
