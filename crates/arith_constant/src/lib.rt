@@ -1,5 +1,7 @@
 // What a text stands for: constants in three bases, read by one function over base and limit, and the values of names. The escapes of $'...' have their
 // digits from it too.
+#![tactic(auto)]
+
 ghost use Rattle.std.specs.Prelude.{◌≡◌, ◌<◌, ◌≤◌};
 ghost use Rattle.stages.specs.Constants.{digit as digit_of, in_base, behind_zero, constant, number, valued};
 ghost use Rattle.arith_int.specs.Answers.{numbered, of_sign};
@@ -9,7 +11,7 @@ use arith_int::{BELOW, Number};
 use text::numbers;
 
 // A number without a sign, or a refusal.
-#[derive(Drop)]
+#[derive(Clone, Copy)]
 pub enum Count {
     Value(u64),
     Refused(u8),

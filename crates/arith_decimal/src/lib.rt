@@ -1,4 +1,6 @@
 // The shortest decimal text, written at the front of a lent slice.
+#![tactic(auto)]
+
 ghost use Rattle.std.specs.Prelude.{◌<◌, ◌≤◌, length};
 ghost use Rattle.stages.specs.Units.{digits, decimal};
 ghost use Rattle.stages.specs.Constants.{signed};

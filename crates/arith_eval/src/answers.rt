@@ -2,7 +2,7 @@
 
 // How many parentheses and signs may still open, whether the part counts, how many bytes the image of variables has, how many it may have, and whether an
 // unset name is refused where it is read.
-#[derive(Drop)]
+#[derive(Clone, Copy)]
 pub struct Scope {
     pub room: usize,
     pub counts: bool,
@@ -12,7 +12,7 @@ pub struct Scope {
 }
 
 // A value, the place behind its text, and how many bytes the image of variables has then.
-#[derive(Drop)]
+#[derive(Clone, Copy)]
 pub enum Climbed {
     Refused(u8),
     Value {
@@ -23,7 +23,7 @@ pub enum Climbed {
 }
 
 // What an operator behind a left side makes of it; `Last` where none follows that binds tightly enough.
-#[derive(Drop)]
+#[derive(Clone, Copy)]
 pub enum Turn {
     Refused(u8),
     Last,
@@ -35,14 +35,14 @@ pub enum Turn {
 }
 
 // The place behind a text that was only read.
-#[derive(Drop)]
+#[derive(Clone, Copy)]
 pub enum Skipped {
     Refused(u8),
     Next(usize),
 }
 
 // Where it goes on behind a value that counts: the end, or one of the sides of a `?`.
-#[derive(Drop)]
+#[derive(Clone, Copy)]
 pub enum Step {
     Refused(u8),
     Last(usize),

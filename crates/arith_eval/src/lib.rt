@@ -1,5 +1,7 @@
 // The arithmetic text of document 01: an expression is read and worked out without a tree. The text is gone through once, where all of it
 // counts; where that is refused, it is gone through again where nothing counts, since "reading faults come first".
+#![tactic(auto)]
+
 ghost use Rattle.std.specs.Prelude.{◌*◌, ◌≤◌, length};
 ghost use Rattle.stages.specs.Numbers.{row_limit, image_limit};
 ghost use Rattle.stages.specs.Bytes.{Text};
@@ -22,7 +24,7 @@ mod plain;
 mod values;
 
 // What a text comes to: a number, and how many bytes the image of variables has then.
-#[derive(Drop)]
+#[derive(Clone, Copy)]
 pub enum Worked {
     Refused(u8),
     Value { value: i64, vars_used: usize },

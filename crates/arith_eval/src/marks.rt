@@ -7,7 +7,7 @@ use arith_token::{Setting, Token, token_at};
 use text::{Class, numbers};
 
 // What `?:` asks of a token.
-#[derive(Drop)]
+#[derive(Clone, Copy)]
 pub enum Mark {
     Refused(u8),
     Query(usize),
@@ -16,7 +16,7 @@ pub enum Mark {
 }
 
 // A name and the `=` behind it, where the right side begins at `next`.
-#[derive(Drop)]
+#[derive(Clone, Copy)]
 pub enum Target {
     Missing,
     At {

@@ -9,14 +9,14 @@ use arith_token::level;
 use text::Class;
 
 // A value and the place behind it, or nothing that is known.
-#[derive(Drop)]
+#[derive(Clone, Copy)]
 pub enum Plain {
     Unknown,
     Value { value: i64, next: usize },
 }
 
 // What stands behind a value: nothing, one of the five operators and the place behind it, or something else.
-#[derive(Drop)]
+#[derive(Clone, Copy)]
 pub enum Sign {
     Other,
     Stop,

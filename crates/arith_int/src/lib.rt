@@ -1,5 +1,7 @@
 // Numbers of document 01, "Arithmetic", and document 02, E6: the operations on 64-bit signed numbers, each exact or refused, whose guards are tests that
 // cannot leave the range themselves.
+#![tactic(auto)]
+
 ghost use Rattle.std.specs.Prelude.{◌≡◌, ◌&&◌, ◌||◌, ◌*◌, ◌^◌, pos, neg_ℤ, nat_abs, ◌+ℤ◌, ◌-ℤ◌, ◌*ℤ◌};
 ghost use Rattle.std.specs.Int.Signed.{quot_z, rem_z, shr_z};
 ghost use Rattle.stages.specs.Outcome.{done};
@@ -18,27 +20,27 @@ pub const BELOW: u64 = 9223372036854775808;
 const ABOVE: u64 = 9223372036854775807;
 
 // A number, or the refusal of its working out.
-#[derive(Drop)]
+#[derive(Clone, Copy)]
 pub enum Number {
     Value(i64),
     Refused(u8),
 }
 
 // Two numbers to divide: quotient and remainder fit, or neither is given.
-#[derive(Drop)]
+#[derive(Clone, Copy)]
 enum Division {
     Fits,
     Refused(u8),
 }
 
 // Whether a left operand decides.
-#[derive(Drop)]
+#[derive(Clone, Copy)]
 pub enum Early {
     Decides(i64),
     Open,
 }
 
-#[derive(Drop)]
+#[derive(Clone, Copy)]
 pub enum Op {
     Mul,
     Div,

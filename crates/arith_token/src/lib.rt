@@ -1,4 +1,6 @@
 // What stands at a place of an arithmetic text. Blanks separate; a constant is judged where it is the next token.
+#![tactic(auto)]
+
 ghost use Rattle.std.specs.Prelude.{◌≡◌, ◌≤◌, length};
 ghost use Rattle.arith_token.specs.Tokens.{level_of, TokenAt, Digit, Symbol, Pairable, Pairs};
 
@@ -6,14 +8,14 @@ use arith_int::{Number, Op};
 use text::{Class, numbers};
 
 // What an assignment makes of its right side: it is stored as it is, or an operator takes it behind what the name stands for.
-#[derive(Drop)]
+#[derive(Clone, Copy)]
 pub enum Setting {
     Plain,
     With(Op),
 }
 
 // A token, and the place behind it; of a name, where it begins and ends.
-#[derive(Drop)]
+#[derive(Clone, Copy)]
 pub enum Token {
     Refused(u8),
     Stop,

@@ -1,5 +1,7 @@
 // A line's assignments, one after the other: each value is expanded, and its bytes without marks are stored under the name, so that the next one sees
 // them. No value is split, and none is held against paths. Places belong to the loop over the assignments alone.
+#![tactic(auto)]
+
 ghost use Rattle.std.specs.Prelude.{take, drop};
 ghost use Rattle.stages.specs.Images.{held};
 ghost use Rattle.stages.specs.Assign.{an_assignment};
@@ -15,7 +17,7 @@ use text::numbers;
 
 // What a line's assignments leave: the variables' image is the first `vars_used` bytes of their buffer; or the number that refuses an assignment, and that
 // assignment's place; or the message that one demands, which is the work area's `len` bytes from `at` on, and its place.
-#[derive(Drop)]
+#[derive(Clone, Copy)]
 pub enum LineAssigned {
     Done { vars_used: usize },
     Refused { number: u8, place: usize },
@@ -23,7 +25,7 @@ pub enum LineAssigned {
 }
 
 // What one assignment leaves: the same length, and where the line goes on; or the number that refuses it, or where the message waits that it demands.
-#[derive(Drop)]
+#[derive(Clone, Copy)]
 enum WordAssigned {
     Stored { next: usize, vars_used: usize },
     Refused(u8),

@@ -1,5 +1,7 @@
 // The job that takes a line of assignments, on a copy: the variables' image is copied, the assignments take effect on the copy, and its new image is handed
 // over at the end. So "A refusal undoes all." The copy is an array that one function holds and lends to the next.
+#![tactic(auto)]
+
 ghost use Rattle.std.specs.Prelude.{◌≡◌, [], length};
 ghost use Rattle.stages.specs.Numbers.{image_limit};
 ghost use Rattle.stages.specs.Bytes.{Text};

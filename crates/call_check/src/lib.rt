@@ -1,5 +1,7 @@
 // What is looked at before the first word is expanded: document 01's "Order: 1 to 6 as numbered; then the whole line is read", where document 02's 23 is
 // "checked after 4"; then room for the empty fields image. Before assignments the same, but for paths and output, which they do not take.
+#![tactic(auto)]
+
 ghost use Rattle.std.specs.Prelude.{◌≡◌, [], length, Bool, true};
 ghost use Rattle.stages.specs.Bytes.{Text};
 ghost use Rattle.stages.specs.Images.{is_some, fields_of};
@@ -11,21 +13,21 @@ use table::Kind;
 use text::numbers;
 
 // The two jobs that take a line: one gives the fields' image, the other the fields as a quoted line.
-#[derive(Drop)]
+#[derive(Clone, Copy)]
 pub enum Job {
     Expander,
     Normaliser,
 }
 
 // What a call says beside its buffers: so many bytes of the variables' buffer are their image, and unset names shout or not.
-#[derive(Drop)]
+#[derive(Clone, Copy)]
 pub struct Asked {
     pub vars_used: usize,
     pub shouts: bool,
 }
 
 // What the checks answer: the words may be expanded, or the number and the place that refuse the call.
-#[derive(Drop)]
+#[derive(Clone, Copy)]
 pub enum Checked {
     Fine,
     Refused { number: u8, place: usize },

@@ -1,4 +1,6 @@
 // What a pattern costs with a text: document 02's E13, "Office wants to refuse costly patterns."
+#![tactic(auto)]
+
 ghost use Rattle.std.specs.Prelude.{◌≡◌};
 ghost use Rattle.stages.specs.Cost.{coster};
 ghost use Rattle.call_cost.specs.Hands.{costing, is_class, is_large, number_for, answer_as, Hands};
@@ -8,7 +10,7 @@ use text::numbers;
 
 // A number, a place, and how many pairs can be reached. Laid out as C lays it out.
 #[repr(C)]
-#[derive(Drop)]
+#[derive(Clone, Copy)]
 pub struct Costed {
     pub number: u8,
     pub place: usize,

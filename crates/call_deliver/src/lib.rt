@@ -1,6 +1,8 @@
 // What came of a call is handed over: the output is written, and the variables' new image is copied with the answer, or neither; and on 13 the message is.
 // "On acceptance, bytes behind either new image are unchanged" holds of the output, and of the variables beyond the used length that was given: up to it,
 // zeros come behind an image that is shorter than the one before.
+#![tactic(auto)]
+
 ghost use Rattle.std.specs.Prelude.{◌≡◌, ◌+◌, ◌≤◌, length, take};
 ghost use Rattle.stages.specs.Call.{over};
 ghost use Rattle.std.proofs.Math.Option.{some};
@@ -17,7 +19,7 @@ use text::numbers;
 // "The answer is a number, a place, the output length and the variables' used length."; E7: "the answer gives the length written" of the message. Laid out as
 // C lays it out, so that the jobs for C hand it on.
 #[repr(C)]
-#[derive(Drop)]
+#[derive(Clone, Copy)]
 pub struct Answer {
     pub number: u8,
     pub place: usize,
@@ -27,7 +29,7 @@ pub struct Answer {
 }
 
 // What a call comes to before its message is handed over: the message is the work area's `len` bytes from `at` on, none of them if nothing is demanded.
-#[derive(Drop)]
+#[derive(Clone, Copy)]
 pub struct Draft {
     pub answer: Answer,
     pub at: usize,

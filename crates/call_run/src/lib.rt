@@ -1,6 +1,8 @@
 // A job that takes a line, on copies: the variables' image is copied, the line is expanded with the copy and into an image of the fields, and what came of
 // it is handed over at the end. Each copy is an array that one function holds and lends to the next. A demanded message waits in the work area until all else
 // is answered; only then it is handed over, and the area is cleared.
+#![tactic(auto)]
+
 ghost use Rattle.std.specs.Prelude.{◌≡◌, length};
 ghost use Rattle.stages.specs.Numbers.{image_limit};
 ghost use Rattle.stages.specs.Bytes.{Text};
@@ -18,7 +20,7 @@ use quote::Quoted;
 use text::numbers;
 
 // What holds for a whole call.
-#[derive(Drop)]
+#[derive(Clone, Copy)]
 struct Call {
     job: Job,
     extent: Extent,
@@ -26,7 +28,7 @@ struct Call {
 
 // What came of a line: so many bytes of the output are written, and so many of the variables' copy are their new image; or the number and the place that
 // refuse the call; or the place of 13, whose message is the work area's `len` bytes from `at` on.
-#[derive(Drop)]
+#[derive(Clone, Copy)]
 enum Delivered {
     Done { out_len: usize, vars_used: usize },
     Refused { number: u8, place: usize },

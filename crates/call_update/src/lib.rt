@@ -1,4 +1,6 @@
 // A path inserted into the lent image of paths, and one deleted: document 02's E11. The image is "now a buffer with a used length, which every answer gives".
+#![tactic(auto)]
+
 ghost use Rattle.std.specs.Prelude.{◌≡◌};
 ghost use Rattle.stages.specs.Updates.{is_path, inserter, deleter};
 ghost use Rattle.call_update.specs.Hands.{updating, is_ready, room_in, answer_as, Hands};
@@ -9,7 +11,7 @@ use text::{Class, numbers};
 
 // A number, a place, and the used length of the paths. Laid out as C lays it out.
 #[repr(C)]
-#[derive(Drop)]
+#[derive(Clone, Copy)]
 pub struct Updated {
     pub number: u8,
     pub place: usize,

@@ -1,5 +1,7 @@
 // Drunquill's seven jobs. Each takes any bytes in any buffers and answers by document 01's numbers. Inside, a line is worked on in copies of the
 // variables and the output, which are handed over at the end, so that a refusal has touched neither.
+#![tactic(auto)]
+
 ghost use Rattle.std.specs.Prelude.{[]};
 ghost use Rattle.stages.specs.Call.{expander, normaliser, assigner, quoter};
 ghost use Rattle.stages.specs.Updates.{inserter, deleter};
@@ -19,7 +21,7 @@ use text::numbers;
 
 // The quoter's answer: "The quoter has neither variables nor work area." Laid out as C lays it out.
 #[repr(C)]
-#[derive(Drop)]
+#[derive(Clone, Copy)]
 pub struct QuoteAnswer {
     pub number: u8,
     pub place: usize,

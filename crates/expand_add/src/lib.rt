@@ -1,4 +1,6 @@
 // What a part of a text gives: a whole row, worked out, measured and then put at the front of the lent area.
+#![tactic(auto)]
+
 ghost use Rattle.std.specs.Prelude.{◌+◌, ◌*◌, ◌≤◌, length};
 ghost use Rattle.stages.specs.Numbers.{row_limit};
 ghost use Rattle.stages.specs.Units.{marked, expanded_mark};

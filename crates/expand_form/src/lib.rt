@@ -1,4 +1,6 @@
 // What a form of a parameter asks for. "Missing" is tested here, once, before the operand is looked at.
+#![tactic(auto)]
+
 ghost use Rattle.std.specs.Prelude.{◌≡◌, ◌&&◌};
 ghost use Rattle.stages.specs.Syntax.{no_colon, removal};
 ghost use Rattle.text.specs.Cases.{colon_of, side_of, reach_of};
@@ -12,7 +14,7 @@ use row::Mark;
 use table::Found;
 
 // What is to be done for a parameter: "An unused operand is not expanded."
-#[derive(Drop)]
+#[derive(Clone, Copy)]
 pub enum Plan {
     Unused(Unused),
     Used(Used),
@@ -21,14 +23,14 @@ pub enum Plan {
 }
 
 // What is given where the operand is not used.
-#[derive(Drop)]
+#[derive(Clone, Copy)]
 pub enum Unused {
     Value,
     Nothing,
 }
 
 // What is done with the operand where it is used.
-#[derive(Drop)]
+#[derive(Clone, Copy)]
 pub enum Used {
     // it is given
     Given,

@@ -1,4 +1,6 @@
 // What an item without a text of its own gives: a unit, a value, a length, how many parameters there are, a tilde's directory.
+#![tactic(auto)]
+
 ghost use Rattle.std.proofs.Math.Option.{none};
 ghost use Rattle.std.specs.Prelude.{◌∷◌, [], ◌+◌, ◌*◌, ◌≤◌, length};
 ghost use Rattle.stages.specs.Numbers.{row_limit};

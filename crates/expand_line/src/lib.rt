@@ -1,5 +1,7 @@
 // A line's words, one after the other: each is expanded, split, and its fields are written after those before it. Places belong to the loop over the
 // words alone.
+#![tactic(auto)]
+
 ghost use Rattle.std.specs.Prelude.{◌≤◌, length, take, drop};
 ghost use Rattle.stages.specs.Numbers.{depth_limit, image_limit, line_limit};
 ghost use Rattle.stages.specs.Images.{held};
@@ -19,7 +21,7 @@ use text::{Class, numbers};
 
 // What a line's words give: the fields' image is the first `used` bytes of the output, and the variables' the first `vars_used` of their buffer; or the
 // number that refuses a word, and that word's place; or the message that a word demands, which is the work area's `len` bytes from `at` on, and its place.
-#[derive(Drop)]
+#[derive(Clone, Copy)]
 pub enum LineExpanded {
     Done { used: usize, vars_used: usize },
     Refused { number: u8, place: usize },
@@ -27,14 +29,14 @@ pub enum LineExpanded {
 }
 
 // Where the line is read next, and how many bytes of the output are written.
-#[derive(Drop)]
+#[derive(Clone, Copy)]
 struct Progress {
     at: usize,
     used: usize,
 }
 
 // What one word gives: the same lengths, and where the line goes on; or the number that refuses it, or where the message waits that it demands.
-#[derive(Drop)]
+#[derive(Clone, Copy)]
 enum WordExpanded {
     Fields {
         used: usize,
@@ -49,7 +51,7 @@ enum WordExpanded {
 }
 
 // The work area's first `len` bytes are those of a word, and the line goes on at `next`.
-#[derive(Drop)]
+#[derive(Clone, Copy)]
 struct Copied {
     len: usize,
     next: usize,

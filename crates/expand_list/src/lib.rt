@@ -1,5 +1,7 @@
 // What `$@` and `$*` give to a row: the texts of an image with a gap between them. They are counted first, since the whole is one expansion, and then put at
 // the front of the lent area.
+#![tactic(auto)]
+
 ghost use Rattle.std.specs.Prelude.{◌≡◌, ◌+◌, ◌*◌, ◌≤◌, length, take};
 ghost use Rattle.stages.specs.Numbers.{row_limit};
 ghost use Rattle.stages.specs.Outcome.{done};
@@ -21,7 +23,7 @@ use table::{Found, Piece};
 use text::numbers;
 
 // What stands between two texts: a break mark, one with an empty mark behind it, a quoted byte, or nothing.
-#[derive(Drop)]
+#[derive(Clone, Copy)]
 enum Gap {
     Break,
     BreakEmpty,

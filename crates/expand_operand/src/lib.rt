@@ -1,5 +1,7 @@
 // What is done with an operand's row, which stands at the front of the area: it is stored, it is the pattern of a removal, it is an arithmetic text, it is
 // the message of a refusal, or it is the expansion itself.
+#![tactic(auto)]
+
 ghost use Rattle.std.specs.Prelude.{◌≡◌, Bool, false, ℕ, ◌*◌, ◌≤◌, length, take};
 ghost use Rattle.stages.specs.Numbers.{row_limit};
 ghost use Rattle.stages.specs.Bytes.{Text};
@@ -34,7 +36,7 @@ use text::numbers;
 const FEW_CELLS: usize = 64;
 
 // An operand that was expanded: its row has so many units, the text goes on at `next`, and `of_none` says whether `$@` of no parameters came in it.
-#[derive(Drop)]
+#[derive(Clone, Copy)]
 pub struct Operand {
     pub units: usize,
     pub next: usize,
@@ -42,7 +44,7 @@ pub struct Operand {
 }
 
 // A removal: of a suffix or a prefix, the longest or the shortest, whose pattern is the units of the area's first `end` bytes.
-#[derive(Drop)]
+#[derive(Clone, Copy)]
 struct Removal {
     suffix: bool,
     long: bool,
@@ -51,7 +53,7 @@ struct Removal {
 
 // What comes of a removal whose pattern is settled in one table of sets: it is done or refused; or the sets are too many for the table, and nothing is
 // touched.
-#[derive(Drop)]
+#[derive(Clone, Copy)]
 enum Tried {
     Done(Expanded),
     TooManySets,

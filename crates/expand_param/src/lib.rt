@@ -1,4 +1,6 @@
 // A parameter is looked up: a name in the image of the variables, a number in that of the positional parameters. What is asked of both is told alike.
+#![tactic(auto)]
+
 ghost use Rattle.std.specs.Prelude.{◌≡◌, ◌-◌};
 ghost use Rattle.stages.specs.Images.{held, held_texts, or_empty};
 ghost use Rattle.stages.specs.Items.{number_of};

@@ -1,5 +1,7 @@
 // The expander, which calls itself: a text is a row of items, and an item may hold a text. Every call is on a later place of the text; the depth falls at
 // each operand and arithmetic text, so that there is room for each open row.
+#![tactic(auto)]
+
 ghost use Rattle.std.specs.Prelude.{◌≡◌, ◌+◌, ◌*◌, ◌≤◌, length, take, drop};
 ghost use Rattle.stages.specs.Numbers.{row_limit};
 ghost use Rattle.stages.specs.Images.{held};
@@ -107,7 +109,7 @@ fn expand_quote(
 }
 
 // A parameter, and what stands behind its name or its number.
-#[derive(Drop)]
+#[derive(Clone, Copy)]
 struct Named {
     param: Param,
     form: Form,

@@ -1,4 +1,6 @@
 // The cells of a settled pattern, one for each element: what a set's cell stands for, and where the stars are.
+#![tactic(auto)]
+
 ghost use Rattle.std.specs.Prelude.{◌≡◌, ℕ, ◌+◌, ◌≤◌, ◌<◌, length, drop};
 ghost use Rattle.pattern_set.specs.Sets.{has};
 ghost use Rattle.pattern_cell.specs.Cells.{first_set, words_at, LastStar, FirstStar};

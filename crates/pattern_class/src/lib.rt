@@ -1,4 +1,6 @@
 // "the twelve POSIX classes": one table of what is written for each and which bytes it holds, in the order of the stage's. A class is known by its row.
+#![tactic(auto)]
+
 ghost use Rattle.std.specs.Prelude.{◌≡◌, ◌≤◌, ◌<◌, length, drop};
 ghost use Rattle.stages.specs.Classes.{written};
 ghost use Rattle.stages.specs.Pattern.{begin};
@@ -10,7 +12,7 @@ use pattern_unit::Width;
 
 // A class as the table has it: the bytes that stand behind its `[`, filled up by a blank, and how many they are; the bytes that it holds, as four runs, each by
 // its first byte and its last. Where there are fewer, the last run stands again.
-#[derive(Drop)]
+#[derive(Clone, Copy)]
 struct Class([u8; 9], usize, [u8; 8]);
 
 // How many classes there are.
@@ -67,7 +69,7 @@ fn is_written(units: &[u8], at: usize, row: usize, width: Width) -> bool
 }
 
 // What stands behind a `[` that opens a class: that of a row of the table, or none.
-#[derive(Drop)]
+#[derive(Clone, Copy)]
 pub enum Named {
     Row(usize),
     Unknown,

@@ -1,6 +1,8 @@
 // How dear a pattern is with a text: "the number of distinct pairs that can be reached". The pairs of a place in each are marked in a lent area, and the marks
 // are counted: a row of flags stands for a place of the pattern, a flag for a place of the text, and the rows stand one behind the other. Each step leads to
 // the next row or on in the same one, so that one walk over the rows in order meets every mark.
+#![tactic(auto)]
+
 ghost use Rattle.std.specs.Prelude.{ℕ, ◌+◌, ◌<◌, ◌≡◌, ◌&&◌, ltb, length, get_or};
 ghost use Rattle.stages.specs.Cost.{matches_byte};
 ghost use Rattle.pattern_unit.specs.declared.Width.TheVariants.{Plain};
@@ -14,7 +16,7 @@ use pattern_set::ByteSet;
 use pattern_unit::Width;
 
 // How many elements a pattern has, or that a class in it is not served.
-#[derive(Drop)]
+#[derive(Clone, Copy)]
 pub enum Elements {
     Class,
     Count(usize),

@@ -1,5 +1,7 @@
 // The elements of a pattern, read from its units. A pattern is a slice of bytes, in which N units are gone; bytes that are too few for a unit count for
 // nothing. Nothing here looks at a text.
+#![tactic(auto)]
+
 ghost use Rattle.std.specs.Prelude.{◌≡◌, true, false, not, ◌&&◌, ◌+◌, ◌≤◌, length, drop};
 ghost use Rattle.stages.specs.Pattern.{find};
 ghost use Rattle.pattern_unit.specs.Widths.{size, signs_by};
@@ -51,7 +53,7 @@ fn unit_of(at: usize, width: Width) -> usize
 }
 
 // One step of the search for a bracket's end: it meets a member that is 19, there is no end, the end is here, or the search goes on behind a member.
-#[derive(Drop)]
+#[derive(Clone, Copy)]
 enum Step {
     Refuses,
     Fails,
@@ -117,7 +119,7 @@ pub fn fill_ends(pattern: &[u8], path: bool, width: Width, ends: &mut [u16])
 
 // An element as it stands in its pattern. A set's members stand from one place to another, where its `]` is. A `[` whose search meets a member that is 19
 // refuses the whole pattern; in matching it is itself.
-#[derive(Drop)]
+#[derive(Clone, Copy)]
 pub enum Piece {
     Star,
     One,
@@ -131,7 +133,7 @@ pub enum Piece {
 }
 
 // What the search for a bracket's end finds: a member that is 19, nothing, or the place of the `]`.
-#[derive(Drop)]
+#[derive(Clone, Copy)]
 enum End {
     Unserved,
     Nowhere,

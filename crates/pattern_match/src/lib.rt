@@ -1,6 +1,8 @@
 // Patterns: which texts they match. A pattern is settled, a cell for each element. The matcher goes over the elements up to the next star and
 // remembers only the last star and where it stood in the text: where the elements behind it fail, it goes back there and the star takes one byte
 // more. Behind the last star of the pattern nothing is tried twice: as each element takes one byte, what is left must match the end of the text.
+#![tactic(auto)]
+
 ghost use Rattle.std.specs.Prelude.{◌≤◌, ◌≡◌, true, false, ◌&&◌, List, length, drop};
 ghost use Rattle.stages.specs.Pattern.{Element, passes, takes, matches};
 ghost use Rattle.text.specs.Cases.{purpose_of};
@@ -76,7 +78,7 @@ fn takes_one(cell: u16, sets: &[u64], b: u8, path: bool, head: bool, first: bool
 
 // How a run over the elements ends: all are matched with all of the text, one fails, or a star is met: the places behind it and in the
 // text, and whether a part starts there.
-#[derive(Drop)]
+#[derive(Clone, Copy)]
 enum Run {
     Whole,
     Fails,

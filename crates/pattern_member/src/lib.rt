@@ -1,5 +1,7 @@
 // What member of a bracket stands at a place, and the place behind it: the search for a bracket's end and the set of its members both go from member to member
 // by this.
+#![tactic(auto)]
+
 ghost use Rattle.std.specs.Prelude.{◌≡◌, ◌&&◌, ◌+◌, ◌≤◌, ◌<◌, eqb, length, drop, get_or};
 ghost use Rattle.stages.specs.Classes.{classes};
 ghost use Rattle.stages.specs.Pattern.{ranges, class_at, class_member, byte_member, member_length};
@@ -10,7 +12,7 @@ use pattern_class::Named;
 use pattern_unit::Width;
 
 // A member of a bracket: a byte, a range, a class by its row in the table; or what refuses the pattern with 19.
-#[derive(Drop)]
+#[derive(Clone, Copy)]
 pub enum Member {
     Single(u8),
     Range { lo: u8, hi: u8 },

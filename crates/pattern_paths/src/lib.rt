@@ -1,12 +1,14 @@
 // The walk over an image of paths: from a place on, the next path that a pattern matches. From the image's first record on, again and again
 // from where the last one ended, it gives all matching paths in order.
+#![tactic(auto)]
+
 ghost use Rattle.std.specs.Prelude.{List};
 ghost use Rattle.stages.specs.Pattern.{Element};
 ghost use Rattle.pattern_cell.specs.Cells.{Shows, Shown, Trails};
 ghost use Rattle.pattern_paths.specs.Chosen.{Walks, NextSays};
 
 // The next path that matches stands from one place to another, where the search for those behind it goes on; or there is none.
-#[derive(Drop)]
+#[derive(Clone, Copy)]
 pub enum Next {
     Path { from: usize, to: usize },
     Nothing,

@@ -1,6 +1,8 @@
 // The four removals: what is left of a value where its shortest or longest matching suffix or prefix is dropped. The cuts of the value are tried one after
 // the other, from its end or from its start; the first whose dropped part matches is taken. One walk over the pattern's segments, the cells between its stars,
 // finds beforehand which cuts the stars leave; of these only the cells before the first star, or behind the last, are asked: pattern times value in all.
+#![tactic(auto)]
+
 ghost use Rattle.std.specs.Prelude.{◌≡◌, List, ◌+◌, ◌≤◌, leb, length, take, drop};
 ghost use Rattle.stages.specs.Pattern.{Element};
 ghost use Rattle.stages.specs.Syntax.{suffix, prefix};
@@ -11,7 +13,7 @@ ghost use Rattle.pattern_remove.specs.Cuts.{CutsAt, matched_at};
 ghost use Rattle.pattern_remove.specs.Bounds.{stands_at, Last, First, Shortest, starred, StarsAt, Bounds};
 
 // A place of the value that is looked for.
-#[derive(Drop)]
+#[derive(Clone, Copy)]
 enum Place {
     Nowhere,
     At(usize),
@@ -19,7 +21,7 @@ enum Place {
 
 // What the pattern's stars leave of the cuts: all, if it has none; nothing; or those within the cut of the shortest part that it matches from its first star
 // on, for suffixes, or up to its last, for prefixes. `first` is the place of the first star, `last` the one behind the last.
-#[derive(Drop)]
+#[derive(Clone, Copy)]
 enum Bound {
     Free,
     Nothing,

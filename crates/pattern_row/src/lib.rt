@@ -1,4 +1,6 @@
 // Rows as patterns see them, before one is settled: their N dropped, and whether any unit of them could be more than its byte.
+#![tactic(auto)]
+
 ghost use Rattle.std.specs.Prelude.{◌≡◌};
 ghost use Rattle.pattern_row.specs.Kept.{Dropped};
 ghost use Rattle.pattern_row.specs.Plain.{plain};

@@ -1,4 +1,6 @@
 // The set of byte values that a bracket stands for, as 256 bits: gathered from the units of its members, and kept in a table of words.
+#![tactic(auto)]
+
 ghost use Rattle.std.specs.Prelude.{◌≡◌, false, not, ◌||◌, ℕ, ◌+◌, ◌≤◌, ◌<◌, eqb, length, drop};
 ghost use Rattle.stages.specs.Bytes.{between};
 ghost use Rattle.stages.specs.Pattern.{member_holds, listed, sense_of, in_set};
@@ -14,7 +16,7 @@ use pattern_unit::Width;
 const FULL: u64 = 0xffff_ffff_ffff_ffff;
 
 // "A bracket stands for a set of the 256 byte values": a bit for each of them.
-#[derive(Drop)]
+#[derive(Clone, Copy)]
 pub struct ByteSet {
     pub words: [u64; 4],
 }

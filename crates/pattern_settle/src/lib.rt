@@ -1,4 +1,6 @@
 // A pattern settled: before anything is matched, one walk over its units makes a cell for each element, so that no bracket is searched or gathered twice.
+#![tactic(auto)]
+
 ghost use Rattle.std.specs.Prelude.{Bool, ◌*◌, ◌≤◌, length};
 ghost use Rattle.pattern_unit.specs.Widths.{size};
 ghost use Rattle.pattern_element.specs.Ends.{Ended};
@@ -12,7 +14,7 @@ use pattern_unit::Width;
 
 // What a pattern is settled as: a class that is not served refuses it with 19; or its sets are too many for the table; or so many cells stand for its
 // elements, and it is special if one of them is: a star, a `?` or a set.
-#[derive(Drop)]
+#[derive(Clone, Copy)]
 pub enum Settled {
     Class,
     NoRoom,
@@ -26,7 +28,7 @@ pub const SETS_ROOM: usize = 2732;
 pub const FEW_SETS: usize = 64;
 
 // What one element becomes: as above, or its cell, whether it or one before it is special, and how many sets the table has with it.
-#[derive(Drop)]
+#[derive(Clone, Copy)]
 enum Cell {
     Class,
     NoRoom,

@@ -1,5 +1,7 @@
 // The units of a pattern, read at a place: whether the unit there is this byte and active, and whether a text of active bytes begins there. N units are gone,
 // so a unit is quoted or active; bytes that are too few for a unit count for nothing.
+#![tactic(auto)]
+
 ghost use Rattle.std.specs.Prelude.{◌≡◌, ◌+◌, ◌≤◌, length, drop};
 ghost use Rattle.stages.specs.Pattern.{begin};
 ghost use Rattle.pattern_unit.specs.Widths.{size, is_active, signs_by};
@@ -8,7 +10,7 @@ ghost use Rattle.pattern_unit.specs.Heads.{begins};
 use text::marks;
 
 // How a unit stands in bytes.
-#[derive(Drop)]
+#[derive(Clone, Copy)]
 pub enum Width {
     // a byte alone, which is active
     Plain,

@@ -2,6 +2,8 @@
 // times the image has, and else the line is counted first; then it is written once. Counting and writing have a function for each stage of the quoted line:
 // a byte, a field's bytes, a field, the fields behind the first, the line. `look_at` alone tells which field needs no byte changed, and `way_of` the
 // quotes of any other.
+#![tactic(auto)]
+
 ghost use Rattle.std.specs.Prelude.{◌≡◌, ◌≤◌, length, false};
 ghost use Rattle.stages.specs.Numbers.{image_limit};
 ghost use Rattle.std.proofs.Math.Option.{some};
@@ -21,7 +23,7 @@ use ways::{Look, QUOTE, Way};
 mod ways;
 
 // What the quoter answers.
-#[derive(Drop)]
+#[derive(Clone, Copy)]
 pub enum Quoted {
     // The bytes of the line that was written.
     Len(usize),

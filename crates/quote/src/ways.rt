@@ -7,7 +7,7 @@ ghost use Rattle.quote.specs.Ways.{way_is, Looks};
 use text::Class;
 
 // How a field stands in a line.
-#[derive(Drop)]
+#[derive(Clone, Copy)]
 pub enum Look {
     // As it is.
     Bare,
@@ -18,7 +18,7 @@ pub enum Look {
 }
 
 // The quotes in which bytes are written otherwise.
-#[derive(Drop)]
+#[derive(Clone, Copy)]
 pub enum Way {
     // In single quotes, each `'` otherwise.
     Singled,

@@ -1,5 +1,7 @@
 // What stands at a place of a text, and of that what stands behind `${`: a parameter, `#` and a parameter, or a list, then a form. A text is read from its
 // `$` on.
+#![tactic(auto)]
+
 ghost use Rattle.std.specs.Prelude.{◌≡◌, ◌&&◌, ◌+◌, ◌-◌, ◌≤◌, ◌<◌, eqb, length, drop, get_or};
 ghost use Rattle.stages.specs.Syntax.{removal};
 ghost use Rattle.stages.specs.Items.{is_first_digit, spread_of, lists_in, braced, braced_list, behind_list, behind_list_colon, behind_hash};
@@ -12,7 +14,7 @@ use read_mode::{Cursor, Form, Mode};
 use text::{Class, numbers};
 
 // A parameter: its name, or the digits of its number, stand from `from` to `to`.
-#[derive(Drop)]
+#[derive(Clone, Copy)]
 pub struct Param {
     pub numbered: bool,
     pub from: usize,
@@ -20,14 +22,14 @@ pub struct Param {
 }
 
 // Whether a parameter is called at a place.
-#[derive(Drop)]
+#[derive(Clone, Copy)]
 enum Called {
     By(Param),
     Nothing,
 }
 
 // What stands at a place; `next` is the place behind it.
-#[derive(Drop)]
+#[derive(Clone, Copy)]
 pub enum Item {
     // refused with the number
     Fault(u8),

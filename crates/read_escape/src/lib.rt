@@ -1,5 +1,7 @@
 // What an escape of $'...' says: one question for each function, at most four bytes behind the backslash, and none of them recursive. Octal and hexadecimal
 // digits are read as arithmetic's constants are.
+#![tactic(auto)]
+
 ghost use Rattle.std.specs.Prelude.{◌≡◌, ◌+◌, ◌-◌, ◌≤◌, ◌<◌, suc, length, drop};
 ghost use Rattle.stages.specs.Escapes.{letters, letter_of, digit_run, says_digits, behind_x, escape_at};
 ghost use Rattle.read_escape.specs.Says.{SaidAt, DigitsOf, AtMost};
@@ -8,7 +10,7 @@ use arith_constant::Count;
 use text::{Class, numbers};
 
 // What an escape says: a byte, and the place behind the escape; or the number that refuses it.
-#[derive(Drop)]
+#[derive(Clone, Copy)]
 pub enum Said {
     Byte { byte: u8, next: usize },
     Refused(u8),

@@ -1,5 +1,7 @@
 // What stands at a place of a text: document 01's "Reading a line", a question for each function, none of them recursive. A text is read from the first
 // byte of what stands there.
+#![tactic(auto)]
+
 ghost use Rattle.std.specs.Prelude.{◌≡◌, ◌+◌, ◌≤◌, ◌<◌, length, drop, get_or};
 ghost use Rattle.stages.specs.Syntax.{arith};
 ghost use Rattle.stages.specs.Escapes.{escape_at};

@@ -1,5 +1,7 @@
 // Reading: the end of a text, the words or the assignments of a line. One reader finds a text's faults, skips an operand that is not used, and says where
 // a text ends; it builds nothing, and looks at each byte once for each expansion that it stands in.
+#![tactic(auto)]
+
 ghost use Rattle.std.specs.Prelude.{◌≡◌, Bool, true, false, ℕ, ◌≤◌, ◌<◌, length, drop, get_or};
 ghost use Rattle.stages.specs.Numbers.{depth_limit};
 ghost use Rattle.stages.specs.Bytes.{is_blank};
@@ -14,35 +16,35 @@ use read_mode::{Cursor, Mode};
 use text::{Class, numbers};
 
 // What a text is read as: the place behind it, or the number that refuses it.
-#[derive(Drop)]
+#[derive(Clone, Copy)]
 pub enum Reading {
     End(usize),
     Fault(u8),
 }
 
 // Where the next word begins, if there is one.
-#[derive(Drop)]
+#[derive(Clone, Copy)]
 pub enum NextWord {
     At(usize),
     Nothing,
 }
 
 // What a line is made of.
-#[derive(Drop)]
+#[derive(Clone, Copy)]
 enum Pieces {
     Words,
     Assignments,
 }
 
 // A word of a line of assignments: its `=` stands behind its name, or it is none.
-#[derive(Drop)]
+#[derive(Clone, Copy)]
 pub enum Assignment {
     Named { equals: usize },
     Bad,
 }
 
 // What a line is read as.
-#[derive(Drop)]
+#[derive(Clone, Copy)]
 pub enum LineRead {
     Read,
     Refused { number: u8, place: usize },

@@ -1,5 +1,7 @@
 // What a byte is where it stands. A mode says where a text stands: in a word of the line, in a value, in an operand, in quotes, in arithmetic. Each function
 // answers one question about a byte in a mode; none looks at a second byte.
+#![tactic(auto)]
+
 ghost use Rattle.std.specs.Prelude.{◌≡◌, [], ◌∷◌};
 ghost use Rattle.stages.specs.Bytes.{is_in, text};
 ghost use Rattle.stages.specs.Syntax.{word, bare, single, double, quoted_operand, arith};
@@ -11,7 +13,7 @@ ghost use Rattle.read_mode.specs.Modes.{mode_of, form_of, mode_onward, opens_til
 use text::numbers;
 
 // Where a text stands.
-#[derive(Drop)]
+#[derive(Clone, Copy)]
 pub enum Mode {
     // a word of the line; whether it is read from its first byte on, where alone a tilde is looked at
     Word(bool),
@@ -30,7 +32,7 @@ pub enum Mode {
 }
 
 // Where a text is read: from `at` on, in a mode, where `depth` expansions may still open.
-#[derive(Drop)]
+#[derive(Clone, Copy)]
 pub struct Cursor {
     pub at: usize,
     pub mode: Mode,
@@ -38,7 +40,7 @@ pub struct Cursor {
 }
 
 // What stands behind the name in `${name`: whether a colon stands before `-=?+`, or whether a removal's sign is doubled.
-#[derive(Drop)]
+#[derive(Clone, Copy)]
 pub enum Form {
     Minus(bool),
     Equals(bool),
@@ -49,7 +51,7 @@ pub enum Form {
 }
 
 // What a byte is where it stands.
-#[derive(Drop)]
+#[derive(Clone, Copy)]
 pub enum Sort {
     Backquote,
     // ends the text, which takes so many bytes

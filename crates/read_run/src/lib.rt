@@ -1,5 +1,7 @@
 // Runs of bytes that stand for themselves: where the longest one ends, and how a text goes on behind it. What reads a text and what expands it pass such a
 // run at once, and ask what stands at a place only behind it.
+#![tactic(auto)]
+
 ghost use Rattle.std.specs.Prelude.{◌≡◌, ◌≤◌, ◌<◌, length};
 ghost use Rattle.stages.specs.Outcome.{pick};
 ghost use Rattle.read_mode.specs.Modes.{mode_of};

@@ -1,5 +1,7 @@
 // Words in which nothing is expanded: bare bytes, bytes in quotes that stand for themselves there, and bytes behind backslashes. Such a word is read at once,
 // and its bytes without quotes are its one field, whatever the tables are. A word with any other byte in it is none of them, though it may say no more.
+#![tactic(auto)]
+
 ghost use Rattle.std.specs.Prelude.{true, ◌+◌, ◌≤◌, ◌<◌, length, drop};
 ghost use Rattle.stages.specs.Bytes.{span};
 ghost use Rattle.read_mode.specs.Modes.{mode_of};
@@ -10,14 +12,14 @@ use read_mode::Mode;
 use text::Class;
 
 // What is quoted at a place: the line's bytes from `from` to `to`, and it goes on at `next`; or nothing, or not only bytes that stand for themselves.
-#[derive(Drop)]
+#[derive(Clone, Copy)]
 enum Enclosed {
     Nothing,
     Bytes { from: usize, to: usize, next: usize },
 }
 
 // A word in which nothing is expanded: its bytes are the area's first `len`, and the line goes on at `next`; or it is none.
-#[derive(Drop)]
+#[derive(Clone, Copy)]
 pub enum Still {
     Nothing,
     Word { len: usize, next: usize },

@@ -10,7 +10,7 @@ use libc::{STDERR_FILENO, STDIN_FILENO, STDOUT_FILENO};
 use recipe_answer::{Begun, Carried, Turn};
 
 // What a read gave.
-#[derive(Drop)]
+#[derive(Clone, Copy)]
 enum Input {
     // So many bytes, at the front of the block.
     Block(usize),
@@ -22,7 +22,7 @@ enum Input {
 
 // Where a run stands: the bytes kept of a line that has not ended, the line's number, the variables' used length, whether unset
 // names shout, and whether there is more to answer.
-#[derive(Drop)]
+#[derive(Clone, Copy)]
 struct Run {
     kept: usize,
     line: usize,
@@ -32,7 +32,7 @@ struct Run {
 }
 
 // What a read gave, and where the run stood before it.
-#[derive(Drop)]
+#[derive(Clone, Copy)]
 struct Came {
     input: Input,
     run: Run,

@@ -1,5 +1,7 @@
 // The program of document 01. It reads the tables of the current folder, then answers the lines of standard input one by one; its arguments are their
 // positional parameters, with `--shout` before them unset names shout. The buffers are made here and lent; how an answer is worked out is in the libraries.
+#![tactic(auto)]
+
 mod answering;
 
 ghost use Rattle.std.specs.Prelude.{◌≡◌, true, ◌+◌, length};

@@ -1,5 +1,7 @@
 // The program's turns: what lies between what it reads and what it writes, on lent bytes alone. A turn takes the next line from a block and, where it ends
 // there, works out its answer in words and the message that it demands, by the stages. The work area is the caller's, who keeps it for all lines.
+#![tactic(auto)]
+
 ghost use Rattle.std.specs.Prelude.{◌≤◌, ◌≡◌, [], ◌∷◌, length, take};
 ghost use Rattle.stages.specs.Numbers.{work_least, row_limit};
 ghost use Rattle.stages.specs.Call.{cleared};
@@ -13,7 +15,7 @@ use recipe_cut::Taken;
 use text::numbers;
 
 // An answer in words: its length, that of what is told right behind it, and the variables' used length after it.
-#[derive(Drop)]
+#[derive(Clone, Copy)]
 pub struct Said {
     pub len: usize,
     pub told: usize,
@@ -22,7 +24,7 @@ pub struct Said {
 
 // What is carried from turn to turn: the bytes kept of a line that has not ended, the line's number, the variables' used length, and whether unset names
 // shout.
-#[derive(Drop)]
+#[derive(Clone, Copy)]
 pub struct Carried {
     pub kept: usize,
     pub line: usize,
@@ -31,14 +33,14 @@ pub struct Carried {
 }
 
 // Where a turn begins: what is carried into it, and the place in the block.
-#[derive(Drop)]
+#[derive(Clone, Copy)]
 pub struct Begun {
     pub carried: Carried,
     pub at: usize,
 }
 
 // What came of a turn.
-#[derive(Drop)]
+#[derive(Clone, Copy)]
 pub enum Turn {
     // The block ran out within a line: how many bytes of it are kept.
     Open(usize),

@@ -1,5 +1,7 @@
 // The program's arguments: options first, then the positional parameters, which are packed, one behind the other, into the image that every line is lent.
 // Which bytes an argument has the system says; what is made of them is fixed here.
+#![tactic(auto)]
+
 ghost use Rattle.std.specs.Prelude.{◌+◌, ◌≤◌, ◌≡◌, length};
 ghost use Rattle.stages.specs.Numbers.{image_limit};
 ghost use Rattle.recipe_arguments.specs.Options.{word_in};
@@ -9,7 +11,7 @@ use table_store::Put;
 use text::numbers;
 
 // What an argument is.
-#[derive(Drop)]
+#[derive(Clone, Copy)]
 pub enum Word {
     // `--shout`: names that are unset shout.
     Shout,
@@ -23,7 +25,7 @@ pub enum Word {
 
 // What the arguments so far say: so many bytes of the image are the parameters among them, unset names shout or not, options may come or not, and whether
 // there was none that is unknown.
-#[derive(Drop)]
+#[derive(Clone, Copy)]
 pub struct Heard {
     pub used: usize,
     pub shouts: bool,

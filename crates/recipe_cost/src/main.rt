@@ -1,5 +1,7 @@
 // The office's command: `recipe_cost TEXT PATTERN...` writes a line for each pattern, the number of pairs that it costs with the text, a blank and the pattern.
 // A pattern that is not served is told on standard error, and the others are reported. What is counted is the library's; `./cost` puts the dearest first.
+#![tactic(auto)]
+
 use call_cost::Costed;
 use libc::{STDERR_FILENO, STDOUT_FILENO};
 use text::numbers;

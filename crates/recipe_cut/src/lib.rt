@@ -1,5 +1,7 @@
 // The program's lines. What it reads comes in blocks and is cut at each newline into a lent line buffer, of which only as many bytes are kept as can
 // matter; lines are counted; what it writes for a line is its answer in words, and the message that the line demands.
+#![tactic(auto)]
+
 ghost use Rattle.std.specs.Prelude.{◌≡◌, ◌++◌, ◌⊎◌, ◌+◌, ◌≤◌, length, take};
 ghost use Rattle.stages.specs.Program.{next_number};
 ghost use Rattle.text.specs.Putting.{Puts};
@@ -9,7 +11,7 @@ ghost use Rattle.recipe_cut.specs.Said.{said_by, ok_text, no_text, answer_room, 
 use text::numbers;
 
 // What came of a line.
-#[derive(Drop)]
+#[derive(Clone, Copy)]
 pub enum Taken {
     // It ended: how many bytes of it are kept, and the place behind its newline.
     Ended { kept: usize, next: usize },

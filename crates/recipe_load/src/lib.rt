@@ -1,5 +1,7 @@
 // A table's file of the current folder, read into a lent buffer. "(absent: no records)"; a file that is there and cannot be read is an error. What the
 // system gives is fetched first, and what it stands for is settled then, by what was fetched alone.
+#![tactic(auto)]
+
 ghost use Rattle.std.specs.Prelude.{◌≡◌, ◌≤◌, length, take, replicate};
 ghost use Rattle.std.proofs.Math.Option.{none};
 ghost use Rattle.stages.specs.Call.{over};
@@ -9,7 +11,7 @@ ghost use Rattle.recipe_load.specs.Loads.{Fetches, Ends, unopened_by, Settles, L
 
 use text::numbers;
 
-#[derive(Drop)]
+#[derive(Clone, Copy)]
 pub enum Loaded {
     // So many bytes of the table stand in the buffer: all, or as many as it takes. Behind them are zeros.
     Length(usize),
@@ -18,7 +20,7 @@ pub enum Loaded {
 }
 
 // What the system gave of a file.
-#[derive(Drop)]
+#[derive(Clone, Copy)]
 enum Fetched {
     // So many bytes of it stand in the buffer: all, or as many as it takes.
     File(usize),

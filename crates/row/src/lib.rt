@@ -1,5 +1,7 @@
 // Rows of units in lent bytes. A unit is two bytes, its byte and behind it its mark; the empty mark N is two zeros, the break mark B a zero and
 // its own mark.
+#![tactic(auto)]
+
 ghost use Rattle.std.specs.Prelude.{◌≡◌, ◌∷◌, [], ◌*◌, ◌≤◌, length};
 ghost use Rattle.stages.specs.Units.{cell, N, B, marked, bytes, expanded_mark, lit_mark};
 ghost use Rattle.text.specs.Cases.{escape_of};
@@ -10,7 +12,7 @@ ghost use Rattle.row.specs.Stands.{fronted, Stripped};
 use text::marks;
 
 // How a unit came to be: a literal byte, one from an expansion in bare text, a quoted one.
-#[derive(Drop)]
+#[derive(Clone, Copy)]
 pub enum Mark {
     L,
     E,
@@ -18,7 +20,7 @@ pub enum Mark {
 }
 
 // Where a row stands: so many units are before it, and a literal byte gets this mark.
-#[derive(Drop)]
+#[derive(Clone, Copy)]
 pub struct RowEnd {
     pub mark: Mark,
     pub units: usize,

@@ -1,5 +1,7 @@
 // What divides a row: its break marks; what a unit is by IFS, whether a field goes on with it, and the place behind the delimiters at a place. The
 // highest byte of IFS tells most units that are no delimiters by one comparison.
+#![tactic(auto)]
+
 ghost use Rattle.std.specs.Prelude.{◌≡◌, ◌≤◌, length};
 ghost use Rattle.stages.specs.Split.{drop_white, drop_hard};
 ghost use Rattle.split_delimiter.specs.Parts.{PartEnds};
@@ -8,7 +10,7 @@ ghost use Rattle.split_delimiter.specs.Places.{delimiter_of, ahead, first, goes_
 use text::{Class, marks};
 
 // What a unit is in splitting: "white if space, tab or newline, else hard", or no delimiter.
-#[derive(Drop)]
+#[derive(Clone, Copy)]
 enum Delimiter {
     White,
     Hard,

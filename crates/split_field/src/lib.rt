@@ -1,5 +1,7 @@
 // What one field becomes, all matching paths in order or its own bytes, written behind the output's used part. A field with a sign of patterns is settled
 // first, in a small table of sets, and in one that has room for the sets of every row where that is too small.
+#![tactic(auto)]
+
 ghost use Rattle.std.specs.Prelude.{◌≡◌, List, ◌∷◌, [], ◌≤◌, ◌*◌, length};
 ghost use Rattle.stages.specs.Numbers.{image_limit, row_limit};
 ghost use Rattle.stages.specs.Outcome.{done};
@@ -22,7 +24,7 @@ use text::numbers;
 
 // What is answered for fields: the output's new length, 19 for a bracket class, or 21. The writers that look at no pattern answer by `Put`, whose length
 // is the output's new one too.
-#[derive(Drop)]
+#[derive(Clone, Copy)]
 pub enum Written {
     // The output's new length.
     Len(usize),
@@ -33,7 +35,7 @@ pub enum Written {
 }
 
 // What comes of a field that is settled in one table of sets: it is written or refused; or its sets are too many for the table, and nothing is touched.
-#[derive(Drop)]
+#[derive(Clone, Copy)]
 enum Tried {
     Done(Written),
     TooManySets,

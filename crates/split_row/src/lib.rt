@@ -1,6 +1,8 @@
 // A row of units to fields, and what those become behind the output's used part. A row with nothing to divide it and no sign of patterns is one field, its
 // own bytes. Any other row is cut at its break marks. The walk over a part is one pass of two nested loops: the outer one takes field by field, the inner
 // one finds a field's end.
+#![tactic(auto)]
+
 ghost use Rattle.std.specs.Prelude.{◌≡◌, ◌≤◌, ◌*◌, length, take};
 ghost use Rattle.stages.specs.Numbers.{image_limit, row_limit};
 ghost use Rattle.stages.specs.Bytes.{text, blanks};

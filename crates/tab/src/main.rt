@@ -2,6 +2,8 @@
 // reads assignment lines and writes the image of the current folder's variables after them, `tab insert PATH` and `tab delete PATH` read an image of paths and
 // write it with that path or without it. What it cannot do it tells on standard error, and writes nothing else then. The work is that of `tab_show`,
 // `tab_pack`, `tab_list`, `tab_assign`, and of the jobs themselves.
+#![tactic(auto)]
+
 mod telling;
 
 ghost use Rattle.std.specs.Prelude.{◌≡◌, ◌+◌, ◌*◌, ◌≤◌, length};

@@ -1,6 +1,8 @@
 // Assignment lines of a text applied to the variables one by one: each sees what those before it left. The first line that is refused ends it and is told by
 // its number in the text and by the job's own answer. A text without a line is taken for one empty line, which assigns nothing, so that the tables are looked
 // at in any case.
+#![tactic(auto)]
+
 ghost use Rattle.tab_assign.specs.Assignings.{buffers, lines_taken, assigning, Assigns};
 
 use call_check::Asked;
@@ -8,7 +10,7 @@ use text::numbers;
 
 const NEWLINE: u8 = b'\n';
 
-#[derive(Drop)]
+#[derive(Clone, Copy)]
 pub enum Assigned {
     // All lines are applied: the variables' used length after them.
     Done {

@@ -1,4 +1,6 @@
 // A line into a table: the record it says is entered at its place, or why it is none is told.
+#![tactic(auto)]
+
 ghost use Rattle.std.specs.Prelude.{◌≡◌, true, false, ◌≤◌, length, take};
 ghost use Rattle.stages.specs.Numbers.{image_limit, paths_limit};
 ghost use Rattle.stages.specs.Images.{held, held_texts};
@@ -16,7 +18,7 @@ use table_store::Stored;
 use text::numbers;
 
 // What a line's record answers.
-#[derive(Drop)]
+#[derive(Clone, Copy)]
 pub enum Entered {
     // The length of the image with the record.
     Used(usize),

@@ -1,9 +1,11 @@
 // Texts in which `\n`, `\\` and `\x` with two digits are escapes: what one stands for, and where a byte stands in a line.
+#![tactic(auto)]
+
 ghost use Rattle.std.specs.Prelude.{◌≡◌, ◌<◌, ◌≤◌, length};
 ghost use Rattle.tab_escape.specs.Escapes.{hex_value, hex_byte, byte_at, read_text, Reads, up_to};
 
 // Why a line is no record of the table.
-#[derive(Drop)]
+#[derive(Clone, Copy)]
 pub enum Fault {
     // No `=` in it.
     NoEquals,
@@ -20,14 +22,14 @@ pub enum Fault {
 }
 
 // A byte of a text, and how many bytes behind its first it takes.
-#[derive(Drop)]
+#[derive(Clone, Copy)]
 pub enum Byte {
     Bad(Fault),
     Is { b: u8, more: usize },
 }
 
 // What reading a text answers.
-#[derive(Drop)]
+#[derive(Clone, Copy)]
 pub enum Read {
     Len(usize),
     Bad(Fault),

@@ -1,5 +1,7 @@
 // Text to fields: each line is a field behind the one before it, or the first line that is none is told with its cause. Fields have no keys and no order of
 // their own: what stands in a line twice is there twice, and an empty line is an empty field.
+#![tactic(auto)]
+
 ghost use Rattle.std.specs.Prelude.{◌≡◌, List, [], ◌≤◌, length, take};
 ghost use Rattle.stages.specs.Numbers.{image_limit};
 ghost use Rattle.stages.specs.Bytes.{Text};

@@ -1,4 +1,6 @@
 // Text to tables: each line becomes a record, in the order of the kind, or the first line that is none is told with its cause.
+#![tactic(auto)]
+
 ghost use Rattle.std.specs.Prelude.{[], ◌≤◌, length};
 ghost use Rattle.stages.specs.Program.{lines_of};
 ghost use Rattle.table.specs.Kinds.{in_twos};
@@ -11,7 +13,7 @@ use table::Kind;
 use text::numbers;
 
 // What packing answers.
-#[derive(Drop)]
+#[derive(Clone, Copy)]
 pub enum Packed {
     // The length of the image.
     Len(usize),

@@ -1,4 +1,6 @@
 // Tables as text and back: an image becomes lines that people can read and edit, one record to a line.
+#![tactic(auto)]
+
 ghost use Rattle.std.specs.Prelude.{◌≡◌, true, ◌*◌, ◌<◌, ◌≤◌, length};
 ghost use Rattle.std.proofs.Math.Option.{some};
 ghost use Rattle.stages.specs.Images.{texts, held_texts};
@@ -9,7 +11,7 @@ ghost use Rattle.tab_show.specs.Lines.{hex_digit, is_plain, shown_byte, shown_te
 use table::{Kind, Piece};
 
 // What showing answers.
-#[derive(Drop)]
+#[derive(Clone, Copy)]
 pub enum Shown {
     // The bytes of the lines that were written.
     Len(usize),

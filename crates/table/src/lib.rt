@@ -1,4 +1,6 @@
 // Images of the four kinds of table: is one well formed, and what stands at a place of it.
+#![tactic(auto)]
+
 ghost use Rattle.std.specs.Prelude.{◌≡◌, ◌+◌, ◌<◌, ltb, length};
 ghost use Rattle.stages.specs.Bytes.{lt_text};
 ghost use Rattle.stages.specs.Outcome.{pick};
@@ -10,7 +12,7 @@ ghost use Rattle.table.specs.Words.{Weighs};
 use text::{Class, Order, numbers};
 
 // The kinds of table: what their records are.
-#[derive(Drop)]
+#[derive(Clone, Copy)]
 pub enum Kind {
     Variables,
     Homes,
@@ -19,7 +21,7 @@ pub enum Kind {
 }
 
 // What stands at a place of an image: nothing more, no text, or a text and where it ends.
-#[derive(Drop)]
+#[derive(Clone, Copy)]
 pub enum Piece {
     End,
     Bad,
@@ -27,14 +29,14 @@ pub enum Piece {
 }
 
 // Where a key is or belongs: its record from `at` to `end`, its name up to `mid`; or the place of a new record.
-#[derive(Drop)]
+#[derive(Clone, Copy)]
 pub enum Spot {
     Known { at: usize, mid: usize, end: usize },
     Fresh(usize),
 }
 
 // The value of a key is the bytes from one place to another, or there is none.
-#[derive(Drop)]
+#[derive(Clone, Copy)]
 pub enum Found {
     At { from: usize, to: usize },
     Missing,

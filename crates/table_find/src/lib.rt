@@ -1,5 +1,7 @@
 // Keys looked up in images of pairs, variables or homes: where a key is or belongs, and what its value is. Texts looked up by their numbers in images of
 // texts.
+#![tactic(auto)]
+
 ghost use Rattle.std.specs.Prelude.{◌≡◌, length};
 ghost use Rattle.stages.specs.Bytes.{text};
 ghost use Rattle.stages.specs.Images.{held, held_texts, lookup, or_empty};

@@ -1,4 +1,6 @@
 // A path into an image of paths, and out of it: one walk finds its place, what stands behind moves, and its record is written or gone.
+#![tactic(auto)]
+
 ghost use Rattle.std.specs.Prelude.{◌≤◌, [], length, take};
 ghost use Rattle.stages.specs.Numbers.{paths_limit};
 ghost use Rattle.stages.specs.Images.{framed, held_texts};
@@ -10,7 +12,7 @@ use table::Piece;
 use text::Order;
 
 // What adding answers.
-#[derive(Drop)]
+#[derive(Clone, Copy)]
 pub enum Added {
     // The length of the image with the path.
     Used(usize),
@@ -21,7 +23,7 @@ pub enum Added {
 }
 
 // What removing answers.
-#[derive(Drop)]
+#[derive(Clone, Copy)]
 pub enum Removed {
     // The length of the image without the path.
     Used(usize),
@@ -30,7 +32,7 @@ pub enum Removed {
 }
 
 // The place of a path that is not there, or its record.
-#[derive(Drop)]
+#[derive(Clone, Copy)]
 enum Place {
     At(usize),
     Taken { at: usize, end: usize },

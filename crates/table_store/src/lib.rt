@@ -1,4 +1,6 @@
 // Writing into images: a text's record at the front of a lent area, and a variable stored in place by one splice.
+#![tactic(auto)]
+
 ghost use Rattle.std.specs.Prelude.{◌≡◌, ◌++◌, ◌+◌, ◌≤◌, length, take};
 ghost use Rattle.stages.specs.Numbers.{image_limit};
 ghost use Rattle.stages.specs.Images.{framed, held};
@@ -11,7 +13,7 @@ use table::Spot;
 use text::numbers;
 
 // What the record writer answers.
-#[derive(Drop)]
+#[derive(Clone, Copy)]
 pub enum Put {
     // The bytes written.
     Len(usize),
@@ -20,7 +22,7 @@ pub enum Put {
 }
 
 // What a store answers.
-#[derive(Drop)]
+#[derive(Clone, Copy)]
 pub enum Stored {
     // The length of the image with the variable stored.
     Used(usize),

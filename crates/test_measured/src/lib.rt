@@ -1,4 +1,6 @@
 // The functions whose speed docs/TIMES.md gives, as C calls them: each hands its question to the proved function.
+#![tactic(auto)]
+
 ghost use Rattle.std.specs.Prelude.{◌≤◌, ◌*◌, ◌≡◌, true, List, length};
 ghost use Rattle.stages.specs.Numbers.{row_limit};
 ghost use Rattle.stages.specs.Images.{held_texts};

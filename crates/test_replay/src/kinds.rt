@@ -2,7 +2,7 @@
 use crate::words;
 
 // What a case asks for, if it is one.
-#[derive(Drop)]
+#[derive(Clone, Copy)]
 pub enum Job {
     // The expander's, or the normaliser's.
     Line,

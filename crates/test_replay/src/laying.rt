@@ -64,7 +64,7 @@ pub(crate) fn hold_word(told: Told, what: &[u8], given: usize, case: &[u8], n: u
 }
 
 // A buffer with a used length: where the case has what stood in it, its used length, the answer's number and the new image; and what stood behind.
-#[derive(Drop)]
+#[derive(Clone, Copy)]
 pub struct Kept {
     pub before: usize,
     pub used: usize,

@@ -1,5 +1,7 @@
 // Runs the cases of standard input, or of the file that its first argument names, through Drunquill's seven jobs: a case to a line, as
 // tests/vectors/README.md has them. Tells each case that differs, and at the end how many were run and how many differ.
+#![tactic(auto)]
+
 mod assigns;
 mod blocks;
 mod calls;

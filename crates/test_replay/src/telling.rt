@@ -5,7 +5,7 @@ use crate::words::byte_at;
 use libc::STDOUT_FILENO;
 
 // The line of a case, and whether a difference was told of it.
-#[derive(Drop)]
+#[derive(Clone, Copy)]
 pub struct Told {
     pub line: u64,
     pub any: bool,

@@ -1,4 +1,6 @@
 // Bytes and texts read: the classes of bytes, longest runs, comparing.
+#![tactic(auto)]
+
 ghost use Rattle.std.specs.Prelude.{◌≡◌, ℕ, ◌≤◌, ◌<◌, length};
 ghost use Rattle.stages.specs.Bytes.{is_in, all, not_zero, eq_text};
 ghost use Rattle.text.specs.Bits.{has_bit};
@@ -9,7 +11,7 @@ pub mod marks;
 pub mod numbers;
 
 // The classes of bytes that documents 01 and 02 name.
-#[derive(Drop)]
+#[derive(Clone, Copy)]
 pub enum Class {
     NotZero,
     Digit,
@@ -30,7 +32,7 @@ pub enum Class {
 pub const ALL_BITS: u64 = 0xffff_ffff_ffff_ffff;
 
 // How a text stands to another, "ordered by unsigned value, a prefix first".
-#[derive(Drop)]
+#[derive(Clone, Copy)]
 pub enum Order {
     Less,
     Same,
