@@ -1,6 +1,6 @@
 -- Document 02, E6 and E10: a reader that has ended stays ended, so that behind an assignment there is nothing more to read; and a whole expression that is no
 -- assignment is one of the two storeys.
-use Prim.Native.Nat.{ℕ, zero, suc, ◌≤◌, ◌<◌}
+use Prim.Native.Nat.{ℕ, suc, ◌<◌}
 use native.Mathlib.Omega.{arith}
 use mathlib.Core.Path.{◌≡◌, refl, sym, ap, ◌∙◌, subst}
 use mathlib.Core.Bool.{Bool, true, false}
@@ -9,9 +9,9 @@ use lib.Dec.{leb}
 use lib.ListN.{length}
 use Rattle.stages.specs.Recur.{by_size}
 use Rattle.stages.specs.Bytes.{Text}
-use Rattle.stages.specs.Outcome.{Outcome, refused, demands, done, ◌>>=◌}
+use Rattle.stages.specs.Outcome.{refused, demands, done, ◌>>=◌}
 use Rattle.stages.specs.Arith.{Op, level, whole_level, choice_level, colon, Token, ends, num, name, op, opens, query, gets, Lexed, token}
-use Rattle.stages.specs.Arith.{Tree, name_of, binary, choice, assign, Grown, grown, Task, operand, further, expression, up_to, choice_at}
+use Rattle.stages.specs.Arith.{Tree, name_of, binary, choice, assign, Grown, grown, operand, further, expression, up_to, choice_at}
 use Rattle.stages.specs.Arith.{target_at, operand_at, further_at, grow_step, grow}
 use Rattle.stages.proofs.Bools.{apart}
 use Rattle.stages.proofs.Outcomes.{done_same, never, never_asks}

@@ -1,6 +1,6 @@
 -- Document 02, E6: the grammar in two storeys, for a reader whose stack does not grow with the text. Below are the operators of the table; above them stands
 -- `?:`, at most one behind an expression of the lower storey, and what is behind its colon is again one of these.
-use Prim.Native.Nat.{ℕ, zero, suc, ◌≤◌, ◌<◌}
+use Prim.Native.Nat.{ℕ, suc, ◌≤◌, ◌<◌}
 use native.Mathlib.Omega.{arith}
 use mathlib.Core.Path.{◌≡◌, refl, sym, ap, ◌∙◌}
 use mathlib.Core.Bool.{Bool, true, false}
@@ -8,11 +8,11 @@ use lib.Dec.{leb}
 use lib.ListN.{length}
 use Rattle.stages.specs.Recur.{by_size}
 use Rattle.stages.specs.Bytes.{Text}
-use Rattle.stages.specs.Outcome.{Outcome, refused, demands, done, ◌>>=◌}
+use Rattle.stages.specs.Outcome.{refused, demands, done, ◌>>=◌}
 use Rattle.stages.specs.Arith.{Op, mul, div, rem, add, sub, shl, shr, lt, le, gt, ge, eq, ne, bit_and, bit_xor, bit_or, log_and, log_or, log_not, bit_not}
 use Rattle.stages.specs.Arith.{operator, level}
-use Rattle.stages.specs.Arith.{whole_level, choice_level, Token, ends, num, name, op, opens, query, gets, Lexed, token, Tree, binary, Grown, Task}
-use Rattle.stages.specs.Arith.{operand, further, expression}
+use Rattle.stages.specs.Arith.{whole_level, choice_level, Token, ends, num, name, op, opens, query, gets, Lexed, token, Tree, binary, Grown}
+use Rattle.stages.specs.Arith.{further, expression}
 use Rattle.stages.specs.Arith.{choice_at, further_at, grow_step, grow}
 use Rattle.stages.proofs.Arith.{Lexes, lex_more, token_left, Leaves, some_left, expression_left, grow_left, grow_eq}
 

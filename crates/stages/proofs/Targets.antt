@@ -12,7 +12,7 @@ use lib.ListN.{length}
 use Rattle.stages.specs.Recur.{by_size}
 use Rattle.stages.specs.Numbers.{open_limit}
 use Rattle.stages.specs.Bytes.{Text, span, is_name_start, is_name_byte}
-use Rattle.stages.specs.Outcome.{Outcome, refused, demands, done, ◌>>=◌}
+use Rattle.stages.specs.Outcome.{refused, demands, done, ◌>>=◌}
 use Rattle.stages.specs.Images.{is_name}
 use Rattle.stages.specs.Constants.{constant}
 use Rattle.stages.specs.Arith.{Op, level, is_sign, whole_level, choice_level, End, stop, shuts, colon, Token, ends, num, name, op, opens, query, gets}
