@@ -52,13 +52,13 @@ pub fn arg_count(rt: &HostRuntime) -> usize {
     usize::MAX
 }
 
-// Reads standard input until the buffer is full, the input ends or a read fails, and answers how many bytes stand at the buffer's front.
-pub fn read_full(rt: &HostRuntime, buffer: &mut [u8]) -> usize
+// Reads until the buffer is full, the input ends or a read fails, and answers how many bytes stand at the buffer's front.
+pub fn read_full<R: Read>(input: &mut R, buffer: &mut [u8]) -> usize
     ensures { IsPrefixLen result buffer.new }
 {
     let mut done = 0;
     while done < buffer.len() {
-        let got = rt.stdin().read(&mut buffer[done..]);
+        let got = input.read(&mut buffer[done..]);
         let n = got.unwrap_or(0);
         if n == 0 {
             break;

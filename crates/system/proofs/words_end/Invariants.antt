@@ -1,4 +1,4 @@
-use Rattle.std.proofs.Common.{◌≡◌, ◌≤◌, length, ℕ, ◌+◌, ◌-◌, ◌*◌, ◌<◌}
+use Rattle.std.proofs.Common.{◌≤◌, length}
 use Rattle.system.proofs.words_end.Given as goal
 
 abbrev pub invariant-loop-end : goal.invariant-loop-end
