@@ -87,7 +87,7 @@ fn write_out(rt: &HostRuntime, out: &[u8], n: usize) {
 fn show_input(rt: &HostRuntime, kind: Kind, image: &mut [u8], out: &mut [u8])
     requires { 4 * length image.old ≤ length out.old }
 {
-    let n = system::read_full(rt, image);
+    let n = system::read_full(&mut rt.stdin(), image);
     if !was_read(rt, n, image.len()) {
         return;
     }
@@ -120,7 +120,7 @@ fn pack_lines(kind: Kind, text: &[u8], image: &mut [u8], work: &mut [u8]) -> Pac
 fn pack_input(rt: &HostRuntime, kind: Kind, text: &mut [u8], image: &mut [u8], work: &mut [u8])
     requires { (paths_limit + 1 ≡ length image.old) × (length text.old ≤ length work.old) }
 {
-    let n = system::read_full(rt, text);
+    let n = system::read_full(&mut rt.stdin(), text);
     if !is_whole(rt, n, text.len()) {
         return;
     }
@@ -180,7 +180,7 @@ fn assign_input(
     let Loaded::Length(h) = recipe_load::load(rt, "homes.tab", homes) else {
         return;
     };
-    let n = system::read_full(rt, text);
+    let n = system::read_full(&mut rt.stdin(), text);
     if !is_whole(rt, n, text.len()) {
         return;
     }
@@ -238,7 +238,7 @@ fn update(job: &[u8], image: &mut [u8], n: usize, path: &[u8]) -> Updated {
 
 // Does so in the image that is read, and writes what it is then.
 fn update_input(rt: &HostRuntime, job: &[u8], path: &[u8], image: &mut [u8]) {
-    let n = system::read_full(rt, image);
+    let n = system::read_full(&mut rt.stdin(), image);
     if !was_read(rt, n, image.len()) {
         return;
     }

@@ -6,28 +6,12 @@ use std::io::Read;
 
 const NEWLINE: u8 = b'\n';
 
-// Reads until the buffer is full, the input ends or a read fails, and answers how many bytes stand at the buffer's front.
-fn read_full<R: Read>(input: &mut R, buffer: &mut [u8]) -> usize
-    ensures { IsPrefixLen result buffer.new }
-{
-    let mut done = 0;
-    while done < buffer.len() {
-        let got = input.read(&mut buffer[done..]);
-        let n = got.unwrap_or(0);
-        if n == 0 {
-            break;
-        }
-        done += n;
-    }
-    done
-}
-
 // Reads behind the bytes that the block holds, and answers how many it holds then.
 pub(crate) fn read_behind<R: Read>(input: &mut R, block: &mut [u8], have: usize) -> usize
     requires { have ≤ length block.old }
     ensures { (result ≤ length block.new) × (length block.new ≡ length block.old) }
 {
-    have + read_full(input, &mut block[have..])
+    have + system::read_full(input, &mut block[have..])
 }
 
 // The place of the first newline among the bytes that the block holds, or their end.
