@@ -21,8 +21,13 @@ byte-at-requires c κs = c.loop-i-test.true
 
 -- the byte that was read stands in the buffer
 more : (c : tie.In-Is invariant_loop decreases_loop) →
-    Front c.args.text.now c.args.out.now (set c.loop-i.out c.loop-i.used c.in-Is.b) (c.loop-i.used + 1) (c.loop-i.i + 1 + c.in-Is.more)
-more c = front_more c.loop-i.invariant c.loop-i-test.true c.byte_at-byte.ensures _ _ c.in-Is.is
+    let l = c in
+    let a = l.args in
+    let v = c.in-Is in
+    Front a.text.now a.out.now (set l.loop-i.out l.loop-i.used v.b) (l.loop-i.used + 1) (l.loop-i.i + 1 + v.more)
+more c =
+    let l = c in
+    front_more l.loop-i.invariant c.loop-i-test.true c.byte_at-byte.ensures _ _ c.in-Is.is
 
 enum-known-byte : tie.Need-enum_known-byte invariant_loop decreases_loop
 enum-known-byte c = search rules
