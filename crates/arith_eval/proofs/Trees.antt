@@ -144,11 +144,13 @@ module _ (a : Lent) (v : Pairs) where
     goes_on : (o : Op) (u : Text) → length u < length t → (r : Grown) → Leaves (length u) r
         → (r >>= λ q. grow (further k (binary o l q.0), d, q.1)) ≡ done p → evaluate a v p.0 ≡ refused e
     goes_on o u h (refused n) w q = absurd (never q)
+    goes_on o u h (demands _) w q = elim w [ ]
     goes_on o u h (done r) (some_left w) q = ih (d, k, binary o l r.0, r.1) (omega arith) high p q e (left_refused a v o l r.0 e bad)
 
     by_token : (o : Lexed) → Lexes (length t) o → (o >>= λ s. further_at grow d k l t s) ≡ done p → evaluate a v p.0 ≡ refused e
     unfolding further_at
     by_token (refused n) w q = absurd (never q)
+    by_token (demands _) w q = elim w [ ]
     by_token (done (ends i, u)) w q = ends_here_lem q
     by_token (done (num z, u)) w q = ends_here_lem q
     by_token (done (name x, u)) w q = ends_here_lem q
