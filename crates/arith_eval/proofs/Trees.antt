@@ -21,7 +21,6 @@ use Rattle.stages.specs.Arith.{Evaluated, with_variables, unless, name_number, v
 use Rattle.stages.proofs.Arith.{Lexes, lex_more, token_left, Leaves, some_left, expression_left, grow_left, grow_eq}
 use Rattle.stages.proofs.Outcomes.{done_same, never_asks}
 use Rattle.stages.proofs.Storeys.{lowest}
-use Rattle.arith_eval.specs.Climbs.{alone}
 use Rattle.arith_eval.specs.Wholes.{updated_in}
 
 -- a refusal is no result

@@ -1,5 +1,4 @@
 -- `arith_eval::refusal` meets its contract: what reading refuses, else what working out did.
-use native.Mathlib.Omega.{arith}
 use mathlib.Core.Path.{◌≡◌, ◌∙◌}
 use mathlib.Core.Bool.{false}
 use lib.ListN.{length, set, length-set}

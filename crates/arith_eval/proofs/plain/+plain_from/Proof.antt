@@ -1,7 +1,7 @@
 -- `arith_eval::plain::plain_from` meets its contract: the loop plods on over operators whose right sides are constants and what binds tighter behind them.
 use Prim.Native.Nat.{ℕ, ◌<◌, ◌+◌, ◌-◌}
 use native.Mathlib.Omega.{arith}
-use mathlib.Core.Path.{◌≡◌, refl, sym, ap, ◌∙◌}
+use mathlib.Core.Path.{◌≡◌, sym, ap, ◌∙◌}
 use lib.ListN.{length}
 use mir.Syntax.{w64}
 use mir.Val.{to_z, of_z}

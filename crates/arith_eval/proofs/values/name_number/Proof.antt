@@ -1,5 +1,5 @@
 -- `arith_eval::values::name_number` meets its contract: the value that the look_up shows; where it shows none, 0 or 25.
-use mathlib.Core.Path.{◌≡◌, refl, sym, ap, ◌∙◌}
+use mathlib.Core.Path.{◌≡◌, sym, ap, ◌∙◌}
 use mathlib.Core.Bool.{Bool, true, false}
 use mathlib.Core.Option.{Option, none, some}
 use lib.IntN.{pos}

@@ -137,6 +137,6 @@ module _ (t : ℕ) where
       let l = r.loop-next in
       let k = l.invariant.0 in
       let ps = worked_places (r.before.before.before.before.before.before.before.before) in
-      working_lent (worked_lent (r.before.before.before.before.before.before.before.before)
-      (waiting_fits r.requires.1 l.i l.waiting k.deep k.within ps (worked_length (r.before.before.before.before.before.before.before.before))
+      working_lent (worked_lent (r.before.before.before.before.before.before.before.before))
+      (waiting_fits r.requires.1 l.i l.waiting k.deep k.within ps (worked_length (r.before.before.before.before.before.before.before.before)))
       (length ps - l.waiting) r.stepped-step.new.places
