@@ -13,8 +13,8 @@ use Rattle.stages.specs.Bytes.{Text}
 use Rattle.stages.specs.Call.{normaliser}
 use Rattle.stages.specs.Program.{Variables, given_line, said, told, next_number, after_line, after_lines, said_of, told_of}
 use Rattle.stages.proofs.Bools.{no, apart, either}
-use Rattle.io.specs.Counts.{IsPrefixLen, clamp_len}
-use Rattle.io.proofs.Counting.{prefix_len_of_le}
+use Rattle.system.specs.Counts.{IsPrefixLen, clamp_len}
+use Rattle.system.proofs.Counting.{prefix_len_of_le}
 use Rattle.recipe_cut.specs.Lines.{line_kept, has_line, last_line}
 use Rattle.recipe_cut.specs.Said.{written_room}
 use Rattle.recipe_cut.proofs.Callers.{next_turn, kept_most}
