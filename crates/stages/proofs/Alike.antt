@@ -1,7 +1,7 @@
 -- Document 02, E8: one thing worked out twice, under variables that differ in IFS alone. Where both come to a result it is the same, and the variables behind
 -- it differ in IFS alone again. Here: how that goes on through outcomes, and that it holds of stores and of arithmetic without the name.
-use Prim.Native.Nat.{ℕ, ◌+◌}
-use mathlib.Core.Path.{◌≡◌, refl, ap}
+use Prim.Native.Nat.{ℕ}
+use mathlib.Core.Path.{◌≡◌, refl}
 use mathlib.Core.Bool.{Bool, true, false, ◌&&◌}
 use mathlib.Core.List.{◌++◌}
 use mathlib.Core.Option.{Option, none, some}
@@ -13,7 +13,6 @@ use Rattle.stages.specs.Numbers.{image_limit}
 use Rattle.stages.specs.Bytes.{Text, text, eq_text}
 use Rattle.stages.specs.Outcome.{Outcome, refused, demands, done, ◌>>=◌, choose}
 use Rattle.stages.specs.Images.{Pairs, lookup, stored, flat, image_length}
-use Rattle.stages.specs.Syntax.{var}
 use Rattle.stages.specs.Units.{Row, fit}
 use Rattle.stages.specs.Constants.{valued, signed}
 use Rattle.stages.specs.Arith.{is_true, Op, early, apply, apply_alone, Tree, constant_of, name_of, unary, binary, choice, assign, tree}

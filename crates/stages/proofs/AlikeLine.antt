@@ -71,7 +71,9 @@ word_both a b s u t h n v w k =
     (λ l i j c m. require_both (out_fits a (n + record_bytes l)) (out_fits b (n + record_bytes l)) output_room u.place _ _ (alone l i j c m))
   where
     alone : (l : Fields) (i j : Pairs) → One l → Alike i j → BothAt (Agree One) (done_at (l ++ [], i)) (done_at (l ++ [], j))
+    alone [] i j x'' m = elim x'' [ ]
     alone (t ∷ []) i j one m = both_give_at (agrees one m)
+    alone (t ∷ (_ ∷ _)) i j x8 m = elim x8 [ ]
 
 -- the word of a line that passes
 record OnlyWord (t : Text) : Type 0 where

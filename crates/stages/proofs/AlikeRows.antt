@@ -15,7 +15,7 @@ use Rattle.stages.specs.Units.{Mark, L, E, Q, cell, N, Row, marked, bytes, expan
 use Rattle.stages.specs.Arith.{tree}
 use Rattle.stages.specs.Pattern.{pattern, for_removal}
 use Rattle.stages.specs.Removal.{removed}
-use Rattle.stages.specs.Params.{Lent, holding, value, or_shout, sought, missing, absent, store_in}
+use Rattle.stages.specs.Params.{Lent, holding, value, sought, missing, absent, store_in}
 use Rattle.stages.specs.Expand.{Made, given, assigned, demand, cut_by, parameter, in_quotes, amount, directory, tilde_row, expand}
 use Rattle.stages.specs.Together.{everywhere, no_lists, no_ifs, plain_sums, literally, other_param, other_count, other_tree, other_text}
 use Rattle.stages.proofs.Bools.{no, clash, some_same, either, and_left, and_right}

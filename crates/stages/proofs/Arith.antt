@@ -3,7 +3,7 @@ use Prim.Native.Nat.{ℕ, zero, suc, ◌+◌, ◌≤◌, ◌<◌}
 use native.Mathlib.Omega.{arith}
 use mathlib.Core.Path.{◌≡◌, refl, sym, ap, ◌∙◌}
 use mathlib.Core.Bool.{Bool, true, false, ◌&&◌}
-use mathlib.Core.List.{List, [], ◌∷◌}
+use mathlib.Core.List.{[], ◌∷◌}
 use mathlib.Core.Option.{Option, none, some}
 use lib.Dec.{eqb, leb}
 use lib.IntN.{ℤ, pos}
@@ -12,7 +12,7 @@ use borrow.Author.Tests.{leb-true}
 use Rattle.stages.specs.Recur.{below, below_ok, fix_eq, by_size}
 use Rattle.stages.specs.Numbers.{too_deep, arithmetic_syntax}
 use Rattle.stages.specs.Bytes.{Text, span, is_blank, is_digit, is_name_start, is_name_byte}
-use Rattle.stages.specs.Outcome.{Outcome, refused, done, ◌>>=◌, choose}
+use Rattle.stages.specs.Outcome.{Outcome, refused, demands, done, ◌>>=◌, choose}
 use Rattle.stages.specs.Constants.{constant, fits, ranged, number}
 use Rattle.stages.specs.Arith.{Op, whole_level, choice_level, level, is_sign, End, stop, shuts, colon, Token, ends, num, name, op, opens, query, gets}
 use Rattle.stages.specs.Arith.{Lexed, Spellings, written, behind, spelled, token, Tree, constant_of, name_of, unary, binary, choice, assign, Grown, grown}
@@ -147,6 +147,7 @@ leaves_wider (some_left {p = p} l) h = some_left {p = p} (omega arith)
 
 module _ (k : ℕ) (f : Grow) (good : (a : Task × ℕ × Text) → grow_size a < k → Leaves (grow_size a) (f a)) where
   behind_operand : (d j n : ℕ) (r : Grown) → n < k → Leaves n r → Leaves n (r >>= λ p. f (further j p.0, d, p.1))
+  behind_operand d j n (demands _) h x3 = elim x3 [ ]
   behind_operand d j n (refused e) h (none_left w) = none_left w
   behind_operand d j n (done p) h (some_left l) = leaves_wider (good (further j p.0, d, p.1) (omega arith)) l
 
@@ -155,6 +156,7 @@ module _ (k : ℕ) (f : Grow) (good : (a : Task × ℕ × Text) → grow_size a 
 
   ended_left : (e : End) (l : Tree) (n : ℕ) (o : Lexed) → Lexes n o → Leaves n (o >>= λ s. ended e l s)
   unfolding ended
+  ended_left e l n (demands _) h = elim h [ ]
   ended_left e l n (refused i) (lex_refused w) = none_left w
   ended_left e l n (done (ends i, u)) h = go (eqb (rank e) (rank i)) refl (lexes_short h)
     where
@@ -169,6 +171,7 @@ module _ (k : ℕ) (f : Grow) (good : (a : Task × ℕ × Text) → grow_size a 
   ended_left e l n (done (gets o, u)) h = syntax_left
 
   closed_left : (e : End) (n : ℕ) (r : Grown) → Leaves n r → Leaves n (r >>= λ q. token q.1 >>= λ s. ended e q.0 s)
+  closed_left e n (demands _) x'' = elim x'' [ ]
   closed_left e n (refused i) (none_left w) = none_left w
   closed_left e n (done p) (some_left l) = leaves_wider (ended_left e p.0 (length p.1) (token p.1) (token_left p.1)) l
 
@@ -182,6 +185,7 @@ module _ (k : ℕ) (f : Grow) (good : (a : Task × ℕ × Text) → grow_size a 
   enclosed_left (suc d) t h = up_to_left shuts d t h
 
   grown_left : (g : Tree → Tree) (n : ℕ) (r : Grown) → Leaves n r → Leaves n (grown g r)
+  grown_left g n (demands _) x'' = elim x'' [ ]
   grown_left g n (refused e) (none_left w) = none_left w
   grown_left g n (done p) (some_left l) = some_left {p = (g p.0, p.1)} l
 
@@ -193,6 +197,7 @@ module _ (k : ℕ) (f : Grow) (good : (a : Task × ℕ × Text) → grow_size a 
 
   target_left : (d : ℕ) (x t : Text) (o : Lexed) → Lexes (length t) o → length t < k → Leaves (length t) (o >>= λ p. target_at f d x t p)
   unfolding target_at
+  target_left d x t (demands _) w h = elim w [ ]
   target_left d x t (refused e) (lex_refused w) h = none_left w
   target_left d x t (done (ends e, u)) w h = some_left {p = (name_of x, t)} (omega arith)
   target_left d x t (done (num z, u)) w h = some_left {p = (name_of x, t)} (omega arith)
@@ -205,6 +210,7 @@ module _ (k : ℕ) (f : Grow) (good : (a : Task × ℕ × Text) → grow_size a 
 
   operand_left : (n : ℕ) (first : Bool) (d : ℕ) (o : Lexed) → Lexes n o → n ≤ k → Leaves n (o >>= λ p. operand_at f first d p)
   unfolding operand_at
+  operand_left n b d (demands _) l h = elim l [ ]
   operand_left n b d (refused e) (lex_refused w) h = none_left w
   operand_left n b d (done (ends e, u)) l h = syntax_left
   operand_left n b d (done (num z, u)) (lex_more l) h = some_left {p = (constant_of z, u)} (omega arith)
@@ -216,6 +222,7 @@ module _ (k : ℕ) (f : Grow) (good : (a : Task × ℕ × Text) → grow_size a 
   operand_left n b d (done (gets o, u)) l h = syntax_left
 
   other_left : (d n : ℕ) (l : Tree) (r : Grown) → n < k → Leaves n r → Leaves n (r >>= λ a. grown (choice l a.0) (expression f d choice_level a.1))
+  other_left d n l (demands _) h x3 = elim x3 [ ]
   other_left d n l (refused e) h (none_left w) = none_left w
   other_left d n l (done p) h (some_left w) =
       leaves_wider (grown_left (choice l p.0) (length p.1) (expression f d choice_level p.1) (expression_left d choice_level p.1 (omega arith))) w
@@ -225,11 +232,13 @@ module _ (k : ℕ) (f : Grow) (good : (a : Task × ℕ × Text) → grow_size a 
   choice_left d l t h = other_left d (length t) l (up_to colon f d t) h (up_to_left colon d t h)
 
   joined_left : (o : Op) (l : Tree) (d j n : ℕ) (r : Grown) → n < k → Leaves n r → Leaves n (r >>= λ q. f (further j (binary o l q.0), d, q.1))
+  joined_left o l d j n (demands _) h x3 = elim x3 [ ]
   joined_left o l d j n (refused e) h (none_left w) = none_left w
   joined_left o l d j n (done p) h (some_left w) = leaves_wider (good (further j (binary o l p.0), d, p.1) (omega arith)) w
 
   further_left : (d j : ℕ) (l : Tree) (t : Text) (o : Lexed) → Lexes (length t) o → length t ≤ k → Leaves (length t) (o >>= λ p. further_at f d j l t p)
   unfolding further_at
+  further_left d j l t (demands _) w h = elim w [ ]
   further_left d j l t (refused e) (lex_refused w) h = none_left w
   further_left d j l t (done (ends e, u)) w h = some_left {p = (l, t)} (omega arith)
   further_left d j l t (done (num z, u)) w h = some_left {p = (l, t)} (omega arith)
@@ -276,6 +285,7 @@ module _ (k : ℕ) (f g : Grow) (same : (a : Task × ℕ × Text) → grow_size 
     (good : (a : Task × ℕ × Text) → grow_size a < k → Leaves (grow_size a) (g a)) where
   bind_same : (n : ℕ) (task : Tree → Task) (d : ℕ) (r : Grown) → n < k → Leaves n r
       → (r >>= λ p. f (task p.0, d, p.1)) ≡ (r >>= λ p. g (task p.0, d, p.1))
+  bind_same n task d (demands _) h l = elim l [ ]
   bind_same n task d (refused e) h l = refl
   bind_same n task d (done p) h (some_left l) = same (task p.0, d, p.1) (omega arith)
 
@@ -301,6 +311,7 @@ module _ (k : ℕ) (f g : Grow) (same : (a : Task × ℕ × Text) → grow_size 
 
   target_same : (d : ℕ) (x t : Text) (o : Lexed) → Lexes (length t) o → length t < k → (o >>= λ p. target_at f d x t p) ≡ (o >>= λ p. target_at g d x t p)
   unfolding target_at
+  target_same d x t (demands _) w h = elim w [ ]
   target_same d x t (refused e) w h = refl
   target_same d x t (done (ends e, u)) w h = refl
   target_same d x t (done (num z, u)) w h = refl
@@ -312,6 +323,7 @@ module _ (k : ℕ) (f g : Grow) (same : (a : Task × ℕ × Text) → grow_size 
 
   operand_same : (n : ℕ) (first : Bool) (d : ℕ) (o : Lexed) → Lexes n o → n ≤ k → (o >>= λ p. operand_at f first d p) ≡ (o >>= λ p. operand_at g first d p)
   unfolding operand_at
+  operand_same n b d (demands _) l h = elim l [ ]
   operand_same n b d (refused e) l h = refl
   operand_same n b d (done (ends e, u)) l h = refl
   operand_same n b d (done (num z, u)) l h = refl
@@ -324,6 +336,7 @@ module _ (k : ℕ) (f g : Grow) (same : (a : Task × ℕ × Text) → grow_size 
 
   other_same : (d n : ℕ) (l : Tree) (r : Grown) → n < k → Leaves n r
       → (r >>= λ a. grown (choice l a.0) (expression f d choice_level a.1)) ≡ (r >>= λ a. grown (choice l a.0) (expression g d choice_level a.1))
+  other_same d n l (demands _) h w = elim w [ ]
   other_same d n l (refused e) h w = refl
   other_same d n l (done p) h (some_left w) = ap (grown (choice l p.0)) (expression_same d choice_level p.1 (omega arith))
 
@@ -335,6 +348,7 @@ module _ (k : ℕ) (f g : Grow) (same : (a : Task × ℕ × Text) → grow_size 
 
   further_same : (n d j : ℕ) (l : Tree) (t : Text) (o : Lexed) → Lexes n o → n ≤ k → (o >>= λ p. further_at f d j l t p) ≡ (o >>= λ p. further_at g d j l t p)
   unfolding further_at
+  further_same n d j l t (demands _) w h = elim w [ ]
   further_same n d j l t (refused e) w h = refl
   further_same n d j l t (done (ends e, u)) w h = refl
   further_same n d j l t (done (num z, u)) w h = refl

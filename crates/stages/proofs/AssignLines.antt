@@ -10,7 +10,6 @@ use Rattle.stages.specs.Numbers.{work_least}
 use Rattle.stages.specs.Bytes.{Text, text, eq_text}
 use Rattle.stages.specs.Outcome.{refused_at, demands_at, done_at, ◌then◌, choose}
 use Rattle.stages.specs.Images.{flat, image}
-use Rattle.stages.specs.Line.{Around}
 use Rattle.stages.specs.Assign.{assign_line}
 use Rattle.stages.specs.Call.{Given, Answer, over, assigner}
 use Rattle.stages.proofs.Recipes.{Settings, Case, pairs_of, same, around}

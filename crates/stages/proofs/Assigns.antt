@@ -14,15 +14,15 @@ use borrow.Author.Tests.{leb-true}
 use Rattle.stages.specs.Numbers.{accepted, work_too_small, bad_variables, bad_homes, bad_paths, line_too_long, zero_byte, demanded, output_room, bad_parameters}
 use Rattle.stages.specs.Numbers.{work_least, line_limit, image_limit}
 use Rattle.stages.specs.Bytes.{Text, between, is_in}
-use Rattle.stages.specs.Outcome.{Placed, refused_at, demands_at, done_at, ◌then◌}
+use Rattle.stages.specs.Outcome.{Placed, refused_at, demands_at, done_at}
 use Rattle.stages.specs.Images.{Pairs, is_name, variables_of, homes_of, fields_of}
-use Rattle.stages.specs.Syntax.{Parts, Assignment}
+use Rattle.stages.specs.Syntax.{Assignment}
 use Rattle.stages.specs.Units.{L, bytes}
 use Rattle.stages.specs.Params.{Lent}
 use Rattle.stages.specs.Assign.{assign, assign_all, read_assignments, assign_line}
 use Rattle.stages.specs.Call.{Given, Answer, over, shown, answered, assigned, settled, assigner}
 use Rattle.stages.proofs.Bools.{no, or_cases, or_left, or_right, between_bounds, between_true}
-use Rattle.stages.proofs.Outcomes.{Each, is_fault, is_early, fault_late, Safe, safe_bind, SafeBy, SafeAt, early, refuses_at, asks_at, gives_at, safe_then}
+use Rattle.stages.proofs.Outcomes.{Each, is_fault, is_early, fault_late, Safe, safe_bind, SafeBy, early, refuses_at, asks_at, gives_at, safe_then}
 use Rattle.stages.proofs.Outcomes.{safe_weaker_at, safe_at, safe_require}
 use Rattle.stages.proofs.Safe.{SafeParts}
 use Rattle.stages.proofs.SafeRows.{Kept, SafeLent, expand_safe, bytes_safe, store_safe}

@@ -12,8 +12,8 @@ use borrow.Author.Tests.{le-leb}
 use Rattle.stages.specs.Numbers.{accepted, work_least, line_limit, image_limit}
 use Rattle.stages.specs.Bytes.{Text}
 use Rattle.stages.specs.Outcome.{done_at, ◌then◌}
-use Rattle.stages.specs.Images.{Pairs, flat, image, written, image_length, variables_of, homes_of, paths_of, fields_of, held, is_some}
-use Rattle.stages.specs.Line.{Fields}
+use Rattle.stages.specs.Images.{Pairs, flat, image, written, image_length, variables_of, homes_of, paths_of, fields_of, held, held_texts, is_some}
+use Rattle.stages.specs.Line.{Around, Fields, expand_line}
 use Rattle.stages.specs.Quote.{quoted_line}
 use Rattle.stages.specs.Call.{Given, Answer, over, padded, or_refused, expanded, cleared, answered, expander, quoted_in, normaliser, quoting, quoter}
 use Rattle.stages.proofs.Images.{Bytes, bytes_take, Fine, length_image, held_texts_image}
@@ -107,6 +107,14 @@ module _ (h : Given) (r : WellFormed h) where
 
   -- the quoted line of fields without a zero byte, expanded
   module _ (l : Fields) (f : Fine l) (e : h.line ≡ quoted_line l) (short : length (quoted_line l) ≤ line_limit) where
+    -- what the expansion is lent
+    abbrev lends : ℕ → Around
+    lends out = record {
+      lent = record { room = length h.vars; homes = held h.homes; params = held_texts h.params; shouts = h.shouts };
+      out = out;
+      paths = held_texts h.paths;
+    }
+
     line_returns : (out : ℕ) → image_length l ≤ out → expanded h out ≡ done_at (l, given)
     unfolding expanded or_refused
     line_returns out o =
@@ -117,9 +125,8 @@ module _ (h : Given) (r : WellFormed h) where
           homes_are_lem h.homes (homes_of_lem h.homes r.homes),
           paths_are_lem h.paths (paths_of_lem h.paths r.paths),
           fields_are h.params (fields_of_lem h.params r.params),
-          e,
         )
-        (quoted_expands _ l given f short o)
+        (ap (λ (t : Text). expand_line (lends out) t given) e ∙ quoted_expands (lends out) l given f short o)
 
     expander_returns : length (image l) ≤ length h.out → expander h ≡ unchanged h (image l)
     unfolding expander

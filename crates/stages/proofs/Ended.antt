@@ -1,6 +1,6 @@
 -- Document 02, E6 and E10: a reader that has ended stays ended, so that behind an assignment there is nothing more to read; and a whole expression that is no
 -- assignment is one of the two storeys.
-use Prim.Native.Nat.{ℕ, zero, suc, ◌≤◌, ◌<◌}
+use Prim.Native.Nat.{ℕ, suc, ◌<◌}
 use native.Mathlib.Omega.{arith}
 use mathlib.Core.Path.{◌≡◌, refl, sym, ap, ◌∙◌, subst}
 use mathlib.Core.Bool.{Bool, true, false}
@@ -9,9 +9,9 @@ use lib.Dec.{leb}
 use lib.ListN.{length}
 use Rattle.stages.specs.Recur.{by_size}
 use Rattle.stages.specs.Bytes.{Text}
-use Rattle.stages.specs.Outcome.{Outcome, refused, demands, done, ◌>>=◌}
+use Rattle.stages.specs.Outcome.{refused, demands, done, ◌>>=◌}
 use Rattle.stages.specs.Arith.{Op, level, whole_level, choice_level, colon, Token, ends, num, name, op, opens, query, gets, Lexed, token}
-use Rattle.stages.specs.Arith.{Tree, name_of, binary, choice, assign, Grown, grown, Task, operand, further, expression, up_to, choice_at}
+use Rattle.stages.specs.Arith.{Tree, name_of, binary, choice, assign, Grown, grown, operand, further, expression, up_to, choice_at}
 use Rattle.stages.specs.Arith.{target_at, operand_at, further_at, grow_step, grow}
 use Rattle.stages.proofs.Bools.{apart}
 use Rattle.stages.proofs.Outcomes.{done_same, never, never_asks}
@@ -80,6 +80,7 @@ module _ (d : ℕ) where
   module _ (k : ℕ) (ih : (u : Text) → length u < k → Ended u) (m : Tree) (w : Text) where
     joined : (o : Op) (l : Tree) (i : ℕ) (r : Grown) → i < k → Leaves i r
         → (r >>= λ q. grow (further choice_level (binary o l q.0), d, q.1)) ≡ done (m, w) → Over w
+    joined o l i (demands _) h s q = elim s [ ]
     joined o l i (refused e) h s q = absurd (never (sym q))
     joined o l i (done r) h (some_left s) q = ih r.1 (omega arith) (binary o l r.0) m w q
 
@@ -91,11 +92,13 @@ module _ (d : ℕ) where
 
     behind_colon_lem : (f : Tree → Tree) (i : ℕ) (r : Grown) → i < k → Leaves i r
         → grown f (r >>= λ p. grow (further choice_level p.0, d, p.1)) ≡ done (m, w) → Over w
+    behind_colon_lem f i (demands _) h s q = elim s [ ]
     behind_colon_lem f i (refused e) h s q = absurd (never (sym q))
     behind_colon_lem f i (done p) h (some_left s) q = last f p (omega arith) (grow (further choice_level p.0, d, p.1)) refl q
 
     middle : (l : Tree) (i : ℕ) (r : Grown) → i < k → Leaves i r
         → (r >>= λ a. grown (choice l a.0) (expression grow d choice_level a.1)) ≡ done (m, w) → Over w
+    middle l i (demands _) h s q = elim s [ ]
     middle l i (refused e) h s q = absurd (never (sym q))
     middle l i (done a) h (some_left s) q =
         behind_colon_lem (choice l a.0) (length a.1) (grow (operand false, d, a.1)) (omega arith) (grow_left (operand false, d, a.1)) q
@@ -103,6 +106,7 @@ module _ (d : ℕ) where
   here : (t : Text) → ((u : Text) → length u < length t → Ended u) → (l m : Tree) (w : Text) (o : Lexed) → token t ≡ o → Lexes (length t) o
       → (o >>= λ p. further_at grow d choice_level l t p) ≡ done (m, w) → Over w
   unfolding further_at choice_at
+  here t ih l m w (demands _) c s q = elim s [ ]
   here t ih l m w (refused e) c s q = absurd (never (sym q))
   here t ih l m w (done (ends e, u)) c s q = stays l m t w (again t (ends e, u) c (λ n. refl)) q
   here t ih l m w (done (num z, u)) c s q = stays l m t w (again t (num z, u) c (λ n. refl)) q

@@ -2,10 +2,10 @@
 use Prim.Native.Nat.{ℕ}
 use Prim.Native.String.{String}
 use mathlib.Core.Path.{◌≡◌, refl}
-use mathlib.Core.Bool.{Bool, true, false, ◌&&◌}
+use mathlib.Core.Bool.{Bool, true, ◌&&◌}
 use mathlib.Core.List.{List, [], ◌∷◌}
 use Rattle.stages.specs.Bytes.{Text, text, eq_text}
-use Rattle.stages.specs.Outcome.{refused_at, done_at, choose}
+use Rattle.stages.specs.Outcome.{refused_at, done_at}
 use Rattle.stages.specs.Quote.{quoted_line}
 use Rattle.stages.proofs.Recipes.{Case, texts_of, all_pass}
 

@@ -13,7 +13,7 @@ use borrow.Author.Tests.{ne_eqb, lt-ltb}
 use Rattle.stages.specs.Numbers.{unended, too_deep}
 use Rattle.stages.specs.Bytes.{Text, between, span}
 use Rattle.stages.specs.Outcome.{pick}
-use Rattle.stages.specs.Constants.{digit, is_digit_in, in_base}
+use Rattle.stages.specs.Constants.{is_digit_in, in_base}
 use Rattle.stages.specs.Escapes.{Said, says, unsaid, letters, letter_of, says_byte, says_number, digit_run, says_digits, behind_x, escape_at}
 use Rattle.stages.specs.Quote.{octal}
 use Rattle.stages.proofs.Bools.{between_true}

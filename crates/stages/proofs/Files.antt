@@ -13,9 +13,10 @@ use Rattle.stages.specs.Numbers.{bad_variables, work_least, image_limit, paths_l
 use Rattle.stages.specs.Bytes.{Text}
 use Rattle.stages.specs.Outcome.{Placed, refused_at, done_at, ◌then◌, demands_at}
 use Rattle.stages.specs.Images.{Pairs, texts, is_login, pairs_of, pairs_checked, paths_checked, sized, homes_of, paths_of, written, image}
-use Rattle.stages.specs.Call.{Given, over, expanded, answered, quoted_in, normaliser}
+use Rattle.stages.specs.Call.{Given, Answer, over, expanded, answered, quoted_in, normaliser}
 use Rattle.stages.specs.Program.{lines_of, table_or, buffered, Variables, given_line, said, after_line, said_of, first_variables, program}
 use Rattle.stages.proofs.Bools.{either}
+use Rattle.stages.proofs.Program.{said_none, said_next}
 
 -- the bytes of a file that can matter
 abbrev pub cut_file : ℕ → Option Text → Option Text
@@ -111,13 +112,32 @@ module _ (homes paths params buffer : Text) (shouts : Bool) where
 
 -- the program, whose files may be cut
 
+after_tables : (homes paths params : Text) (v : Variables) (l : Text)
+    → after_line (take (suc image_limit) homes) (take (suc paths_limit) paths) params v l ≡ after_line homes paths params v l
+unfolding after_line given_line
+after_tables homes paths params v l = rw (normaliser_tables (given_line homes paths params l v) homes paths)
+
+answer_tables : (homes paths params : Text) (v : Variables) (l : Text)
+    → normaliser (given_line (take (suc image_limit) homes) (take (suc paths_limit) paths) params l v) ≡ normaliser (given_line homes paths params l v)
+unfolding given_line
+answer_tables homes paths params v l = normaliser_tables (given_line homes paths params l v) homes paths
+
 said_tables : (homes paths params : Text) (v : Variables) (ls : List Text)
     → said_of (take (suc image_limit) homes) (take (suc paths_limit) paths) params v ls ≡ said_of homes paths params v ls
-unfolding said_of given_line
-said_tables homes paths params v [] = refl
+said_tables homes paths params v [] = said_none (take (suc image_limit) homes) (take (suc paths_limit) paths) params v ∙ sym (said_none homes paths params v)
 said_tables homes paths params v (l ∷ ls) =
-    rw (normaliser_tables (given_line homes paths params l v) homes paths)
-    (ap (λ (s : Text). said (normaliser (given_line homes paths params l v)) ++ s) (said_tables homes paths params _ ls))
+    said_next (take (suc image_limit) homes) (take (suc paths_limit) paths) params v l ls
+    ∙ ap
+    (λ (a : Answer). said a
+    ++ said_of (take (suc image_limit) homes) (take (suc paths_limit) paths) params
+    (after_line (take (suc image_limit) homes) (take (suc paths_limit) paths) params v l) ls)
+    (answer_tables homes paths params v l)
+    ∙ ap
+    (λ (w : Variables). said (normaliser (given_line homes paths params l v))
+    ++ said_of (take (suc image_limit) homes) (take (suc paths_limit) paths) params w ls)
+    (after_tables homes paths params v l)
+    ∙ ap (λ (s : Text). said (normaliser (given_line homes paths params l v)) ++ s) (said_tables homes paths params (after_line homes paths params v l) ls)
+    ∙ sym (said_next homes paths params v l ls)
 
 table_cut : (n : ℕ) (file : Option Text) → table_or (cut_file n file) ≡ take (suc n) (table_or file)
 unfolding table_or image written

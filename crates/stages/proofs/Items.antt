@@ -12,7 +12,7 @@ use Rattle.stages.specs.Numbers.{unended, unserved, bad_syntax, too_deep}
 use Rattle.stages.specs.Bytes.{Text, text, between, is_in, is_blank, is_operator, is_name_start, is_name_byte, is_digit, is_login_byte, span}
 use Rattle.stages.specs.Outcome.{pick}
 use Rattle.stages.specs.Images.{is_name}
-use Rattle.stages.specs.Escapes.{Said, escape_at}
+use Rattle.stages.specs.Escapes.{Said}
 use Rattle.stages.specs.Syntax.{Param, var, nth, Counted, bytes_of, parameters, Spread, Lists, served, barred}
 use Rattle.stages.specs.Syntax.{Colon, with_colon, no_colon, Escape, Side, suffix, prefix, Form, Start, Mode, word, value, bare, single, double}
 use Rattle.stages.specs.Syntax.{quoted_operand, arith}

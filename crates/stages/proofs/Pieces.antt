@@ -12,7 +12,7 @@ use lib.Seq.{drop-cons}
 use Rattle.stages.specs.Recur.{below, below_ok, fix_eq, by_size}
 use Rattle.stages.specs.Numbers.{bare_operator}
 use Rattle.stages.specs.Bytes.{Text, between, is_blank, is_operator}
-use Rattle.stages.specs.Outcome.{Outcome, refused, done, Placed, refused_at, demands_at, done_at, placed_at, ◌then◌, choose}
+use Rattle.stages.specs.Outcome.{Outcome, refused, demands, done, Placed, refused_at, demands_at, done_at, placed_at, ◌then◌, choose}
 use Rattle.stages.specs.Read.{Piece, piece_at, pieces_step, pieces_size, pieces}
 use Rattle.stages.proofs.Read.{Good, stays, leaves}
 
@@ -132,6 +132,7 @@ module _ {A B : Type 0} (one : Piece A) (keep : ℕ → A → B) where
     module _ (line : Text) (from : ℕ) (l : from < length line) (e : is_blank (get_or line from 0) ≡ false) (ws : List B) where
       first_of : (r : Outcome (A × Text)) → Good (length (drop (suc from) line)) r → one (drop from line) ≡ r
           → (placed_at from r then around from (drop from line) (pieces one keep)) ≡ done_at ws → FirstPiece one keep line from ws
+      first_of (demands _) g h w = elim g [ ]
       first_of (refused n) g h w = absurd (let z : ◌≡◌ {A = ℕ} 0 1 = cc in omega arith)
       first_of (done p) (leaves g) h w =
           let k = tail_of (pieces one keep (from + (length (drop from line) - length p.1), p.1)) (λ us. keep from p.0 ∷ us) ws w in

@@ -14,7 +14,7 @@ use Rattle.stages.specs.Bytes.{Text, is_in}
 use Rattle.stages.specs.Outcome.{Placed, refused_at, done_at, ◌then◌, pick, demands_at}
 use Rattle.stages.specs.Images.{Pairs, image}
 use Rattle.stages.specs.Line.{Around, Fields, expand_line}
-use Rattle.stages.specs.Call.{Given, answered, expanded, expander, quoted_in, normaliser}
+use Rattle.stages.specs.Call.{Given, Answer, answered, expanded, expander, quoted_in, normaliser}
 use Rattle.stages.specs.Program.{longer_line, lines_of, Variables, given_line, said, after_line, after_lines, said_of, told, next_number, told_of, number_after}
 use Rattle.stages.proofs.Bools.{either, or_neither}
 use Rattle.stages.proofs.Outcomes.{Each}
@@ -92,20 +92,56 @@ module _ (homes paths params : Text) where
   unfolding after_line
   after_cut v l = rw (answer_cut l v)
 
-  pub said_cut : (v : Variables) (ls : List Text) → said_of homes paths params v (cut_lines ls) ≡ said_of homes paths params v ls
+  pub said_none : (v : Variables) → said_of homes paths params v [] ≡ []
   unfolding said_of
+  said_none v = refl
+
+  pub said_next : (v : Variables) (l : Text) (ls : List Text)
+      → said_of homes paths params v (l ∷ ls)
+      ≡ said (normaliser (given_line homes paths params l v)) ++ said_of homes paths params (after_line homes paths params v l) ls
+  unfolding said_of
+  said_next v l ls = refl
+
+  after_next : (v : Variables) (l : Text) (ls : List Text)
+      → after_lines homes paths params v (l ∷ ls) ≡ after_lines homes paths params (after_line homes paths params v l) ls
+  unfolding after_lines
+  after_next v l ls = refl
+
+  told_next : (v : Variables) (n : ℕ) (l : Text) (ls : List Text)
+      → told_of homes paths params v n (l ∷ ls)
+      ≡ told n (normaliser (given_line homes paths params l v)) ++ told_of homes paths params (after_line homes paths params v l) (next_number n) ls
+  unfolding told_of
+  told_next v n l ls = refl
+
+  pub said_cut : (v : Variables) (ls : List Text) → said_of homes paths params v (cut_lines ls) ≡ said_of homes paths params v ls
   said_cut v [] = refl
-  said_cut v (l ∷ ls) = rw (answer_cut l v) (ap (λ (s : Text). said (normaliser (given_line homes paths params l v)) ++ s) (said_cut _ ls))
+  said_cut v (l ∷ ls) =
+      said_next v (cut_line l) (cut_lines ls)
+      ∙ ap (λ (a : Answer). said a ++ said_of homes paths params (after_line homes paths params v (cut_line l)) (cut_lines ls)) (answer_cut l v)
+      ∙ ap (λ (w : Variables). said (normaliser (given_line homes paths params l v)) ++ said_of homes paths params w (cut_lines ls)) (after_cut v l)
+      ∙ ap (λ (s : Text). said (normaliser (given_line homes paths params l v)) ++ s) (said_cut (after_line homes paths params v l) ls)
+      ∙ sym (said_next v l ls)
 
   pub after_lines_cut : (v : Variables) (ls : List Text) → after_lines homes paths params v (cut_lines ls) ≡ after_lines homes paths params v ls
-  unfolding after_lines
   after_lines_cut v [] = refl
-  after_lines_cut v (l ∷ ls) = ap (λ (w : Variables). after_lines homes paths params w (cut_lines ls)) (after_cut v l) ∙ after_lines_cut _ ls
+  after_lines_cut v (l ∷ ls) =
+      after_next v (cut_line l) (cut_lines ls)
+      ∙ ap (λ (w : Variables). after_lines homes paths params w (cut_lines ls)) (after_cut v l)
+      ∙ after_lines_cut (after_line homes paths params v l) ls
+      ∙ sym (after_next v l ls)
 
   pub told_cut : (v : Variables) (n : ℕ) (ls : List Text) → told_of homes paths params v n (cut_lines ls) ≡ told_of homes paths params v n ls
-  unfolding told_of
   told_cut v n [] = refl
-  told_cut v n (l ∷ ls) = rw (answer_cut l v) (ap (λ (s : Text). told n (normaliser (given_line homes paths params l v)) ++ s) (told_cut _ _ ls))
+  told_cut v n (l ∷ ls) =
+      told_next v n (cut_line l) (cut_lines ls)
+      ∙ ap
+      (λ (a : Answer). told n a ++ told_of homes paths params (after_line homes paths params v (cut_line l)) (next_number n) (cut_lines ls))
+      (answer_cut l v)
+      ∙ ap
+      (λ (w : Variables). told n (normaliser (given_line homes paths params l v)) ++ told_of homes paths params w (next_number n) (cut_lines ls))
+      (after_cut v l)
+      ∙ ap (λ (s : Text). told n (normaliser (given_line homes paths params l v)) ++ s) (told_cut (after_line homes paths params v l) (next_number n) ls)
+      ∙ sym (told_next v n l ls)
 
   -- lines one by one: what is said of some and then of others, and the variables after them
   pub said_append : (v : Variables) (ls ms : List Text)

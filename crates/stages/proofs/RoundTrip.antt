@@ -16,7 +16,7 @@ use Rattle.stages.specs.Syntax.{Parts, Word}
 use Rattle.stages.specs.Read.{read_line}
 use Rattle.stages.specs.Units.{L, Q, cell, N, Row, marked, bytes}
 use Rattle.stages.specs.Params.{Lent}
-use Rattle.stages.specs.Expand.{expand, in_quotes}
+use Rattle.stages.specs.Expand.{expand}
 use Rattle.stages.specs.Split.{fields_of_row}
 use Rattle.stages.specs.Paths.{texts_of_fields}
 use Rattle.stages.specs.Quote.{Way, singled, dollared, is_bare, has_control, way_of, quoted_byte, quoted_bytes, enclosed, written, quoted_field, quoted_line}

@@ -8,7 +8,6 @@ use mathlib.Core.Bool.{Bool, true, false}
 use mathlib.Core.List.{[], ◌∷◌}
 use mathlib.Core.Option.{Option, none, some}
 use lib.Dec.{ltb}
-use lib.ListN.{length}
 use lib.IntN.{ℤ, pos, negsuc, neg_ℤ, ◌+ℤ◌, ◌-ℤ◌, ◌*ℤ◌}
 use lib.Signed.{quot_z, rem_z, shr_z}
 use borrow.Author.Tests.{le-leb}
@@ -21,7 +20,7 @@ use Rattle.stages.specs.Units.{digits, decimal}
 use Rattle.stages.specs.Constants.{fits, ranged, constant, minus_of, valued, signed}
 use Rattle.stages.specs.Arith.{is_zero, is_true, divided, shifted, operator, Op, mul, div, rem, add, sub, shl, shr, lt, le, gt, ge, eq, ne}
 use Rattle.stages.specs.Arith.{bit_and, bit_xor, bit_or, log_and, log_or, log_not, bit_not, early, apply, apply_alone}
-use Rattle.stages.specs.Arith.{Tree, constant_of, name_of, unary, binary, choice, assign, tree, Evaluated, with_variables, unless}
+use Rattle.stages.specs.Arith.{Tree, constant_of, name_of, unary, binary, choice, assign, Evaluated, with_variables, unless}
 use Rattle.stages.specs.Arith.{name_number, value_of, updated, keeping, storing, evaluate, arithmetic_of}
 use Rattle.stages.proofs.Bools.{and_both}
 use Rattle.stages.proofs.Texts.{all_append}

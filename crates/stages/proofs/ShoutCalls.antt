@@ -2,7 +2,7 @@
 -- normaliser and the assigner is the one with the switch off, but where the number is 25.
 use Prim.Native.Nat.{ℕ, ◌+◌}
 use native.Mathlib.Omega.{arith}
-use mathlib.Core.Path.{◌≡◌, refl, ap, ◌∙◌}
+use mathlib.Core.Path.{◌≡◌, refl}
 use mathlib.Core.Bool.{false, not}
 use mathlib.Core.List.{List, [], ◌∷◌}
 use lib.Dec.{leb}
@@ -11,15 +11,14 @@ use Rattle.stages.specs.Numbers.{accepted, work_too_small, bad_variables, bad_ho
 use Rattle.stages.specs.Numbers.{work_least, line_limit, image_limit}
 use Rattle.stages.specs.Bytes.{Text, is_in}
 use Rattle.stages.specs.Outcome.{Outcome, Placed, refused_at, demands_at, done_at, placed_at, ◌then◌, require}
-use Rattle.stages.specs.Images.{Pairs, image, record_bytes, variables_of, homes_of, paths_of, fields_of}
+use Rattle.stages.specs.Images.{Pairs, record_bytes, variables_of, homes_of, paths_of, fields_of}
 use Rattle.stages.specs.Syntax.{Parts, Word, Assignment}
 use Rattle.stages.specs.Units.{L}
 use Rattle.stages.specs.Params.{Lent}
-use Rattle.stages.specs.Expand.{expand}
 use Rattle.stages.specs.Read.{read_line}
 use Rattle.stages.specs.Line.{Around, word_fields, out_fits, expand_words, expand_line}
 use Rattle.stages.specs.Assign.{read_assignments, assign, assign_all, assign_line}
-use Rattle.stages.specs.Call.{Given, Answer, or_refused, expanded, answered, expander, quoted_in, normaliser, assigned, settled, assigner}
+use Rattle.stages.specs.Call.{Given, Answer, or_refused, expanded, answered, expander, normaliser, assigned, settled, assigner}
 use Rattle.stages.proofs.Shouts.{Under, shouts_first, same, under_bind, quietly, expand_under}
 
 -- PLACES

@@ -1,6 +1,6 @@
 -- Document 02, E14: what the switch changes in an expansion: it is refused with 25, or it is what it is with the switch off.
 use Prim.Native.Nat.{ℕ, ◌+◌}
-use mathlib.Core.Path.{◌≡◌, refl, ap, ◌∙◌}
+use mathlib.Core.Path.{◌≡◌, refl, ap}
 use mathlib.Core.Bool.{Bool, true, false}
 use mathlib.Core.List.{[], ◌∷◌}
 use mathlib.Core.Option.{Option, none, some}
@@ -146,22 +146,22 @@ module _ (a : Lent) where
     parameter_under plain m v = under_bind _ _ (sought_under v x) (λ t. same)
     parameter_under (minus c) m v =
         either (missing a c x v)
-        (λ e. rw (e, parameter, missing_quiet c x v ∙ e, parameter) (h (expanded_mark m) v))
-        (λ e. rw (e, parameter, missing_quiet c x v ∙ e, parameter) (given_under x m v))
+        (λ e. rw (e, parameter) (h (expanded_mark m) v))
+        (λ e. rw (e, parameter) (given_under x m v))
     parameter_under (equals c) m v =
         either (missing a c x v)
-        (λ e. rw (e, parameter, missing_quiet c x v ∙ e, parameter)
+        (λ e. rw (e, parameter)
         (under_bind (λ p. assigned a x m p) (λ p. assigned (quietly a) x m p) (h m v) (λ p. assigned_under x m p)))
-        (λ e. rw (e, parameter, missing_quiet c x v ∙ e, parameter) (given_under x m v))
+        (λ e. rw (e, parameter) (given_under x m v))
     parameter_under (query c) m v =
         either (missing a c x v)
-        (λ e. rw (e, parameter, missing_quiet c x v ∙ e, parameter)
+        (λ e. rw (e, parameter)
         (under_bind (λ p. demand p) (λ p. demand p) (h m v) (λ p. same)))
-        (λ e. rw (e, parameter, missing_quiet c x v ∙ e, parameter) (given_under x m v))
+        (λ e. rw (e, parameter) (given_under x m v))
     parameter_under (plus c) m v =
         either (missing a c x v)
-        (λ e. rw (e, parameter, missing_quiet c x v ∙ e, parameter) same)
-        (λ e. rw (e, parameter, missing_quiet c x v ∙ e, parameter) (h (expanded_mark m) v))
+        (λ e. rw (e, parameter) same)
+        (λ e. rw (e, parameter) (h (expanded_mark m) v))
     parameter_under (removal s reach) m v = under_bind _ _ (sought_under v x) (λ _. under_bind _ _ (h L v) (λ p. cut_under s reach x m p))
 
   -- PARTS

@@ -1,6 +1,6 @@
 -- Document 02, E5: what `"$@"` gives, with text before it and behind it. Its row is quiet between its break marks, and each part has an empty mark, so that
 -- each is one field of its bytes.
-use Prim.Native.Nat.{suc, ◌+◌, ◌≤◌}
+use Prim.Native.Nat.{suc, ◌≤◌}
 use native.Mathlib.Omega.{arith}
 use mathlib.Core.Path.{◌≡◌, refl, sym, ap, ◌∙◌}
 use mathlib.Core.Bool.{false}

@@ -1,6 +1,6 @@
 -- Document 02, E6: the grammar in two storeys, for a reader whose stack does not grow with the text. Below are the operators of the table; above them stands
 -- `?:`, at most one behind an expression of the lower storey, and what is behind its colon is again one of these.
-use Prim.Native.Nat.{ℕ, zero, suc, ◌≤◌, ◌<◌}
+use Prim.Native.Nat.{ℕ, suc, ◌≤◌, ◌<◌}
 use native.Mathlib.Omega.{arith}
 use mathlib.Core.Path.{◌≡◌, refl, sym, ap, ◌∙◌}
 use mathlib.Core.Bool.{Bool, true, false}
@@ -8,11 +8,11 @@ use lib.Dec.{leb}
 use lib.ListN.{length}
 use Rattle.stages.specs.Recur.{by_size}
 use Rattle.stages.specs.Bytes.{Text}
-use Rattle.stages.specs.Outcome.{Outcome, refused, done, ◌>>=◌}
+use Rattle.stages.specs.Outcome.{refused, demands, done, ◌>>=◌}
 use Rattle.stages.specs.Arith.{Op, mul, div, rem, add, sub, shl, shr, lt, le, gt, ge, eq, ne, bit_and, bit_xor, bit_or, log_and, log_or, log_not, bit_not}
 use Rattle.stages.specs.Arith.{operator, level}
-use Rattle.stages.specs.Arith.{whole_level, choice_level, Token, ends, num, name, op, opens, query, gets, Lexed, token, Tree, binary, Grown, Task}
-use Rattle.stages.specs.Arith.{operand, further, expression}
+use Rattle.stages.specs.Arith.{whole_level, choice_level, Token, ends, num, name, op, opens, query, gets, Lexed, token, Tree, binary, Grown}
+use Rattle.stages.specs.Arith.{further, expression}
 use Rattle.stages.specs.Arith.{choice_at, further_at, grow_step, grow}
 use Rattle.stages.proofs.Arith.{Lexes, lex_more, token_left, Leaves, some_left, expression_left, grow_left, grow_eq}
 
@@ -88,12 +88,14 @@ module _ (d k : ℕ) (gap : (o : Op) → leb k (level o) ≡ leb lowest (level o
   joined : (o : Op) (l : Tree) (n : ℕ) (r : Grown) → Leaves n r → ((u : Text) → length u ≤ n → Storeys u)
       → (r >>= λ q. grow (further k (binary o l q.0), d, q.1)) ≡ ((r >>= λ q. grow (further lowest (binary o l q.0), d, q.1)) >>= upstairs d)
   unfolding Storeys
+  joined o l n (demands _) w ih = elim w [ ]
   joined o l n (refused e) w ih = refl
   joined o l n (done q) (some_left w) ih = ih q.1 w (binary o l q.0)
 
   here : (t : Text) → ((u : Text) → length u < length t → Storeys u) → (l : Tree) (o : Lexed) → token t ≡ o → Lexes (length t) o
       → (o >>= λ p. further_at grow d k l t p) ≡ ((o >>= λ p. further_at grow d lowest l t p) >>= upstairs d)
   unfolding further_at asked
+  here t ih l (demands _) q w = elim w [ ]
   here t ih l (refused e) q w = refl
   here t ih l (done (ends e, u)) q w = sym (rw (q, asked))
   here t ih l (done (num z, u)) q w = sym (rw (q, asked))

@@ -14,7 +14,7 @@ use Rattle.stages.specs.Images.{Pairs, stored, flat, image_length}
 use Rattle.stages.specs.Syntax.{var}
 use Rattle.stages.specs.Params.{Lent, holding, store, store_in}
 use Rattle.stages.specs.Constants.{fits, signed}
-use Rattle.stages.specs.Arith.{Op, early, is_true, Tree, binary, choice, unless, name_number, value_of, evaluate, arithmetic_of}
+use Rattle.stages.specs.Arith.{Op, early, is_true, Tree, binary, choice, name_number, value_of, evaluate, arithmetic_of}
 use Rattle.stages.proofs.Bools.{either}
 use Rattle.stages.proofs.Outcomes.{done_same, never}
 use Rattle.stages.proofs.Stores.{lookup_stored}

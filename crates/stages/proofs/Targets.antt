@@ -12,7 +12,7 @@ use lib.ListN.{length}
 use Rattle.stages.specs.Recur.{by_size}
 use Rattle.stages.specs.Numbers.{open_limit}
 use Rattle.stages.specs.Bytes.{Text, span, is_name_start, is_name_byte}
-use Rattle.stages.specs.Outcome.{Outcome, refused, done, ◌>>=◌}
+use Rattle.stages.specs.Outcome.{refused, demands, done, ◌>>=◌}
 use Rattle.stages.specs.Images.{is_name}
 use Rattle.stages.specs.Constants.{constant}
 use Rattle.stages.specs.Arith.{Op, level, is_sign, whole_level, choice_level, End, stop, shuts, colon, Token, ends, num, name, op, opens, query, gets}
@@ -95,6 +95,7 @@ grown_named f h (a_tree {p = p} w) = a_tree {p = (f p.0, p.1)} (h p.0 w)
 
 ended_named : (e : End) (l : Tree) → Named l → (n : ℕ) (o : Lexed) → Lexes n o → Grows (o >>= λ s. ended e l s)
 unfolding ended
+ended_named e l w n (demands _) h = elim h [ ]
 ended_named e l w n (refused i) h = no_tree
 ended_named e l w n (done (ends i, u)) h = go (eqb (rank e) (rank i)) refl
   where
@@ -115,6 +116,7 @@ NamedTask (further k l) = Named l
 
 module _ (n : ℕ) (ih : (a : Task × ℕ × Text) → grow_size a < n → NamedTask a.0 → Grows (grow a)) where
   behind_operand : (d k i : ℕ) (r : Grown) → i < n → Leaves i r → Grows r → Grows (r >>= λ p. grow (further k p.0, d, p.1))
+  behind_operand d k i (demands _) h l g = elim l [ ]
   behind_operand d k i (refused e) h l g = no_tree
   behind_operand d k i (done p) h (some_left l) (a_tree w) = ih (further k p.0, d, p.1) (omega arith) w
 
@@ -124,6 +126,7 @@ module _ (n : ℕ) (ih : (a : Task × ℕ × Text) → grow_size a < n → Named
       (ih (operand (leb k whole_level), d, t) h tt)
 
   closed_named : (e : End) (r : Grown) → Grows r → Grows (r >>= λ q. token q.1 >>= λ s. ended e q.0 s)
+  closed_named e (demands _) g = elim g [ ]
   closed_named e (refused i) g = no_tree
   closed_named e (done q) (a_tree w) = ended_named e q.0 w (length q.1) (token q.1) (token_left q.1)
 
@@ -144,6 +147,7 @@ module _ (n : ℕ) (ih : (a : Task × ℕ × Text) → grow_size a < n → Named
 
   target_named : (d : ℕ) (x t : Text) → is_name x ≡ true → (o : Lexed) → Lexes (length t) o → length t < n → Grows (o >>= λ p. target_at grow d x t p)
   unfolding target_at
+  target_named d x t i (demands _) l h = elim l [ ]
   target_named d x t i (refused e) l h = no_tree
   target_named d x t i (done (ends e, u)) l h = a_tree {p = (name_of x, t)} tt
   target_named d x t i (done (num z, u)) l h = a_tree {p = (name_of x, t)} tt
@@ -155,6 +159,7 @@ module _ (n : ℕ) (ih : (a : Task × ℕ × Text) → grow_size a < n → Named
 
   operand_named : (i : ℕ) (first : Bool) (d : ℕ) (o : Lexed) → Lexes i o → SureToken o → i ≤ n → Grows (o >>= λ p. operand_at grow first d p)
   unfolding operand_at
+  operand_named i b d (demands _) l s h = elim l [ ]
   operand_named i b d (refused e) l s h = no_tree
   operand_named i b d (done (ends e, u)) l s h = no_tree
   operand_named i b d (done (num z, u)) l s h = a_tree {p = (constant_of z, u)} tt
@@ -167,6 +172,7 @@ module _ (n : ℕ) (ih : (a : Task × ℕ × Text) → grow_size a < n → Named
 
   other_named : (d i : ℕ) (l : Tree) → Named l → (r : Grown) → i < n → Leaves i r → Grows r
       → Grows (r >>= λ a. grown (choice l a.0) (expression grow d choice_level a.1))
+  other_named d i l w (demands _) h m g = elim m [ ]
   other_named d i l w (refused e) h m g = no_tree
   other_named d i l w (done a) h (some_left m) (a_tree g) =
       grown_named (choice l a.0) (λ r k. (w, g, k)) (expression_named d choice_level a.1 (omega arith))
@@ -179,11 +185,13 @@ module _ (n : ℕ) (ih : (a : Task × ℕ × Text) → grow_size a < n → Named
 
   joined_named : (o : Op) (l : Tree) (d k i : ℕ) → Named l → (r : Grown) → i < n → Leaves i r → Grows r
       → Grows (r >>= λ q. grow (further k (binary o l q.0), d, q.1))
+  joined_named o l d k i w (demands _) h m g = elim m [ ]
   joined_named o l d k i w (refused e) h m g = no_tree
   joined_named o l d k i w (done q) h (some_left m) (a_tree g) = ih (further k (binary o l q.0), d, q.1) (omega arith) (w, g)
 
   further_named : (d k : ℕ) (l : Tree) (t : Text) → Named l → (o : Lexed) → Lexes (length t) o → length t ≤ n → Grows (o >>= λ p. further_at grow d k l t p)
   unfolding further_at
+  further_named d k l t w (demands _) m h = elim m [ ]
   further_named d k l t w (refused e) m h = no_tree
   further_named d k l t w (done (ends e, u)) m h = a_tree {p = (l, t)} w
   further_named d k l t w (done (num z, u)) m h = a_tree {p = (l, t)} w

@@ -4,7 +4,7 @@ use mathlib.Core.Path.{◌≡◌, refl}
 use mathlib.Core.Bool.{true}
 use mathlib.Core.List.{List, [], ◌∷◌}
 use Rattle.stages.specs.Bytes.{text}
-use Rattle.stages.specs.Outcome.{refused_at, done_at, demands_at}
+use Rattle.stages.specs.Outcome.{done_at, demands_at}
 use Rattle.stages.proofs.Recipes.{Settings, Case, all_pass}
 
 -- what is set: a home with a blank and a pattern byte, and values that begin with it; `y` is unset

@@ -2,7 +2,7 @@
 -- tables that differ only in the value of IFS and in the list of paths the same field, and variables that are equal but for IFS.
 use Prim.Native.Nat.{ℕ, ◌≤◌}
 use native.Mathlib.Omega.{arith}
-use mathlib.Core.Path.{◌≡◌, refl, sym, ap, ◌∙◌}
+use mathlib.Core.Path.{◌≡◌, refl, sym, ap, subst, ◌∙◌}
 use mathlib.Core.Bool.{true, ◌&&◌}
 use mathlib.Core.List.{[], ◌∷◌}
 use mathlib.Core.Option.{Option, none, some}
@@ -13,7 +13,7 @@ use Rattle.stages.specs.Numbers.{line_limit, image_limit}
 use Rattle.stages.specs.Bytes.{Text}
 use Rattle.stages.specs.Outcome.{Placed, refused_at, demands_at, done_at, ◌then◌}
 use Rattle.stages.specs.Images.{Pairs, flat, image, image_length, held, variables_of, homes_of, paths_of, fields_of}
-use Rattle.stages.specs.Line.{Fields}
+use Rattle.stages.specs.Line.{Fields, expand_line}
 use Rattle.stages.specs.Quote.{quoted_line}
 use Rattle.stages.specs.Call.{Given, Answer, or_refused, expanded, answered, expander, quoted_in, normaliser}
 use Rattle.stages.specs.Together.{together, but_ifs, vars_after, Differ}
@@ -49,7 +49,11 @@ expanded_both g h m n u d =
     (λ v w e f. table_both bad_homes (homes_of g.homes) (homes_of h.homes) _ _
     (λ a b i j. table_both bad_paths (paths_of g.paths) (paths_of h.paths) _ _
     (λ p q _ _. table_both bad_parameters (fields_of g.params) (fields_of h.params) _ _
-    (λ ps qs y z. rw (← d.line)
+    (λ ps qs y z. subst
+    (λ (t : Text). BothAt (Agree One)
+    (expand_line (record { lent = record { room = length g.vars; homes = a; params = ps; shouts = g.shouts }; out = m; paths = p }) g.line v)
+    (expand_line (record { lent = record { room = length h.vars; homes = b; params = qs; shouts = h.shouts }; out = n; paths = q }) t w))
+    d.line
     (line_both
     (record { lent = record { room = length g.vars; homes = a; params = ps; shouts = g.shouts }; out = m; paths = p })
     (record { lent = record { room = length h.vars; homes = b; params = qs; shouts = h.shouts }; out = n; paths = q })

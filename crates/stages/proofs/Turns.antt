@@ -1,14 +1,14 @@
 -- Document 02, E6 and E10: reading a whole expression as a loop, with a count of the colons that are still to come in the place of a stack. Each turn of the
 -- loop is a law.
 use Prim.Native.Nat.{ℕ, zero, suc}
-use mathlib.Core.Path.{◌≡◌, refl, sym, ap, ◌∙◌}
+use mathlib.Core.Path.{◌≡◌, refl, ap, ◌∙◌}
 use mathlib.Core.Bool.{true, false}
 use mathlib.Core.Option.{Option}
 use Rattle.stages.specs.Numbers.{arithmetic_syntax}
 use Rattle.stages.specs.Bytes.{Text}
 use Rattle.stages.specs.Outcome.{Outcome, refused, demands, done, ◌>>=◌}
-use Rattle.stages.specs.Arith.{Op, whole_level, choice_level, End, stop, shuts, colon, Token, ends, num, name, op, opens, query, gets, Lexed, token}
-use Rattle.stages.specs.Arith.{Tree, choice, assign, Grown, grown, Task, operand, further, expression, ended, up_to, choice_at, grow}
+use Rattle.stages.specs.Arith.{Op, whole_level, choice_level, stop, shuts, colon, Token, ends, num, name, op, opens, query, gets, Lexed, token}
+use Rattle.stages.specs.Arith.{Tree, choice, assign, Grown, grown, operand, further, expression, ended, up_to, choice_at, grow}
 use Rattle.stages.proofs.Storeys.{lowest, asked, upstairs, whole_storeys, choice_storeys}
 use Rattle.stages.proofs.Ended.{assignment, NoTarget, choice_above, whole_above}
 

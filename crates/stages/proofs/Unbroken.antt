@@ -10,7 +10,7 @@ use lib.ListN.{length}
 use Rattle.stages.specs.Bytes.{Text}
 use Rattle.stages.specs.Outcome.{Outcome, refused, done, ◌>>=◌, demands}
 use Rattle.stages.specs.Images.{Pairs}
-use Rattle.stages.specs.Syntax.{Param, Lists, served, barred, Form, plain, minus, equals, query, plus, removal}
+use Rattle.stages.specs.Syntax.{Param, Lists, barred, Form, plain, minus, equals, query, plus, removal}
 use Rattle.stages.specs.Syntax.{Parts, end, lit, quo, par, len, lst, ari, til, Start}
 use Rattle.stages.specs.Syntax.{value as aValue}
 use Rattle.stages.specs.Items.{both, lists_in}

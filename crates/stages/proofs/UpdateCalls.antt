@@ -11,7 +11,7 @@ use lib.Dec.{eqb, leb}
 use lib.ListN.{length, take, drop, replicate}
 use lib.Seq.{length-take-le}
 use borrow.Author.Tests.{le-leb}
-use Rattle.stages.specs.Numbers.{accepted, bad_paths, output_room, bad_path, paths_limit}
+use Rattle.stages.specs.Numbers.{accepted, bad_paths, output_room, bad_path}
 use Rattle.stages.specs.Bytes.{Text, text, eq_text}
 use Rattle.stages.specs.Outcome.{refused_at, done_at, pick}
 use Rattle.stages.specs.Images.{image, paths_of}

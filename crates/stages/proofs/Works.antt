@@ -12,7 +12,7 @@ use Rattle.stages.specs.Bytes.{Text}
 use Rattle.stages.specs.Outcome.{Outcome, refused, demands, done, ◌>>=◌, choose}
 use Rattle.stages.specs.Images.{Pairs}
 use Rattle.stages.specs.Params.{Lent}
-use Rattle.stages.specs.Arith.{Op, is_true, whole_level, choice_level, End, stop, shuts, colon, Token, ends, num, name, op, opens, query, gets, Lexed, token}
+use Rattle.stages.specs.Arith.{Op, is_true, whole_level, choice_level, End, colon, Token, ends, num, name, op, opens, query, gets, Lexed, token}
 use Rattle.stages.specs.Arith.{Tree, choice, assign, Grown, grown, expression, rank, ended, up_to, choice_at, grow, Evaluated, storing, evaluate}
 use Rattle.stages.proofs.Outcomes.{done_same, never, never_asks}
 use Rattle.stages.proofs.Storeys.{lowest, asked, upstairs}

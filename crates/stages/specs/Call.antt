@@ -1,5 +1,5 @@
 -- Document 01, "What a call gives back", and document 02, E7, E9, E10 and E14: the four jobs, from all that is given to all that comes back.
-use Rattle.std.specs.Prelude.{ℕ, ◌+◌, ◌-◌, Bool, ◌&&◌, [], ◌++◌, leb, length, take, drop, replicate}
+use Rattle.std.specs.Prelude.{ℕ, ◌-◌, Bool, ◌&&◌, [], ◌++◌, leb, length, take, drop, replicate}
 use Rattle.std.proofs.Math.Option.{Option, none, some}
 use Rattle.stages.specs.Numbers.{accepted, work_too_small, bad_variables, bad_homes, bad_paths, demanded, output_room, bad_fields, bad_parameters, work_least}
 use Rattle.stages.specs.Numbers.{line_limit, image_limit}

@@ -1,5 +1,5 @@
 -- Document 02, E12: what stands behind a backslash in `$'...'`. Octal and hexadecimal digits are arithmetic's, by the one definition of digits in a base.
-use Rattle.std.specs.Prelude.{ℕ, ◌+◌, Bool, true, false, List, [], ◌∷◌, eqb, length, take}
+use Rattle.std.specs.Prelude.{ℕ, ◌+◌, List, [], ◌∷◌, eqb, length, take}
 use Prim.Native.Char.{code}
 use Rattle.std.proofs.Math.Option.{Option, none, some}
 use Rattle.stages.specs.Numbers.{unended, bad_syntax}

@@ -1,5 +1,5 @@
 -- Document 01, "The program", and document 02, E7 and E14: what it writes for what it reads.
-use Rattle.std.specs.Prelude.{ℕ, suc, ◌+◌, ◌-◌, Bool, true, false, List, [], ◌∷◌, ◌++◌, eqb, leb, length, take, replicate}
+use Rattle.std.specs.Prelude.{ℕ, suc, ◌-◌, Bool, true, false, List, [], ◌∷◌, ◌++◌, eqb, leb, length, take, replicate}
 use Prim.Native.Char.{code}
 use Rattle.std.proofs.Math.Option.{Option, none, some}
 use Rattle.stages.specs.Numbers.{work_least, image_limit, row_limit, count_limit, demanded}

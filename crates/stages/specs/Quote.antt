@@ -1,5 +1,5 @@
 -- Document 01, "The quoted line", and what E2 and E12 of document 02 make of it: a field is written in one of three ways.
-use Rattle.std.specs.Prelude.{ℕ, ◌+◌, ◌/◌, ◌%◌, Bool, true, false, ◌&&◌, not, List, [], ◌∷◌, ◌++◌, eqb}
+use Rattle.std.specs.Prelude.{ℕ, ◌+◌, ◌/◌, ◌%◌, Bool, ◌&&◌, not, List, [], ◌∷◌, ◌++◌, eqb}
 use Prim.Native.Char.{code}
 use Rattle.stages.specs.Bytes.{Text, text, is_in, all, is_bare_byte, is_control, not_control}
 use Rattle.stages.specs.Outcome.{pick}

@@ -12,46 +12,46 @@ use Rattle.text.proofs.Scans.{Running, run_starts, run_stops, run_goes, run_ends
 use Rattle.text.proofs.run_end.Statement.{statement}
 use Rattle.text.proofs.run_end.Tie as tie
 
-abbrev invariant_loop : tie.invariant_loop
+abbrev invariant_loop : tie.invariant-loop-i
 invariant_loop text at words i₀ i = (class : Class) → words ≡ words_of class → Running class text at i
 
-abbrev decreases_loop : tie.decreases_loop
+abbrev decreases_loop : tie.decreases-loop-i
 decreases_loop text at words i₀ i = length text - i
 
-words-of-requires : tie.Need-words-of-requires invariant_loop decreases_loop
+words-of-requires : tie.Need-words_of-words-requires invariant_loop decreases_loop
 words-of-requires c κs = search rules
 
-loop-holds : tie.Need-loop-init invariant_loop decreases_loop
-loop-holds c class e = run_starts _ _ _ c.before.before.requires
+loop-holds : tie.Need-loop-i-init invariant_loop decreases_loop
+loop-holds c class e = run_starts _ _ _ c.requires
 
-shared-slice-read-has-bit : tie.Need-shared-slice-read-has-bit invariant_loop decreases_loop
+shared-slice-read-has-bit : tie.Need-bounds-text-i invariant_loop decreases_loop
 shared-slice-read-has-bit c = omega arith
 
-has-bit-requires : tie.Need-has-bit-requires invariant_loop decreases_loop
+has-bit-requires : tie.Need-has_bit-requires invariant_loop decreases_loop
 has-bit-requires c κs = search rules
 
-returns : tie.Need-returns invariant_loop decreases_loop
+returns : tie.Need-returns-then-not-has_bit invariant_loop decreases_loop
 returns c =
-    let w = c.before.before.before.before.before.before in
-    let m = w.before.before.args.class in
-    run_stops _ _ _ _ (c.before.before.before.before.before.loop.invariant m w.words_of.ensures) (omega arith)
-    (bit_told (in_class m) (bit_is m) w.words_of.ensures c.before.has-bit.ensures (not-true _ c.if1.true))
+    let w = c in
+    let m = w.args.class in
+    run_stops _ _ _ _ (c.loop-i.invariant m w.words_of-words.ensures) (omega arith)
+    (bit_told (in_class m) (bit_is m) w.words_of-words.ensures c.has_bit.ensures (not-true _ c.if-not-has_bit.true-raw))
 
-add-i : tie.Need-overflow-add-i invariant_loop decreases_loop
+add-i : tie.Need-overflow_add-i invariant_loop decreases_loop
 add-i c = omega arith
 
-loop-less : tie.Need-loop-smaller invariant_loop decreases_loop
+loop-less : tie.Need-loop-i-smaller invariant_loop decreases_loop
 loop-less c = omega arith
 
-loop-again : tie.Need-loop-preserved invariant_loop decreases_loop
+loop-again : tie.Need-loop-i-preserved invariant_loop decreases_loop
 loop-again c class e =
-    run_goes _ _ _ _ (c.before.before.before.before.before.loop.invariant class e) (omega arith)
-    (bit_told (in_class class) (bit_is class) e c.before.has-bit.ensures (not-false _ c.if1.false))
+    run_goes _ _ _ _ (c.loop-i.invariant class e) (omega arith)
+    (bit_told (in_class class) (bit_is class) e c.has_bit.ensures (not-false _ c.if-not-has_bit.false-raw))
 
-returns-2 : tie.Need-returns-2 invariant_loop decreases_loop
+returns-2 : tie.Need-returns invariant_loop decreases_loop
 returns-2 c =
-    let w = c.before.before in
-    run_ends _ _ _ _ (c.before.loop.invariant w.before.before.args.class w.words_of.ensures) (omega arith)
+    let w = c in
+    run_ends _ _ _ _ (c.loop-i.invariant w.args.class w.words_of-words.ensures) (omega arith)
 
 pub run_end_spec : {M : Type 1} → statement M
 run_end_spec =
