@@ -9,4 +9,5 @@ returns : tie.Need-returns
 returns c = ap done (and_is c.args.a c.args.b c.ranges.a c.ranges.b)
 
 pub bits_and_spec : {M : Type 1} → statement M
-bits_and_spec = tie.close (tie.spec returns)
+bits_and_spec = tie.close (tie.spec
+    returns)

@@ -4,13 +4,15 @@ use Rattle.arith_int.proofs.Shifts.{count_below, count_from_zero}
 use Rattle.arith_int.proofs.is_count.Statement.{statement}
 use Rattle.arith_int.proofs.is_count.Tie as tie
 
-returns : tie.Need-returns
-returns c = let s = c.before in count_below s.args.b (rw (held s.args.b s.ranges.b) at c.if1.true)
+returns : tie.Need-returns-then-b-lt0
+returns c = let s = c in count_below s.args.b (rw (held s.args.b s.ranges.b) at c.if-b-lt0.true)
 
-returns-2 : tie.Need-returns-2
+returns-2 : tie.Need-returns
 returns-2 c =
-    let s = c.before in
-    rw (held s.args.b s.ranges.b) (count_from_zero s.args.b (rw (held s.args.b s.ranges.b) at c.if1.false))
+    let s = c in
+    rw (held s.args.b s.ranges.b) (count_from_zero s.args.b (rw (held s.args.b s.ranges.b) at c.if-b-lt0.false))
 
 pub is_count_spec : {M : Type 1} → statement M
-is_count_spec = tie.close (tie.spec returns returns-2)
+is_count_spec = tie.close (tie.spec
+    returns
+    returns-2)

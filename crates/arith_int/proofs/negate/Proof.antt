@@ -7,19 +7,22 @@ use Rattle.arith_int.proofs.Ranges.{least, held, bits_eq, bits_ne, neg_fits, lea
 use Rattle.arith_int.proofs.negate.Statement.{statement}
 use Rattle.arith_int.proofs.negate.Tie as tie
 
-returns : tie.Need-returns
-returns c = least_turned c.before.args.a (bits_eq c.before.args.a least c.before.ranges.a (sfits_lit tt) c.if1.true)
+returns : tie.Need-returns-then-a-eq-SMALLEST
+returns c = least_turned c.args.a (bits_eq c.args.a least c.ranges.a (sfits_lit tt) c.if-a-eq-SMALLEST.true)
 
-fits : (c : tie.Else1) → SFits w64 (neg_ℤ c.before.args.a)
-fits c = neg_fits c.before.args.a c.before.ranges.a (bits_ne c.before.args.a least c.if1.false)
+fits : (c : tie.Else-a-eq-SMALLEST) → SFits w64 (neg_ℤ c.args.a)
+fits c = neg_fits c.args.a c.ranges.a (bits_ne c.args.a least c.if-a-eq-SMALLEST.false)
 
-sub-t3 : tie.Need-overflow-sub-t3
-sub-t3 c = rw (held c.before.args.a c.before.ranges.a, +ℤ_idl (neg_ℤ c.before.args.a)) (fits c)
+sub-t3 : tie.Need-overflow_sub-result
+sub-t3 c = rw (held c.args.a c.ranges.a, +ℤ_idl (neg_ℤ c.args.a)) (fits c)
 
-returns-2 : tie.Need-returns-2
+returns-2 : tie.Need-returns
 returns-2 c =
-    let a = c.before.args.a in
-    rw (held a c.before.ranges.a, +ℤ_idl (neg_ℤ a), held (neg_ℤ a) (fits c)) (value (neg_ℤ a) (fits c))
+    let a = c.args.a in
+    rw (held a c.ranges.a, +ℤ_idl (neg_ℤ a), held (neg_ℤ a) (fits c)) (value (neg_ℤ a) (fits c))
 
 pub negate_spec : {M : Type 1} → statement M
-negate_spec = tie.close (tie.spec returns sub-t3 returns-2)
+negate_spec = tie.close (tie.spec
+    returns
+    sub-t3
+    returns-2)

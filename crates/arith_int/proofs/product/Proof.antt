@@ -9,50 +9,50 @@ use Rattle.arith_int.proofs.Ranges.{held, signs}
 use Rattle.arith_int.proofs.product.Statement.{statement}
 use Rattle.arith_int.proofs.product.Tie as tie
 
-magnitude-requires : tie.Need-magnitude-requires
+magnitude-requires : tie.Need-magnitude-x-requires
 magnitude-requires c κs = search rules
 
-magnitude-requires-2 : tie.Need-magnitude-requires-2
+magnitude-requires-2 : tie.Need-magnitude-y-requires
 magnitude-requires-2 c κs = search rules
 
 -- the two magnitudes
-ax : (c : tie.After-magnitude) → c.magnitude.result ≡ nat_abs c.before.args.a
-ax c = c.magnitude.ensures ∙ rw (held c.before.args.a c.before.ranges.a)
+ax : (c : tie.After-magnitude-x) → c.magnitude-x.result ≡ nat_abs c.args.a
+ax c = c.magnitude-x.ensures ∙ rw (held c.args.a c.ranges.a)
 
-ay : (c : tie.After-magnitude2) → c.magnitude2.result ≡ nat_abs c.before.before.args.b
-ay c = c.magnitude2.ensures ∙ rw (held c.before.before.args.b c.before.before.ranges.b)
+ay : (c : tie.After-magnitude-y) → c.magnitude-y.result ≡ nat_abs c.args.b
+ay c = c.magnitude-y.ensures ∙ rw (held c.args.b c.ranges.b)
 
 multiplied-requires : tie.Need-multiplied-requires
 multiplied-requires c κs = search rules
 
-returns : tie.Need-returns
+returns : tie.Need-returns-then-b-lt0
 returns c =
     let m = c.before.before.before in
-    let s = m.before.before in
+    let s = m in
     c.multiplied.ensures ∙ rw (ax m.before, ay m)
-    (ap ranged (signs s.args.a s.args.b true true (rw (held s.args.a s.ranges.a) at c.before.before.if1.true)
-    (rw (held s.args.b s.ranges.b) at c.before.if2.true)))
+    (ap ranged (signs s.args.a s.args.b true true (rw (held s.args.a s.ranges.a) at c.if-a-lt0.true)
+    (rw (held s.args.b s.ranges.b) at c.if-b-lt0.true)))
 
-multiplied-requires-2 : tie.Need-multiplied-requires-2
+multiplied-requires-2 : tie.Need-multiplied-requires-then-a-lt0
 multiplied-requires-2 c κs = search rules
 
-returns-2 : tie.Need-returns-2
+returns-2 : tie.Need-returns-then-a-lt0
 returns-2 c =
     let m = c.before.before.before in
-    let s = m.before.before in
-    c.multiplied2.ensures ∙ rw (ax m.before, ay m)
-    (ap ranged (signs s.args.a s.args.b true false (rw (held s.args.a s.ranges.a) at c.before.before.if1.true)
-    (rw (held s.args.b s.ranges.b) at c.before.if2.false)))
+    let s = m in
+    c.multiplied-then-a-lt0.ensures ∙ rw (ax m.before, ay m)
+    (ap ranged (signs s.args.a s.args.b true false (rw (held s.args.a s.ranges.a) at c.if-a-lt0.true)
+    (rw (held s.args.b s.ranges.b) at c.if-b-lt0.false)))
 
-multiplied-requires-3 : tie.Need-multiplied-requires-3
+multiplied-requires-3 : tie.Need-multiplied-requires-2
 multiplied-requires-3 c κs = search rules
 
-returns-3 : tie.Need-returns-3
+returns-3 : tie.Need-returns
 returns-3 c =
     let m = c.before.before in
-    let s = m.before.before in
-    c.multiplied3.ensures ∙ rw (ax m.before, ay m, held s.args.b s.ranges.b)
-    (ap ranged (signs s.args.a s.args.b false (lt_z s.args.b (pos 0)) (rw (held s.args.a s.ranges.a) at c.before.if1.false) refl))
+    let s = m in
+    c.multiplied-2.ensures ∙ rw (ax m.before, ay m, held s.args.b s.ranges.b)
+    (ap ranged (signs s.args.a s.args.b false (lt_z s.args.b (pos 0)) (rw (held s.args.a s.ranges.a) at c.if-a-lt0.false) refl))
 
 pub product_spec : {M : Type 1} → statement M
 product_spec =

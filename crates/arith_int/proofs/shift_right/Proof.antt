@@ -13,28 +13,28 @@ use Rattle.arith_int.proofs.Shifts.{count_lt, count_bits, shift_served, shift_re
 use Rattle.arith_int.proofs.shift_right.Statement.{statement}
 use Rattle.arith_int.proofs.shift_right.Tie as tie
 
-is-count-requires : tie.Need-is-count-requires
+is-count-requires : tie.Need-is_count-requires
 is-count-requires c κs = search rules
 
 -- the test, of the number that the code holds
-tested : (c : tie.After-is-count) → c.is-count.result ≡ is_count c.before.args.b
-tested c = c.is-count.ensures ∙ rw (held c.before.args.b c.before.ranges.b)
+tested : (c : tie.After-is_count) → c.is_count.result ≡ is_count c.args.b
+tested c = c.is_count.ensures ∙ rw (held c.args.b c.ranges.b)
 
-returns : tie.Need-returns
+returns : tie.Need-returns-then-not-is_count
 returns c =
-    let s = c.before.before in
+    let s = c in
     shift_refused _ s.args.a s.args.b
-    (sym (tested c.before) ∙ not-true c.before.is-count.result c.if1.true)
+    (sym (tested c.before) ∙ not-true c.is_count.result c.if-not-is_count.true-raw)
 
-served : (c : tie.Else1) → is_count c.before.before.args.b ≡ true
-served c = sym (tested c.before) ∙ not-false c.before.is-count.result c.if1.false
+served : (c : tie.Else-not-is_count) → is_count c.args.b ≡ true
+served c = sym (tested c.before) ∙ not-false c.is_count.result c.if-not-is_count.false-raw
 
-shr-t5 : tie.Need-overflow-shr-t5
-shr-t5 c = let s = c.before.before in rw (count_bits s.args.b (served c)) (count_lt s.args.b (served c))
+shr-t5 : tie.Need-overflow_shr-result
+shr-t5 c = let s = c in rw (count_bits s.args.b (served c)) (count_lt s.args.b (served c))
 
-returns-2 : tie.Need-returns-2
+returns-2 : tie.Need-returns
 returns-2 c =
-    let s = c.before.before in
+    let s = c in
     rw (
       held s.args.a s.ranges.a,
       count_bits s.args.b (served c),
@@ -42,4 +42,8 @@ returns-2 c =
     ) (shift_served (λ z n. done (shr_z z (2 ^ n))) s.args.a s.args.b (served c))
 
 pub shift_right_spec : {M : Type 1} → statement M
-shift_right_spec = tie.close (tie.spec is-count-requires returns shr-t5 returns-2)
+shift_right_spec = tie.close (tie.spec
+    is-count-requires
+    returns
+    shr-t5
+    returns-2)

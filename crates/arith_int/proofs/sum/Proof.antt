@@ -10,82 +10,90 @@ use Rattle.arith_int.proofs.sum.Statement.{statement}
 use Rattle.arith_int.proofs.sum.Tie as tie
 
 -- the tests, of the numbers that the code holds
-minus : (c : tie.Then1) → lt_z c.before.args.b (pos 0) ≡ true
-minus c = rw (held c.before.args.b c.before.ranges.b) at c.if1.true
+minus : (c : tie.Then-b-lt0) → lt_z c.args.b (pos 0) ≡ true
+minus c = rw (held c.args.b c.ranges.b) at c.if-b-lt0.true
 
-plus : (c : tie.Else1) → lt_z c.before.args.b (pos 0) ≡ false
-plus c = rw (held c.before.args.b c.before.ranges.b) at c.if1.false
+plus : (c : tie.Else-b-lt0) → lt_z c.args.b (pos 0) ≡ false
+plus c = rw (held c.args.b c.ranges.b) at c.if-b-lt0.false
 
-sub-if2 : tie.Need-overflow-sub-if2
+sub-if2 : tie.Need-overflow_sub-b
 sub-if2 c =
-    let s = c.before in
+    let s = c in
     rw (held s.args.b s.ranges.b) (low_room s.args.a s.args.b s.ranges.a s.ranges.b (minus c))
 
-returns : tie.Need-returns
+returns : tie.Need-returns-then-a-b
 returns c =
-    let s = c.before.before in
+    let s = c in
     low_over s.args.a s.args.b s.ranges.a s.ranges.b (minus c.before)
     (rw (
       held s.args.a s.ranges.a,
       held s.args.b s.ranges.b,
       held (least -ℤ s.args.b)
           (low_room s.args.a s.args.b s.ranges.a s.ranges.b (minus c.before)),
-    ) at c.if2.true)
+    ) at c.if-a-b.true)
 
-low : (c : tie.Else2) → SFits w64 (c.before.before.args.a +ℤ c.before.before.args.b)
+low : (c : tie.Else-a-b) → SFits w64 (c.args.a +ℤ c.args.b)
 low c =
-    let s = c.before.before in
+    let s = c in
     low_fits s.args.a s.args.b s.ranges.a s.ranges.b (minus c.before)
     (rw (
       held s.args.a s.ranges.a,
       held s.args.b s.ranges.b,
       held (least -ℤ s.args.b)
           (low_room s.args.a s.args.b s.ranges.a s.ranges.b (minus c.before)),
-    ) at c.if2.false)
+    ) at c.if-a-b.false)
 
-add-t4 : tie.Need-overflow-add-t4
-add-t4 c = let s = c.before.before in rw (held s.args.a s.ranges.a, held s.args.b s.ranges.b) (low c)
+add-t4 : tie.Need-overflow_add-result
+add-t4 c = let s = c in rw (held s.args.a s.ranges.a, held s.args.b s.ranges.b) (low c)
 
-returns-2 : tie.Need-returns-2
+returns-2 : tie.Need-returns-then-b-lt0
 returns-2 c =
-    let s = c.before.before in
+    let s = c in
     rw (held s.args.a s.ranges.a, held s.args.b s.ranges.b, held (s.args.a +ℤ s.args.b) (low c)) (value (s.args.a +ℤ s.args.b) (low c))
 
-sub-if3 : tie.Need-overflow-sub-if3
+sub-if3 : tie.Need-overflow_sub-b-2
 sub-if3 c =
-    let s = c.before in
+    let s = c in
     rw (held s.args.b s.ranges.b) (high_room s.args.a s.args.b s.ranges.a s.ranges.b (plus c))
 
-returns-3 : tie.Need-returns-3
+returns-3 : tie.Need-returns-then-b-a
 returns-3 c =
-    let s = c.before.before in
+    let s = c in
     high_over s.args.a s.args.b s.ranges.a s.ranges.b (plus c.before)
     (rw (
       held s.args.a s.ranges.a,
       held s.args.b s.ranges.b,
       held (most -ℤ s.args.b)
           (high_room s.args.a s.args.b s.ranges.a s.ranges.b (plus c.before)),
-    ) at c.if3.true)
+    ) at c.if-b-a.true)
 
-high : (c : tie.Else3) → SFits w64 (c.before.before.args.a +ℤ c.before.before.args.b)
+high : (c : tie.Else-b-a) → SFits w64 (c.args.a +ℤ c.args.b)
 high c =
-    let s = c.before.before in
+    let s = c in
     high_fits s.args.a s.args.b s.ranges.a s.ranges.b (plus c.before)
     (rw (
       held s.args.a s.ranges.a,
       held s.args.b s.ranges.b,
       held (most -ℤ s.args.b)
           (high_room s.args.a s.args.b s.ranges.a s.ranges.b (plus c.before)),
-    ) at c.if3.false)
+    ) at c.if-b-a.false)
 
-add-t6 : tie.Need-overflow-add-t6
-add-t6 c = let s = c.before.before in rw (held s.args.a s.ranges.a, held s.args.b s.ranges.b) (high c)
+add-t6 : tie.Need-overflow_add-result-2
+add-t6 c = let s = c in rw (held s.args.a s.ranges.a, held s.args.b s.ranges.b) (high c)
 
-returns-4 : tie.Need-returns-4
+returns-4 : tie.Need-returns
 returns-4 c =
-    let s = c.before.before in
+    let s = c in
     rw (held s.args.a s.ranges.a, held s.args.b s.ranges.b, held (s.args.a +ℤ s.args.b) (high c))
     (value (s.args.a +ℤ s.args.b) (high c))
 
 pub sum_spec : {M : Type 1} → statement M
-sum_spec = tie.close (tie.spec sub-if2 returns add-t4 returns-2 sub-if3 returns-3 add-t6 returns-4)
+sum_spec = tie.close (tie.spec
+    sub-if2
+    returns
+    add-t4
+    returns-2
+    sub-if3
+    returns-3
+    add-t6
+    returns-4)

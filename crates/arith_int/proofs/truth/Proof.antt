@@ -2,11 +2,13 @@
 use Rattle.arith_int.proofs.truth.Statement.{statement}
 use Rattle.arith_int.proofs.truth.Tie as tie
 
-returns : tie.Need-returns
-returns c = rw c.if1.true
+returns : tie.Need-returns-then-holds
+returns c = rw c.if-holds.true
 
-returns-2 : tie.Need-returns-2
-returns-2 c = rw c.if1.false
+returns-2 : tie.Need-returns
+returns-2 c = rw c.if-holds.false
 
 pub truth_spec : {M : Type 1} → statement M
-truth_spec = tie.close (tie.spec returns returns-2)
+truth_spec = tie.close (tie.spec
+    returns
+    returns-2)

@@ -16,25 +16,31 @@ not_quoted : (b : Bool) → not b ≡ pick b false true
 not_quoted true = refl
 not_quoted false = refl
 
-enum_told : tie.Need-enum-told
+enum_told : tie.Need-enum_told-1
 enum_told c = search rules
 
-enum-told-2 : tie.Need-enum-told-2
+enum-told-2 : tie.Need-enum_told-in-Marked
 enum-told-2 c = search rules
 
-add-result : tie.Need-overflow-add-result
+add-result : tie.Need-overflow_add-result
 add-result c = search rules
 
-shared-slice-read-result : tie.Need-shared-slice-read-result
-shared-slice-read-result c = omega (arith, c.before.before.before.requires, ap size c.before.enum-told2.given.1)
+shared-slice-read-result : tie.Need-bounds-units-at
+shared-slice-read-result c = omega (arith, c.requires, ap size c.in-Marked.is)
 
-returns : tie.Need-returns
+returns : tie.Need-returns-in-Plain
 returns c = search rules
 
-returns-2 : tie.Need-returns-2
+returns-2 : tie.Need-returns-in-Marked
 returns-2 c =
-    let a = c.before.before.before.args in
-    not_quoted (eqb (get_or a.units.now (a.at + 1) 0) 3) ∙ sym (ap (λ (w : Width). is_active w a.units.now a.at) c.before.enum-told2.given.1)
+    let a = c.args in
+    not_quoted (eqb (get_or a.units.now (a.at + 1) 0) 3) ∙ sym (ap (λ (w : Width). is_active w a.units.now a.at) c.in-Marked.is)
 
 pub is_active_spec : {M : Type 1} → statement M
-is_active_spec = tie.close (tie.spec enum_told enum-told-2 add-result shared-slice-read-result returns returns-2)
+is_active_spec = tie.close (tie.spec
+    enum_told
+    enum-told-2
+    add-result
+    shared-slice-read-result
+    returns
+    returns-2)

@@ -9,98 +9,98 @@ use borrow.Author.Rules.{rules}
 use Rattle.read_mode.proofs.operand_mode.Statement.{statement}
 use Rattle.read_mode.proofs.operand_mode.Tie as tie
 
-lists-in-requires : tie.Need-lists-in-requires
+lists-in-requires : tie.Need-lists_in-requires
 lists-in-requires c κs = search rules
 
-both-let-requires : tie.Need-both-let-requires
+both-let-requires : tie.Need-both_let-lists-requires
 both-let-requires c κs = search rules
 
-enum_told : tie.Need-enum-told
+enum_told : tie.Need-enum_told-1
 enum_told c = search rules
 
-enum-told-2 : tie.Need-enum-told-2
+enum-told-2 : tie.Need-enum_told-in-Value
 enum-told-2 c = search rules
 
-enum-told-3 : tie.Need-enum-told-3
+enum-told-3 : tie.Need-enum_told-in-Bare
 enum-told-3 c = search rules
 
-enum-told-4 : tie.Need-enum-told-4
+enum-told-4 : tie.Need-enum_told-in-Single
 enum-told-4 c = search rules
 
-enum-told-5 : tie.Need-enum-told-5
+enum-told-5 : tie.Need-enum_told-in-Double
 enum-told-5 c = search rules
 
-enum-told-6 : tie.Need-enum-told-6
+enum-told-6 : tie.Need-enum_told-in-Operand
 enum-told-6 c = search rules
 
-enum-told-7 : tie.Need-enum-told-7
+enum-told-7 : tie.Need-enum_told-in-Arith
 enum-told-7 c = search rules
 
 -- whether they may stand in the operand
-lists : (c : tie.After-both-let) → let a = c.before.before.args in
-    lists_of c.both-let.result ≡ both (lists_in (mode_of a.mode)) (lists_of a.let-by-sign)
-lists c = c.both-let.ensures ∙ ap (λ (l : Lists). both l (lists_of c.before.before.args.let-by-sign)) c.before.lists-in.ensures
+lists : (c : tie.After-both_let-lists) → let a = c.args in
+    lists_of c.both_let-lists.result ≡ both (lists_in (mode_of a.mode)) (lists_of a.let_by_sign)
+lists c = c.both_let-lists.ensures ∙ ap (λ (l : Lists). both l (lists_of c.args.let_by_sign)) c.lists_in.ensures
 
-returns : tie.Need-returns
+returns : tie.Need-returns-in-Word
 returns c =
-    let b = c.before.before in
-    let a = b.before.before.args in
+    let b = c.before in
+    let a = b.args in
     record {
-      is = in_word a.mode (lists_of a.let-by-sign) (lists_of b.both-let.result) (lists b) c.enum_told.given.1;
+      is = in_word a.mode (lists_of a.let_by_sign) (lists_of b.both_let-lists.result) (lists b) c.in-Word.is;
       closed = refl;
     }
 
-returns-2 : tie.Need-returns-2
+returns-2 : tie.Need-returns-in-Value
 returns-2 c =
-    let b = c.before.before in
-    let a = b.before.before.args in
+    let b = c.before in
+    let a = b.args in
     record {
-      is = in_value a.mode (lists_of a.let-by-sign) (lists_of b.both-let.result) (lists b) c.enum-told2.given.1;
+      is = in_value a.mode (lists_of a.let_by_sign) (lists_of b.both_let-lists.result) (lists b) c.in-Value.is;
       closed = refl;
     }
 
-returns-3 : tie.Need-returns-3
+returns-3 : tie.Need-returns-in-Bare
 returns-3 c =
-    let b = c.before.before in
-    let a = b.before.before.args in
+    let b = c.before in
+    let a = b.args in
     record {
-      is = in_bare a.mode (lists_of a.let-by-sign) (lists_of b.both-let.result) (lists b) c.enum-told3.given.1;
+      is = in_bare a.mode (lists_of a.let_by_sign) (lists_of b.both_let-lists.result) (lists b) c.in-Bare.is;
       closed = refl;
     }
 
-returns-4 : tie.Need-returns-4
+returns-4 : tie.Need-returns-in-Single
 returns-4 c =
-    let b = c.before.before in
-    let a = b.before.before.args in
+    let b = c.before in
+    let a = b.args in
     record {
-      is = in_single a.mode (lists_of a.let-by-sign) (lists_of b.both-let.result) (lists b) c.enum-told4.given.1;
+      is = in_single a.mode (lists_of a.let_by_sign) (lists_of b.both_let-lists.result) (lists b) c.in-Single.is;
       closed = refl;
     }
 
-returns-5 : tie.Need-returns-5
+returns-5 : tie.Need-returns-in-Double
 returns-5 c =
-    let b = c.before.before in
-    let a = b.before.before.args in
+    let b = c.before in
+    let a = b.args in
     record {
-      is = in_double a.mode (lists_of a.let-by-sign) (lists_of b.both-let.result) (lists b) c.enum-told5.given.1;
+      is = in_double a.mode (lists_of a.let_by_sign) (lists_of b.both_let-lists.result) (lists b) c.in-Double.is;
       closed = refl;
     }
 
-returns-6 : tie.Need-returns-6
+returns-6 : tie.Need-returns-in-Operand
 returns-6 c =
-    let b = c.before.before in
-    let a = b.before.before.args in
+    let b = c.before in
+    let a = b.args in
     record {
-      is = in_operand a.mode (lists_of a.let-by-sign) (lists_of b.both-let.result) (lists b) c.enum-told6.given.1;
+      is = in_operand a.mode (lists_of a.let_by_sign) (lists_of b.both_let-lists.result) (lists b) c.in-Operand.is;
       closed = refl;
     }
 
-returns-7 : tie.Need-returns-7
+returns-7 : tie.Need-returns-in-Arith
 returns-7 c =
-    let b = c.before.before in
-    let a = b.before.before.args in
+    let b = c.before in
+    let a = b.args in
     record {
-      is = in_arith a.mode (lists_of a.let-by-sign) (lists_of b.both-let.result) (lists b) c.enum-told7.given.1;
+      is = in_arith a.mode (lists_of a.let_by_sign) (lists_of b.both_let-lists.result) (lists b) c.in-Arith.is;
       closed = refl;
     }
 

@@ -6,73 +6,70 @@ use borrow.Author.Rules.{rules}
 use Rattle.read_mode.proofs.sort_arith.Statement.{statement}
 use Rattle.read_mode.proofs.sort_arith.Tie as tie
 
-returns : tie.Need-returns
+returns : tie.Need-returns-then-b-eq96
 unfolding sort closer_length
-returns c = record { is = rw (eq-eqb _ _ c.if1.true); carries = tt }
+returns c = record { is = rw (eq-eqb _ _ c.if-b-eq96.true); carries = tt }
 
-slice-aggregate-is-in : tie.Need-slice-aggregate-is-in
-slice-aggregate-is-in c = search rules
-
-is-in-requires : tie.Need-is-in-requires
+is-in-requires : tie.Need-is_in-requires
 is-in-requires c κs = search rules
 
-returns-2 : tie.Need-returns-2
+returns-2 : tie.Need-returns-then-is_in
 unfolding sort closer_length
 returns-2 c =
-    record { is = rw (ne_eqb _ _ c.before.before.before.if1.false, sym c.before.is-in.ensures ∙ c.if2.true); carries = tt }
+    record { is = rw (ne_eqb _ _ c.if-b-eq96.false, sym c.is_in.ensures ∙ c.if-is_in.true); carries = tt }
 
-returns-3 : tie.Need-returns-3
+returns-3 : tie.Need-returns-then-b-eq40
 unfolding sort closer_length
 returns-3 c =
     record {
       is = rw (
-        ne_eqb _ _ c.before.before.before.before.if1.false,
-        sym c.before.before.is-in.ensures ∙ c.before.if2.false,
-        eq-eqb _ _ c.if3.true,
+        ne_eqb _ _ c.if-b-eq96.false,
+        sym c.is_in.ensures ∙ c.if-is_in.false,
+        eq-eqb _ _ c.if-b-eq40.true,
       );
       carries = refl;
     }
 
-returns-4 : tie.Need-returns-4
+returns-4 : tie.Need-returns-then-b-eq41
 unfolding sort closer_length
 returns-4 c =
     record {
       is = rw (
-        ne_eqb _ _ c.before.before.before.before.before.if1.false,
-        sym c.before.before.before.is-in.ensures ∙
-            c.before.before.if2.false,
-        ne_eqb _ _ c.before.if3.false,
-        eq-eqb _ _ c.if4.true,
+        ne_eqb _ _ c.if-b-eq96.false,
+        sym c.is_in.ensures ∙
+            c.if-is_in.false,
+        ne_eqb _ _ c.if-b-eq40.false,
+        eq-eqb _ _ c.if-b-eq41.true,
       );
       carries = refl;
     }
 
-returns-5 : tie.Need-returns-5
+returns-5 : tie.Need-returns-then-b-eq36
 unfolding sort closer_length
 returns-5 c =
     record {
       is = rw (
-        ne_eqb _ _ c.before.before.before.before.before.before.if1.false,
+        ne_eqb _ _ c.if-b-eq96.false,
         sym
-            c.before.before.before.before.is-in.ensures ∙ c.before.before.before.if2.false,
-        ne_eqb _ _ c.before.before.if3.false,
-        ne_eqb _ _ c.before.if4.false,
-        eq-eqb _ _ c.if5.true,
+            c.is_in.ensures ∙ c.if-is_in.false,
+        ne_eqb _ _ c.if-b-eq40.false,
+        ne_eqb _ _ c.if-b-eq41.false,
+        eq-eqb _ _ c.if-b-eq36.true,
       );
       carries = tt;
     }
 
-returns-6 : tie.Need-returns-6
+returns-6 : tie.Need-returns
 unfolding sort closer_length
 returns-6 c =
     record {
       is = rw (
-        ne_eqb _ _ c.before.before.before.before.before.before.if1.false,
+        ne_eqb _ _ c.if-b-eq96.false,
         sym
-            c.before.before.before.before.is-in.ensures ∙ c.before.before.before.if2.false,
-        ne_eqb _ _ c.before.before.if3.false,
-        ne_eqb _ _ c.before.if4.false,
-        ne_eqb _ _ c.if5.false,
+            c.is_in.ensures ∙ c.if-is_in.false,
+        ne_eqb _ _ c.if-b-eq40.false,
+        ne_eqb _ _ c.if-b-eq41.false,
+        ne_eqb _ _ c.if-b-eq36.false,
       );
       carries = tt;
     }
@@ -82,7 +79,6 @@ sort_arith_spec =
     tie.close
     (tie.spec
     returns
-    slice-aggregate-is-in
     is-in-requires
     returns-2
     returns-3

@@ -9,31 +9,36 @@ use borrow.Author.Rules.{rules}
 use Rattle.read_mode.proofs.sort_operand.Statement.{statement}
 use Rattle.read_mode.proofs.sort_operand.Tie as tie
 
-returns : tie.Need-returns
+returns : tie.Need-returns-then-b-eq96
 unfolding sort plain_sort closer_length
-returns c = record { is = rw (eq-eqb _ _ c.if1.true); carries = tt }
+returns c = record { is = rw (eq-eqb _ _ c.if-b-eq96.true); carries = tt }
 
-returns-2 : tie.Need-returns-2
+returns-2 : tie.Need-returns-then-b-eq125
 unfolding sort plain_sort closer_length
 returns-2 c =
-    record { is = rw (ne_eqb _ _ c.before.if1.false, eq-eqb _ _ c.if2.true); carries = (refl, search rules) }
+    record { is = rw (ne_eqb _ _ c.if-b-eq96.false, eq-eqb _ _ c.if-b-eq125.true); carries = (refl, search rules) }
 
-returns-3 : tie.Need-returns-3
+returns-3 : tie.Need-returns-then-b-eq34
 unfolding sort plain_sort closer_length
 returns-3 c =
-    record { is = rw (ne_eqb _ _ c.before.before.if1.false, ne_eqb _ _ c.before.if2.false, eq-eqb _ _ c.if3.true); carries = tt }
+    record { is = rw (ne_eqb _ _ c.if-b-eq96.false, ne_eqb _ _ c.if-b-eq125.false, eq-eqb _ _ c.if-b-eq34.true); carries = tt }
 
-sort-plain-requires : tie.Need-sort-plain-requires
+sort-plain-requires : tie.Need-sort_plain-requires
 sort-plain-requires c κs = search rules
 
-returns-4 : tie.Need-returns-4
+returns-4 : tie.Need-returns
 unfolding sort plain_sort closer_length
 returns-4 c =
     record {
-      is = rw (ne_eqb _ _ c.before.before.before.if1.false, ne_eqb _ _ c.before.before.if2.false, ne_eqb _ _ c.before.if3.false)
-          c.sort-plain.ensures.is;
-      carries = c.sort-plain.ensures.carries (quoted_operand (lists_of c.before.before.before.before.args.lists));
+      is = rw (ne_eqb _ _ c.if-b-eq96.false, ne_eqb _ _ c.if-b-eq125.false, ne_eqb _ _ c.if-b-eq34.false)
+          c.sort_plain.ensures.is;
+      carries = c.sort_plain.ensures.carries (quoted_operand (lists_of c.args.lists));
     }
 
 pub sort_operand_spec : {M : Type 1} → statement M
-sort_operand_spec = tie.close (tie.spec returns returns-2 returns-3 sort-plain-requires returns-4)
+sort_operand_spec = tie.close (tie.spec
+    returns
+    returns-2
+    returns-3
+    sort-plain-requires
+    returns-4)

@@ -5,13 +5,13 @@ use Rattle.row.proofs.Laws.{two}
 use Rattle.row.proofs.put_empty.Statement.{statement}
 use Rattle.row.proofs.put_empty.Tie as tie
 
-slice-write-area : tie.Need-slice-write-area
+slice-write-area : tie.Need-bounds-area-0
 slice-write-area c = search rules
 
-slice-write-area-2 : tie.Need-slice-write-area-2
+slice-write-area-2 : tie.Need-bounds-area-1
 slice-write-area-2 c = search rules
 
-same_length : tie.Need-same-length
+same_length : tie.Need-shape_of-area
 same_length c = search rules
 
 returns : tie.Need-returns
@@ -19,4 +19,8 @@ unfolding row_bytes
 returns c = two c.args.area.now 0 0 c.requires
 
 pub put_empty_spec : {M : Type 1} → statement M
-put_empty_spec = tie.close (tie.spec slice-write-area slice-write-area-2 same_length returns)
+put_empty_spec = tie.close (tie.spec
+    slice-write-area
+    slice-write-area-2
+    same_length
+    returns)

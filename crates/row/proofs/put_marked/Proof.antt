@@ -28,56 +28,56 @@ whole i m k v w area e f q =
     ∙ ap (λ (t : Text). t ++ drop (2 * length v) w) (units_marked k v)
     ∙ ap (λ (j : ℕ). row_bytes (marked k v) ++ drop j w) (sym (marked_length k v))
 
-abbrev invariant_loop : tie.invariant_loop
+abbrev invariant_loop : tie.invariant-loop-at
 invariant_loop text area₀ m at₀ area at = (at ≤ length text) × (area ≡ units m (take at text) ++ drop (2 * at) area₀) × (length area ≡ length area₀)
 
-abbrev decreases_loop : tie.decreases_loop
+abbrev decreases_loop : tie.decreases-loop-at
 decreases_loop text area₀ m at₀ area at = length text - at
 
-mark-byte-requires : tie.Need-mark-byte-requires invariant_loop decreases_loop
+mark-byte-requires : tie.Need-mark_byte-m-requires invariant_loop decreases_loop
 mark-byte-requires c κs = search rules
 
-loop-holds : tie.Need-loop-init invariant_loop decreases_loop
+loop-holds : tie.Need-loop-at-init invariant_loop decreases_loop
 loop-holds c = (omega arith, unfold units in refl, refl)
 
-shared-slice-read-area : tie.Need-shared-slice-read-area invariant_loop decreases_loop
+shared-slice-read-area : tie.Need-bounds-text-at invariant_loop decreases_loop
 shared-slice-read-area c = omega arith
 
-mul-area : tie.Need-overflow-mul-area invariant_loop decreases_loop
+mul-area : tie.Need-overflow_mul-area invariant_loop decreases_loop
 mul-area c = omega arith
 
-slice-write-area : tie.Need-slice-write-area invariant_loop decreases_loop
+slice-write-area : tie.Need-bounds-area-at invariant_loop decreases_loop
 slice-write-area c = omega arith
 
-mul-area-2 : tie.Need-overflow-mul-area-2 invariant_loop decreases_loop
+mul-area-2 : tie.Need-overflow_mul-area-in-loop-at invariant_loop decreases_loop
 mul-area-2 c = omega arith
 
-add-area : tie.Need-overflow-add-area invariant_loop decreases_loop
+add-area : tie.Need-overflow_add-area invariant_loop decreases_loop
 add-area c = omega arith
 
-slice-write-area-2 : tie.Need-slice-write-area-2 invariant_loop decreases_loop
+slice-write-area-2 : tie.Need-bounds-area-at-in-loop-at invariant_loop decreases_loop
 slice-write-area-2 c = simp length-set (omega arith)
 
-add_at : tie.Need-overflow-add-at invariant_loop decreases_loop
+add_at : tie.Need-overflow_add-at invariant_loop decreases_loop
 add_at c = omega arith
 
-loop-less : tie.Need-loop-smaller invariant_loop decreases_loop
+loop-less : tie.Need-loop-at-smaller invariant_loop decreases_loop
 loop-less c = omega arith
 
-loop-again : tie.Need-loop-preserved invariant_loop decreases_loop
+loop-again : tie.Need-loop-at-preserved invariant_loop decreases_loop
 loop-again c =
-    let l = c.before.before.loop in
-    let a = c.before.before.before.before.before.before.args in
+    let l = c.loop-at in
+    let a = c.args in
     (omega arith, again l.at _ a.text.now a.area.now l.area (omega arith) (omega arith) l.invariant.1, simp length-set l.invariant.2)
 
-same_length : tie.Need-same-length invariant_loop decreases_loop
-same_length c = c.before.loop.invariant.2
+same_length : tie.Need-shape_of-area invariant_loop decreases_loop
+same_length c = c.loop-at.invariant.2
 
 returns : tie.Need-returns invariant_loop decreases_loop
 returns c =
-    let l = c.before.loop in
-    let s = c.before.before.before.before.before in
-    whole l.at _ _ s.args.text.now s.args.area.now l.area (omega arith) c.before.before.mark-byte.ensures l.invariant.1
+    let l = c.loop-at in
+    let s = c in
+    whole l.at _ _ s.args.text.now s.args.area.now l.area (omega arith) c.mark_byte-m.ensures l.invariant.1
 
 pub put_marked_spec : {M : Type 1} → statement M
 put_marked_spec =

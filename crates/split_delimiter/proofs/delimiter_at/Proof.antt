@@ -6,53 +6,53 @@ use borrow.Author.Rules.{rules}
 use Rattle.split_delimiter.proofs.delimiter_at.Statement.{statement}
 use Rattle.split_delimiter.proofs.delimiter_at.Tie as tie
 
-sub-if1 : tie.Need-overflow-sub-if1
+sub-if1 : tie.Need-overflow_sub-row
 sub-if1 c = search rules
 
-returns : tie.Need-returns
+returns : tie.Need-returns-then-row-at-le1
 returns c =
-    let a = c.before.before.before.args in
-    place_none a.ifs.now a.row.now a.at c.if1.true
+    let a = c.args in
+    place_none a.ifs.now a.row.now a.at c.if-row-at-le1.true
 
-add-if2 : tie.Need-overflow-add-if2
+add-if2 : tie.Need-overflow_add-at
 add-if2 c = search rules
 
-shared-slice-read-if2 : tie.Need-shared-slice-read-if2
+shared-slice-read-if2 : tie.Need-bounds-row-at
 shared-slice-read-if2 c = search rules
 
-returns-2 : tie.Need-returns-2
+returns-2 : tie.Need-returns-then-row-at-ne-EXPANDED
 returns-2 c =
-    let a = c.before.before.before.before.before.args in
-    place_other a.ifs.now a.row.now a.at c.before.before.if1.false c.if2.true
+    let a = c.args in
+    place_other a.ifs.now a.row.now a.at c.if-row-at-le1.false c.if-row-at-ne-EXPANDED.true
 
-shared-slice-read-b : tie.Need-shared-slice-read-b
+shared-slice-read-b : tie.Need-bounds-row-at-2
 shared-slice-read-b c = search rules
 
-is-in-requires : tie.Need-is-in-requires
+is-in-requires : tie.Need-is_in-requires
 is-in-requires c κs = search rules
 
-returns-3 : tie.Need-returns-3
+returns-3 : tie.Need-returns-then-not-is_in
 returns-3 c =
-    let a = c.before.before.before.before.before.before.before.before.args in
-    place_outside a.ifs.now a.row.now a.at c.before.before.before.before.before.if1.false c.before.before.before.if2.false
-    (sym c.before.is-in.ensures ∙ not-true _ c.if3.true)
+    let a = c.args in
+    place_outside a.ifs.now a.row.now a.at c.if-row-at-le1.false c.if-row-at-ne-EXPANDED.false
+    (sym c.is_in.ensures ∙ not-true _ c.if-not-is_in.true-raw)
 
-in-class-requires : tie.Need-in-class-requires
+in-class-requires : tie.Need-in_class-requires
 in-class-requires c κs = search rules
 
-returns-4 : tie.Need-returns-4
+returns-4 : tie.Need-returns-then-in_class
 returns-4 c =
-    let a = c.before.before.before.before.before.before.before.before.before.before.args in
-    place_white a.ifs.now a.row.now a.at c.before.before.before.before.before.before.before.if1.false
-    c.before.before.before.before.before.if2.false
-    (sym c.before.before.before.is-in.ensures ∙ not-false _ c.before.before.if3.false) (sym c.before.in-class.ensures ∙ c.if4.true)
+    let a = c.args in
+    place_white a.ifs.now a.row.now a.at c.if-row-at-le1.false
+    c.if-row-at-ne-EXPANDED.false
+    (sym c.is_in.ensures ∙ not-false _ c.if-not-is_in.false-raw) (sym c.in_class.ensures ∙ c.if-in_class.true)
 
-returns-5 : tie.Need-returns-5
+returns-5 : tie.Need-returns
 returns-5 c =
-    let a = c.before.before.before.before.before.before.before.before.before.before.args in
-    place_hard a.ifs.now a.row.now a.at c.before.before.before.before.before.before.before.if1.false
-    c.before.before.before.before.before.if2.false
-    (sym c.before.before.before.is-in.ensures ∙ not-false _ c.before.before.if3.false) (sym c.before.in-class.ensures ∙ c.if4.false)
+    let a = c.args in
+    place_hard a.ifs.now a.row.now a.at c.if-row-at-le1.false
+    c.if-row-at-ne-EXPANDED.false
+    (sym c.is_in.ensures ∙ not-false _ c.if-not-is_in.false-raw) (sym c.in_class.ensures ∙ c.if-in_class.false)
 
 pub delimiter_at_spec : {M : Type 1} → statement M
 delimiter_at_spec =

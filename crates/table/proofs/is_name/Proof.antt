@@ -6,24 +6,24 @@ use borrow.Author.Rules.{rules}
 use Rattle.table.proofs.is_name.Statement.{statement}
 use Rattle.table.proofs.is_name.Tie as tie
 
-returns : tie.Need-returns
-returns c = no_name _ c.if1.true
+returns : tie.Need-returns-then-key-eq0
+returns c = no_name _ c.if-key-eq0.true
 
-shared-slice-read-in-class : tie.Need-shared-slice-read-in-class
+shared-slice-read-in-class : tie.Need-bounds-key-0
 shared-slice-read-in-class c = search rules
 
-in-class-requires : tie.Need-in-class-requires
+in-class-requires : tie.Need-in_class-requires
 in-class-requires c κs = search rules
 
-returns-2 : tie.Need-returns-2
-returns-2 c = bad_start _ (sym c.before.in-class.ensures ∙ not-true _ c.if2.true)
+returns-2 : tie.Need-returns-then-not-in_class
+returns-2 c = bad_start _ (sym c.in_class.ensures ∙ not-true _ c.if-not-in_class.true-raw)
 
-run-end-requires : tie.Need-run-end-requires
+run-end-requires : tie.Need-run_end-requires
 run-end-requires c κs = search rules
 
-returns-3 : tie.Need-returns-3
-returns-3 c = name_is _ _ c.before.before.before.before.if1.false
-    (sym c.before.before.in-class.ensures ∙ not-false _ c.before.if2.false) c.run_end.ensures
+returns-3 : tie.Need-returns
+returns-3 c = name_is _ _ c.if-key-eq0.false
+    (sym c.in_class.ensures ∙ not-false _ c.if-not-in_class.false-raw) c.run_end.ensures
 
 pub is_name_spec : {M : Type 1} → statement M
 is_name_spec =

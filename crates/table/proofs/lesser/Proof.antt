@@ -3,11 +3,13 @@ use borrow.Author.Tests.{lt-ltb, le-ltb}
 use Rattle.table.proofs.lesser.Statement.{statement}
 use Rattle.table.proofs.lesser.Tie as tie
 
-returns : tie.Need-returns
-returns c = rw (lt-ltb c.before.args.b c.before.args.a c.if1.true)
+returns : tie.Need-returns-then-b-a
+returns c = rw (lt-ltb c.args.b c.args.a c.if-b-a.true)
 
-returns-2 : tie.Need-returns-2
-returns-2 c = rw (le-ltb c.before.args.b c.before.args.a c.if1.false)
+returns-2 : tie.Need-returns-else-b-a
+returns-2 c = rw (le-ltb c.args.b c.args.a c.if-b-a.false)
 
 pub lesser_spec : {M : Type 1} → statement M
-lesser_spec = tie.close (tie.spec returns returns-2)
+lesser_spec = tie.close (tie.spec
+    returns
+    returns-2)

@@ -4,17 +4,21 @@ use borrow.Author.Rules.{rules}
 use Rattle.table.proofs.record_end.Statement.{statement}
 use Rattle.table.proofs.record_end.Tie as tie
 
-in-twos-requires : tie.Need-in-twos-requires
+in-twos-requires : tie.Need-in_twos-requires
 in-twos-requires c κs = search rules
 
-text-at-requires : tie.Need-text-at-requires
+text-at-requires : tie.Need-text_at-requires
 text-at-requires c κs = search rules
 
-returns : tie.Need-returns
-returns c = rw (sym c.before.before.in-twos.ensures ∙ c.before.if1.true) c.text_at.ensures
+returns : tie.Need-returns-then-in_twos
+returns c = rw (sym c.in_twos.ensures ∙ c.if-in_twos.true) c.text_at.ensures
 
-returns-2 : tie.Need-returns-2
-returns-2 c = rw (sym c.before.in-twos.ensures ∙ c.if1.false)
+returns-2 : tie.Need-returns-else-in_twos
+returns-2 c = rw (sym c.in_twos.ensures ∙ c.if-in_twos.false)
 
 pub record_end_spec : {M : Type 1} → statement M
-record_end_spec = tie.close (tie.spec in-twos-requires text-at-requires returns returns-2)
+record_end_spec = tie.close (tie.spec
+    in-twos-requires
+    text-at-requires
+    returns
+    returns-2)
