@@ -8,9 +8,9 @@ use Rattle.stages.specs.Bytes.{Text}
 use Rattle.stages.specs.Outcome.{pick}
 use Rattle.stages.specs.Syntax as syntax
 use Rattle.read_mode.specs.Modes.{mode_of, mode_onward}
-use Rattle.read◌mode.specs.declared.Cursor.{Cursor}
-use Rattle.read◌mode.specs.declared.Mode.{Mode}
-use Rattle.read◌run.specs.Literals.{Literals, Passed}
+use Rattle.read_mode.specs.declared.Cursor.{Cursor}
+use Rattle.read_mode.specs.declared.Mode.{Mode}
+use Rattle.read_run.specs.Literals.{Literals, Passed}
 
 -- the rests behind the two ends are the same, so their lengths are
 pub literals_end_determined : (text : Text) (at : ℕ) (m : syntax.Mode) (r s : ℕ) → Literals text at m r → Literals text at m s → r ≡ s

@@ -7,80 +7,77 @@ use Rattle.read_brace.proofs.behind_name.Statement.{statement}
 use Rattle.read_brace.proofs.behind_name.Tie as tie
 
 -- a byte stands after the name
-ended : (c : tie.Else1) → let a = c.before.before.args in Ended a.text.now a.from a.param
-ended c = let p = c.before.before.requires in record { starts = p.0; onward = p.1; there = omega (arith, c.if1.false); deep = p.3 }
+ended : (c : tie.Else-to-text) → let a = c.args in Ended a.text.now a.from a.param
+ended c = let p = c.requires in record { starts = p.0; onward = p.1; there = omega (arith, c.if-to-text.false); deep = p.3 }
 
 -- and it is no `}`, no colon and no sign
-signless : (c : tie.Else4) → let a = c.before.before.before.before.before.before.before.before.args in NoSign a.text.now a.from a.param
+signless : (c : tie.Else-is_in) → let a = c.args in NoSign a.text.now a.from a.param
 signless c =
-    no_sign (ended c.before.before.before.before.before.before) c.before.before.before.before.if2.false
-    c.before.before.before.if3.false (sym c.before.is-in.ensures ∙ c.if4.false)
+    no_sign (ended c.before.before.before.before.before.before.before) c.if-b-eq125.false
+    c.if-b-eq58.false (sym c.is_in.ensures ∙ c.if-is_in.false)
 
-returns : tie.Need-returns
+returns : tie.Need-returns-then-to-text
 returns c =
-    let a = c.before.before.args in
-    name_end a.text.now a.from a.param c.if1.true
+    let a = c.args in
+    name_end a.text.now a.from a.param c.if-to-text.true
 
-shared-slice-read-b : tie.Need-shared-slice-read-b
+shared-slice-read-b : tie.Need-bounds-text-to
 shared-slice-read-b c = search rules
 
-add-t11 : tie.Need-overflow-add-t11
-add-t11 c = search rules
+returns-2 : tie.Need-returns-then-b-eq125
+returns-2 c = name_close (ended c.before.before) c.if-b-eq125.true
 
-returns-2 : tie.Need-returns-2
-returns-2 c = name_close (ended c.before.before) c.if2.true
-
-behind-colon-requires : tie.Need-behind-colon-requires
+behind-colon-requires : tie.Need-behind_colon-requires
 behind-colon-requires c κs =
-    let p = c.before.before.before.before.before.requires in
-    (p.0, p.1, omega (arith, c.before.before.before.if1.false), p.3)
+    let p = c.requires in
+    (p.0, p.1, omega (arith, c.if-to-text.false), p.3)
 
-returns-3 : tie.Need-returns-3
+returns-3 : tie.Need-returns-then-b-eq58
 returns-3 c =
-    name_colon (ended c.before.before.before.before) c.before.before.if2.false c.before.if3.true c.behind_colon_lem.result
-    c.behind_colon_lem.ensures
+    name_colon (ended c.before.before.before.before) c.if-b-eq125.false c.if-b-eq58.true c.behind_colon.result
+    c.behind_colon.ensures
 
-slice-aggregate-is-in : tie.Need-slice-aggregate-is-in
-slice-aggregate-is-in c = search rules
-
-is-in-requires : tie.Need-is-in-requires
+is-in-requires : tie.Need-is_in-requires
 is-in-requires c κs = search rules
 
-behind-sign-requires : tie.Need-behind-sign-requires
+behind-sign-requires : tie.Need-behind_sign-requires
 behind-sign-requires c κs =
-    let p = c.before.before.before.before.before.before.before.before.requires in
-    (p.0, p.1, omega arith, refl, omega (arith, c.before.before.before.before.before.before.if1.false), p.3)
+    let p = c.requires in
+    (p.0, p.1, omega arith, refl, omega (arith, c.if-to-text.false), p.3)
 
-returns-4 : tie.Need-returns-4
+returns-4 : tie.Need-returns-then-is_in
 returns-4 c =
-    name_sign (ended c.before.before.before.before.before.before.before) c.before.before.before.before.before.if2.false
-    c.before.before.before.before.if3.false (sym c.before.before.is-in.ensures ∙ c.before.if4.true)
-    c.behind-sign.result c.behind-sign.ensures
+    name_sign (ended c.before.before.before.before.before.before.before.before) c.if-b-eq125.false
+    c.if-b-eq58.false (sym c.is_in.ensures ∙ c.if-is_in.true)
+    c.behind_sign.result c.behind_sign.ensures
 
-removal-at-requires : tie.Need-removal-at-requires
+removal-at-requires : tie.Need-removal_at-requires
 removal-at-requires c κs =
-    let p = c.before.before.before.before.before.before.before.before.before.requires in
-    (p.0, p.1, omega (arith, c.before.before.before.before.before.before.before.if1.false), p.3)
+    let p = c.requires in
+    (p.0, p.1, omega (arith, c.if-to-text.false), p.3)
 
-returns-5 : tie.Need-returns-5
+returns-5 : tie.Need-returns-then-b-eq37
 returns-5 c =
-    name_suffix (signless c.before.before) c.before.if5.true c.removal-at.result c.removal-at.ensures
+    name_suffix (signless c.before.before) c.if-b-eq37.true c.removal_at.result c.removal_at.ensures
 
-removal-at-requires-2 : tie.Need-removal-at-requires-2
+removal-at-requires-2 : tie.Need-removal_at-requires-then-b-eq35
 removal-at-requires-2 c κs =
-    let p = c.before.before.before.before.before.before.before.before.before.before.requires in
-    (p.0, p.1, omega (arith, c.before.before.before.before.before.before.before.before.if1.false), p.3)
+    let p = c.requires in
+    (p.0, p.1, omega (arith, c.if-to-text.false), p.3)
 
-returns-6 : tie.Need-returns-6
+returns-6 : tie.Need-returns-then-b-eq35
 returns-6 c =
-    name_prefix (signless c.before.before.before) c.before.before.if5.false c.before.if6.true c.removal-at2.result c.removal-at2.ensures
+    name_prefix (signless c.before.before.before) c.if-b-eq37.false c.if-b-eq35.true c.removal_at-then-b-eq35.result c.removal_at-then-b-eq35.ensures
 
-wrong-byte-requires : tie.Need-wrong-byte-requires
+wrong-byte-requires : tie.Need-wrong_byte-requires
 wrong-byte-requires c κs = search rules
 
-returns-7 : tie.Need-returns-7
+returns-7 : tie.Need-returns
 returns-7 c =
-    name_wrong (signless c.before.before.before) c.before.before.if5.false c.before.if6.false c.wrong_byte.ensures
+    name_wrong (signless c.before.before.before) c.if-b-eq37.false c.if-b-eq35.false c.wrong_byte.ensures
+
+overflow_add_result : tie.Need-overflow_add-result
+overflow_add_result = search rules
 
 pub behind_name_spec : {M : Type 1} → statement M
 behind_name_spec =
@@ -88,11 +85,10 @@ behind_name_spec =
     (tie.spec
     returns
     shared-slice-read-b
-    add-t11
+    overflow_add_result
     returns-2
     behind-colon-requires
     returns-3
-    slice-aggregate-is-in
     is-in-requires
     behind-sign-requires
     returns-4

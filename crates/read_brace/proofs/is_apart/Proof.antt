@@ -4,13 +4,15 @@ use Rattle.stages.specs.Items.{spread_of}
 use Rattle.read_brace.proofs.is_apart.Statement.{statement}
 use Rattle.read_brace.proofs.is_apart.Tie as tie
 
-returns : tie.Need-returns
+returns : tie.Need-returns-then-b-eq42
 unfolding spread_of
-returns c = rw (eq-eqb _ _ c.if1.true)
+returns c = rw (eq-eqb _ _ c.if-b-eq42.true)
 
-returns-2 : tie.Need-returns-2
+returns-2 : tie.Need-returns
 unfolding spread_of
-returns-2 c = rw (ne_eqb _ _ c.if1.false)
+returns-2 c = rw (ne_eqb _ _ c.if-b-eq42.false)
 
 pub is_apart_spec : {M : Type 1} → statement M
-is_apart_spec = tie.close (tie.spec returns returns-2)
+is_apart_spec = tie.close (tie.spec
+    returns
+    returns-2)

@@ -5,40 +5,40 @@ use borrow.Author.Rules.{rules}
 use Rattle.read_brace.proofs.param_at.Statement.{statement}
 use Rattle.read_brace.proofs.param_at.Tie as tie
 
-shared-slice-read-b : tie.Need-shared-slice-read-b
+shared-slice-read-b : tie.Need-bounds-text-at
 shared-slice-read-b c = search rules
 
-in-class-requires : tie.Need-in-class-requires
+in-class-requires : tie.Need-in_class-requires
 in-class-requires c κs = search rules
 
-run-end-requires : tie.Need-run-end-requires
+run-end-requires : tie.Need-run_end-to-requires
 run-end-requires c κs = search rules
 
-returns : tie.Need-returns
+returns : tie.Need-returns-then-in_class
 returns c =
-    let a = c.before.before.before.before.before.args in
-    called_name a.text.now a.at c.before.before.before.before.before.requires
-    (sym c.before.before.in-class.ensures ∙ c.before.if1.true) c.run_end.result c.run_end.ensures
+    let a = c.args in
+    called_name a.text.now a.at c.requires
+    (sym c.in_class.ensures ∙ c.if-in_class.true) c.run_end-to.result c.run_end-to.ensures
 
-is-first-digit-requires : tie.Need-is-first-digit-requires
+is-first-digit-requires : tie.Need-is_first_digit-requires
 is-first-digit-requires c κs = search rules
 
-run-end-requires-2 : tie.Need-run-end-requires-2
+run-end-requires-2 : tie.Need-run_end-to-requires-then-is_first_digit
 run-end-requires-2 c κs = search rules
 
-returns-2 : tie.Need-returns-2
+returns-2 : tie.Need-returns-then-is_first_digit
 returns-2 c =
-    let a = c.before.before.before.before.before.before.before.args in
-    called_number a.text.now a.at c.before.before.before.before.before.before.before.requires
-    (sym c.before.before.before.before.in-class.ensures ∙ c.before.before.before.if1.false)
-    (sym c.before.before.is-first-digit.ensures ∙ c.before.if2.true)
-    c.run-end2.result c.run-end2.ensures
+    let a = c.args in
+    called_number a.text.now a.at c.requires
+    (sym c.in_class.ensures ∙ c.if-in_class.false)
+    (sym c.is_first_digit.ensures ∙ c.if-is_first_digit.true)
+    c.run_end-to-then-is_first_digit.result c.run_end-to-then-is_first_digit.ensures
 
-returns-3 : tie.Need-returns-3
+returns-3 : tie.Need-returns
 returns-3 c =
-    let a = c.before.before.before.before.before.before.args in
-    called_none a.text.now a.at c.before.before.before.before.before.before.requires
-    (sym c.before.before.before.in-class.ensures ∙ c.before.before.if1.false) (sym c.before.is-first-digit.ensures ∙ c.if2.false)
+    let a = c.args in
+    called_none a.text.now a.at c.requires
+    (sym c.in_class.ensures ∙ c.if-in_class.false) (sym c.is_first_digit.ensures ∙ c.if-is_first_digit.false)
 
 pub param_at_spec : {M : Type 1} → statement M
 param_at_spec =
