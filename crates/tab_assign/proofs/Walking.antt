@@ -7,15 +7,14 @@ use mathlib.Core.Bool.{Bool, true, false}
 use mathlib.Core.List.{[], ◌∷◌}
 use lib.Dec.{eqb}
 use lib.ListN.{length, take, drop, length-drop, drop_of_length-le}
-use lib.Seq.{take_all, drop-drop}
+use lib.Seq.{take_all, drop-drop, length-take-le}
 use borrow.Author.Tests.{eq-eqb, ne_eqb}
 use Rattle.stages.specs.Numbers.{accepted}
 use Rattle.stages.specs.Bytes.{Text, part}
 use Rattle.stages.specs.Call as stage
 use Rattle.stages.specs.Program.{lines_of}
 use Rattle.stages.proofs.Assigns.{AssignerFits, assigner_fits}
-use Rattle.io.specs.Counts.{IsPrefixLen}
-use Rattle.io.proofs.Counting.{prefix_len_of_le}
+use Rattle.system.specs.Counts.{IsPrefixLen}
 use Rattle.call_check.specs.Calls.{given}
 use Rattle.call_deliver.specs.Hands.{Gives}
 use Rattle.call_deliver.specs.declared.Answer.{Answer}
@@ -36,6 +35,9 @@ use Rattle.tab_assign.specs.Assignings.{
 }
 use Rattle.tab_assign.specs.declared.Assigned.{Assigned}
 use Rattle.tab_assign.specs.declared.Assigned.TheVariants.{Done, Refused}
+
+prefix_len_of_le : (n : ℕ) (xs : Text) → n ≤ length xs → IsPrefixLen n xs
+prefix_len_of_le n xs h = (h, sym (length-take-le n xs h))
 
 -- the first line of a text
 taken_first : (t : Text) → lines_taken t ≡ take (up_to 10 t) t ∷ lines_of (drop (suc (up_to 10 t)) t)
