@@ -7,8 +7,8 @@
  * buffers: they call nothing but memcpy and memset, use no heap and always return. How soon they return is measured and not proved: a removal costs at most
  * its pattern times its value, a field its pattern times the paths, a store the image of variables that it walks over, the coster at most the square of its
  * pattern (where many brackets are never closed), and all else is in proportion to the line (docs/TRUST.md has the dearest lines known and what they take).
- * Link by `pkg-config --cflags --libs drunquill` what ./install has put there, or target/staticlib/libdrunquill_c.a, which `rt staticlib drunquill_c` builds
- * (x86-64 Linux).
+ * Link by `pkg-config --cflags --libs drunquill` what ./install has put there, or crates/drunquill_c/out/libdrunquill_c.a, which tools/build-archive
+ * builds (x86-64 Linux).
  *
  * THREADS. The functions have no state: any number of threads may call them at once, each with its own `vars`, `work`, `out` and `message`. Buffers that
  * are only read may be shared by them.

@@ -12,7 +12,7 @@ is no name, or too long, is refused by the library itself, as include/drunquill.
 needs 512 KB of stack.
 
 The functions stand in an archive for x86-64 Linux, of which a shared object is made by cc on first use: in the repository of
-target/staticlib/libdrunquill_c.a, which tools/build-archive makes. DRUNQUILL_LIBRARY may name a shared object that is there already, as the one that
+crates/drunquill_c/out/libdrunquill_c.a, which tools/build-archive makes. DRUNQUILL_LIBRARY may name a shared object that is there already, as the one that
 ./install makes.
 """
 import ctypes
@@ -296,7 +296,7 @@ _FUNCTIONS = {
     "drunquill_cost": (_struct("costed", "pairs"), [_LENT, _COUNT] * 3),
 }
 _ABOVE = os.path.dirname(os.path.dirname(os.path.abspath(__file__)))
-_ARCHIVE = os.path.join(_ABOVE, "target", "staticlib", "libdrunquill_c.a")
+_ARCHIVE = os.path.join(_ABOVE, "crates", "drunquill_c", "out", "libdrunquill_c.a")
 _MADE = os.path.join(_ABOVE, "target", "python", "libdrunquill.so")
 _INSTALLED = os.path.join(os.path.dirname(_ABOVE), "libexec", "drunquill", "libdrunquill.so")
 _loaded = None

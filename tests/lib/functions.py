@@ -7,12 +7,22 @@ import re
 
 import crates
 
-# strings and bytes of the code, which may hold braces and words, and the terms of contracts
+# strings and bytes of the code, which may hold braces and words, and the words that begin a clause of a contract
 LITERAL = re.compile(r"""b?"(?:\\.|[^"\\])*"|b?'(?:\\[^']+|\\'|[^'\\])'""")
-TERM = re.compile(r"⌜.*?⌝", re.S)
-GHOST = re.compile(r"(?m)^\s*ghost [^;]*;")
+CLAUSE = re.compile(r"(?m)^\s*(?:requires|ensures)\b[^{]*")
+GHOST = re.compile(r"(?m)^\s*ghost use [^;]*;")
 CALL = re.compile(r"(?<![\w:.])((?:\w+::)*)([a-z_]\w*)\s*\(")
 METHOD = re.compile(r"\.\s*([a-z_]\w*)\s*\(")
+
+
+def without_terms(text):
+    """Code whose clauses of contracts hold nothing: `ensures name {}`."""
+    kept, at = [], 0
+    for clause in CLAUSE.finditer(text):
+        if clause.start() >= at:
+            kept += [text[at:clause.end()], "{}"]
+            at = crates.clause_end(text, clause.end())
+    return "".join(kept) + text[at:]
 
 
 class Module:
@@ -21,8 +31,8 @@ class Module:
     def __init__(self, crate, path, text):
         name = os.path.basename(path)[:-len(".rt")]
         self.crate, self.name = crate, "" if name in ("lib", "main") else name
-        text = GHOST.sub("", TERM.sub("", LITERAL.sub("0", text)))
-        self.uses = {path.split("::")[-1]: path for path in re.findall(r"(?m)^(?:pub )?use ([\w:]+);", text)}
+        text = LITERAL.sub("0", without_terms(GHOST.sub("", text)))
+        self.uses = crates.imports(text)
         self.types = set(re.findall(r"\b(?:struct|enum) (\w+)", text))
         self.constants = set(re.findall(r"\bconst (\w+)", text))
         self.functions, self.exported, self.public = {}, set(), set()
@@ -30,7 +40,7 @@ class Module:
 
     def read_functions(self, text):
         """Each function's text goes from its name to where the next begins."""
-        marks = list(re.finditer(r'\b(pub )?(extern 0 )?fn (\w+)|^impl (\w+)|^}', text, re.M))
+        marks = list(re.finditer(r'\b(pub )?(extern 0 )?fn (\w+)|^impl\b(?:<[^{]*?>)? (?:[^{\n]* for )?(\w+)|^}', text, re.M))
         owner = ""
         for mark, after in zip(marks, marks[1:] + [None]):
             if mark[4]:
@@ -47,7 +57,7 @@ class Module:
 
     def promises(self, key):
         """Has the function an `ensures`?"""
-        return re.search(r"(?m)^\s*ensures \{", self.functions[key]) is not None
+        return re.search(r"(?m)^\s*ensures\b[^{]*\{\}", self.functions[key]) is not None
 
 
 class Code:
@@ -73,7 +83,7 @@ class Code:
         if not os.path.exists(path):
             return set()
         with open(path, encoding="utf-8") as file:
-            return set(re.findall(r"(?m)^\s*pub ([\w-]+-determined) :", file.read()))
+            return set(re.findall(r"(?m)^\s*pub (\w+_determined) :", file.read()))
 
     def resolved(self, module, path, name):
         """The function that a call in a module names, or None."""

@@ -50,12 +50,7 @@ def clause_end(text, at):
     """The place after a clause, which is antt's text in braces, or after a `ghost use` line."""
     if re.match(r"\s+use\b", text[at:]):
         return text.index(";", at) + 1
-    depth = 0
-    for piece in re.finditer(r'"(?:\\.|[^"\\])*"|[{}]', text[at:]):
-        depth += {"{": 1, "}": -1}.get(piece[0], 0)
-        if piece[0] == "}" and depth == 0:
-            return at + piece.end()
-    raise ValueError("a clause that does not end")
+    return crates.clause_end(text, at)
 
 
 def closing(tokens, at):

@@ -16,13 +16,13 @@ def proved():
     if "RECIPE" in os.environ:
         return [os.path.abspath(os.environ["RECIPE"])]
     subprocess.run([os.path.join(ROOT, "recipe")], stdin=subprocess.DEVNULL, check=True)
-    return [os.path.join(ROOT, "tools/x86-64"), "run", os.path.join(ROOT, "target/bin/recipe")]
+    return [os.path.join(ROOT, "tools/x86-64"), "run", os.path.join(ROOT, "crates/recipe/out/recipe")]
 
 
 def replaying():
     """The command of the proved program that runs files of calls, which is built if need be."""
     subprocess.run([os.path.join(ROOT, "tools/build-program"), "test_replay"], check=True)
-    return [os.path.join(ROOT, "tools/x86-64"), "run", os.path.join(ROOT, "target/bin/test_replay")]
+    return [os.path.join(ROOT, "tools/x86-64"), "run", os.path.join(ROOT, "crates/test_replay/out/test_replay")]
 
 
 def is_emulated():
