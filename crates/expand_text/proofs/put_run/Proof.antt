@@ -9,24 +9,29 @@ use Rattle.stages.specs.Numbers.{row_limit}
 use Rattle.expand_text.proofs.put_run.Statement.{statement}
 use Rattle.expand_text.proofs.put_run.Tie as tie
 
-sub-room : tie.Need-overflow-sub-room
+sub-room : tie.Need-overflow_sub-room
 sub-room c = search rules
 
-returns : tie.Need-returns
+returns : tie.Need-returns-then-run-room
 returns c =
-    let a = c.before.before.before.before.args in
+    let a = c.args in
     record { fits = sym (lt-leb (a.row.units + length a.run.now) row_limit (omega arith)); puts = refl }
 
-put-marked-requires : tie.Need-put-marked-requires
+put-marked-requires : tie.Need-put_marked-requires
 put-marked-requires c κs = search rules
 
-same_length : tie.Need-same-length
+same_length : tie.Need-shape_of-area
 same_length c = search rules
 
-returns-2 : tie.Need-returns-2
+returns-2 : tie.Need-returns
 returns-2 c =
-    let a = c.before.before.before.before.before.before.before.before.args in
-    record { fits = sym (le-leb (a.row.units + length a.run.now) row_limit (omega arith)); puts = c.before.before.put-marked.ensures }
+    let a = c.args in
+    record { fits = sym (le-leb (a.row.units + length a.run.now) row_limit (omega arith)); puts = c.put_marked.ensures }
 
 pub put_run_spec : {M : Type 1} → statement M
-put_run_spec = tie.close (tie.spec sub-room returns put-marked-requires same_length returns-2)
+put_run_spec = tie.close (tie.spec
+    sub-room
+    returns
+    put-marked-requires
+    same_length
+    returns-2)

@@ -53,115 +53,115 @@ callees t = (
 )
 
 module _ (t : ℕ) where
-  abbrev began : lts.After-plan-at (callees t) (expand_inner_at t) expand-inner.Post
+  abbrev began : lts.After-plan_at-plan (callees t) (expand_inner_at t) expand-inner.Post
       → lts.Start (callees t) (expand_inner_at t) expand-inner.Post
-  began c = c.before.before.before.before.before.before.before.before
+  began c = c.before.before.before.before.before.before.before
 
   -- the plan of an operand that is not used, and that is only read
-  abbrev unused : lts.After-read-text (callees t) (expand_inner_at t) expand-inner.Post
-      → lts.After-plan-at (callees t) (expand_inner_at t) expand-inner.Post
-  unused c = c.before.before.before.before
+  abbrev unused : lts.After-read_text-got (callees t) (expand_inner_at t) expand-inner.Post
+      → lts.After-plan_at-plan (callees t) (expand_inner_at t) expand-inner.Post
+  unused c = c.before.before
 
   -- the plan of an operand that is used, and that is expanded
-  abbrev used : lts.After-expand-text (callees t) (expand_inner_at t) expand-inner.Post
-      → lts.After-plan-at (callees t) (expand_inner_at t) expand-inner.Post
-  used c = c.before.before.before.before.before.before.before
+  abbrev used : lts.After-expand_text-got (callees t) (expand_inner_at t) expand-inner.Post
+      → lts.After-plan_at-plan (callees t) (expand_inner_at t) expand-inner.Post
+  used c = c.before.before.before.before.before
 
   -- the operand was expanded, where it is refused, where it demands a message itself and where it has a row
-  abbrev refused : lts.After-known-told5 (callees t) (expand_inner_at t) expand-inner.Post
-      → lts.After-expand-text (callees t) (expand_inner_at t) expand-inner.Post
-  refused c = c.before.before.before.before.before.before.before
+  abbrev refused : lts.In-Refused (callees t) (expand_inner_at t) expand-inner.Post
+      → lts.After-expand_text-got (callees t) (expand_inner_at t) expand-inner.Post
+  refused c = c.before.before.before.before.before
 
-  abbrev demanded : lts.After-known-told6 (callees t) (expand_inner_at t) expand-inner.Post
-      → lts.After-expand-text (callees t) (expand_inner_at t) expand-inner.Post
-  demanded c = c.before.before.before.before.before.before.before
+  abbrev demanded : lts.In-Demanded (callees t) (expand_inner_at t) expand-inner.Post
+      → lts.After-expand_text-got (callees t) (expand_inner_at t) expand-inner.Post
+  demanded c = c.before.before.before.before.before
 
-  abbrev given : lts.After-known-told7 (callees t) (expand_inner_at t) expand-inner.Post
-      → lts.After-expand-text (callees t) (expand_inner_at t) expand-inner.Post
-  given c = c.before.before.before.before.before.before.before
+  abbrev given : lts.In-Row (callees t) (expand_inner_at t) expand-inner.Post
+      → lts.After-expand_text-got (callees t) (expand_inner_at t) expand-inner.Post
+  given c = c.before.before.before.before.before
 
   -- the row that is finished
   abbrev finished : lts.After-finish (callees t) (expand_inner_at t) expand-inner.Post
-      → lts.After-known-told7 (callees t) (expand_inner_at t) expand-inner.Post
+      → lts.In-Row (callees t) (expand_inner_at t) expand-inner.Post
   finished c = c.before.before.before
 
-  inside : (c : lts.After-expand-text (callees t) (expand_inner_at t) expand-inner.Post) →
+  inside : (c : lts.After-expand_text-got (callees t) (expand_inner_at t) expand-inner.Post) →
       let a = (began (used c)).args in
       OperandExpanded (lent_of a.extent.vars_room a.extent.shouts a.homes.now a.params.now) a.text.now a.from.at
       a.from.mode a.from.depth (length a.work.now) a.vars.now
       a.extent.vars_used a.params.now (param_of a.text.now a.named.param) a.row.units (form_of a.named.form) (mark_of a.row.mark)
-      c.before.before.before.before.before.plan2.given.0.0
-      c.expand-text.new.1.1.1.1.1.1.1.0 c.expand-text.new.1.1.1.0 c.expand-text.result
+      c.in-Used.what
+      c.expand_text-got.new.work c.expand_text-got.new.vars c.expand_text-got.result
   inside c =
       let p = used c in
       let s = began p in
       record {
-        ready = s.pre.1.0;
-        lends = lending s.args.params.now s.pre.1.1 s.pre.1.2 s.pre.1.3;
+        ready = s.requires.1.0;
+        lends = lending s.args.params.now s.requires.1.1 s.requires.1.2 s.requires.1.3;
         listed = refl;
-        own = p.plan-at.result;
-        known = c.before.before.before.before.before.plan2.given.1;
-        planned = p.plan-at.ensures;
-        mark = mark_of c.before.before.before.operand-mark.result;
-        is = c.before.before.before.operand-mark.ensures;
-        says = c.expand-text.ensures;
+        own = p.plan_at-plan.result;
+        known = c.in-Used.is;
+        planned = p.plan_at-plan.ensures;
+        mark = mark_of c.operand_mark.result;
+        is = c.operand_mark.ensures;
+        says = c.expand_text-got.ensures;
       }
 
-  pub slice-reshare-prefix-plan-at : lts.Need-slice-reshare-prefix-plan-at (callees t) (expand_inner_at t) expand-inner.Post
-  slice-reshare-prefix-plan-at c = c.before.before.before.before.before.before.requires.1.1.inside
+  pub slice-reshare-prefix-plan-at : lts.Need-slice_bounds-plan_at-end (callees t) (expand_inner_at t) expand-inner.Post
+  slice-reshare-prefix-plan-at c = c.requires.1.1.inside
 
-  pub slice-aggregate-plan-at : lts.Need-slice-aggregate-plan-at (callees t) (expand_inner_at t) expand-inner.Post
+  pub slice-aggregate-plan-at : lts.Need-slice_bounds-plan_at-end-2 (callees t) (expand_inner_at t) expand-inner.Post
   slice-aggregate-plan-at c =
-      let s = c.before.before.before.before.before.before.before in
+      let s = c in
       sym (length-take-le s.args.extent.vars_used s.args.vars.now s.requires.1.1.inside)
 
-  pub plan-at-requires : lts.Need-plan-at-requires (callees t) (expand_inner_at t) expand-inner.Post
-  plan-at-requires c κs = let s = c.before.before.before.before.before.before.before in (s.requires.1.5, table_held _ _ _ s.requires.1.1, s.requires.1.3)
+  pub plan-at-requires : lts.Need-plan_at-plan-requires (callees t) (expand_inner_at t) expand-inner.Post
+  plan-at-requires c κs = let s = c in (s.requires.1.5, table_held _ _ _ s.requires.1.1, s.requires.1.3)
 
-  pub enum-known-plan : lts.Need-enum-known-plan (callees t) (expand_inner_at t) expand-inner.Post
+  pub enum-known-plan : lts.Need-enum_known-plan (callees t) (expand_inner_at t) expand-inner.Post
   enum-known-plan c = search rules
 
-  pub read-text-requires : lts.Need-read-text-requires (callees t) (expand_inner_at t) expand-inner.Post
+  pub read-text-requires : lts.Need-read_text-got-requires (callees t) (expand_inner_at t) expand-inner.Post
   read-text-requires c κs =
-      let y = (began c.before.before.before).pre.1.0 in (y.start, y.opens)
+      let y = (began c.before).requires.1.0 in (y.start, y.opens)
 
-  pub enum-known-got : lts.Need-enum-known-got (callees t) (expand_inner_at t) expand-inner.Post
+  pub enum-known-got : lts.Need-enum_known-got (callees t) (expand_inner_at t) expand-inner.Post
   enum-known-got c = search rules
 
-  pub enum-known-got-2 : lts.Need-enum-known-got-2 (callees t) (expand_inner_at t) expand-inner.Post
+  pub enum-known-got-2 : lts.Need-enum_known-got-in-End-1 (callees t) (expand_inner_at t) expand-inner.Post
   enum-known-got-2 c = search rules
 
-  pub slice-reshare-prefix-settle : lts.Need-slice-reshare-prefix-settle (callees t) (expand_inner_at t) expand-inner.Post
-  slice-reshare-prefix-settle c = (began (unused c.before.before.before)).pre.1.1.inside
+  pub slice-reshare-prefix-settle : lts.Need-slice_bounds-settle-end (callees t) (expand_inner_at t) expand-inner.Post
+  slice-reshare-prefix-settle c = (began (unused c.before)).requires.1.1.inside
 
-  pub slice-aggregate-settle : lts.Need-slice-aggregate-settle (callees t) (expand_inner_at t) expand-inner.Post
+  pub slice-aggregate-settle : lts.Need-slice_bounds-settle-end-in-End (callees t) (expand_inner_at t) expand-inner.Post
   slice-aggregate-settle c =
-      let s = began (unused c.before.before.before.before) in
-      sym (length-take-le s.args.extent.vars_used s.args.vars.now s.pre.1.1.inside)
+      let s = began (unused c.before) in
+      sym (length-take-le s.args.extent.vars_used s.args.vars.now s.requires.1.1.inside)
 
   pub settle-requires : lts.Need-settle-requires (callees t) (expand_inner_at t) expand-inner.Post
   settle-requires c κs =
-      let s = began (unused c.before.before.before.before.before) in
-      (s.pre.1.5, table_held _ _ _ s.pre.1.1, s.pre.1.3, s.pre.1.4, omega (arith, s.pre.1.0.area))
+      let s = began (unused c.before.before) in
+      (s.requires.1.5, table_held _ _ _ s.requires.1.1, s.requires.1.3, s.requires.1.4, omega (arith, s.requires.1.0.area))
 
-  pub enum-known-plan-2 : lts.Need-enum-known-plan-2 (callees t) (expand_inner_at t) expand-inner.Post
+  pub enum-known-plan-2 : lts.Need-enum_known-plan-in-Used-1 (callees t) (expand_inner_at t) expand-inner.Post
   enum-known-plan-2 c = search rules
 
-  pub operand-mark-requires : lts.Need-operand-mark-requires (callees t) (expand_inner_at t) expand-inner.Post
+  pub operand-mark-requires : lts.Need-operand_mark-requires (callees t) (expand_inner_at t) expand-inner.Post
   operand-mark-requires c κs = search rules
 
-  pub expand-text-requires : lts.Need-expand-text-requires (callees t) (expand_inner_at t) expand-inner.Post
+  pub expand-text-requires : lts.Need-expand_text-got-requires (callees t) (expand_inner_at t) expand-inner.Post
   expand-text-requires c κs =
-      let s = began c.before.before.before.before.before.before in
-      (omega (arith, s.pre.0), (s.pre.1.0, s.pre.1.1, s.pre.1.2, s.pre.1.3))
+      let s = began c.before.before.before.before in
+      (omega (arith, s.requires.0), (s.requires.1.0, s.requires.1.1, s.requires.1.2, s.requires.1.3))
 
-  pub enum-known-got-3 : lts.Need-enum-known-got-3 (callees t) (expand_inner_at t) expand-inner.Post
+  pub enum-known-got-3 : lts.Need-enum_known-got-in-Refused-1 (callees t) (expand_inner_at t) expand-inner.Post
   enum-known-got-3 c = search rules
 
-  pub enum-known-got-4 : lts.Need-enum-known-got-4 (callees t) (expand_inner_at t) expand-inner.Post
+  pub enum-known-got-4 : lts.Need-enum_known-got-in-Demanded-1 (callees t) (expand_inner_at t) expand-inner.Post
   enum-known-got-4 c = search rules
 
-  pub enum-known-got-5 : lts.Need-enum-known-got-5 (callees t) (expand_inner_at t) expand-inner.Post
+  pub enum-known-got-5 : lts.Need-enum_known-got-in-Row-1 (callees t) (expand_inner_at t) expand-inner.Post
   enum-known-got-5 c = search rules
 
   pub finish-requires : lts.Need-finish-requires (callees t) (expand_inner_at t) expand-inner.Post
@@ -169,93 +169,93 @@ module _ (t : ℕ) where
       let g = c.before.before in
       let e = given g in
       let s = began (used e) in
-      let q = g.before.got5.given.1 in (
-        s.pre.1.5,
-        s.pre.1.3,
-        used_ready (inside e) q s.pre.1.6,
+      let q = g.in-Row.is in (
+        s.requires.1.5,
+        s.requires.1.3,
+        used_ready (inside e) q s.requires.1.6,
         used_holds (inside e) q,
-        s.pre.1.4,
-        omega (arith, s.pre.1.0.area, e.expand-text.kept.1.1.1.1.1.1.1.0),
+        s.requires.1.4,
+        omega (arith, s.requires.1.0.area, e.expand_text-got.auto.work),
       )
 
-  pub same_length : lts.Need-same-length (callees t) (expand_inner_at t) expand-inner.Post
+  pub same_length : lts.Need-shape_of-vars-in-Fault (callees t) (expand_inner_at t) expand-inner.Post
   same_length c = search rules
 
-  pub returns : lts.Need-returns (callees t) (expand_inner_at t) expand-inner.Post
+  pub returns : lts.Need-returns-in-Fault (callees t) (expand_inner_at t) expand-inner.Post
   returns c =
-      let r = c.before.before.before in
+      let r = c.before in
       let p = unused r in
       let s = began p in
       let a = s.args in
-      unused_fault a.row.units a.params.now (param_of a.text.now a.named.param) (form_of a.named.form) (mark_of a.row.mark) s.pre.1.0
-      (lending a.params.now s.pre.1.1 s.pre.1.2 s.pre.1.3) refl
-      p.plan-at.ensures _ _ (reading_known a.text.now a.from.at _ r.read-text.ensures c.before.got.given.1) _
+      unused_fault a.row.units a.params.now (param_of a.text.now a.named.param) (form_of a.named.form) (mark_of a.row.mark) s.requires.1.0
+      (lending a.params.now s.requires.1.1 s.requires.1.2 s.requires.1.3) refl
+      p.plan_at-plan.ensures _ _ (reading_known a.text.now a.from.at _ r.read_text-got.ensures c.in-Fault.is) _
 
-  pub same-length-2 : lts.Need-same-length-2 (callees t) (expand_inner_at t) expand-inner.Post
+  pub same-length-2 : lts.Need-shape_of-vars-in-End (callees t) (expand_inner_at t) expand-inner.Post
   same-length-2 c = search rules
 
-  pub same-length-3 : lts.Need-same-length-3 (callees t) (expand_inner_at t) expand-inner.Post
-  same-length-3 c = omega (arith, c.before.before.settle.auto.1.1.1.1.1.1.1.0)
+  pub same-length-3 : lts.Need-shape_of-work-in-End (callees t) (expand_inner_at t) expand-inner.Post
+  same-length-3 c = omega (arith, c.settle.auto.work)
 
-  pub returns-2 : lts.Need-returns-2 (callees t) (expand_inner_at t) expand-inner.Post
+  pub returns-2 : lts.Need-returns-in-End (callees t) (expand_inner_at t) expand-inner.Post
   returns-2 c =
-      let g = c.before.before.settle in
-      let q = c.before.before.before.before.before.before in
-      let r = q.before.before in
+      let g = c.settle in
+      let q = c.before.before.before.before in
+      let r = q.before in
       let p = unused r in
       let s = began p in
       let a = s.args in
-      unused_given a.row.units a.params.now (param_of a.text.now a.named.param) (form_of a.named.form) (mark_of a.row.mark) s.pre.1.0
-      (lending a.params.now s.pre.1.1 s.pre.1.2 s.pre.1.3) refl
-      p.plan-at.ensures r.before.before.plan.given.1
-      (reading_known a.text.now a.from.at _ r.read-text.ensures q.got2.given.1) _ g.result
+      unused_given a.row.units a.params.now (param_of a.text.now a.named.param) (form_of a.named.form) (mark_of a.row.mark) s.requires.1.0
+      (lending a.params.now s.requires.1.1 s.requires.1.2 s.requires.1.3) refl
+      p.plan_at-plan.ensures r.in-Unused.is
+      (reading_known a.text.now a.from.at _ r.read_text-got.ensures q.in-End.is) _ g.result
       (g.ensures a.extent.vars_room a.extent.shouts a.homes.now)
 
-  pub same-length-4 : lts.Need-same-length-4 (callees t) (expand_inner_at t) expand-inner.Post
-  same-length-4 c = omega (arith, (refused c).expand-text.auto.1.1.1.0)
+  pub same-length-4 : lts.Need-shape_of-vars-in-Refused (callees t) (expand_inner_at t) expand-inner.Post
+  same-length-4 c = omega (arith, (refused c).expand_text-got.auto.vars)
 
-  pub same-length-5 : lts.Need-same-length-5 (callees t) (expand_inner_at t) expand-inner.Post
-  same-length-5 c = omega (arith, (refused c).expand-text.auto.1.1.1.1.1.1.1.0)
+  pub same-length-5 : lts.Need-shape_of-work-in-Refused (callees t) (expand_inner_at t) expand-inner.Post
+  same-length-5 c = omega (arith, (refused c).expand_text-got.auto.work)
 
-  pub returns-3 : lts.Need-returns-3 (callees t) (expand_inner_at t) expand-inner.Post
-  returns-3 c = used_refused (inside (refused c)) _ c.before.got3.given.1
+  pub returns-3 : lts.Need-returns-in-Refused (callees t) (expand_inner_at t) expand-inner.Post
+  returns-3 c = used_refused (inside (refused c)) _ c.in-Refused.is
 
-  pub same-length-6 : lts.Need-same-length-6 (callees t) (expand_inner_at t) expand-inner.Post
-  same-length-6 c = omega (arith, (demanded c).expand-text.auto.1.1.1.0)
+  pub same-length-6 : lts.Need-shape_of-vars-in-Demanded (callees t) (expand_inner_at t) expand-inner.Post
+  same-length-6 c = omega (arith, (demanded c).expand_text-got.auto.vars)
 
-  pub same-length-7 : lts.Need-same-length-7 (callees t) (expand_inner_at t) expand-inner.Post
-  same-length-7 c = omega (arith, (demanded c).expand-text.auto.1.1.1.1.1.1.1.0)
+  pub same-length-7 : lts.Need-shape_of-work-in-Demanded (callees t) (expand_inner_at t) expand-inner.Post
+  same-length-7 c = omega (arith, (demanded c).expand_text-got.auto.work)
 
-  pub returns-4 : lts.Need-returns-4 (callees t) (expand_inner_at t) expand-inner.Post
-  returns-4 c = used_demanded (inside (demanded c)) c.before.got4.given.1
+  pub returns-4 : lts.Need-returns-in-Demanded (callees t) (expand_inner_at t) expand-inner.Post
+  returns-4 c = used_demanded (inside (demanded c)) c.in-Demanded.is
 
-  pub same-length-8 : lts.Need-same-length-8 (callees t) (expand_inner_at t) expand-inner.Post
+  pub same-length-8 : lts.Need-shape_of-vars-in-Row (callees t) (expand_inner_at t) expand-inner.Post
   same-length-8 c =
       let f = c.before.before.before.before in
-      omega (arith, (given (finished f)).expand-text.kept.1.1.1.0, f.finish.auto.1.1.1.1.1.0)
+      omega (arith, (given (finished f)).expand_text-got.auto.vars, f.finish.auto.vars)
 
-  pub same-length-9 : lts.Need-same-length-9 (callees t) (expand_inner_at t) expand-inner.Post
+  pub same-length-9 : lts.Need-shape_of-work-in-Row (callees t) (expand_inner_at t) expand-inner.Post
   same-length-9 c =
       let f = c.before.before.before.before in
-      omega (arith, (given (finished f)).expand-text.kept.1.1.1.1.1.1.1.0, f.finish.auto.1.1.1.1.1.1.1.1.0)
+      omega (arith, (given (finished f)).expand_text-got.auto.work, f.finish.auto.work)
 
-  pub returns-5 : lts.Need-returns-5 (callees t) (expand_inner_at t) expand-inner.Post
+  pub returns-5 : lts.Need-returns-in-Row (callees t) (expand_inner_at t) expand-inner.Post
   returns-5 c =
       let f = c.before.before.before.before in
       let e = given (finished f) in
-      used_given (inside e) (finished f).before.got5.given.1 _ _ f.finish.result (f.finish.ensures (began (used e)).args.homes.now)
+      used_given (inside e) (finished f).in-Row.is _ _ f.finish.result (f.finish.ensures (began (used e)).args.homes.now)
 
-  pub enum_told : lts.Need-enum-told (callees t) (expand_inner_at t) expand-inner.Post
+  pub enum_told : lts.Need-enum_told-1 (callees t) (expand_inner_at t) expand-inner.Post
   enum_told c = search rules
 
-  pub same-length-10 : lts.Need-same-length-10 (callees t) (expand_inner_at t) expand-inner.Post
+  pub same-length-10 : lts.Need-shape_of-vars-in-Shout (callees t) (expand_inner_at t) expand-inner.Post
   same-length-10 c = search rules
 
-  pub returns-6 : lts.Need-returns-6 (callees t) (expand_inner_at t) expand-inner.Post
+  pub returns-6 : lts.Need-returns-in-Shout (callees t) (expand_inner_at t) expand-inner.Post
   returns-6 c =
-      let p = c.before.before in
+      let p = c.before in
       let s = began p in
       let a = s.args in
-      shouted a.row.units a.params.now (param_of a.text.now a.named.param) (form_of a.named.form) (mark_of a.row.mark) s.pre.1.0
-      (lending a.params.now s.pre.1.1 s.pre.1.2 s.pre.1.3) refl
-      p.plan-at.ensures c.enum_told.given.1 _ _
+      shouted a.row.units a.params.now (param_of a.text.now a.named.param) (form_of a.named.form) (mark_of a.row.mark) s.requires.1.0
+      (lending a.params.now s.requires.1.1 s.requires.1.2 s.requires.1.3) refl
+      p.plan_at-plan.ensures c.in-Shout.is _ _

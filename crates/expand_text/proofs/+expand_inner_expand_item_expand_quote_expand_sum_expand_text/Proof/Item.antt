@@ -94,333 +94,333 @@ module _ (t : ℕ) where
   here s = record { ready = s.requires.1.1; lends = lending s.args.params.now s.requires.1.2 s.requires.1.3 s.requires.1.4; shows = s.requires.1.0 }
 
   -- where it was matched, from each arm that looks back
-  abbrev byte : lts.After-item3 (callees t) (expand_item_at t) expand-item.Post
+  abbrev byte : lts.In-Byte (callees t) (expand_item_at t) expand-item.Post
       → lts.Start (callees t) (expand_item_at t) expand-item.Post
-  byte c = c.before.before.before.before.before.before.before
+  byte c = c.before.before.before.before.before.before
 
-  abbrev paren : lts.After-item4 (callees t) (expand_item_at t) expand-item.Post
+  abbrev paren : lts.In-Paren (callees t) (expand_item_at t) expand-item.Post
       → lts.Start (callees t) (expand_item_at t) expand-item.Post
-  paren c = c.before.before.before.before.before.before.before
+  paren c = c.before.before.before.before.before.before
 
-  abbrev quote : lts.After-item5 (callees t) (expand_item_at t) expand-item.Post
+  abbrev quote : lts.In-Quote (callees t) (expand_item_at t) expand-item.Post
       → lts.Start (callees t) (expand_item_at t) expand-item.Post
-  quote c = c.before.before.before.before.before.before.before
+  quote c = c.before.before.before.before.before.before
 
-  abbrev value : lts.After-item6 (callees t) (expand_item_at t) expand-item.Post
+  abbrev value : lts.In-Value (callees t) (expand_item_at t) expand-item.Post
       → lts.Start (callees t) (expand_item_at t) expand-item.Post
-  value c = c.before.before.before.before.before.before.before
+  value c = c.before.before.before.before.before.before
 
-  abbrev count : lts.After-item7 (callees t) (expand_item_at t) expand-item.Post
+  abbrev count : lts.In-Count (callees t) (expand_item_at t) expand-item.Post
       → lts.Start (callees t) (expand_item_at t) expand-item.Post
-  count c = c.before.before.before.before.before.before.before
+  count c = c.before.before.before.before.before.before
 
-  abbrev total : lts.After-item8 (callees t) (expand_item_at t) expand-item.Post
+  abbrev total : lts.In-Total (callees t) (expand_item_at t) expand-item.Post
       → lts.Start (callees t) (expand_item_at t) expand-item.Post
-  total c = c.before.before.before.before.before.before.before
+  total c = c.before.before.before.before.before.before
 
-  abbrev spread : lts.After-item9 (callees t) (expand_item_at t) expand-item.Post
+  abbrev spread : lts.In-Spread (callees t) (expand_item_at t) expand-item.Post
       → lts.Start (callees t) (expand_item_at t) expand-item.Post
-  spread c = c.before.before.before.before.before.before.before
+  spread c = c.before.before.before.before.before.before
 
-  abbrev inner : lts.After-item10 (callees t) (expand_item_at t) expand-item.Post
+  abbrev inner : lts.In-Inner (callees t) (expand_item_at t) expand-item.Post
       → lts.Start (callees t) (expand_item_at t) expand-item.Post
-  inner c = c.before.before.before.before.before.before.before
+  inner c = c.before.before.before.before.before.before
 
-  abbrev sum : lts.After-item11 (callees t) (expand_item_at t) expand-item.Post
+  abbrev sum : lts.In-Sum (callees t) (expand_item_at t) expand-item.Post
       → lts.Start (callees t) (expand_item_at t) expand-item.Post
-  sum c = c.before.before.before.before.before.before.before
+  sum c = c.before.before.before.before.before.before
 
-  abbrev home : lts.After-item12 (callees t) (expand_item_at t) expand-item.Post
+  abbrev home : lts.In-Home (callees t) (expand_item_at t) expand-item.Post
       → lts.Start (callees t) (expand_item_at t) expand-item.Post
-  home c = c.before.before.before.before.before.before.before
+  home c = c.before.before.before.before.before.before
 
-  pub enum-known-item : lts.Need-enum-known-item (callees t) (expand_item_at t) expand-item.Post
+  pub enum-known-item : lts.Need-enum_known-item (callees t) (expand_item_at t) expand-item.Post
   enum-known-item c = search rules
 
-  pub enum-known-item-2 : lts.Need-enum-known-item-2 (callees t) (expand_item_at t) expand-item.Post
+  pub enum-known-item-2 : lts.Need-enum_known-item-in-Stop-1 (callees t) (expand_item_at t) expand-item.Post
   enum-known-item-2 c = search rules
 
-  pub enum-known-item-3 : lts.Need-enum-known-item-3 (callees t) (expand_item_at t) expand-item.Post
+  pub enum-known-item-3 : lts.Need-enum_known-item-in-Byte-1 (callees t) (expand_item_at t) expand-item.Post
   enum-known-item-3 c = search rules
 
-  pub literal-mark-requires : lts.Need-literal-mark-requires (callees t) (expand_item_at t) expand-item.Post
+  pub literal-mark-requires : lts.Need-literal_mark-requires (callees t) (expand_item_at t) expand-item.Post
   literal-mark-requires c κs = search rules
 
-  pub give-unit-requires : lts.Need-give-unit-requires (callees t) (expand_item_at t) expand-item.Post
+  pub give-unit-requires : lts.Need-give_unit-requires (callees t) (expand_item_at t) expand-item.Post
   give-unit-requires c κs =
-      let i = c.before.before.before in
+      let i = c.before.before in
       let y = (byte i).requires.1.1 in
       (y.few, omega (arith, y.area))
 
-  pub enum-known-item-4 : lts.Need-enum-known-item-4 (callees t) (expand_item_at t) expand-item.Post
+  pub enum-known-item-4 : lts.Need-enum_known-item-in-Paren-1 (callees t) (expand_item_at t) expand-item.Post
   enum-known-item-4 c = search rules
 
-  pub add-t51 : lts.Need-overflow-add-t51 (callees t) (expand_item_at t) expand-item.Post
+  pub add-t51 : lts.Need-overflow_add-on (callees t) (expand_item_at t) expand-item.Post
   add-t51 c =
-      let i = c.before.before in
-      omega (arith, paren_place (here (paren i)) i.item4.given.1)
+      let i = c.before in
+      omega (arith, paren_place (here (paren i)) i.in-Paren.is)
 
-  pub give-unit-requires-2 : lts.Need-give-unit-requires-2 (callees t) (expand_item_at t) expand-item.Post
+  pub give-unit-requires-2 : lts.Need-give_unit-requires-in-Paren (callees t) (expand_item_at t) expand-item.Post
   give-unit-requires-2 c κs =
-      let i = c.before.before.before in
+      let i = c.before.before in
       let y = (paren i).requires.1.1 in
       (y.few, omega (arith, y.area))
 
-  pub enum-known-item-5 : lts.Need-enum-known-item-5 (callees t) (expand_item_at t) expand-item.Post
+  pub enum-known-item-5 : lts.Need-enum_known-item-in-Quote-1 (callees t) (expand_item_at t) expand-item.Post
   enum-known-item-5 c = search rules
 
-  pub expand-quote-requires : lts.Need-expand-quote-requires (callees t) (expand_item_at t) expand-item.Post
+  pub expand-quote-requires : lts.Need-expand_quote-requires (callees t) (expand_item_at t) expand-item.Post
   expand-quote-requires c κs =
-      let i = c.before.before.before in
+      let i = c.before.before in
       let p = (quote i).requires in
-      let n = quote_place (here (quote i)) i.item5.given.1 in
-      (omega (arith, p.0, n.onward, n.within), (quote_ready (here (quote i)) i.item5.given.1, p.1.2, p.1.3, p.1.4))
+      let n = quote_place (here (quote i)) i.in-Quote.is in
+      (omega (arith, p.0, n.onward, n.within), (quote_ready (here (quote i)) i.in-Quote.is, p.1.2, p.1.3, p.1.4))
 
-  pub enum-known-item-6 : lts.Need-enum-known-item-6 (callees t) (expand_item_at t) expand-item.Post
+  pub enum-known-item-6 : lts.Need-enum_known-item-in-Value-1 (callees t) (expand_item_at t) expand-item.Post
   enum-known-item-6 c = search rules
 
-  pub slice-reshare-prefix-give-sought : lts.Need-slice-reshare-prefix-give-sought (callees t) (expand_item_at t) expand-item.Post
-  slice-reshare-prefix-give-sought c = (value c.before).pre.1.2.inside
+  pub slice-reshare-prefix-give-sought : lts.Need-slice_bounds-give_sought-end (callees t) (expand_item_at t) expand-item.Post
+  slice-reshare-prefix-give-sought c = (value c).requires.1.2.inside
 
-  pub slice-aggregate-give-sought : lts.Need-slice-aggregate-give-sought (callees t) (expand_item_at t) expand-item.Post
+  pub slice-aggregate-give-sought : lts.Need-slice_bounds-give_sought-end-in-Value (callees t) (expand_item_at t) expand-item.Post
   slice-aggregate-give-sought c =
-      let s = value c.before.before in
-      sym (length-take-le s.args.extent.vars_used s.args.vars.now s.pre.1.2.inside)
+      let s = value c in
+      sym (length-take-le s.args.extent.vars_used s.args.vars.now s.requires.1.2.inside)
 
-  pub give-sought-requires : lts.Need-give-sought-requires (callees t) (expand_item_at t) expand-item.Post
+  pub give-sought-requires : lts.Need-give_sought-requires (callees t) (expand_item_at t) expand-item.Post
   give-sought-requires c κs =
-      let i = c.before.before.before in
+      let i = c.before in
       let p = (value i).requires.1 in
-      (value_name (here (value i)) i.item6.given.1, table_held _ _ _ p.2, p.4, p.1.few, omega (arith, p.1.area))
+      (value_name (here (value i)) i.in-Value.is, table_held _ _ _ p.2, p.4, p.1.few, omega (arith, p.1.area))
 
-  pub enum-known-item-7 : lts.Need-enum-known-item-7 (callees t) (expand_item_at t) expand-item.Post
+  pub enum-known-item-7 : lts.Need-enum_known-item-in-Count-1 (callees t) (expand_item_at t) expand-item.Post
   enum-known-item-7 c = search rules
 
-  pub slice-reshare-prefix-give-length : lts.Need-slice-reshare-prefix-give-length (callees t) (expand_item_at t) expand-item.Post
-  slice-reshare-prefix-give-length c = (count c.before).pre.1.2.inside
+  pub slice-reshare-prefix-give-length : lts.Need-slice_bounds-give_length-end (callees t) (expand_item_at t) expand-item.Post
+  slice-reshare-prefix-give-length c = (count c).requires.1.2.inside
 
-  pub slice-aggregate-give-length : lts.Need-slice-aggregate-give-length (callees t) (expand_item_at t) expand-item.Post
+  pub slice-aggregate-give-length : lts.Need-slice_bounds-give_length-end-in-Count (callees t) (expand_item_at t) expand-item.Post
   slice-aggregate-give-length c =
-      let s = count c.before.before in
-      sym (length-take-le s.args.extent.vars_used s.args.vars.now s.pre.1.2.inside)
+      let s = count c in
+      sym (length-take-le s.args.extent.vars_used s.args.vars.now s.requires.1.2.inside)
 
-  pub give-length-requires : lts.Need-give-length-requires (callees t) (expand_item_at t) expand-item.Post
+  pub give-length-requires : lts.Need-give_length-requires (callees t) (expand_item_at t) expand-item.Post
   give-length-requires c κs =
-      let i = c.before.before.before in
+      let i = c.before in
       let p = (count i).requires.1 in
-      (count_name (here (count i)) i.item7.given.1, table_held _ _ _ p.2, p.4, p.1.few, omega (arith, p.1.area))
+      (count_name (here (count i)) i.in-Count.is, table_held _ _ _ p.2, p.4, p.1.few, omega (arith, p.1.area))
 
-  pub enum-known-item-8 : lts.Need-enum-known-item-8 (callees t) (expand_item_at t) expand-item.Post
+  pub enum-known-item-8 : lts.Need-enum_known-item-in-Total-1 (callees t) (expand_item_at t) expand-item.Post
   enum-known-item-8 c = search rules
 
-  pub give-total-requires : lts.Need-give-total-requires (callees t) (expand_item_at t) expand-item.Post
+  pub give-total-requires : lts.Need-give_total-requires (callees t) (expand_item_at t) expand-item.Post
   give-total-requires c κs =
-      let p = (total c.before.before).pre.1 in
+      let p = (total c.before).requires.1 in
       (p.4, p.1.few, omega (arith, p.1.area))
 
-  pub enum-known-item-9 : lts.Need-enum-known-item-9 (callees t) (expand_item_at t) expand-item.Post
+  pub enum-known-item-9 : lts.Need-enum_known-item-in-Spread-1 (callees t) (expand_item_at t) expand-item.Post
   enum-known-item-9 c = search rules
 
-  pub is-of-none-requires : lts.Need-is-of-none-requires (callees t) (expand_item_at t) expand-item.Post
-  is-of-none-requires c κs = (spread c.before).pre.1.4
+  pub is-of-none-requires : lts.Need-is_of_none-requires (callees t) (expand_item_at t) expand-item.Post
+  is-of-none-requires c κs = (spread c).requires.1.4
 
-  pub slice-reshare-prefix-give-list : lts.Need-slice-reshare-prefix-give-list (callees t) (expand_item_at t) expand-item.Post
-  slice-reshare-prefix-give-list c = (spread c.before.before).pre.1.2.inside
+  pub slice-reshare-prefix-give-list : lts.Need-slice_bounds-give_list-end (callees t) (expand_item_at t) expand-item.Post
+  slice-reshare-prefix-give-list c = (spread c.before).requires.1.2.inside
 
-  pub slice-aggregate-give-list : lts.Need-slice-aggregate-give-list (callees t) (expand_item_at t) expand-item.Post
+  pub slice-aggregate-give-list : lts.Need-slice_bounds-give_list-end-in-Spread (callees t) (expand_item_at t) expand-item.Post
   slice-aggregate-give-list c =
-      let s = spread c.before.before.before in
-      sym (length-take-le s.args.extent.vars_used s.args.vars.now s.pre.1.2.inside)
+      let s = spread c.before in
+      sym (length-take-le s.args.extent.vars_used s.args.vars.now s.requires.1.2.inside)
 
-  pub give-list-requires : lts.Need-give-list-requires (callees t) (expand_item_at t) expand-item.Post
+  pub give-list-requires : lts.Need-give_list-requires (callees t) (expand_item_at t) expand-item.Post
   give-list-requires c κs =
-      let p = (spread c.before.before.before.before).pre.1 in
+      let p = (spread c.before.before).requires.1 in
       ((table_held _ _ _ p.2, p.4), (p.1.few, omega (arith, p.1.area)))
 
-  pub enum-known-item-10 : lts.Need-enum-known-item-10 (callees t) (expand_item_at t) expand-item.Post
+  pub enum-known-item-10 : lts.Need-enum_known-item-in-Inner-1 (callees t) (expand_item_at t) expand-item.Post
   enum-known-item-10 c = search rules
 
-  pub sub-t73 : lts.Need-overflow-sub-t73 (callees t) (expand_item_at t) expand-item.Post
+  pub sub-t73 : lts.Need-overflow_sub-operand (callees t) (expand_item_at t) expand-item.Post
   sub-t73 c =
-      let i = c.before.before in
-      omega (arith, inner_depth (here (inner i)) i.item10.given.1)
+      let i = c.before in
+      omega (arith, inner_depth (here (inner i)) i.in-Inner.is)
 
-  pub expand-inner-requires : lts.Need-expand-inner-requires (callees t) (expand_item_at t) expand-item.Post
+  pub expand-inner-requires : lts.Need-expand_inner-requires (callees t) (expand_item_at t) expand-item.Post
   expand-inner-requires c κs =
-      let i = c.before.before.before.before in
+      let i = c.before.before.before in
       let p = (inner i).requires in
-      let n = inner_place (here (inner i)) i.item10.given.1 in (
+      let n = inner_place (here (inner i)) i.in-Inner.is in (
         omega (arith, p.0, n.onward, n.within),
         (
-          inner_ready (here (inner i)) i.item10.given.1,
+          inner_ready (here (inner i)) i.in-Inner.is,
           p.1.2,
           p.1.3,
           p.1.4,
           p.1.1.few,
-          inner_places (here (inner i)) i.item10.given.1,
-          inner_name (here (inner i)) i.item10.given.1,
+          inner_places (here (inner i)) i.in-Inner.is,
+          inner_name (here (inner i)) i.in-Inner.is,
         ),
       )
 
-  pub enum-known-item-11 : lts.Need-enum-known-item-11 (callees t) (expand_item_at t) expand-item.Post
+  pub enum-known-item-11 : lts.Need-enum_known-item-in-Sum-1 (callees t) (expand_item_at t) expand-item.Post
   enum-known-item-11 c = search rules
 
-  pub sub-expand-sum : lts.Need-overflow-sub-expand-sum (callees t) (expand_item_at t) expand-item.Post
+  pub sub-expand-sum : lts.Need-overflow_sub-from (callees t) (expand_item_at t) expand-item.Post
   sub-expand-sum c =
-      let i = c.before.before in
-      omega (arith, sum_depth (here (sum i)) i.item11.given.1)
+      let i = c.before in
+      omega (arith, sum_depth (here (sum i)) i.in-Sum.is)
 
-  pub expand-sum-requires : lts.Need-expand-sum-requires (callees t) (expand_item_at t) expand-item.Post
+  pub expand-sum-requires : lts.Need-expand_sum-requires (callees t) (expand_item_at t) expand-item.Post
   expand-sum-requires c κs =
-      let i = c.before.before.before.before in
+      let i = c.before.before.before in
       let p = (sum i).requires in
-      let y = sum_ready (here (sum i)) i.item11.given.1 in
-      (omega (arith, p.0, sum_place (here (sum i)) i.item11.given.1, y.start), (y, p.1.2, p.1.3, p.1.4, p.1.1.few))
+      let y = sum_ready (here (sum i)) i.in-Sum.is in
+      (omega (arith, p.0, sum_place (here (sum i)) i.in-Sum.is, y.start), (y, p.1.2, p.1.3, p.1.4, p.1.1.few))
 
-  pub enum-known-item-12 : lts.Need-enum-known-item-12 (callees t) (expand_item_at t) expand-item.Post
+  pub enum-known-item-12 : lts.Need-enum_known-item-in-Home-1 (callees t) (expand_item_at t) expand-item.Post
   enum-known-item-12 c = search rules
 
-  pub add_start : lts.Need-overflow-add-start (callees t) (expand_item_at t) expand-item.Post
-  add_start c = let i = c.before.before in let n = home_place (here (home i)) i.item12.given.1 in omega (arith, n.onward, n.within)
+  pub add_start : lts.Need-overflow_add-start (callees t) (expand_item_at t) expand-item.Post
+  add_start c = let i = c.before in let n = home_place (here (home i)) i.in-Home.is in omega (arith, n.onward, n.within)
 
-  pub sub-give-home : lts.Need-overflow-sub-give-home (callees t) (expand_item_at t) expand-item.Post
-  sub-give-home c = let i = c.before.before in let n = home_place (here (home i)) i.item12.given.1 in omega (arith, n.onward, n.within)
+  pub sub-give-home : lts.Need-slice_bounds-give_home-count (callees t) (expand_item_at t) expand-item.Post
+  sub-give-home c = let i = c.before in let n = home_place (here (home i)) i.in-Home.is in omega (arith, n.onward, n.within)
 
-  pub part-give-home-start : lts.Need-slice-bounds-give-home-start (callees t) (expand_item_at t) expand-item.Post
-  part-give-home-start c = let i = c.before.before in let n = home_place (here (home i)) i.item12.given.1 in omega (arith, n.onward, n.within)
+  pub part-give-home-start : lts.Need-slice_bounds-give_home-start (callees t) (expand_item_at t) expand-item.Post
+  part-give-home-start c = let i = c.before in let n = home_place (here (home i)) i.in-Home.is in omega (arith, n.onward, n.within)
 
-  pub part-give-home-end : lts.Need-slice-bounds-give-home-end (callees t) (expand_item_at t) expand-item.Post
-  part-give-home-end c = let i = c.before.before in let n = home_place (here (home i)) i.item12.given.1 in omega (arith, n.onward, n.within)
+  pub part-give-home-end : lts.Need-slice_bounds-give_home-end (callees t) (expand_item_at t) expand-item.Post
+  part-give-home-end c = let i = c.before in let n = home_place (here (home i)) i.in-Home.is in omega (arith, n.onward, n.within)
 
-  pub slice-reshare-prefix-give-home : lts.Need-slice-reshare-prefix-give-home (callees t) (expand_item_at t) expand-item.Post
-  slice-reshare-prefix-give-home c = (home c.before.before.before).pre.1.2.inside
+  pub slice-reshare-prefix-give-home : lts.Need-slice_bounds-give_home-end-in-Home (callees t) (expand_item_at t) expand-item.Post
+  slice-reshare-prefix-give-home c = (home c.before.before).requires.1.2.inside
 
-  pub slice-aggregate-give-home : lts.Need-slice-aggregate-give-home (callees t) (expand_item_at t) expand-item.Post
+  pub slice-aggregate-give-home : lts.Need-slice_bounds-give_home-end-in-Home-2 (callees t) (expand_item_at t) expand-item.Post
   slice-aggregate-give-home c =
-      let s = home c.before.before.before.before in
-      sym (length-take-le s.args.extent.vars_used s.args.vars.now s.pre.1.2.inside)
+      let s = home c.before.before in
+      sym (length-take-le s.args.extent.vars_used s.args.vars.now s.requires.1.2.inside)
 
-  pub give-home-requires : lts.Need-give-home-requires (callees t) (expand_item_at t) expand-item.Post
+  pub give-home-requires : lts.Need-give_home-requires (callees t) (expand_item_at t) expand-item.Post
   give-home-requires c κs =
-      let p = (home c.before.before.before.before.before).pre.1 in
+      let p = (home c.before.before.before).requires.1 in
       (table_held _ _ _ p.2, p.3, p.1.few, omega (arith, p.1.area))
 
-  pub returns : lts.Need-returns (callees t) (expand_item_at t) expand-item.Post
+  pub returns : lts.Need-returns-in-Fault (callees t) (expand_item_at t) expand-item.Post
   returns c =
-      item_fault (here c.before.before.before.before.before.before.before.before) _ _ c.before.item.given.1
+      item_fault (here c.before.before.before.before.before.before) _ _ c.in-Fault.is
 
-  pub returns-2 : lts.Need-returns-2 (callees t) (expand_item_at t) expand-item.Post
-  returns-2 c = item_stop (here c.before.before.before.before.before.before.before.before) _ c.before.item2.given.1
+  pub returns-2 : lts.Need-returns-in-Stop (callees t) (expand_item_at t) expand-item.Post
+  returns-2 c = item_stop (here c.before.before.before.before.before.before) _ c.in-Stop.is
 
-  pub same_length : lts.Need-same-length (callees t) (expand_item_at t) expand-item.Post
+  pub same_length : lts.Need-shape_of-work-in-Byte (callees t) (expand_item_at t) expand-item.Post
   same_length c = search rules
 
-  pub returns-3 : lts.Need-returns-3 (callees t) (expand_item_at t) expand-item.Post
+  pub returns-3 : lts.Need-returns-in-Byte (callees t) (expand_item_at t) expand-item.Post
   returns-3 c =
       let g = c.before.before in
       let m = g.before.before in
-      let i = m.before.before in
-      item_byte (here (byte i)) i.item3.given.1 m.literal-mark.ensures _ g.give-unit.result g.give-unit.ensures
+      let i = m.before in
+      item_byte (here (byte i)) i.in-Byte.is m.literal_mark.ensures _ g.give_unit.result g.give_unit.ensures
 
-  pub same-length-2 : lts.Need-same-length-2 (callees t) (expand_item_at t) expand-item.Post
+  pub same-length-2 : lts.Need-shape_of-work-in-Paren (callees t) (expand_item_at t) expand-item.Post
   same-length-2 c = search rules
 
-  pub returns-4 : lts.Need-returns-4 (callees t) (expand_item_at t) expand-item.Post
+  pub returns-4 : lts.Need-returns-in-Paren (callees t) (expand_item_at t) expand-item.Post
   returns-4 c =
       let g = c.before.before in
-      let i = g.before.before.before.before in
-      item_paren (here (paren i)) i.item4.given.1 _ g.give-unit2.result g.give-unit2.ensures
+      let i = g.before.before.before in
+      item_paren (here (paren i)) i.in-Paren.is _ g.give_unit-in-Paren.result g.give_unit-in-Paren.ensures
 
-  pub same-length-3 : lts.Need-same-length-3 (callees t) (expand_item_at t) expand-item.Post
-  same-length-3 c = omega (arith, c.before.before.before.before.expand-quote.auto.1.1.1.0)
+  pub same-length-3 : lts.Need-shape_of-vars-in-Quote (callees t) (expand_item_at t) expand-item.Post
+  same-length-3 c = omega (arith, c.expand_quote.auto.vars)
 
-  pub same-length-4 : lts.Need-same-length-4 (callees t) (expand_item_at t) expand-item.Post
-  same-length-4 c = omega (arith, c.before.before.before.before.expand-quote.auto.1.1.1.1.1.1.1.0)
+  pub same-length-4 : lts.Need-shape_of-work-in-Quote (callees t) (expand_item_at t) expand-item.Post
+  same-length-4 c = omega (arith, c.expand_quote.auto.work)
 
-  pub returns-5 : lts.Need-returns-5 (callees t) (expand_item_at t) expand-item.Post
+  pub returns-5 : lts.Need-returns-in-Quote (callees t) (expand_item_at t) expand-item.Post
   returns-5 c =
       let g = c.before.before.before.before in
-      let i = g.before.before.before.before in
-      item_quote (here (quote i)) i.item5.given.1 _ _ g.expand-quote.result g.expand-quote.ensures
+      let i = g.before.before.before in
+      item_quote (here (quote i)) i.in-Quote.is _ _ g.expand_quote.result g.expand_quote.ensures
 
-  pub same-length-5 : lts.Need-same-length-5 (callees t) (expand_item_at t) expand-item.Post
+  pub same-length-5 : lts.Need-shape_of-vars-in-Value (callees t) (expand_item_at t) expand-item.Post
   same-length-5 c = search rules
 
-  pub same-length-6 : lts.Need-same-length-6 (callees t) (expand_item_at t) expand-item.Post
-  same-length-6 c = omega (arith, c.before.before.give-sought.auto.1.1.1.1.1.1.0)
+  pub same-length-6 : lts.Need-shape_of-work-in-Value (callees t) (expand_item_at t) expand-item.Post
+  same-length-6 c = omega (arith, c.give_sought.auto.area)
 
-  pub returns-6 : lts.Need-returns-6 (callees t) (expand_item_at t) expand-item.Post
+  pub returns-6 : lts.Need-returns-in-Value (callees t) (expand_item_at t) expand-item.Post
   returns-6 c =
       let g = c.before.before in
-      let i = g.before.before.before.before in
-      item_value (here (value i)) i.item6.given.1 _ g.give-sought.result g.give-sought.ensures
+      let i = g.before.before in
+      item_value (here (value i)) i.in-Value.is _ g.give_sought.result g.give_sought.ensures
 
-  pub same-length-7 : lts.Need-same-length-7 (callees t) (expand_item_at t) expand-item.Post
+  pub same-length-7 : lts.Need-shape_of-vars-in-Count (callees t) (expand_item_at t) expand-item.Post
   same-length-7 c = search rules
 
-  pub same-length-8 : lts.Need-same-length-8 (callees t) (expand_item_at t) expand-item.Post
-  same-length-8 c = omega (arith, c.before.before.give-length.auto.1.1.1.1.1.1.0)
+  pub same-length-8 : lts.Need-shape_of-work-in-Count (callees t) (expand_item_at t) expand-item.Post
+  same-length-8 c = omega (arith, c.give_length.auto.area)
 
-  pub returns-7 : lts.Need-returns-7 (callees t) (expand_item_at t) expand-item.Post
+  pub returns-7 : lts.Need-returns-in-Count (callees t) (expand_item_at t) expand-item.Post
   returns-7 c =
       let g = c.before.before in
-      let i = g.before.before.before.before in
-      item_count (here (count i)) i.item7.given.1 _ g.give-length.result g.give-length.ensures
+      let i = g.before.before in
+      item_count (here (count i)) i.in-Count.is _ g.give_length.result g.give_length.ensures
 
-  pub same-length-9 : lts.Need-same-length-9 (callees t) (expand_item_at t) expand-item.Post
+  pub same-length-9 : lts.Need-shape_of-work-in-Total (callees t) (expand_item_at t) expand-item.Post
   same-length-9 c = search rules
 
-  pub returns-8 : lts.Need-returns-8 (callees t) (expand_item_at t) expand-item.Post
+  pub returns-8 : lts.Need-returns-in-Total (callees t) (expand_item_at t) expand-item.Post
   returns-8 c =
       let g = c.before.before in
-      let i = g.before.before.before in
-      item_total (here (total i)) i.item8.given.1 _ g.give-total.result g.give-total.ensures
+      let i = g.before.before in
+      item_total (here (total i)) i.in-Total.is _ g.give_total.result g.give_total.ensures
 
-  pub same-length-10 : lts.Need-same-length-10 (callees t) (expand_item_at t) expand-item.Post
+  pub same-length-10 : lts.Need-shape_of-vars-in-Spread (callees t) (expand_item_at t) expand-item.Post
   same-length-10 c = search rules
 
-  pub same-length-11 : lts.Need-same-length-11 (callees t) (expand_item_at t) expand-item.Post
-  same-length-11 c = omega (arith, c.before.before.give-list.auto.1.1.1.1.1.0)
+  pub same-length-11 : lts.Need-shape_of-work-in-Spread (callees t) (expand_item_at t) expand-item.Post
+  same-length-11 c = omega (arith, c.give_list.auto.area)
 
-  pub returns-9 : lts.Need-returns-9 (callees t) (expand_item_at t) expand-item.Post
+  pub returns-9 : lts.Need-returns-in-Spread (callees t) (expand_item_at t) expand-item.Post
   returns-9 c =
       let g = c.before.before in
-      let o = g.before.before.before in
-      let i = o.before.before in
-      item_spread (here (spread i)) i.item9.given.1 o.is-of-none.ensures _ g.give-list.result g.give-list.ensures
+      let o = g.before.before in
+      let i = o.before in
+      item_spread (here (spread i)) i.in-Spread.is o.is_of_none.ensures _ g.give_list.result g.give_list.ensures
 
-  pub same-length-12 : lts.Need-same-length-12 (callees t) (expand_item_at t) expand-item.Post
-  same-length-12 c = omega (arith, c.before.before.before.before.expand-inner.auto.1.1.1.1.0)
+  pub same-length-12 : lts.Need-shape_of-vars-in-Inner (callees t) (expand_item_at t) expand-item.Post
+  same-length-12 c = omega (arith, c.expand_inner.auto.vars)
 
-  pub same-length-13 : lts.Need-same-length-13 (callees t) (expand_item_at t) expand-item.Post
-  same-length-13 c = omega (arith, c.before.before.before.before.expand-inner.auto.1.1.1.1.1.1.1.1.0)
+  pub same-length-13 : lts.Need-shape_of-work-in-Inner (callees t) (expand_item_at t) expand-item.Post
+  same-length-13 c = omega (arith, c.expand_inner.auto.work)
 
-  pub returns-10 : lts.Need-returns-10 (callees t) (expand_item_at t) expand-item.Post
+  pub returns-10 : lts.Need-returns-in-Inner (callees t) (expand_item_at t) expand-item.Post
   returns-10 c =
       let g = c.before.before.before.before in
-      let i = g.before.before.before.before.before in
-      item_inner (here (inner i)) i.item10.given.1 _ _ g.expand-inner.result g.expand-inner.ensures
+      let i = g.before.before.before.before in
+      item_inner (here (inner i)) i.in-Inner.is _ _ g.expand_inner.result g.expand_inner.ensures
 
-  pub same-length-14 : lts.Need-same-length-14 (callees t) (expand_item_at t) expand-item.Post
-  same-length-14 c = omega (arith, c.before.before.before.before.expand-sum.auto.1.1.1.1.0)
+  pub same-length-14 : lts.Need-shape_of-vars-in-Sum (callees t) (expand_item_at t) expand-item.Post
+  same-length-14 c = omega (arith, c.expand_sum.auto.vars)
 
-  pub same-length-15 : lts.Need-same-length-15 (callees t) (expand_item_at t) expand-item.Post
-  same-length-15 c = omega (arith, c.before.before.before.before.expand-sum.auto.1.1.1.1.1.1.1.1.0)
+  pub same-length-15 : lts.Need-shape_of-work-in-Sum (callees t) (expand_item_at t) expand-item.Post
+  same-length-15 c = omega (arith, c.expand_sum.auto.work)
 
-  pub returns-11 : lts.Need-returns-11 (callees t) (expand_item_at t) expand-item.Post
+  pub returns-11 : lts.Need-returns-in-Sum (callees t) (expand_item_at t) expand-item.Post
   returns-11 c =
       let g = c.before.before.before.before in
-      let i = g.before.before.before.before.before in
-      item_sum (here (sum i)) i.item11.given.1 _ _ g.expand-sum.result g.expand-sum.ensures
+      let i = g.before.before.before.before in
+      item_sum (here (sum i)) i.in-Sum.is _ _ g.expand_sum.result g.expand_sum.ensures
 
-  pub same-length-16 : lts.Need-same-length-16 (callees t) (expand_item_at t) expand-item.Post
+  pub same-length-16 : lts.Need-shape_of-vars-in-Home (callees t) (expand_item_at t) expand-item.Post
   same-length-16 c = search rules
 
-  pub same-length-17 : lts.Need-same-length-17 (callees t) (expand_item_at t) expand-item.Post
-  same-length-17 c = omega (arith, c.before.before.give-home.auto.1.1.1.1.1.0)
+  pub same-length-17 : lts.Need-shape_of-work-in-Home (callees t) (expand_item_at t) expand-item.Post
+  same-length-17 c = omega (arith, c.give_home.auto.area)
 
-  pub returns-12 : lts.Need-returns-12 (callees t) (expand_item_at t) expand-item.Post
+  pub returns-12 : lts.Need-returns-in-Home (callees t) (expand_item_at t) expand-item.Post
   returns-12 c =
       let g = c.before.before in
-      let i = g.before.before.before.before.before.before in
-      item_home (here (home i)) i.item12.given.1 _ g.give-home.result g.give-home.ensures
+      let i = g.before.before.before.before in
+      item_home (here (home i)) i.in-Home.is _ g.give_home.result g.give_home.ensures

@@ -40,149 +40,149 @@ callees t = (
 )
 
 module _ (t : ℕ) where
-  abbrev began : lts.After-put-empty (callees t) (expand_quote_at t) expand-quote.Post
+  abbrev began : lts.After-put_empty (callees t) (expand_quote_at t) expand-quote.Post
       → lts.Start (callees t) (expand_quote_at t) expand-quote.Post
   began c = c.before.before.before.before.before.before.before.before
 
   -- where the N was put
-  abbrev emptied : lts.After-expand-text (callees t) (expand_quote_at t) expand-quote.Post
-      → lts.After-put-empty (callees t) (expand_quote_at t) expand-quote.Post
+  abbrev emptied : lts.After-expand_text-got (callees t) (expand_quote_at t) expand-quote.Post
+      → lts.After-put_empty (callees t) (expand_quote_at t) expand-quote.Post
   emptied c = c.before.before.before.before.before
 
   -- the quote's text was expanded, where it is refused, where it demands a message and where it has a row
-  abbrev refused : lts.After-known-told (callees t) (expand_quote_at t) expand-quote.Post
-      → lts.After-expand-text (callees t) (expand_quote_at t) expand-quote.Post
-  refused c = c.before.before.before.before.before.before.before
+  abbrev refused : lts.In-Refused (callees t) (expand_quote_at t) expand-quote.Post
+      → lts.After-expand_text-got (callees t) (expand_quote_at t) expand-quote.Post
+  refused c = c.before.before.before.before.before
 
-  abbrev demanded : lts.After-known-told2 (callees t) (expand_quote_at t) expand-quote.Post
-      → lts.After-expand-text (callees t) (expand_quote_at t) expand-quote.Post
-  demanded c = c.before.before.before.before.before.before.before
+  abbrev demanded : lts.In-Demanded (callees t) (expand_quote_at t) expand-quote.Post
+      → lts.After-expand_text-got (callees t) (expand_quote_at t) expand-quote.Post
+  demanded c = c.before.before.before.before.before
 
-  abbrev given : lts.After-known-told3 (callees t) (expand_quote_at t) expand-quote.Post
-      → lts.After-expand-text (callees t) (expand_quote_at t) expand-quote.Post
-  given c = c.before.before.before.before.before.before.before
+  abbrev given : lts.In-Row (callees t) (expand_quote_at t) expand-quote.Post
+      → lts.After-expand_text-got (callees t) (expand_quote_at t) expand-quote.Post
+  given c = c.before.before.before.before.before
 
-  room_left : (c : lts.After-put-empty (callees t) (expand_quote_at t) expand-quote.Post) → (began c).args.units < row_limit
-  room_left c = omega (arith, c.before.before.if1.false)
+  room_left : (c : lts.After-put_empty (callees t) (expand_quote_at t) expand-quote.Post) → (began c).args.units < row_limit
+  room_left c = omega (arith, c.if-units-ge-ROW_LIMIT.false)
 
-  long : (c : lts.After-put-empty (callees t) (expand_quote_at t) expand-quote.Post) → 2 ≤ length c.put-empty.new.0
-  long c = omega (arith, (began c).requires.1.0.area, room_left c, c.put-empty.auto.0)
+  long : (c : lts.After-put_empty (callees t) (expand_quote_at t) expand-quote.Post) → 2 ≤ length c.put_empty.new.area
+  long c = omega (arith, (began c).requires.1.0.area, room_left c, c.put_empty.auto.area)
 
-  inside : (c : lts.After-expand-text (callees t) (expand_quote_at t) expand-quote.Post) →
+  inside : (c : lts.After-expand_text-got (callees t) (expand_quote_at t) expand-quote.Post) →
       let a = (began (emptied c)).args in
       QuoteExpanded (lent_of a.extent.vars_room a.extent.shouts a.homes.now a.params.now) a.text.now a.from.at
       a.from.mode a.from.depth a.units (length a.work.now) a.vars.now
-      a.extent.vars_used c.expand-text.new.1.1.1.1.1.1.1.0 c.expand-text.new.1.1.1.0 c.expand-text.result
+      a.extent.vars_used c.expand_text-got.new.work c.expand_text-got.new.vars c.expand_text-got.result
   inside c =
       let s = began (emptied c) in
       record {
-        ready = s.pre.1.0;
-        lends = lending s.args.params.now s.pre.1.1 s.pre.1.2 s.pre.1.3;
+        ready = s.requires.1.0;
+        lends = lending s.args.params.now s.requires.1.1 s.requires.1.2 s.requires.1.3;
         room = room_left (emptied c);
-        says = c.expand-text.ensures;
+        says = c.expand_text-got.ensures;
       }
 
   -- what was lent came back as long as it was
-  same_work : (c : lts.After-expand-text (callees t) (expand_quote_at t) expand-quote.Post) →
+  same_work : (c : lts.After-expand_text-got (callees t) (expand_quote_at t) expand-quote.Post) →
       let p = emptied c in
-      let w = p.put-empty.last.0 in
-      length (put_mid 2 (length w - 2) w c.expand-text.new.1.1.1.1.1.1.1.0) ≡ length (began p).args.work.now
+      let w = p.put_empty.new.area in
+      length (put_mid 2 (length w - 2) w c.expand_text-got.new.work) ≡ length (began p).args.work.now
   same_work c =
       let p = emptied c in
-      let w = p.put-empty.last.0 in
-      same_len_mid 2 (length w - 2) w c.expand-text.new.1.1.1.1.1.1.1.0 c.expand-text.auto.1.1.1.1.1.1.1.0 ∙ p.put-empty.kept.0
+      let w = p.put_empty.new.area in
+      same_len_mid 2 (length w - 2) w c.expand_text-got.new.work c.expand_text-got.auto.work ∙ p.put_empty.auto.area
 
-  pub returns : lts.Need-returns (callees t) (expand_quote_at t) expand-quote.Post
+  pub returns : lts.Need-returns-then-units-ge-ROW_LIMIT (callees t) (expand_quote_at t) expand-quote.Post
   returns c =
-      let s = c.before.before.before.before.before.before in
-      quote_full s.requires.1.0 (lending s.args.params.now s.requires.1.1 s.requires.1.2 s.requires.1.3) _ _ c.if1.true
+      let s = c in
+      quote_full s.requires.1.0 (lending s.args.params.now s.requires.1.1 s.requires.1.2 s.requires.1.3) _ _ c.if-units-ge-ROW_LIMIT.true
 
-  pub put-empty-requires : lts.Need-put-empty-requires (callees t) (expand_quote_at t) expand-quote.Post
+  pub put-empty-requires : lts.Need-put_empty-requires (callees t) (expand_quote_at t) expand-quote.Post
   put-empty-requires c κs =
-      let y = c.before.before.before.before.before.before.before.requires.1.0 in omega (arith, y.area, y.few, c.before.if1.false)
+      let y = c.requires.1.0 in omega (arith, y.area, y.few, c.if-units-ge-ROW_LIMIT.false)
 
-  pub add-expand-text : lts.Need-overflow-add-expand-text (callees t) (expand_quote_at t) expand-quote.Post
+  pub add-expand-text : lts.Need-overflow_add-inside (callees t) (expand_quote_at t) expand-quote.Post
   add-expand-text c = search rules
 
-  pub sub-expand-text : lts.Need-overflow-sub-expand-text (callees t) (expand_quote_at t) expand-quote.Post
+  pub sub-expand-text : lts.Need-slice_bounds-expand_text-count (callees t) (expand_quote_at t) expand-quote.Post
   sub-expand-text c = omega (arith, long c.before.before.before)
 
-  pub part-expand-text-start : lts.Need-slice-bounds-expand-text-start (callees t) (expand_quote_at t) expand-quote.Post
+  pub part-expand-text-start : lts.Need-slice_bounds-expand_text-start (callees t) (expand_quote_at t) expand-quote.Post
   part-expand-text-start c = omega (arith, long c.before.before.before)
 
-  pub part-expand-text-end : lts.Need-slice-bounds-expand-text-end (callees t) (expand_quote_at t) expand-quote.Post
+  pub part-expand-text-end : lts.Need-slice_bounds-expand_text-end (callees t) (expand_quote_at t) expand-quote.Post
   part-expand-text-end c = omega (arith, long c.before.before.before)
 
-  pub expand-text-requires : lts.Need-expand-text-requires (callees t) (expand_quote_at t) expand-quote.Post
+  pub expand-text-requires : lts.Need-expand_text-got-requires (callees t) (expand_quote_at t) expand-quote.Post
   expand-text-requires c κs =
       let p = c.before.before.before.before in
       let s = began p in
-      let w = p.put-empty.new.0 in
+      let w = p.put_empty.new.area in
       let l = long p in (
-        omega (arith, s.pre.0),
+        omega (arith, s.requires.0),
         (
-          quote_inner s.pre.1.0 (lending {shouts = s.args.extent.shouts} s.args.params.now s.pre.1.1 s.pre.1.2 s.pre.1.3)
-              (room_left p) _ (omega (arith, mid_len 2 (length w) w (omega arith), l, p.put-empty.auto.0)),
-          s.pre.1.1,
-          s.pre.1.2,
-          s.pre.1.3,
+          quote_inner s.requires.1.0 (lending {shouts = s.args.extent.shouts} s.args.params.now s.requires.1.1 s.requires.1.2 s.requires.1.3)
+              (room_left p) _ (omega (arith, mid_len 2 (length w) w (omega arith), l, p.put_empty.auto.area)),
+          s.requires.1.1,
+          s.requires.1.2,
+          s.requires.1.3,
         ),
       )
 
-  pub enum-known-got : lts.Need-enum-known-got (callees t) (expand_quote_at t) expand-quote.Post
+  pub enum-known-got : lts.Need-enum_known-got (callees t) (expand_quote_at t) expand-quote.Post
   enum-known-got c = search rules
 
-  pub enum-known-got-2 : lts.Need-enum-known-got-2 (callees t) (expand_quote_at t) expand-quote.Post
+  pub enum-known-got-2 : lts.Need-enum_known-got-in-Demanded-1 (callees t) (expand_quote_at t) expand-quote.Post
   enum-known-got-2 c = search rules
 
-  pub add-t31 : lts.Need-overflow-add-t31 (callees t) (expand_quote_at t) expand-quote.Post
+  pub add-t31 : lts.Need-overflow_add-result (callees t) (expand_quote_at t) expand-quote.Post
   add-t31 c =
       let e = demanded c in
       let p = emptied e in
-      let w = p.put-empty.last.0 in
+      let w = p.put_empty.new.area in
       omega (
         arith,
-        quote_waits (inside e) c.before.got2.given.1,
-        e.expand-text.kept.1.1.1.1.1.1.1.0,
+        quote_waits (inside e) c.in-Demanded.is,
+        e.expand_text-got.auto.work,
         mid_len 2 (length w) w (omega arith),
-        p.put-empty.kept.0,
+        p.put_empty.auto.area,
         long p,
-        (began p).good.1.1.1.1.1.1.1.0,
+        (began p).well_formed.1.1.1.1.1.1.1.0,
       )
 
-  pub enum-known-got-3 : lts.Need-enum-known-got-3 (callees t) (expand_quote_at t) expand-quote.Post
+  pub enum-known-got-3 : lts.Need-enum_known-got-in-Row-1 (callees t) (expand_quote_at t) expand-quote.Post
   enum-known-got-3 c = search rules
 
-  pub units-in-quotes-requires : lts.Need-units-in-quotes-requires (callees t) (expand_quote_at t) expand-quote.Post
-  units-in-quotes-requires c κs = omega (arith, quote_fits (inside (given c)) c.before.got3.given.1)
+  pub units-in-quotes-requires : lts.Need-units_in_quotes-requires (callees t) (expand_quote_at t) expand-quote.Post
+  units-in-quotes-requires c κs = omega (arith, quote_fits (inside (given c)) c.in-Row.is)
 
-  pub same_length : lts.Need-same-length (callees t) (expand_quote_at t) expand-quote.Post
-  same_length c = omega (arith, (refused c).expand-text.auto.1.1.1.0)
+  pub same_length : lts.Need-shape_of-vars-in-Refused (callees t) (expand_quote_at t) expand-quote.Post
+  same_length c = omega (arith, (refused c).expand_text-got.auto.vars)
 
-  pub same-length-2 : lts.Need-same-length-2 (callees t) (expand_quote_at t) expand-quote.Post
+  pub same-length-2 : lts.Need-shape_of-work-in-Refused (callees t) (expand_quote_at t) expand-quote.Post
   same-length-2 c = same_work (refused c)
 
-  pub returns-2 : lts.Need-returns-2 (callees t) (expand_quote_at t) expand-quote.Post
-  returns-2 c = quote_refused (inside (refused c)) _ c.before.got.given.1
+  pub returns-2 : lts.Need-returns-in-Refused (callees t) (expand_quote_at t) expand-quote.Post
+  returns-2 c = quote_refused (inside (refused c)) _ c.in-Refused.is
 
-  pub same-length-3 : lts.Need-same-length-3 (callees t) (expand_quote_at t) expand-quote.Post
-  same-length-3 c = omega (arith, (demanded c).expand-text.auto.1.1.1.0)
+  pub same-length-3 : lts.Need-shape_of-vars-in-Demanded (callees t) (expand_quote_at t) expand-quote.Post
+  same-length-3 c = omega (arith, (demanded c).expand_text-got.auto.vars)
 
-  pub same-length-4 : lts.Need-same-length-4 (callees t) (expand_quote_at t) expand-quote.Post
+  pub same-length-4 : lts.Need-shape_of-work-in-Demanded (callees t) (expand_quote_at t) expand-quote.Post
   same-length-4 c = same_work (demanded c)
 
-  pub returns-3 : lts.Need-returns-3 (callees t) (expand_quote_at t) expand-quote.Post
-  returns-3 c = let e = demanded c in quote_demanded (inside e) c.before.got2.given.1 (emptied e).put-empty.last.0 _ (long (emptied e))
+  pub returns-3 : lts.Need-returns-in-Demanded (callees t) (expand_quote_at t) expand-quote.Post
+  returns-3 c = let e = demanded c in quote_demanded (inside e) c.in-Demanded.is (emptied e).put_empty.new.area _ (long (emptied e))
 
-  pub same-length-5 : lts.Need-same-length-5 (callees t) (expand_quote_at t) expand-quote.Post
-  same-length-5 c = omega (arith, (given c.before).expand-text.kept.1.1.1.0)
+  pub same-length-5 : lts.Need-shape_of-vars-in-Row (callees t) (expand_quote_at t) expand-quote.Post
+  same-length-5 c = omega (arith, (given c.before).expand_text-got.auto.vars)
 
-  pub same-length-6 : lts.Need-same-length-6 (callees t) (expand_quote_at t) expand-quote.Post
+  pub same-length-6 : lts.Need-shape_of-work-in-Row (callees t) (expand_quote_at t) expand-quote.Post
   same-length-6 c = same_work (given c.before)
 
-  pub returns-4 : lts.Need-returns-4 (callees t) (expand_quote_at t) expand-quote.Post
+  pub returns-4 : lts.Need-returns-in-Row (callees t) (expand_quote_at t) expand-quote.Post
   returns-4 c =
       let g = c.before in
       let p = emptied (given g) in
-      quote_row (inside (given g)) g.before.got3.given.1 c.units-in-quotes.ensures _ _ _
-      (empty_front (began p).args.work.now p.put-empty.last.0 p.put-empty.ensures)
+      quote_row (inside (given g)) g.in-Row.is c.units_in_quotes.ensures _ _ _
+      (empty_front (began p).args.work.now p.put_empty.new.area p.put_empty.ensures)
