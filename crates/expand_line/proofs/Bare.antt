@@ -4,14 +4,14 @@ use Prim.Native.Char.{code}
 use native.Mathlib.Omega.{arith}
 use native.Mathlib.Nat.{sub_self}
 use mathlib.Core.Path.{◌≡◌, refl, sym, ap, ◌∙◌, subst}
-use mathlib.Core.Bool.{Bool, true, false}
+use mathlib.Core.Bool.{Bool, true}
 use mathlib.Core.List.{[], ◌∷◌, ◌++◌}
-use mathlib.Core.Logic.{◌⊎◌, inl, inr, ⊎_elim}
+use mathlib.Core.Logic.{◌⊎◌, ⊎_elim}
 use lib.ListN.{length, take, drop, get_or, length-drop, take-append-drop, drop_of_length-le}
 use lib.Seq.{drop-cons, drop-drop, length-take-le}
 use borrow.Author.Tests.{le-leb, lt-leb}
 use Rattle.stages.specs.Numbers.{depth_limit, line_limit, image_limit, output_room}
-use Rattle.stages.specs.Bytes.{Text, part, span, all, is_bare_byte}
+use Rattle.stages.specs.Bytes.{Text, part, all, is_bare_byte}
 use Rattle.stages.specs.Outcome.{refused, done}
 use Rattle.stages.specs.Images.{Pairs, held, record_bytes, written}
 use Rattle.stages.specs.Syntax.{Parts, fresh, word as words}
@@ -19,7 +19,6 @@ use Rattle.stages.specs.Read.{parts}
 use Rattle.stages.specs.Quote.{bare, is_bare}
 use Rattle.stages.specs.Quote as quoting
 use Rattle.stages.specs.Line.{Around, Fields, word_fields, out_fits}
-use Rattle.stages.proofs.Bools.{and_both}
 use Rattle.stages.proofs.Texts.{span_all}
 use Rattle.stages.proofs.Outcomes.{done_same}
 use Rattle.stages.proofs.Quoted.{as_bare, EndsField, line as line_ends, blank, way_parts, one_word}
@@ -40,11 +39,10 @@ use Rattle.table_store.specs.Splice.{placed}
 use Rattle.table_store.specs.declared.Put.{Put}
 use Rattle.table_store.specs.declared.Put.TheVariants as put
 use Rattle.split_field.specs.Answers.{Says, answered}
-use Rattle.split_field.specs.declared.Written.{Written}
 use Rattle.expand_line.specs.Answers.{word_outcome, BareTo, CopiesStill, PutsBare, WordReady, WordOf, WordSays}
 use Rattle.expand_line.specs.declared.WordExpanded.{WordExpanded}
 use Rattle.expand_line.specs.declared.WordExpanded.TheVariants as word
-use Rattle.expand_line.proofs.Wording.{Writes, Lacks, full_of, len_of}
+use Rattle.expand_line.proofs.Wording.{full_of, len_of}
 
 -- Where a bare word ends.
 

@@ -6,26 +6,33 @@ use Rattle.expand_line.proofs.Bare.{bare_none, bare_some}
 use Rattle.expand_line.proofs.bare_end.Statement.{statement}
 use Rattle.expand_line.proofs.bare_end.Tie as tie
 
-run-end-requires : tie.Need-run-end-requires
+run-end-requires : tie.Need-run_end-end-requires
 run-end-requires c κs = search rules
 
-sub-if1 : tie.Need-overflow-sub-if1
+sub-if1 : tie.Need-overflow_sub-end
 sub-if1 c = search rules
 
-returns : tie.Need-returns
-returns c = bare_none c.before.before.before.requires
+returns : tie.Need-returns-then-end-at-gt-LINE_LIMIT
+returns c = bare_none c.requires
 
-returns-2 : tie.Need-returns-2
-returns-2 c = bare_some c.before.before.run_end.ensures (omega arith) (inl c.if2.true)
+returns-2 : tie.Need-returns-then-end-line
+returns-2 c = bare_some c.run_end-end.ensures (omega arith) (inl c.if-end-line.true)
 
-shared-slice-read-if3 : tie.Need-shared-slice-read-if3
+shared-slice-read-if3 : tie.Need-bounds-line-end
 shared-slice-read-if3 c = search rules
 
-returns-3 : tie.Need-returns-3
-returns-3 c = bare_some c.before.before.before.before.run_end.ensures (omega arith) (inr (omega arith, c.if3.true))
+returns-3 : tie.Need-returns-then-line-end-eq32
+returns-3 c = bare_some c.run_end-end.ensures (omega arith) (inr (omega arith, c.if-line-end-eq32.true))
 
-returns-4 : tie.Need-returns-4
-returns-4 c = bare_none c.before.before.before.before.before.before.requires
+returns-4 : tie.Need-returns
+returns-4 c = bare_none c.requires
 
 pub bare_end_spec : {M : Type 1} → statement M
-bare_end_spec = tie.close (tie.spec run-end-requires sub-if1 returns returns-2 shared-slice-read-if3 returns-3 returns-4)
+bare_end_spec = tie.close (tie.spec
+    run-end-requires
+    sub-if1
+    returns
+    returns-2
+    shared-slice-read-if3
+    returns-3
+    returns-4)

@@ -6,80 +6,76 @@ use Rattle.expand_line.proofs.put_word.Statement.{statement}
 use Rattle.expand_line.proofs.put_word.Tie as tie
 
 -- the call's entry, where the end of a bare word has been looked for
-abbrev entry : tie.After-bare-end → tie.Start
+abbrev entry : tie.After-bare_end-end → tie.Start
 entry c = c.before.before.before.before.before.before.before.before
 
-bare-end-requires : tie.Need-bare-end-requires
-bare-end-requires c κs = c.before.before.before.before.before.before.before.requires.ready.start
+bare-end-requires : tie.Need-bare_end-end-requires
+bare-end-requires c κs = c.requires.ready.start
 
-sub-put-bare : tie.Need-overflow-sub-put-bare
-sub-put-bare c = let b = c.before.bare-end.ensures in omega (arith, b.onward, b.within)
+sub-put-bare : tie.Need-slice_bounds-put_bare-count
+sub-put-bare c = let b = c.bare_end-end.ensures in omega (arith, b.onward, b.within)
 
-part-put-bare-start : tie.Need-slice-bounds-put-bare-start
-part-put-bare-start c = let b = c.before.bare-end.ensures in omega (arith, b.onward, b.within)
+part-put-bare-start : tie.Need-slice_bounds-put_bare-start
+part-put-bare-start c = let b = c.bare_end-end.ensures in omega (arith, b.onward, b.within)
 
-part-put-bare-end : tie.Need-slice-bounds-put-bare-end
-part-put-bare-end c = let b = c.before.bare-end.ensures in omega (arith, b.onward, b.within)
+part-put-bare-end : tie.Need-slice_bounds-put_bare-end
+part-put-bare-end c = let b = c.bare_end-end.ensures in omega (arith, b.onward, b.within)
 
-put-bare-requires : tie.Need-put-bare-requires
+put-bare-requires : tie.Need-put_bare-requires
 put-bare-requires c κs = let p = (entry c.before.before.before).requires in (p.low, p.few)
 
-same_length : tie.Need-same-length
+same_length : tie.Need-shape_of-out-then-at-end
 same_length c = search rules
 
-returns : tie.Need-returns
+returns : tie.Need-returns-then-at-end
 returns c =
-    let w = c.before.before in
+    let w = c in
     let b = c.before.before.before.before.before.before in
     let s = entry b in
-    bare_word s.args.extent.shouts s.pre b.bare-end.ensures c.before.before.before.before.before.if1.true
-    w.put-bare.result w.put-bare.ensures
+    bare_word s.args.extent.shouts s.requires b.bare_end-end.ensures c.if-at-end.true
+    w.put_bare.result w.put_bare.ensures
 
-copy-still-requires : tie.Need-copy-still-requires
+copy-still-requires : tie.Need-copy_still-still-requires
 copy-still-requires c κs = let p = (entry c.before.before).requires.ready in (p.start, omega (arith, p.area))
 
-slice-reshare-prefix-put-bare : tie.Need-slice-reshare-prefix-put-bare
-slice-reshare-prefix-put-bare c = still_fits (c.before.before.before.before.copy-still.ensures.is c.if2.true)
+slice-reshare-prefix-put-bare : tie.Need-slice_bounds-put_bare-end-then-at-still
+slice-reshare-prefix-put-bare c = still_fits (c.copy_still-still.ensures.is c.if-at-still.true)
 
-slice-aggregate-put-bare : tie.Need-slice-aggregate-put-bare
+slice-aggregate-put-bare : tie.Need-slice_bounds-put_bare-end-then-at-still-2
 slice-aggregate-put-bare c =
-    let t = c.before in
-    still_part (t.before.before.before.before.copy-still.ensures.is t.if2.true)
+    let t = c in
+    still_part (t.copy_still-still.ensures.is t.if-at-still.true)
 
-put-bare-requires-2 : tie.Need-put-bare-requires-2
-put-bare-requires-2 c κs = let p = (entry c.before.before.before.before.before.before.before.before.before).requires in (p.low, p.few)
+put-bare-requires-2 : tie.Need-put_bare-requires-then-at-still
+put-bare-requires-2 c κs = let p = (entry c.before.before.before.before.before.before.before.before).requires in (p.low, p.few)
 
-same-length-2 : tie.Need-same-length-2
+same-length-2 : tie.Need-shape_of-work-then-at-still
 same-length-2 c = search rules
 
-same-length-3 : tie.Need-same-length-3
+same-length-3 : tie.Need-shape_of-out-then-at-still
 same-length-3 c = search rules
 
-returns-2 : tie.Need-returns-2
+returns-2 : tie.Need-returns-then-at-still
 returns-2 c =
-    let w = c.before.before in
-    let t = w.before.before.before in
-    let k = t.before.before.before.before in
-    let s = entry k.before.before.before in
-    still_word s.args.extent.shouts s.pre (k.copy-still.ensures.is t.if2.true) t.if2.true k.copy-still.ensures.few
-    w.put-bare2.result w.put-bare2.ensures
+    still_word c.args.extent.shouts c.requires (c.copy_still-still.ensures.is c.if-at-still.true) c.if-at-still.true
+    c.copy_still-still.ensures.few c.put_bare-then-at-still.result c.put_bare-then-at-still.ensures
 
-put-expanded-requires : tie.Need-put-expanded-requires
+put-expanded-requires : tie.Need-put_expanded-requires
 put-expanded-requires c κs =
     let k = c.before.before.before.before.before.before.before in
     still_ready _ (search rules) (entry k.before.before.before).requires
 
-same-length-4 : tie.Need-same-length-4
+same-length-4 : tie.Need-shape_of-vars
 same-length-4 c = search rules
 
-same-length-5 : tie.Need-same-length-5
+same-length-5 : tie.Need-shape_of-work
 same-length-5 c = search rules
 
-same-length-6 : tie.Need-same-length-6
+same-length-6 : tie.Need-shape_of-out
 same-length-6 c = search rules
 
-returns-3 : tie.Need-returns-3
-returns-3 c = c.before.before.before.before.before.before.put-expanded.ensures
+returns-3 : tie.Need-returns
+returns-3 c = c.put_expanded.ensures
 
 pub put_word_spec : {M : Type 1} → statement M
 put_word_spec =
