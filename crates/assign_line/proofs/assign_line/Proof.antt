@@ -22,118 +22,118 @@ use Rattle.assign_line.proofs.Standing.{
 use Rattle.assign_line.proofs.assign_line.Statement.{statement}
 use Rattle.assign_line.proofs.assign_line.Tie as tie
 
-abbrev invariant_loop : tie.invariant_loop
+abbrev invariant_loop : tie.invariant-loop-place
 invariant_loop line vars₀ extent homes params work₀ at₀ vars-used₀ vars work at vars-used =
     State line homes params extent.vars_room extent.shouts
     (line_outcome (lent_of extent.vars_room extent.shouts homes params) line (held (take extent.vars_used vars₀))) at vars-used vars work
     × (length vars ≡ length vars₀) × (length work ≡ length work₀)
 
-abbrev decreases_loop : tie.decreases_loop
+abbrev decreases_loop : tie.decreases-loop-place
 decreases_loop line vars₀ extent homes params work₀ at₀ vars-used₀ vars work at vars-used = length line - at
 
 -- the call's entry, before the loop and in it
-abbrev begun : tie.After-slice-known2 invariant_loop decreases_loop → tie.Start invariant_loop decreases_loop
+abbrev begun : tie.After-slice_known-2-1 invariant_loop decreases_loop → tie.Start invariant_loop decreases_loop
 begun c = c.before.before.before.before.before
 
-abbrev entry : tie.At-loop invariant_loop decreases_loop → tie.Start invariant_loop decreases_loop
+abbrev entry : tie.At-loop-place invariant_loop decreases_loop → tie.Start invariant_loop decreases_loop
 entry c = begun c.before
 
 -- the turn in which an assignment is found, and its place
-abbrev turn : tie.After-found invariant_loop decreases_loop → tie.At-loop invariant_loop decreases_loop
-turn c = c.before.before.before
+abbrev turn : tie.In-At invariant_loop decreases_loop → tie.At-loop-place invariant_loop decreases_loop
+turn c = c.before.before
 
-word : (c : tie.After-found invariant_loop decreases_loop) → NextAt (entry (turn c)).args.line.now (turn c).loop.at c.found.given.0.0
-word c = next_shown _ _ c.before.before.next_word.ensures c.found.given.1
+word : (c : tie.In-At invariant_loop decreases_loop) → NextAt (entry (turn c)).args.line.now (turn c).loop-place.at c.in-At.place
+word c = next_shown _ _ c.next_word-found.ensures c.in-At.is
 
 -- where the assignment was found, once it has been put
-abbrev found : tie.After-put-assignment invariant_loop decreases_loop → tie.After-found invariant_loop decreases_loop
-found c = c.before.before.before.before
+abbrev found : tie.After-put_assignment-got invariant_loop decreases_loop → tie.In-At invariant_loop decreases_loop
+found c = c.before.before.before
 
 -- the lengths of the buffers then
-module _ (c : tie.After-put-assignment invariant_loop decreases_loop) where
-  vars_same : length c.put-assignment.new.1.1.0 ≡ length (entry (turn (found c))).args.vars.now
-  vars_same = c.put-assignment.auto.1.1.0 ∙ (turn (found c)).loop.inv.1
+module _ (c : tie.After-put_assignment-got invariant_loop decreases_loop) where
+  vars_same : length c.put_assignment-got.new.vars ≡ length (entry (turn (found c))).args.vars.now
+  vars_same = c.put_assignment-got.auto.vars ∙ (turn (found c)).loop-place.invariant.1
 
-  work_same : length c.put-assignment.new.1.1.1.1.1.1.0 ≡ length (entry (turn (found c))).args.work.now
-  work_same = c.put-assignment.auto.1.1.1.1.1.1.0 ∙ (turn (found c)).loop.inv.2
+  work_same : length c.put_assignment-got.new.work ≡ length (entry (turn (found c))).args.work.now
+  work_same = c.put_assignment-got.auto.work ∙ (turn (found c)).loop-place.invariant.2
 
-loop-holds : tie.Need-loop-init invariant_loop decreases_loop
+loop-holds : tie.Need-loop-place-init invariant_loop decreases_loop
 loop-holds c = (state_start (begun c).args.extent.shouts (begun c).requires, refl, refl)
 
-next-word-requires : tie.Need-next-word-requires invariant_loop decreases_loop
-next-word-requires c κs = c.loop.invariant.0.goes.within
+next-word-requires : tie.Need-next_word-found-requires invariant_loop decreases_loop
+next-word-requires c κs = c.loop-place.invariant.0.goes.within
 
-enum_told : tie.Need-enum-told invariant_loop decreases_loop
+enum_told : tie.Need-enum_told-1 invariant_loop decreases_loop
 enum_told c = search rules
 
-same_length : tie.Need-same-length invariant_loop decreases_loop
-same_length c = c.before.before.before.loop.invariant.1
+same_length : tie.Need-shape_of-vars-in-Nothing invariant_loop decreases_loop
+same_length c = c.loop-place.invariant.1
 
-same-length-2 : tie.Need-same-length-2 invariant_loop decreases_loop
-same-length-2 c = c.before.before.before.loop.invariant.2
+same-length-2 : tie.Need-shape_of-work-in-Nothing invariant_loop decreases_loop
+same-length-2 c = c.loop-place.invariant.2
 
-returns : tie.Need-returns invariant_loop decreases_loop
+returns : tie.Need-returns-in-Nothing invariant_loop decreases_loop
 returns c =
-    let t = c.before.before.before in
-    state_end (entry t).args.extent.shouts (entry t).requires t.loop.invariant.0 (next_shown _ _ c.before.before.next_word.ensures c.enum_told.given.1)
+    let t = c.before.before in
+    state_end (entry t).args.extent.shouts (entry t).requires t.loop-place.invariant.0 (next_shown _ _ c.next_word-found.ensures c.in-Nothing.is)
 
-enum-known-found : tie.Need-enum-known-found invariant_loop decreases_loop
+enum-known-found : tie.Need-enum_known-found invariant_loop decreases_loop
 enum-known-found c = search rules
 
-put-assignment-requires : tie.Need-put-assignment-requires invariant_loop decreases_loop
+put-assignment-requires : tie.Need-put_assignment-got-requires invariant_loop decreases_loop
 put-assignment-requires c κs =
-    let f = c.before.before.before in
-    assignment_ready (entry (turn f)).args.extent.shouts (entry (turn f)).pre (turn f).loop.invariant.0 (word f)
+    let f = c.before.before in
+    assignment_ready (entry (turn f)).args.extent.shouts (entry (turn f)).requires (turn f).loop-place.invariant.0 (word f)
 
-enum-known-got : tie.Need-enum-known-got invariant_loop decreases_loop
+enum-known-got : tie.Need-enum_known-got invariant_loop decreases_loop
 enum-known-got c = search rules
 
-same-length-3 : tie.Need-same-length-3 invariant_loop decreases_loop
-same-length-3 c = vars_same c.before.before.before.before.before.before.before
+same-length-3 : tie.Need-shape_of-vars-in-Refused invariant_loop decreases_loop
+same-length-3 c = vars_same c.before.before.before.before.before
 
-same-length-4 : tie.Need-same-length-4 invariant_loop decreases_loop
-same-length-4 c = work_same c.before.before.before.before.before.before.before
+same-length-4 : tie.Need-shape_of-work-in-Refused invariant_loop decreases_loop
+same-length-4 c = work_same c.before.before.before.before.before
 
-returns-2 : tie.Need-returns-2 invariant_loop decreases_loop
+returns-2 : tie.Need-returns-in-Refused invariant_loop decreases_loop
 returns-2 c =
-    let p = c.before.before.before.before.before.before.before in
+    let p = c.before.before.before.before.before in
     let t = turn (found p) in
-    state_refused (entry t).args.extent.shouts (entry t).pre t.loop.inv.0 (word (found p)) p.put-assignment.ensures c.before.got.given.1
+    state_refused (entry t).args.extent.shouts (entry t).requires t.loop-place.invariant.0 (word (found p)) p.put_assignment-got.ensures c.in-Refused.is
 
-enum-known-got-2 : tie.Need-enum-known-got-2 invariant_loop decreases_loop
+enum-known-got-2 : tie.Need-enum_known-got-in-Demanded-1 invariant_loop decreases_loop
 enum-known-got-2 c = search rules
 
-same-length-5 : tie.Need-same-length-5 invariant_loop decreases_loop
-same-length-5 c = vars_same c.before.before.before.before.before.before.before
+same-length-5 : tie.Need-shape_of-vars-in-Demanded invariant_loop decreases_loop
+same-length-5 c = vars_same c.before.before.before.before.before
 
-same-length-6 : tie.Need-same-length-6 invariant_loop decreases_loop
-same-length-6 c = work_same c.before.before.before.before.before.before.before
+same-length-6 : tie.Need-shape_of-work-in-Demanded invariant_loop decreases_loop
+same-length-6 c = work_same c.before.before.before.before.before
 
-returns-3 : tie.Need-returns-3 invariant_loop decreases_loop
+returns-3 : tie.Need-returns-in-Demanded invariant_loop decreases_loop
 returns-3 c =
-    let p = c.before.before.before.before.before.before.before in
+    let p = c.before.before.before.before.before in
     let t = turn (found p) in
-    state_demanded (entry t).args.extent.shouts (entry t).pre t.loop.inv.0 (word (found p)) p.put-assignment.ensures c.before.got2.given.1
+    state_demanded (entry t).args.extent.shouts (entry t).requires t.loop-place.invariant.0 (word (found p)) p.put_assignment-got.ensures c.in-Demanded.is
 
-enum-known-got-3 : tie.Need-enum-known-got-3 invariant_loop decreases_loop
+enum-known-got-3 : tie.Need-enum_known-got-in-Stored-1 invariant_loop decreases_loop
 enum-known-got-3 c = search rules
 
-loop-less : tie.Need-loop-smaller invariant_loop decreases_loop
+loop-less : tie.Need-loop-place-smaller invariant_loop decreases_loop
 loop-less c =
-    let p = c.before.before.before.before.before.before.before in
+    let p = c.before.before.before.before.before in
     let t = turn (found p) in
     omega (
       arith,
-      state_further (entry t).args.extent.shouts (entry t).pre t.loop.inv.0 (word (found p)) p.put-assignment.ensures
-          c.before.got3.given.1,
+      state_further (entry t).args.extent.shouts (entry t).requires t.loop-place.invariant.0 (word (found p)) p.put_assignment-got.ensures
+          c.in-Stored.is,
     )
 
-loop-again : tie.Need-loop-preserved invariant_loop decreases_loop
+loop-again : tie.Need-loop-place-preserved invariant_loop decreases_loop
 loop-again c =
-    let p = c.before.before.before.before.before.before.before in
+    let p = c.before.before.before.before.before in
     let t = turn (found p) in (
-      state_next (entry t).args.extent.shouts (entry t).pre t.loop.inv.0 (word (found p)) p.put-assignment.ensures c.before.got3.given.1
-          p.put-assignment.auto.1.1.1.1.1.1.0,
+      state_next (entry t).args.extent.shouts (entry t).requires t.loop-place.invariant.0 (word (found p)) p.put_assignment-got.ensures c.in-Stored.is
+          p.put_assignment-got.auto.work,
       vars_same p,
       work_same p,
     )
