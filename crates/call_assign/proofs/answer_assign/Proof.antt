@@ -7,30 +7,36 @@ use Rattle.call_assign.proofs.answer_assign.Statement.{statement}
 use Rattle.call_assign.proofs.answer_assign.Tie as tie
 
 -- where the call has been worked out, seen from where the message has been handed over
-abbrev drafted : tie.After-hand-over → tie.After-from-checks
+abbrev drafted : tie.After-hand_over → tie.After-from_checks-draft
 drafted c = c.before.before.before.before.before.before.before
 
-from-checks-requires : tie.Need-from-checks-requires
+from-checks-requires : tie.Need-from_checks-draft-requires
 from-checks-requires c κs = search rules
 
-hand-over-requires : tie.Need-hand-over-requires
-hand-over-requires c κs = c.before.before.before.before.before.before.from-checks.ensures.fits
+hand-over-requires : tie.Need-hand_over-requires
+hand-over-requires c κs = c.from_checks-draft.ensures.fits
 
-same_length : tie.Need-same-length
+same_length : tie.Need-shape_of-vars
 same_length c = search rules
 
-same-length-2 : tie.Need-same-length-2
+same-length-2 : tie.Need-shape_of-work
 same-length-2 c = search rules
 
-same-length-3 : tie.Need-same-length-3
+same-length-3 : tie.Need-shape_of-message
 same-length-3 c = search rules
 
 returns : tie.Need-returns
 returns c =
     let h = c.before.before.before.before in
     let d = drafted h in
-    handed_gives _ d.from-checks.ensures h.hand-over.ensures
-    (answer_clear _ ∙ cleared_same _ _ (sym d.from-checks.kept.1.1.1.1.1.0))
+    handed_gives _ d.from_checks-draft.ensures h.hand_over.ensures
+    (answer_clear _ ∙ cleared_same _ _ (sym d.from_checks-draft.auto.work))
 
 pub answer_assign_spec : {M : Type 1} → statement M
-answer_assign_spec = tie.close (tie.spec from-checks-requires hand-over-requires same_length same-length-2 same-length-3 returns)
+answer_assign_spec = tie.close (tie.spec
+    from-checks-requires
+    hand-over-requires
+    same_length
+    same-length-2
+    same-length-3
+    returns)
