@@ -11,7 +11,7 @@ use lib.Seq.{length-take-le, take-append-le}
 use borrow.Author.Tests.{leb-true, leb-false}
 use Rattle.stages.specs.Numbers.{image_limit, line_limit, output_room, bad_fields}
 use Rattle.stages.specs.Bytes.{Text}
-use Rattle.stages.specs.Outcome.{Placed, refused_at, done_at, ◌then◌, pick}
+use Rattle.stages.specs.Outcome.{Placed, refused_at, demands_at, done_at, ◌then◌, pick}
 use Rattle.stages.specs.Images.{Pairs, held, held_texts, is_some, image, fields_of}
 use Rattle.quote.proofs.Answers.{fields_here}
 use Rattle.stages.specs.Quote.{quoted_line}
@@ -76,6 +76,7 @@ module _ {room left : ℕ} {copy : Text} (w : Holds room copy left) (work old ou
   by_written (refused_at n p) full (Len m) e = absurd (omega (arith, ap (λ (x : Quoting). x.number) e))
   by_written (refused_at n p) full NoRoom e = (refl, ap (λ (x : Quoting). x.out) e)
   by_written (refused_at n p) full Malformed e = absurd (omega (arith, ap (λ (x : Quoting). x.number) e))
+  by_written (demands_at n p) w q e = elim w [ ]
   by_written (done_at t) fine (Len m) e =
       record { written = t; is = refl; long = ap (λ (x : Quoting). x.out_length) e; stands = ap (λ (x : Quoting). x.out) e; holds = w }
   by_written (done_at t) fine NoRoom e = absurd (omega (arith, ap (λ (x : Quoting). x.number) e))

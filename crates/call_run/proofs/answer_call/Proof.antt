@@ -7,29 +7,29 @@ use Rattle.call_run.proofs.answer_call.Statement.{statement}
 use Rattle.call_run.proofs.answer_call.Tie as tie
 
 -- the call's entry, where it has been worked out
-abbrev entry : tie.After-from-checks → tie.Start
+abbrev entry : tie.After-from_checks-draft → tie.Start
 entry c = c.before.before.before.before.before.before.before.before.before.before.before.before
 
 -- that place, where the message has been handed over
-abbrev drafted : tie.After-hand-over → tie.After-from-checks
+abbrev drafted : tie.After-hand_over → tie.After-from_checks-draft
 drafted c = c.before.before.before.before.before.before.before.before.before
 
-from-checks-requires : tie.Need-from-checks-requires
+from-checks-requires : tie.Need-from_checks-draft-requires
 from-checks-requires c κs = search rules
 
-hand-over-requires : tie.Need-hand-over-requires
-hand-over-requires c κs = c.before.before.before.before.before.before.before.before.from-checks.ensures.fits
+hand-over-requires : tie.Need-hand_over-requires
+hand-over-requires c κs = c.from_checks-draft.ensures.fits
 
-same_length : tie.Need-same-length
+same_length : tie.Need-shape_of-vars
 same_length c = search rules
 
-same-length-2 : tie.Need-same-length-2
+same-length-2 : tie.Need-shape_of-work
 same-length-2 c = search rules
 
-same-length-3 : tie.Need-same-length-3
+same-length-3 : tie.Need-shape_of-out
 same-length-3 c = search rules
 
-same-length-4 : tie.Need-same-length-4
+same-length-4 : tie.Need-shape_of-message
 same-length-4 c = search rules
 
 returns : tie.Need-returns
@@ -37,8 +37,8 @@ returns c =
     let h = c.before.before.before.before in
     let d = drafted h in
     let s = entry d in
-    handed_gives _ d.from-checks.ensures h.hand-over.ensures
-    (answer_clear s.args.job _ ∙ cleared_same _ _ (sym d.from-checks.kept.1.1.1.1.1.1.1.0))
+    handed_gives _ d.from_checks-draft.ensures h.hand_over.ensures
+    (answer_clear s.args.job _ ∙ cleared_same _ _ (sym d.from_checks-draft.auto.work))
 
 pub answer_call_spec : {M : Type 1} → statement M
 answer_call_spec =

@@ -8,52 +8,52 @@ use Rattle.call_run.proofs.from_checks.Statement.{statement}
 use Rattle.call_run.proofs.from_checks.Tie as tie
 
 -- the call's entry, where it has been checked
-abbrev entry : tie.After-check → tie.Start
-entry c = c.before.before.before.before.before.before.before.before.before.before.before
+abbrev entry : tie.After-check-checked → tie.Start
+entry c = c.before.before.before.before.before.before.before.before
 
-check-requires : tie.Need-check-requires
+check-requires : tie.Need-check-checked-requires
 check-requires c κs = search rules
 
-enum-known-checked : tie.Need-enum-known-checked
+enum-known-checked : tie.Need-enum_known-checked
 enum-known-checked c = search rules
 
-refuse-with-requires : tie.Need-refuse-with-requires
+refuse-with-requires : tie.Need-refuse_with-requires
 refuse-with-requires c κs = search rules
 
-enum_told : tie.Need-enum-told
+enum_told : tie.Need-enum_told-1
 enum_told c = search rules
 
-with-copy-requires : tie.Need-with-copy-requires
+with-copy-requires : tie.Need-with_copy-requires
 with-copy-requires c κs =
-    let t = c.before.before.before in
-    (λ m. check_passed _ _ (t.before.before.check.ensures _ m) t.enum_told.given.1, refl)
+    let t = c in
+    (λ m. check_passed _ _ (t.check-checked.ensures _ m) t.in-Fine.is, refl)
 
-same_length : tie.Need-same-length
+same_length : tie.Need-shape_of-vars-in-Refused
 same_length c = search rules
 
-same-length-2 : tie.Need-same-length-2
+same-length-2 : tie.Need-shape_of-work-in-Refused
 same-length-2 c = search rules
 
-same-length-3 : tie.Need-same-length-3
+same-length-3 : tie.Need-shape_of-out-in-Refused
 same-length-3 c = search rules
 
-returns : tie.Need-returns
+returns : tie.Need-returns-in-Refused
 returns c =
-    let k = c.before.before.before.before in
+    let k = c.before.before in
     let s = entry k in
-    awaits_as _ c.refuse-with.ensures (untold_awaits refl s.args.work.now _ λ m.
-    answer_refused s.args.job _ (check_refused s.args.job _ (k.check.ensures _ m) c.before.before.checked.given.1) refl)
+    awaits_as _ c.refuse_with.ensures (untold_awaits refl s.args.work.now _ λ m.
+    answer_refused s.args.job _ (check_refused s.args.job _ (k.check-checked.ensures _ m) c.in-Refused.is) refl)
 
-same-length-4 : tie.Need-same-length-4
+same-length-4 : tie.Need-shape_of-vars-in-Fine
 same-length-4 c = search rules
 
-same-length-5 : tie.Need-same-length-5
+same-length-5 : tie.Need-shape_of-work-in-Fine
 same-length-5 c = search rules
 
-same-length-6 : tie.Need-same-length-6
+same-length-6 : tie.Need-shape_of-out-in-Fine
 same-length-6 c = search rules
 
-returns-2 : tie.Need-returns-2
+returns-2 : tie.Need-returns-in-Fine
 returns-2 c = search rules
 
 pub from_checks_spec : {M : Type 1} → statement M
