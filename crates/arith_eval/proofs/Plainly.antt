@@ -1,5 +1,5 @@
 -- Laws of the short way: its operators and constants by their tokens, the state of its loop, and a whole text.
-use Prim.Native.Nat.{ℕ, suc, ◌+◌, ◌≤◌, ◌<◌}
+use Prim.Native.Nat.{ℕ, ◌+◌, ◌≤◌, ◌<◌}
 use native.Mathlib.Omega.{arith}
 use mathlib.Core.Path.{◌≡◌, refl, sym, ap, ◌∙◌, subst}
 use mathlib.Core.Bool.{true}
@@ -11,7 +11,7 @@ use Rattle.stages.specs.Numbers.{open_limit}
 use Rattle.stages.specs.Bytes.{Text, is_blank, is_digit, is_name_start, is_letter}
 use Rattle.stages.specs.Outcome.{Outcome, done, ◌>>=◌, choose}
 use Rattle.stages.specs.Params.{Lent}
-use Rattle.stages.specs.Arith.{mul, div, rem, add, sub, early, apply, whole_level, stop, op, gets, written, behind, spelled, token, Tree, Grown}
+use Rattle.stages.specs.Arith.{mul, div, rem, add, sub, apply, whole_level, stop, op, gets, written, behind, spelled, token, Tree, Grown}
 use Rattle.stages.specs.Arith.{expression, ended, grow}
 use Rattle.stages.proofs.Ended.{target_other, whole_above}
 use Rattle.stages.proofs.Storeys.{lowest, upstairs}
@@ -29,10 +29,8 @@ use Rattle.arith_eval.specs.declared.Worked.TheVariants as worked
 use Rattle.arith_eval.specs.declared.answers.Climbed.TheVariants as climbed
 use Rattle.arith_eval.specs.declared.answers.Turn.TheVariants as turn
 use Rattle.arith_eval.specs.declared.plain.Plain.{Plain}
-use Rattle.arith_eval.specs.declared.plain.Plain.TheVariants as plain
 use Rattle.arith_eval.specs.declared.plain.Sign.{Sign}
-use Rattle.arith_eval.specs.declared.plain.Sign.TheVariants as sign
-use Rattle.arith_eval.proofs.Operands.{ended_by, says_same, operand_number}
+use Rattle.arith_eval.proofs.Operands.{ended_by, operand_number}
 use Rattle.arith_eval.proofs.Climbing.{expression_says, last_stop, last_loose, turn_says, Going, going_start, going_last, going_next}
 use Rattle.arith_eval.proofs.Reading.{bare_up}
 use Rattle.arith_eval.proofs.Texts.{once_says, counted_says}

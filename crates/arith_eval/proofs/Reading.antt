@@ -19,13 +19,12 @@ use Rattle.stages.proofs.Outcomes.{done_same, never_asks}
 use Rattle.stages.proofs.Ended.{NoTarget, target_name, choice_above, whole_above}
 use Rattle.stages.proofs.Storeys.{lowest, asked, upstairs}
 use Rattle.stages.proofs.Turns.{rest, other, pending, pending_refused, turn_query, turn_colon, turn_gets}
-use Rattle.text.specs.Places.{Behind}
 use Rattle.table_store.specs.Holding.{Holds}
 use Rattle.arith_token.specs.Tokens.{setting_of, TokenAt}
 use Rattle.arith_token.specs.declared.Setting.{Setting}
 use Rattle.arith_token.specs.declared.Token.TheVariants as code
 use Rattle.arith_eval.specs.Climbs.{inside, Fails, Comes, Says}
-use Rattle.arith_eval.specs.Wholes.{is_aside, is_query, Aside, Stands, Marks, Beyond, IsTarget, Sets, Targets, level_at, to_read, Skips, Last, Steps}
+use Rattle.arith_eval.specs.Wholes.{is_aside, is_query, Aside, Stands, Marks, Beyond, IsTarget, Sets, Targets, level_at, to_read, Skips, Steps}
 use Rattle.arith_eval.specs.declared.answers.Climbed.TheVariants as climbed
 use Rattle.arith_eval.specs.declared.answers.Skipped.{Skipped}
 use Rattle.arith_eval.specs.declared.answers.Skipped.TheVariants as skipped

@@ -120,6 +120,8 @@ record Popped (text : Text) (places : List ℕ) (k : ℕ) (gs : Waiting) : Type 
 
 popped : (text : Text) (places : List ℕ) (k : ℕ) (gs : Waiting) → 0 < k → Stacked text places k gs → Popped text places k gs
 popped text places zero [] h bottom = absurd (omega arith)
+popped text places zero (g ∷ gs) h x4 = elim x4 [ ]
+popped text places (suc k) [] h x4 = elim x4 [ ]
 popped text places (suc k) (g ∷ gs) h (above s t) =
     let e : k ≡ suc k - 1 = omega arith in
     record {
@@ -132,6 +134,7 @@ popped text places (suc k) (g ∷ gs) h (above s t) =
 
 none_stacked : (text : Text) (places : List ℕ) (gs : Waiting) → Stacked text places 0 gs → gs ≡ []
 none_stacked text places [] bottom = refl
+none_stacked text places (_ ∷ _) x3 = elim x3 [ ]
 
 -- what is still to be stored, of what was to be stored at first
 pub record Unwound (lent : Lent) (text : Text) (places : List ℕ) (e : Evaluated) (k : ℕ) (z : ℤ) (w : Pairs) : Type 0 where

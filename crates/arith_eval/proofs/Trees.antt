@@ -21,7 +21,6 @@ use Rattle.stages.specs.Arith.{Evaluated, with_variables, unless, name_number, v
 use Rattle.stages.proofs.Arith.{Lexes, lex_more, token_left, Leaves, some_left, expression_left, grow_left, grow_eq}
 use Rattle.stages.proofs.Outcomes.{done_same, never_asks}
 use Rattle.stages.proofs.Storeys.{lowest}
-use Rattle.arith_eval.specs.Climbs.{alone}
 use Rattle.arith_eval.specs.Wholes.{updated_in}
 
 -- a refusal is no result
@@ -144,11 +143,13 @@ module _ (a : Lent) (v : Pairs) where
     goes_on : (o : Op) (u : Text) → length u < length t → (r : Grown) → Leaves (length u) r
         → (r >>= λ q. grow (further k (binary o l q.0), d, q.1)) ≡ done p → evaluate a v p.0 ≡ refused e
     goes_on o u h (refused n) w q = absurd (never q)
+    goes_on o u h (demands _) w q = elim w [ ]
     goes_on o u h (done r) (some_left w) q = ih (d, k, binary o l r.0, r.1) (omega arith) high p q e (left_refused a v o l r.0 e bad)
 
     by_token : (o : Lexed) → Lexes (length t) o → (o >>= λ s. further_at grow d k l t s) ≡ done p → evaluate a v p.0 ≡ refused e
     unfolding further_at
     by_token (refused n) w q = absurd (never q)
+    by_token (demands _) w q = elim w [ ]
     by_token (done (ends i, u)) w q = ends_here_lem q
     by_token (done (num z, u)) w q = ends_here_lem q
     by_token (done (name x, u)) w q = ends_here_lem q

@@ -40,11 +40,15 @@ use Rattle.arith_eval.proofs.Reading.{rest_refused, Has, rest_done, storey_above
 pub stacked_same : (text : Text) (ps qs : List ℕ) (k : ℕ) (gs : Waiting) → ((j : ℕ) → j < k → get_or ps j 0 ≡ get_or qs j 0) → Stacked text ps k gs
     → Stacked text qs k gs
 stacked_same text ps qs zero [] same bottom = bottom
+stacked_same text ps qs zero (g ∷ gs) same x4 = elim x4 [ ]
+stacked_same text ps qs (suc k) [] same x4 = elim x4 [ ]
 stacked_same text ps qs (suc k) (g ∷ gs) same (above h s) =
     above (subst (λ (p : ℕ). SetsAt text p g) (same k (omega arith)) h) (stacked_same text ps qs k gs (λ j l. same j (omega arith)) s)
 
 pub stacked_within : (text : Text) (ps : List ℕ) (k : ℕ) (gs : Waiting) → Stacked text ps k gs → (j : ℕ) → j < k → get_or ps j 0 ≤ length text
 stacked_within text ps zero [] bottom j l = absurd (omega arith)
+stacked_within text ps zero (g ∷ gs) x4 j l = elim x4 [ ]
+stacked_within text ps (suc k) [] x4 j l = elim x4 [ ]
 stacked_within text ps (suc k) (g ∷ gs) (above h s) j l = go (λ i. stacked_within text ps k gs s j i) (eqb j k) refl
   where
     go : (j < k → get_or ps j 0 ≤ length text) → (x : Bool) → eqb j k ≡ x → get_or ps j 0 ≤ length text

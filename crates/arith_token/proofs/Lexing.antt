@@ -1,6 +1,5 @@
 -- Laws of tokens: what the byte at a place tells of the token there, and what the byte behind it tells.
 use Prim.Native.Nat.{ℕ, suc, ◌+◌, ◌-◌, ◌≤◌, ◌<◌}
-use Prim.Native.Char.{code}
 use native.Mathlib.Omega.{arith}
 use native.Mathlib.Numerals.{add-one}
 use mathlib.Core.Path.{◌≡◌, refl, sym, ap, ◌∙◌, subst}
@@ -30,7 +29,6 @@ use Rattle.arith_int.specs.Answers.{op_of}
 use Rattle.arith_int.specs.declared.Op.{Op}
 use Rattle.arith_int.specs.declared.Op.TheVariants.{Mul, Div, Rem, Add, Sub, Shl, Shr, Lt, Le, Gt, Ge, Eq, Ne, BitAnd, BitXor, BitOr}
 use Rattle.arith_int.specs.declared.Op.TheVariants.{LogAnd, LogOr, LogNot, BitNot}
-use Rattle.arith_int.specs.declared.Number.{Number}
 use Rattle.text.specs.Places.{Behind}
 use Rattle.arith_token.specs.Tokens.{level_of, lexed, Ends, TokenAt, paired_by, Pairable, Pairs, Symbol}
 use Rattle.arith_token.specs.declared.Token.{Token}

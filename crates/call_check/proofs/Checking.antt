@@ -1,5 +1,5 @@
 -- The order of the checks: each refusal is the stage's where those before it are passed.
-use Prim.Native.Nat.{ℕ, ◌+◌, ◌≤◌, ◌<◌}
+use Prim.Native.Nat.{ℕ, ◌+◌, ◌≤◌}
 use native.Mathlib.Omega.{arith}
 use mathlib.Core.Path.{◌≡◌, refl, sym, ap, ◌∙◌, subst}
 use mathlib.Core.Bool.{Bool, true, false, not, ◌&&◌, and-false}
@@ -7,9 +7,9 @@ use mathlib.Core.List.{List, [], ◌∷◌, ◌++◌}
 use lib.Dec.{leb}
 use lib.ListN.{length, take}
 use borrow.Author.Tests.{le-leb, lt-leb, leb-true, leb-false}
-use Rattle.stages.specs.Numbers.{work_too_small, bad_variables, bad_homes, bad_paths, bad_parameters, line_too_long, zero_byte, output_room}
+use Rattle.stages.specs.Numbers.{work_too_small, bad_variables, bad_homes, bad_paths, bad_parameters, output_room}
 use Rattle.stages.specs.Numbers.{work_least, line_limit, image_limit}
-use Rattle.stages.specs.Bytes.{Text, is_in, all, not_zero}
+use Rattle.stages.specs.Bytes.{Text, is_in}
 use Rattle.stages.specs.Outcome.{Outcome, refused, demands, done, Placed, refused_at, done_at, placed_at, ◌then◌, require, pick}
 use Rattle.stages.specs.Images.{Pairs, is_some, held, variables_of, homes_of, paths_of, fields_of, record_bytes}
 use Rattle.stages.specs.Syntax.{Word, Assignment}

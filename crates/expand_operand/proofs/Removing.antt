@@ -1,5 +1,5 @@
 -- A removal: the operand's row without its N is the pattern, and what it leaves of the value is given.
-use mathlib.Core.Path.{◌≡◌, refl, sym, ap, ◌∙◌}
+use mathlib.Core.Path.{◌≡◌, refl, sym}
 use mathlib.Core.Bool.{Bool, true, false}
 use mathlib.Core.List.{List}
 use Rattle.stages.specs.Numbers.{bracket_class}

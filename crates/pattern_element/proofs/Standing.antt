@@ -1,6 +1,6 @@
 -- The element at a place of a pattern, and what it says of all from there on: the steps of a walk over a pattern's elements.
 use Prim.Native.Nat.{ℕ, ◌+◌, ◌*◌, ◌≤◌}
-use mathlib.Core.Path.{◌≡◌, refl, sym, ◌∙◌, ap, subst}
+use mathlib.Core.Path.{◌≡◌, sym, ◌∙◌, ap, subst}
 use mathlib.Core.Bool.{Bool, ◌||◌}
 use mathlib.Core.List.{List, ◌∷◌}
 use lib.ListN.{length, drop}

@@ -27,14 +27,14 @@ trails_plain cells at t i h =
     ap (λ (c : ℕ). is_star_cell c) (get_or-drop at cells i 0) ∙ t.plain (at + i) (omega arith) (omega (arith, length-drop at cells))
 
 -- they take as many bytes as they are
-takes_length : (path head first : Bool) {sets cs : List ℕ} {es : List Element} → Shows sets cs es → Plain cs → (t : Text)
+takes_length : (path : Bool) {sets : List ℕ} (head first : Bool) {cs : List ℕ} {es : List Element} → Shows sets cs es → Plain cs → (t : Text)
     → matches_from path es head first t ≡ true → length t ≡ length cs
 unfolding matches_from
 takes_length path head first none p [] y = refl
 takes_length path head first none p (b ∷ t) y = absurd (no y)
-takes_length path head first {sets} (more {c} {e} {es = es} i s) p [] y =
+takes_length path {sets} head first (more {c} {e} {es = es} i s) p [] y =
     absurd (apart (none_left path head first es e (sym (is_star_lem sets c e i) ∙ p 0 (omega arith))) y)
-takes_length path head first {sets} (more {c} {e} {es = es} i s) p (b ∷ t) y =
+takes_length path {sets} head first (more {c} {e} {es = es} i s) p (b ∷ t) y =
     ap suc (takes_length path (is_slash e) (is_slash e) s (λ j h. p (suc j) (omega arith)) t
     (and_right (takes_one path head first e b) _ (sym (step path head first es b t e (sym (is_star_lem sets c e i) ∙ p 0 (omega arith))) ∙ y)))
 

@@ -12,7 +12,7 @@ use Rattle.stages.specs.Numbers.{bracket_class}
 use Rattle.stages.specs.Outcome.{refused, done, pick}
 use Rattle.stages.specs.Bytes.{Text}
 use Rattle.stages.specs.Units.{L, E, Q, cell, N, B, Row, bytes}
-use Rattle.stages.specs.Pattern.{Sign, Signs, signs, has_class, elements, Purpose, is_for_paths, pattern}
+use Rattle.stages.specs.Pattern.{Signs, signs, has_class, elements, Purpose, is_for_paths, pattern}
 use Rattle.stages.proofs.Bools.{either}
 use Rattle.stages.proofs.CostCalls.{pattern_refused, pattern_done}
 use Rattle.text.proofs.Rows.{row_of_row_bytes}

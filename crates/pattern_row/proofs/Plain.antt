@@ -9,7 +9,7 @@ use lib.ListN.{length, drop, get_or, length-drop}
 use borrow.Author.Tests.{not-true}
 use Rattle.stages.specs.Bytes.{Text, text, is_in}
 use Rattle.stages.specs.Outcome.{pick}
-use Rattle.stages.specs.Pattern.{Sign, Signs, element, extra, elements, has_class}
+use Rattle.stages.specs.Pattern.{Signs, element, extra, elements, has_class}
 use Rattle.stages.specs.Paths.{active}
 use Rattle.stages.proofs.Bools.{and_left, and_right, or_neither}
 use Rattle.text.specs.Rows.{is_mark, signs_of}

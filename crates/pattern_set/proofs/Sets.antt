@@ -5,20 +5,16 @@ use native.Mathlib.Omega.{arith}
 use native.Mathlib.Decide.{ℕ_discrete}
 use mathlib.Core.Path.{◌≡◌, refl, sym, ◌∙◌, ap}
 use mathlib.Core.Bool.{Bool, false, not, ◌||◌, and-false}
-use mathlib.Core.List.{List, [], ◌∷◌, ◌++◌, map}
+use mathlib.Core.List.{List, [], ◌∷◌, ◌++◌}
 use lib.Bits.{bit_or, bit_xor}
 use lib.Dec.{leb, eqb}
-use lib.ListN.{length, take, drop, get_or, set, length-map}
+use lib.ListN.{length, take, drop, get_or, set}
 use lib.Seq.{get_or-set_same, get_or-set_other, get_or-drop}
 use borrow.Author.Tests.{lt-leb, eq-eqb, ne_eqb}
 use Rattle.stages.specs.Bytes.{between}
 use Rattle.stages.proofs.Bools.{between_true}
 use Rattle.pattern_set.specs.Sets.{bit, has, PutsWords}
 use Rattle.pattern_set.proofs.Words.{zero_bit, bit_more, bit_turned}
-
--- an array in a struct's field: its length, out of what owning the struct tells
-pub counted : (l : List ℕ) {n : ℕ} → length (map (λ (v : ℕ). v) l) ≡ n → length l ≡ n
-counted l h = sym (length-map l (λ (v : ℕ). v)) ∙ h
 
 -- four words, each by its place
 four_words : (f : ℕ → ℕ) (i : ℕ) → i < 4 → get_or (f 0 ∷ f 1 ∷ f 2 ∷ f 3 ∷ []) i 0 ≡ f i

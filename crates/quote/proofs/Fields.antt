@@ -4,7 +4,7 @@ use native.Mathlib.Omega.{arith}
 use mathlib.Core.Path.{◌≡◌, refl, sym, ap, ◌∙◌}
 use mathlib.Core.Bool.{true, false}
 use mathlib.Core.List.{[], ◌∷◌}
-use lib.ListN.{length, drop}
+use lib.ListN.{length}
 use Rattle.stages.specs.Bytes.{Text, all, is_bare_byte, not_control}
 use Rattle.stages.specs.Quote.{Way, bare, singled, dollared, is_bare, has_control, way_of, quoted_bytes, enclosed, written, quoted_field}
 use Rattle.stages.proofs.Texts.{all_weaker}

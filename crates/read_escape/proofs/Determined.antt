@@ -1,7 +1,7 @@
 -- What the public contract allows is determined: one answer for one escape.
 use Prim.Native.Nat.{ℕ, suc, ◌+◌, ◌-◌}
 use native.Mathlib.Omega.{arith}
-use mathlib.Core.Path.{◌≡◌, refl, sym, ap, ◌∙◌}
+use mathlib.Core.Path.{◌≡◌, sym, ap, ◌∙◌}
 use Rattle.stages.specs.Bytes.{Text}
 use Rattle.stages.specs.Escapes.{says, unsaid}
 use Rattle.stages.specs.Escapes as escapes

@@ -1,6 +1,6 @@
 -- The code's table of signs is the stage's.
 use Prim.Native.Nat.{ℕ}
-use mathlib.Core.Path.{◌≡◌, refl, ap, ◌∙◌}
+use mathlib.Core.Path.{◌≡◌}
 use borrow.Author.Tests.{ne_eqb}
 use Rattle.stages.specs.Escapes.{letters, letter_of}
 

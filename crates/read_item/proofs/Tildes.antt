@@ -9,7 +9,7 @@ use lib.Seq.{drop-cons}
 use Rattle.stages.specs.Bytes.{Text, part}
 use Rattle.stages.specs.Outcome.{pick}
 use Rattle.stages.specs.Syntax.{unescaped, Mode}
-use Rattle.stages.specs.Items.{Item, byte, home_of, ends_login, behind_tilde}
+use Rattle.stages.specs.Items.{byte, home_of, ends_login, behind_tilde}
 use Rattle.text.specs.Classes.{Runs}
 use Rattle.text.specs.declared.Class.TheVariants.{LoginByte}
 use Rattle.text.proofs.Parts.{part_length}

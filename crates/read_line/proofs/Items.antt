@@ -5,7 +5,7 @@ use mathlib.Core.Path.{◌≡◌, refl, sym, ap, ◌∙◌, subst}
 use mathlib.Core.Bool.{Bool, true, false}
 use lib.ListN.{length, drop}
 use Rattle.stages.specs.Bytes.{Text, part}
-use Rattle.stages.specs.Outcome.{refused, demands, done}
+use Rattle.stages.specs.Outcome.{refused}
 use Rattle.stages.specs.Syntax.{unescaped, Parts, plain, end, lit, quo, par, len, lst, ari, til, bytes_of, parameters, arith as sums}
 use Rattle.stages.specs.Syntax as syntax
 use Rattle.stages.specs.Items.{onward, behind_byte, closer_length}

@@ -12,7 +12,7 @@ use Rattle.stages.specs.Bytes.{Text, part, span, is_blank, is_operator}
 use Rattle.stages.specs.Outcome.{Outcome, refused, done, Placed, refused_at, demands_at, done_at, placed_at, ◌then◌}
 use Rattle.stages.specs.Syntax.{Word}
 use Rattle.stages.specs.Read.{Piece, piece_at, pieces, a_word, word_of, words, read_line}
-use Rattle.stages.specs.Assign.{an_assignment, assignment_of, read_assignments}
+use Rattle.stages.specs.Assign.{an_assignment, assignment_of}
 use Rattle.stages.proofs.Read.{Good, stays, leaves}
 use Rattle.stages.proofs.Texts.{Stops, span_more, span_stop, span_join, span_stops}
 use Rattle.stages.proofs.Pieces.{Takes, FirstPiece, pieces_none, pieces_blank, pieces_operator, pieces_piece, first_piece}

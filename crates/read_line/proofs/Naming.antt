@@ -21,7 +21,7 @@ use Rattle.stages.proofs.Assignments.{not_assignment, an_assignment_lem}
 use Rattle.text.specs.Classes.{Runs}
 use Rattle.text.specs.declared.Class.TheVariants.{NameByte}
 use Rattle.text.proofs.Parts.{part_length}
-use Rattle.read_line.specs.Says.{ReadTo, ReadSays, AssignmentTo, AssignmentSays}
+use Rattle.read_line.specs.Says.{ReadSays, AssignmentTo, AssignmentSays}
 use Rattle.read_line.specs.declared.Assignment.{Assignment}
 use Rattle.read_line.specs.declared.Reading.{Reading}
 use Rattle.read_line.specs.declared.Reading.TheVariants as reading

@@ -1,9 +1,9 @@
 -- What the loop that copies a word holds: what was said so far stands at the area's front.
-use Prim.Native.Nat.{ℕ, suc, ◌+◌, ◌-◌, ◌≤◌, ◌<◌}
+use Prim.Native.Nat.{ℕ, ◌+◌, ◌-◌, ◌≤◌, ◌<◌}
 use native.Mathlib.Omega.{arith}
 use mathlib.Core.Path.{◌≡◌, refl, sym, ap, ◌∙◌}
 use mathlib.Core.Bool.{true, false}
-use mathlib.Core.List.{[], ◌∷◌, ◌++◌, append_assoc}
+use mathlib.Core.List.{[], ◌++◌, append_assoc}
 use mathlib.Core.Option.{none, some}
 use lib.ListN.{length, take, drop, get_or, length-append}
 use lib.Seq.{drop-drop, take_at, drop_at}

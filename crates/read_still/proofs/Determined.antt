@@ -7,12 +7,12 @@ use mathlib.Core.Bool.{Bool, true, false}
 use mathlib.Core.List.{[], ◌∷◌, ◌++◌}
 use mathlib.Core.Option.{none, some}
 use lib.ListN.{length, drop, length-drop}
-use Rattle.stages.specs.Bytes.{Text, span, is_bare_byte, is_blank}
+use Rattle.stages.specs.Bytes.{Text, is_blank}
 use Rattle.stages.specs.Call.{over}
 use Rattle.stages.proofs.Bools.{no, apart, clash, some_same}
 use Rattle.read_still.specs.declared.Still.{Still}
 use Rattle.read_still.specs.declared.Still.TheVariants as still
-use Rattle.read_still.specs.Walks.{Said, quoted_in, behind, Walk, ends, stops, fails, goes, EndsBy, EndsAt, Leaves, PutsStill}
+use Rattle.read_still.specs.Walks.{Said, quoted_in, behind, Walk, ends, stops, fails, goes, EndsBy, EndsAt, PutsStill}
 
 abbrev Cut : Type 0
 Cut = Text × Text

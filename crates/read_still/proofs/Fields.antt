@@ -1,15 +1,15 @@
 -- A word in which nothing is expanded becomes one field of the bytes that it says, whatever the tables are: its row is quiet.
 use Prim.Native.Nat.{ℕ, suc, ◌+◌, ◌≤◌, ◌<◌}
 use native.Mathlib.Omega.{arith}
-use mathlib.Core.Path.{◌≡◌, refl, sym, ap, ◌∙◌}
+use mathlib.Core.Path.{◌≡◌, refl, ap, ◌∙◌}
 use mathlib.Core.Bool.{false}
 use mathlib.Core.List.{[], ◌∷◌, ◌++◌}
 use lib.ListN.{length, length-append}
 use Rattle.stages.specs.Numbers.{row_limit}
-use Rattle.stages.specs.Bytes.{Text, is_bare_byte}
+use Rattle.stages.specs.Bytes.{Text}
 use Rattle.stages.specs.Outcome.{done}
 use Rattle.stages.specs.Images.{Pairs}
-use Rattle.stages.specs.Syntax.{Parts, end, lit}
+use Rattle.stages.specs.Syntax.{Parts, end}
 use Rattle.stages.specs.Units.{L, Q, cell, N, Row, marked, bytes}
 use Rattle.stages.specs.Params.{Lent}
 use Rattle.stages.specs.Expand.{expand, in_quotes}

@@ -3,23 +3,23 @@ use Prim.Native.Nat.{ℕ, suc, ◌+◌, ◌≤◌, ◌<◌}
 use Prim.Native.Char.{code}
 use native.Mathlib.Omega.{arith}
 use mathlib.Core.Path.{◌≡◌, refl, sym, ap, ◌∙◌, subst}
-use mathlib.Core.Bool.{Bool, true, false, not, ◌&&◌}
+use mathlib.Core.Bool.{Bool, true, false}
 use mathlib.Core.List.{[], ◌∷◌, ◌++◌, append-nil}
 use mathlib.Core.Option.{none, some}
 use lib.Dec.{eqb}
 use lib.ListN.{length, drop, length-append}
 use borrow.Author.Tests.{eqb-true}
 use Rattle.stages.specs.Bytes.{Text, all, span, is_bare_byte, is_blank, is_operator}
-use Rattle.stages.specs.Outcome.{Outcome, done, pick}
+use Rattle.stages.specs.Outcome.{done}
 use Rattle.stages.specs.Syntax.{escaped, unescaped, Parts, end, lit, quo, Start, fresh, begun, Mode, word, single, double, no_escapes, served}
 use Rattle.stages.specs.Items.{item, item_of, sort, begins_tilde, closer_length, ended, behind_backslash, quotable, lists_in, byte, onward, behind_byte}
-use Rattle.stages.specs.Read.{Taken, put, nest, parts, read_item}
+use Rattle.stages.specs.Read.{put, nest, parts, read_item}
 use Rattle.stages.proofs.Bools.{either, and_left, and_right, clash, some_same}
 use Rattle.stages.proofs.Texts.{span_all, span_join}
 use Rattle.stages.proofs.Read.{parts_item}
-use Rattle.stages.proofs.Plain.{Plain, bare_plain}
+use Rattle.stages.proofs.Plain.{bare_plain}
 use Rattle.read_mode.proofs.Closing.{blank_is}
-use Rattle.read_run.specs.Literals.{is_literal, opens_tilde, literal_in, lits}
+use Rattle.read_run.specs.Literals.{literal_in, lits}
 use Rattle.read_run.proofs.Parts.{begun_parts}
 use Rattle.read_still.proofs.Walking.{behind_behind}
 use Rattle.read_still.specs.Walks.{Said, closed_by, escaped_in, quoted_in, behind, Walk, ends, stops, fails, goes, EndsBy, EndsAt}

@@ -1,19 +1,17 @@
 -- What the loops over a word hold: the bytes that were passed are said in front of what is said behind them, whatever that is.
 use Prim.Native.Nat.{ℕ, suc, ◌+◌, ◌-◌, ◌≤◌, ◌<◌}
 use native.Mathlib.Omega.{arith}
-use native.Mathlib.Nat.{sub_self}
 use mathlib.Core.Path.{◌≡◌, refl, sym, ap, ◌∙◌, subst}
-use mathlib.Core.Bool.{Bool, true, false}
-use mathlib.Core.List.{[], ◌∷◌, ◌++◌, append_assoc, append-nil}
-use mathlib.Core.Option.{Option, none, some}
-use lib.ListN.{length, take, drop, get_or, length-append, length-drop, drop_of_length-le}
+use mathlib.Core.Bool.{true, false}
+use mathlib.Core.List.{[], ◌∷◌, ◌++◌, append_assoc}
+use mathlib.Core.Option.{none, some}
+use lib.ListN.{length, drop, get_or, length-append, drop_of_length-le}
 use lib.Seq.{drop-cons}
 use Rattle.stages.specs.Bytes.{Text, part, span, is_bare_byte, is_blank}
-use Rattle.stages.specs.Call.{over}
 use Rattle.text.specs.Classes.{Runs}
 use Rattle.text.specs.declared.Class.TheVariants.{BareByte}
 use Rattle.text.proofs.Parts.{part_length}
-use Rattle.read_still.specs.Walks.{Said, quoted_in, behind, Walk, ends, stops, fails, goes, EnclosedAs, EndsAt, Leaves}
+use Rattle.read_still.specs.Walks.{Said, quoted_in, behind, Walk, ends, stops, fails, goes, EnclosedAs, EndsAt}
 
 pub behind_behind : (y z : Text) (o : Said) → behind y (behind z o) ≡ behind (y ++ z) o
 behind_behind y z none = refl

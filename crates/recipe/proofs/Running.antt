@@ -4,17 +4,15 @@ use native.Mathlib.Omega.{arith}
 use mathlib.Core.Path.{◌≡◌, refl, sym, ap, subst, ◌∙◌}
 use mathlib.Core.Bool.{Bool, true, false}
 use mathlib.Core.List.{List, [], ◌∷◌, ◌++◌, append-nil}
-use lib.IntN.{ℤ, pos, negsuc}
-use lib.Signed.{lt_z}
 use lib.ListN.{length, take, drop}
 use lib.Seq.{take_all, take_at, drop_at, length-take-le}
-use borrow.Author.Tests.{ltb-true}
+use Rattle.std.specs.Prelude.{Result, Ok, Err}
 use Rattle.stages.specs.Bytes.{Text}
 use Rattle.stages.specs.Call.{normaliser}
 use Rattle.stages.specs.Program.{Variables, given_line, said, told, next_number, after_line, after_lines, said_of, told_of}
 use Rattle.stages.proofs.Bools.{no, apart, either}
-use Rattle.io.specs.Counts.{IsPrefixLen, clamp_len}
-use Rattle.io.proofs.Counting.{prefix_len_of_le}
+use Rattle.system.specs.Counts.{IsPrefixLen}
+use Rattle.system.proofs.Counting.{prefix_len_of_le}
 use Rattle.recipe_cut.specs.Lines.{line_kept, has_line, last_line}
 use Rattle.recipe_cut.specs.Said.{written_room}
 use Rattle.recipe_cut.proofs.Callers.{next_turn, kept_most}
@@ -174,33 +172,25 @@ module _ {homes paths params block line₀ vars₀ said₀ : Text} {k : Run} {li
 
 -- WHAT A READ GAVE
 
--- by the number of bytes and the sign
-pub given_block : (got : ℤ) (most n : ℕ) → n ≡ clamp_len got most → 0 < n → Block n ≡ input_of got most
-given_block (pos k) most n e h = rw (← e) (go n h)
-  where
-    go : (m : ℕ) → 0 < m → Block m ≡ block_of m
-    go zero h = absurd (omega arith)
-    go (suc m) h = refl
-given_block (negsuc k) most n e h = absurd (omega arith)
+-- by the number of bytes
+pub given_block : (n : ℕ) → 0 < n → Block n ≡ block_of n
+given_block zero h = absurd (omega arith)
+given_block (suc n) h = refl
 
-pub given_end : (got : ℤ) (most n : ℕ) → n ≡ clamp_len got most → n ≤ 0 → lt_z got (pos 0) ≡ false → Ended ≡ input_of got most
-given_end (pos k) most n e h f = let z : n ≡ 0 = omega arith in rw (← e, z)
-given_end (negsuc k) most n e h f = absurd (no (sym f))
+pub given_end : (n : ℕ) → n ≤ 0 → Ended ≡ block_of n
+given_end zero h = refl
+given_end (suc n) h = absurd (omega arith)
 
-pub given_failure : (got : ℤ) (most : ℕ) → lt_z got (pos 0) ≡ true → Failed ≡ input_of got most
-given_failure (pos k) most f = absurd (let l = ltb-true k 0 f in omega arith)
-given_failure (negsuc k) most f = refl
-
-pub input_comes : (block : Text) (got : ℤ) (i : Input) → i ≡ input_of got (length block) → Comes block i
-input_comes block got i e = subst (Comes block) (sym e) (go got)
+pub input_comes : {E : Type 0} (block : Text) (got : Result ℕ E) (i : Input) → i ≡ input_of got (length block) → Comes block i
+input_comes {E} block got i e = subst (Comes block) (sym e) (go got)
   where
     within : (n : ℕ) → n ≤ length block → Comes block (block_of n)
     within zero h = tt
     within (suc n) h = (omega arith, prefix_len_of_le (suc n) block h)
 
-    go : (z : ℤ) → Comes block (input_of z (length block))
-    go (pos k) = within (min k (length block)) (omega arith)
-    go (negsuc k) = tt
+    go : (z : Result ℕ E) → Comes block (input_of z (length block))
+    go (Ok k) = within (min k (length block)) (omega arith)
+    go (Err x) = tt
 
 pub comes_counts : (block : Text) {i : Input} {n : ℕ} → i ≡ Block n → Comes block i → IsPrefixLen n block
 comes_counts block e h = (subst (Comes block) e h).1

@@ -1,13 +1,13 @@
 -- What the contracts of the program's loop cite. What the system read stands in the block; what it was given to write stood at the front of the words'
 -- buffer: the words of an answer, and right behind them what is told of its line.
-use Rattle.std.specs.Prelude.{ℕ, zero, suc, ◌<◌, min, ◌≡◌, Bool, true, false, List, [], ◌++◌, ℤ, pos, negsuc, length, take, drop, replicate}
+use Rattle.std.specs.Prelude.{ℕ, zero, suc, ◌<◌, min, ◌≡◌, Bool, true, false, List, [], ◌++◌, Result, Ok, Err, length, take, drop, replicate}
 use Rattle.std.proofs.Math.Option.{Option}
 use Rattle.stages.specs.Numbers.{image_limit}
 use Rattle.stages.specs.Bytes.{Text}
 use Rattle.stages.specs.Images.{image}
 use Rattle.stages.specs.Call.{Answer, over}
 use Rattle.stages.specs.Program.{table_or, Variables, said, told, first_variables, program, demands_of}
-use Rattle.io.specs.Counts.{IsPrefixLen}
+use Rattle.system.specs.Counts.{IsPrefixLen}
 use Rattle.recipe_arguments.specs.Options.{silent, heard_all}
 use Rattle.recipe_arguments.specs.Packs.{Packs}
 use Rattle.recipe_cut.specs.Lines.{last_line}
@@ -22,9 +22,9 @@ abbrev pub block_of : ℕ → Input
 block_of zero = Ended
 block_of (suc n) = Block (suc n)
 
-abbrev pub input_of : ℤ → ℕ → Input
-input_of (pos k) most = block_of (min k most)
-input_of (negsuc k) most = Failed
+abbrev pub input_of : {E : Type 0} → Result ℕ E → ℕ → Input
+input_of (Ok k) most = block_of (min k most)
+input_of (Err e) most = Failed
 
 -- what a read gave lies in the block
 abbrev pub Comes : Text → Input → Type 0

@@ -6,8 +6,9 @@ ghost use Rattle.recipe_answer.specs.Turns.{Ready};
 ghost use Rattle.recipe.specs.Runs.{input_of, Comes, Spoken, Passes, Finishes, Follows, Answers};
 
 use call_check::Asked;
-use libc::{STDERR_FILENO, STDIN_FILENO, STDOUT_FILENO};
 use recipe_answer::{Begun, Carried, Turn};
+use std::io;
+use std::io::Read;
 
 // What a read gave.
 #[derive(Clone, Copy)]
@@ -39,44 +40,52 @@ struct Came {
 }
 
 // What a read gave, by what it answered.
-fn input_of(got: isize, block: &[u8]) -> Input
+fn input_of(rt: &HostRuntime, got: io::Result<usize>, block: &[u8]) -> Input
     ensures { result ≡ input_of got (length block.now) }
 {
-    let n = io::count(got, block);
-    if n > 0 {
-        return Input::Block(n);
+    match got {
+        Ok(count) => {
+            let n = count.min(block.len());
+            if n > 0 {
+                return Input::Block(n);
+            }
+            Input::Ended
+        }
+        Err(error) => {
+            system::fail(rt, b"standard input", error);
+            return Input::Failed;
+        }
     }
-    if got < 0 {
-        os::fail(b"standard input");
-        return Input::Failed;
-    }
-    Input::Ended
 }
 
 // Reads a block.
-fn read_block(block: &mut [u8]) -> Input
+fn read_block(rt: &HostRuntime, block: &mut [u8]) -> Input
     ensures { Comes block.new result }
 {
-    let got = libc::read(STDIN_FILENO, block);
-    input_of(got, block)
+    let got = rt.stdin().read(block);
+    input_of(rt, got, block)
 }
 
 // Writes the words of an answer, the first `len` bytes, to standard output, and what is told of its line, the bytes behind them, to standard error; answers
 // whether the words could be written. A message that cannot be written ends nothing.
-fn write_answer(written: &[u8], len: usize) -> bool
+fn write_answer(rt: &HostRuntime, written: &[u8], len: usize) -> bool
     requires { Spoken written.now len }
 {
-    let is_written = io::write_all(STDOUT_FILENO, &written[..len]);
-    if is_written {
-        io::write_all(STDERR_FILENO, &written[len..]);
-    } else {
-        os::fail(b"standard output");
+    match system::write_out(rt, &written[..len]) {
+        Ok(()) => {
+            system::tell(rt, &written[len..]);
+            true
+        }
+        Err(error) => {
+            system::fail(rt, b"standard output", error);
+            false
+        }
     }
-    is_written
 }
 
 // Answers the lines that end in a block. Output that cannot be written ends the run.
 fn answer_block(
+    rt: &HostRuntime,
     run: Run,
     block: &[u8],
     line: &mut [u8],
@@ -124,7 +133,7 @@ fn answer_block(
                 next,
             } => {
                 let end = len + told;
-                let is_written = write_answer(&said[..end], len);
+                let is_written = write_answer(rt, &said[..end], len);
                 let shouts = so_far.shouts;
                 so_far = Run {
                     kept: 0,
@@ -142,6 +151,7 @@ fn answer_block(
 
 // Answers the last line, if it is not empty, where the input is at its end.
 fn answer_end(
+    rt: &HostRuntime,
     run: Run,
     line: &[u8],
     vars: &mut [u8],
@@ -165,7 +175,7 @@ fn answer_end(
     let len = spoken.len;
     if len > 0 {
         let end = len + spoken.told;
-        write_answer(&said[..end], len);
+        write_answer(rt, &said[..end], len);
     }
     Run {
         kept: 0,
@@ -178,6 +188,7 @@ fn answer_end(
 
 // Answers what a read gave.
 fn answer_input(
+    rt: &HostRuntime,
     came: Came,
     block: &[u8],
     line: &mut [u8],
@@ -196,6 +207,7 @@ fn answer_input(
     let input = came.input;
     match input {
         Input::Block(n) => answer_block(
+            rt,
             run,
             &block[..n],
             line,
@@ -206,7 +218,7 @@ fn answer_input(
             work,
             said,
         ),
-        Input::Ended => answer_end(run, line, vars, homes, params, paths, work, said),
+        Input::Ended => answer_end(rt, run, line, vars, homes, params, paths, work, said),
         Input::Failed => Run {
             kept: 0,
             line: run.line,
@@ -220,6 +232,7 @@ fn answer_input(
 // Answers all lines, and gives the variables' used length after them. A proved loop has to end, and nothing says that the input does: so it counts its turns
 // down, from a number that no run uses up.
 pub fn answer_all(
+    rt: &HostRuntime,
     asked: Asked,
     block: &mut [u8],
     line: &mut [u8],
@@ -243,12 +256,14 @@ pub fn answer_all(
     };
     let mut turns = u64::MAX;
     while turns > 0 && so_far.goes_on {
-        let input = read_block(block);
+        let input = read_block(rt, block);
         let came = Came {
             input: input,
             run: so_far,
         };
-        so_far = answer_input(came, block, line, vars, homes, params, paths, work, said);
+        so_far = answer_input(
+            rt, came, block, line, vars, homes, params, paths, work, said,
+        );
         turns -= 1;
     }
     so_far.vars_used

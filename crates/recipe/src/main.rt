@@ -10,7 +10,6 @@ ghost use Rattle.recipe_cut.specs.Said.{written_room};
 ghost use Rattle.recipe.specs.Runs.{Answers, Runs};
 
 use call_check::Asked;
-use libc::STDERR_FILENO;
 use recipe_load::Loaded;
 use text::numbers;
 
@@ -45,6 +44,7 @@ fn said_room() -> [u8; recipe_cut::WRITTEN_ROOM]
 // Answers all lines with the tables that were read and the parameters, and gives the variables' used length after them. The work area is made once: every
 // call leaves it zero.
 fn answer_with(
+    rt: &HostRuntime,
     vars: &mut [u8],
     vars_used: usize,
     shouts: bool,
@@ -55,49 +55,53 @@ fn answer_with(
     ensures { Answers homes.now paths.now params.now vars.old vars_used shouts vars.new result }
 {
     let mut line = line_room();
-    let mut block = io::buffer();
-    let mut work = io::large_buffer();
+    let mut block = system::buffer();
+    let mut work = system::large_buffer();
     let mut said = said_room();
     let asked = Asked {
         vars_used: vars_used,
         shouts: shouts,
     };
     answering::answer_all(
-        asked, &mut block, &mut line, vars, homes, params, paths, &mut work, &mut said,
+        rt, asked, &mut block, &mut line, vars, homes, params, paths, &mut work, &mut said,
     )
 }
 
 // Says on standard error how the program is called.
-fn say_usage() {
-    io::write_all(
-        STDERR_FILENO,
-        b"usage: recipe [--shout] [--] [PARAMETER]... < LINES\n",
-    );
+fn say_usage(rt: &HostRuntime) {
+    system::tell(rt, b"usage: recipe [--shout] [--] [PARAMETER]... < LINES\n");
 }
 
 // Reads the three tables and hears the arguments, options and positional parameters, and answers all lines. If a table cannot be read, or an option is
 // unknown, no line is answered.
-fn run(vars: &mut [u8], homes: &mut [u8], params: &mut [u8], paths: &mut [u8]) -> bool
+fn run(
+    rt: &HostRuntime,
+    vars: &mut [u8],
+    homes: &mut [u8],
+    params: &mut [u8],
+    paths: &mut [u8],
+) -> bool
     requires { (image_limit + 1 ≡ length vars.old) × (image_limit + 1 ≡ length homes.old) × (image_limit + 1 ≡ length params.old)
         × (paths_limit + 1 ≡ length paths.old) }
     ensures { result ≡ true → Runs vars.new homes.new paths.new params.new }
 {
-    let Loaded::Length(vars_used) = recipe_load::load(b"vars.tab", vars) else {
+    let Loaded::Length(vars_used) = recipe_load::load(rt, "vars.tab", vars) else {
         return false;
     };
-    let Loaded::Length(h) = recipe_load::load(b"homes.tab", homes) else {
+    let Loaded::Length(h) = recipe_load::load(rt, "homes.tab", homes) else {
         return false;
     };
-    let Loaded::Length(p) = recipe_load::load(b"paths.tab", paths) else {
+    let Loaded::Length(p) = recipe_load::load(rt, "paths.tab", paths) else {
         return false;
     };
-    let heard = recipe_arguments::gather(1, params);
+    let heard = recipe_arguments::gather(rt, 1, params);
     if !heard.known {
-        say_usage();
+        say_usage(rt);
         return false;
     }
     let packed = heard.used;
     answer_with(
+        rt,
         &mut vars[..numbers::IMAGE_LIMIT],
         vars_used,
         heard.shouts,
@@ -108,10 +112,10 @@ fn run(vars: &mut [u8], homes: &mut [u8], params: &mut [u8], paths: &mut [u8]) -
     true
 }
 
-fn main() {
+fn main(rt: HostRuntime) {
     let mut vars = image_room();
     let mut homes = image_room();
     let mut params = image_room();
     let mut paths = paths_room();
-    run(&mut vars, &mut homes, &mut params, &mut paths);
+    run(&rt, &mut vars, &mut homes, &mut params, &mut paths);
 }

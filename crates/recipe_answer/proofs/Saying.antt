@@ -23,7 +23,7 @@ use Rattle.stages.specs.Program.{Variables, given_line, said, told, said_of, tol
 use Rattle.stages.proofs.Bools.{either}
 use Rattle.stages.proofs.Answers.{normaliser_fits}
 use Rattle.stages.proofs.Rooms.{over_front}
-use Rattle.io.proofs.Counting.{prefix_len_of_le}
+use Rattle.system.proofs.Counting.{prefix_len_of_le}
 use Rattle.text.specs.Putting.{Puts}
 use Rattle.text.proofs.Filling.{Filling, fill_room, fill_free_length, fill_length, fill_piece, fill_ends}
 use Rattle.recipe_cut.specs.Said.{said_by, line_in, answer_room, told_by, told_room, written_room}

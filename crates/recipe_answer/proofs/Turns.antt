@@ -21,7 +21,7 @@ use Rattle.stages.proofs.Program.{
   after_append,
   number_append,
 }
-use Rattle.io.proofs.Counting.{prefix_len_of_le}
+use Rattle.system.proofs.Counting.{prefix_len_of_le}
 use Rattle.text.proofs.Filling.{puts_front}
 use Rattle.recipe_cut.specs.Lines.{came, has_line, last_line, Takes}
 use Rattle.recipe_cut.specs.declared.Taken.{Taken}

@@ -4,7 +4,7 @@ use Rattle.stages.specs.Numbers.{work_least, row_limit}
 use Rattle.stages.specs.Bytes.{Text}
 use Rattle.stages.specs.Call.{over}
 use Rattle.stages.specs.Program.{Variables, said_of, told_of, after_lines}
-use Rattle.io.specs.Counts.{IsPrefixLen}
+use Rattle.system.specs.Counts.{IsPrefixLen}
 use Rattle.recipe_answer.specs.declared.Said.{Said}
 
 abbrev pub variables : Text → ℕ → Bool → Variables

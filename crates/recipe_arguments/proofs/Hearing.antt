@@ -1,5 +1,5 @@
 -- What an argument is, by the tests that the code makes, and what is heard of it.
-use Prim.Native.Nat.{ℕ, ◌≤◌, ◌<◌}
+use Prim.Native.Nat.{◌≤◌, ◌<◌}
 use Prim.Native.Char.{code}
 use native.Mathlib.Omega.{arith}
 use mathlib.Core.Path.{◌≡◌, refl, sym, subst}
@@ -9,7 +9,7 @@ use lib.Dec.{eqb}
 use lib.ListN.{length, get_or}
 use borrow.Author.Tests.{eq-eqb, ne_eqb}
 use Rattle.stages.specs.Bytes.{Text, text, eq_text}
-use Rattle.recipe_arguments.specs.Options.{is_hyphened, word_of, word_in}
+use Rattle.recipe_arguments.specs.Options.{is_hyphened, word_in}
 use Rattle.recipe_arguments.specs.Packs.{HearsAs, Hears}
 use Rattle.recipe_arguments.specs.declared.Word.{Word}
 use Rattle.recipe_arguments.specs.declared.Word.TheVariants.{Shout, End, Unknown, Parameter}

@@ -12,8 +12,8 @@ use Rattle.stages.specs.Numbers.{image_limit}
 use Rattle.stages.specs.Bytes.{Text}
 use Rattle.stages.specs.Outcome.{Placed, refused_at, demands_at, done_at, ◌then◌}
 use Rattle.stages.specs.Images.{Pairs, texts, sized, fields_of, image}
-use Rattle.stages.specs.Call.{Given, expanded, answered, quoted_in, normaliser}
-use Rattle.stages.specs.Program.{Variables, given_line, said, told, after_line, said_of, told_of, after_lines}
+use Rattle.stages.specs.Call.{Given, Answer, expanded, answered, quoted_in, normaliser}
+use Rattle.stages.specs.Program.{Variables, given_line, said, told, next_number, after_line, said_of, told_of, after_lines}
 use Rattle.stages.proofs.Images.{length_image}
 use Rattle.recipe_arguments.specs.Packs.{Packs, whole, full}
 
@@ -71,17 +71,52 @@ module _ (homes paths params params' : Text) (e : fields_of params ≡ fields_of
   unfolding after_line
   after_params v l = rw (answer_params l v)
 
-  pub said_params : (v : Variables) (ls : List Text) → said_of homes paths params v ls ≡ said_of homes paths params' v ls
+  -- the first of lines, and those behind it
+  said_next : (v : Variables) (l : Text) (ls : List Text) → said_of homes paths params v (l ∷ ls)
+      ≡ said (normaliser (given_line homes paths params l v)) ++ said_of homes paths params (after_line homes paths params v l) ls
   unfolding said_of
-  said_params v [] = refl
+  said_next v l ls = refl
+
+  said_next' : (v : Variables) (l : Text) (ls : List Text) → said_of homes paths params' v (l ∷ ls)
+      ≡ said (normaliser (given_line homes paths params' l v)) ++ said_of homes paths params' (after_line homes paths params' v l) ls
+  unfolding said_of
+  said_next' v l ls = refl
+
+  told_next : (v : Variables) (n : ℕ) (l : Text) (ls : List Text) → told_of homes paths params v n (l ∷ ls)
+      ≡ told n (normaliser (given_line homes paths params l v)) ++ told_of homes paths params (after_line homes paths params v l) (next_number n) ls
+  unfolding told_of
+  told_next v n l ls = refl
+
+  told_next' : (v : Variables) (n : ℕ) (l : Text) (ls : List Text) → told_of homes paths params' v n (l ∷ ls)
+      ≡ told n (normaliser (given_line homes paths params' l v)) ++ told_of homes paths params' (after_line homes paths params' v l) (next_number n) ls
+  unfolding told_of
+  told_next' v n l ls = refl
+
+  said_none : (v : Variables) → said_of homes paths params v [] ≡ said_of homes paths params' v []
+  unfolding said_of
+  said_none v = refl
+
+  told_none : (v : Variables) (n : ℕ) → told_of homes paths params v n [] ≡ told_of homes paths params' v n []
+  unfolding told_of
+  told_none v n = refl
+
+  pub said_params : (v : Variables) (ls : List Text) → said_of homes paths params v ls ≡ said_of homes paths params' v ls
+  said_params v [] = said_none v
   said_params v (l ∷ ls) =
-      rw (answer_params l v) (ap (λ (s : Text). said (normaliser (given_line homes paths params' l v)) ++ s) (said_params _ ls))
+      said_next v l ls
+      ∙ ap (λ (a : Answer). said a ++ said_of homes paths params (after_line homes paths params v l) ls) (answer_params l v)
+      ∙ ap (λ (w : Variables). said (normaliser (given_line homes paths params' l v)) ++ said_of homes paths params w ls) (after_params v l)
+      ∙ ap (λ (s : Text). said (normaliser (given_line homes paths params' l v)) ++ s) (said_params (after_line homes paths params' v l) ls)
+      ∙ sym (said_next' v l ls)
 
   pub told_params : (v : Variables) (n : ℕ) (ls : List Text) → told_of homes paths params v n ls ≡ told_of homes paths params' v n ls
-  unfolding told_of
-  told_params v n [] = refl
+  told_params v n [] = told_none v n
   told_params v n (l ∷ ls) =
-      rw (answer_params l v) (ap (λ (s : Text). told n (normaliser (given_line homes paths params' l v)) ++ s) (told_params _ _ ls))
+      told_next v n l ls
+      ∙ ap (λ (a : Answer). told n a ++ told_of homes paths params (after_line homes paths params v l) (next_number n) ls) (answer_params l v)
+      ∙ ap (λ (w : Variables). told n (normaliser (given_line homes paths params' l v)) ++ told_of homes paths params w (next_number n) ls) (after_params v l)
+      ∙ ap (λ (s : Text). told n (normaliser (given_line homes paths params' l v)) ++ s) (told_params (after_line homes paths params' v l) (next_number n) ls)
+      ∙ sym (told_next' v n l ls)
 
   pub after_lines_params : (v : Variables) (ls : List Text) → after_lines homes paths params v ls ≡ after_lines homes paths params' v ls
   unfolding after_lines

@@ -7,6 +7,7 @@ ghost use Rattle.stages.specs.Numbers.{image_limit};
 ghost use Rattle.recipe_arguments.specs.Options.{word_in};
 ghost use Rattle.recipe_arguments.specs.Packs.{Appends, Hears, Grows, Gathers, GathersAll};
 
+use std::env::Env;
 use table_store::Put;
 use text::numbers;
 
@@ -106,24 +107,35 @@ pub fn hear(image: &mut [u8], so_far: Heard, argument: &[u8]) -> Heard
 }
 
 // Fetches an argument and hears it. One that is longer than its buffer is a parameter that has no room in an image either.
-fn take_argument(number: usize, buffer: &mut [u8], image: &mut [u8], so_far: Heard) -> Heard
+fn take_argument(
+    rt: &HostRuntime,
+    number: usize,
+    buffer: &mut [u8],
+    image: &mut [u8],
+    so_far: Heard,
+) -> Heard
     requires { (so_far.used ≤ length image.old) × (image_limit + 1 ≡ length image.old) }
     ensures { Grows image.old so_far image.new result }
 {
-    let n = os::arg(number, buffer);
-    if os::errno() != 0 {
-        return Heard {
+    match rt.arg(number, buffer) {
+        Ok(n) => hear(image, so_far, &buffer[..n]),
+        Err(_) => Heard {
             used: image.len(),
             shouts: so_far.shouts,
             options: false,
             known: so_far.known,
-        };
+        },
     }
-    hear(image, so_far, &buffer[..n])
 }
 
 // Fetches the arguments of so many from a number on. The switch is "off by default".
-fn gather_in(first: usize, count: usize, buffer: &mut [u8], image: &mut [u8]) -> Heard
+fn gather_in(
+    rt: &HostRuntime,
+    first: usize,
+    count: usize,
+    buffer: &mut [u8],
+    image: &mut [u8],
+) -> Heard
     requires { image_limit + 1 ≡ length image.old }
     ensures { GathersAll first count image.new result }
 {
@@ -136,7 +148,7 @@ fn gather_in(first: usize, count: usize, buffer: &mut [u8], image: &mut [u8]) ->
     };
     let mut number = first;
     while number < count {
-        so_far = take_argument(number, buffer, image, so_far);
+        so_far = take_argument(rt, number, buffer, image, so_far);
         number += 1;
     }
     so_far
@@ -144,11 +156,11 @@ fn gather_in(first: usize, count: usize, buffer: &mut [u8], image: &mut [u8]) ->
 
 // Hears the program's arguments from a number on, 0 being its own name, and packs the parameters among them: the length of their image, or that of the whole
 // buffer if they are too long for one.
-pub fn gather(first: usize, image: &mut [u8]) -> Heard
+pub fn gather(rt: &HostRuntime, first: usize, image: &mut [u8]) -> Heard
     requires { image_limit + 1 ≡ length image.old }
     ensures { Gathers image.new result }
 {
-    let mut buffer = io::large_buffer();
-    let count = os::arg_count();
-    gather_in(first, count, &mut buffer, image)
+    let mut buffer = system::large_buffer();
+    let count = system::arg_count(rt);
+    gather_in(rt, first, count, &mut buffer, image)
 }

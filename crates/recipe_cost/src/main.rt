@@ -3,7 +3,6 @@
 #![tactic(auto)]
 
 use call_cost::Costed;
-use libc::{STDERR_FILENO, STDOUT_FILENO};
 use text::numbers;
 
 // Room for the longest argument that the system hands over.
@@ -11,69 +10,75 @@ fn argument_room() -> [u8; numbers::SHOWN_ROOM] {
     [0; numbers::SHOWN_ROOM]
 }
 
-fn say(text: &[u8]) {
-    io::write_all(STDERR_FILENO, text);
+fn say(rt: &HostRuntime, text: &[u8]) {
+    system::tell(rt, text);
 }
 
 // Writes bytes to standard output; that they could not be written is told.
-fn write(text: &[u8]) {
-    let is_written = io::write_all(STDOUT_FILENO, text);
-    if !is_written {
-        os::fail(b"standard output");
+fn write(rt: &HostRuntime, text: &[u8]) {
+    if let Err(error) = system::write_out(rt, text) {
+        system::fail(rt, b"standard output", error);
     }
 }
 
 // What a pattern costs.
-fn write_cost(pairs: usize, pattern: &[u8]) {
-    io::print_decimal(STDOUT_FILENO, pairs as u64);
-    write(b" ");
-    write(pattern);
-    write(b"\n");
+fn write_cost(rt: &HostRuntime, pairs: usize, pattern: &[u8]) {
+    let _ = system::write_decimal(rt, pairs as u64);
+    write(rt, b" ");
+    write(rt, pattern);
+    write(rt, b"\n");
 }
 
 // Why a pattern is not reported.
-fn say_refused(number: u8, pattern: &[u8]) {
-    say(b"cost: ");
-    say(pattern);
-    say(b": refused with ");
-    io::print_decimal(STDERR_FILENO, number as u64);
-    say(b"\n");
+fn say_refused(rt: &HostRuntime, number: u8, pattern: &[u8]) {
+    say(rt, b"cost: ");
+    say(rt, pattern);
+    say(rt, b": refused with ");
+    system::tell_decimal(rt, number as u64);
+    say(rt, b"\n");
 }
 
 // Reports one pattern.
-fn report(pattern: &[u8], text: &[u8], work: &mut [u8]) {
+fn report(rt: &HostRuntime, pattern: &[u8], text: &[u8], work: &mut [u8]) {
     let costed: Costed = drunquill::cost(pattern, text, work);
     if costed.number == numbers::ACCEPTED {
-        write_cost(costed.pairs, pattern);
+        write_cost(rt, costed.pairs, pattern);
     } else {
-        say_refused(costed.number, pattern);
+        say_refused(rt, costed.number, pattern);
     }
 }
 
 // Reports the pattern that an argument is.
-fn report_argument(number: usize, text: &[u8], pattern: &mut [u8], work: &mut [u8]) {
-    let n = os::arg(number, pattern);
-    report(&pattern[..n], text, work);
+fn report_argument(
+    rt: &HostRuntime,
+    number: usize,
+    text: &[u8],
+    pattern: &mut [u8],
+    work: &mut [u8],
+) {
+    let n = system::arg(rt, number, pattern);
+    report(rt, &pattern[..n], text, work);
 }
 
 // Reports every pattern, in the order of the arguments.
-fn report_all(count: usize, text: &[u8], pattern: &mut [u8], work: &mut [u8]) {
+fn report_all(rt: &HostRuntime, count: usize, text: &[u8], pattern: &mut [u8], work: &mut [u8]) {
     let mut number: usize = 2;
     while number < count {
-        report_argument(number, text, pattern, work);
+        report_argument(rt, number, text, pattern, work);
         number += 1;
     }
 }
 
-fn main() {
-    let count = os::arg_count();
+fn main(rt: HostRuntime) {
+    let rt = &rt;
+    let count = system::arg_count(rt);
     if count < 3 {
-        say(b"usage: cost TEXT PATTERN...\n");
+        say(rt, b"usage: cost TEXT PATTERN...\n");
         return;
     }
     let mut text = argument_room();
-    let n = os::arg(1, &mut text);
+    let n = system::arg(rt, 1, &mut text);
     let mut pattern = argument_room();
-    let mut work = io::large_buffer();
-    report_all(count, &text[..n], &mut pattern, &mut work);
+    let mut work = system::large_buffer();
+    report_all(rt, count, &text[..n], &mut pattern, &mut work);
 }

@@ -1,7 +1,7 @@
 -- What a loop over blocks learns. `left` is all that was read of the line that has not ended, however long; the buffer holds its first bytes. Each answer
 -- of `take_in` is then one more line of the stage's, or a longer `left`; at the end of the input an unended line is told from none. However what is read
 -- comes in blocks, its lines are those of the whole.
-use Prim.Native.Nat.{ℕ, zero, suc, ◌+◌, ◌-◌, ◌≤◌, ◌<◌}
+use Prim.Native.Nat.{ℕ, zero, suc, ◌-◌, ◌≤◌, ◌<◌}
 use native.Mathlib.Omega.{arith}
 use mathlib.Core.Path.{◌≡◌, refl, sym, ap, subst, ◌∙◌}
 use mathlib.Core.Bool.{true}

@@ -1,25 +1,20 @@
 -- What was fetched lies within the buffer, and settling it leaves the table at the front of zeros.
-use Prim.Native.Nat.{ℕ, ◌+◌, ◌-◌, ◌≤◌}
+use Prim.Native.Nat.{ℕ, ◌-◌, ◌≤◌}
 use native.Mathlib.Omega.{arith}
 use mathlib.Core.Path.{◌≡◌, refl, sym, ap, subst, ◌∙◌}
-use mathlib.Core.Bool.{true, false}
 use mathlib.Core.List.{[], ◌∷◌, ◌++◌}
 use mathlib.Core.Option.{Option, none}
 use lib.Dec.{eqb}
 use lib.IntN.{ℤ, pos, negsuc}
-use lib.Signed.{lt_z}
 use lib.ListN.{length, take, drop, set, replicate, length-replicate}
 use lib.Seq.{length-take-le}
-use borrow.Author.Tests.{ltb-true, eqb-true}
-use mir.Syntax.{w32}
-use mir.Val.{SFits, to_z, of_z}
-use mir.ValLaws.{to_z-of_z}
 use borrow.Rule.Slice.PartMut.{put_mid, mid_of}
+use Rattle.std.specs.Prelude.{Result, Ok, Err, Option as Perhaps, Some, None}
 use Rattle.stages.specs.Bytes.{Text}
 use Rattle.stages.specs.Images.{image, written}
 use Rattle.stages.specs.Call.{over}
 use Rattle.stages.specs.Program.{table_or}
-use Rattle.stages.proofs.Bools.{no, either}
+use Rattle.stages.proofs.Bools.{either}
 use Rattle.stages.proofs.Files.{zeros_behind}
 use Rattle.text.specs.Putting.{Puts}
 use Rattle.text.proofs.Parts.{rest_length, rest_back}
@@ -29,33 +24,19 @@ use Rattle.recipe_load.specs.declared.Loaded.TheVariants.{Length, Failed}
 use Rattle.recipe_load.specs.declared.Fetched.{Fetched}
 use Rattle.recipe_load.specs.declared.Fetched.TheVariants.{File, Absent, Unread}
 
--- `end_of_file`, by the sign of what the read answered
-pub ended_file : (got : ℤ) (done : ℕ) → lt_z got (pos 0) ≡ false → Ends got done (File done)
-ended_file (pos k) done e = refl
-ended_file (negsuc k) done e = absurd (no (sym e))
+-- `end_of_file`
+pub ends_fetches : {E : Type 0} (room : ℕ) (got : Result ℕ E) (done : ℕ) (r : Fetched) → done ≤ room → Ends got done r → Fetches room r
+ends_fetches room (Ok k) done r h e = subst (Fetches room) (sym e) h
+ends_fetches room (Err x) done r h e = subst (Fetches room) (sym e) tt
 
-pub ended_unread : (got : ℤ) (done : ℕ) → lt_z got (pos 0) ≡ true → Ends got done Unread
-ended_unread (pos k) done e = absurd (let l = ltb-true k 0 e in omega arith)
-ended_unread (negsuc k) done e = refl
-
-pub ends_fetches : (room : ℕ) (got : ℤ) (done : ℕ) (r : Fetched) → done ≤ room → Ends got done r → Fetches room r
-ends_fetches room (pos k) done r h e = subst (Fetches room) (sym e) h
-ends_fetches room (negsuc k) done r h e = subst (Fetches room) (sym e) tt
-
--- `unopened`, by the bits of the error
-pub unopened_absent : (error : ℤ) → SFits w32 error → of_z w32 error ≡ 2 → Absent ≡ unopened_by error
-unopened_absent error h e = ap unopened_by (sym (sym (to_z-of_z w32 error h) ∙ ap (to_z w32) e))
-
-pub unopened_unread : (error : ℤ) → (of_z w32 error ≡ 2 → ⊥) → Unread ≡ unopened_by error
-unopened_unread (pos k) n = either (eqb k 2) (λ e. absurd (n (ap (λ (j : ℕ). of_z w32 (pos j)) (eqb-true k 2 e)))) (λ e. rw e)
-unopened_unread (negsuc k) n = refl
-
-pub unopened_fetches : (room : ℕ) (error : ℤ) (r : Fetched) → r ≡ unopened_by error → Fetches room r
+-- `unopened`
+pub unopened_fetches : (room : ℕ) (error : Perhaps ℤ) (r : Fetched) → r ≡ unopened_by error → Fetches room r
 unopened_fetches room error r e = subst (Fetches room) (sym e) (go error)
   where
-    go : (z : ℤ) → Fetches room (unopened_by z)
-    go (pos k) = either (eqb k 2) (λ q. rw q tt) (λ q. rw q tt)
-    go (negsuc k) = tt
+    go : (z : Perhaps ℤ) → Fetches room (unopened_by z)
+    go (Some (pos k)) = either (eqb k 2) (λ q. rw q tt) (λ q. rw q tt)
+    go (Some (negsuc k)) = tt
+    go None = tt
 
 pub fetches_same : {m n : ℕ} (f : Fetched) → m ≡ n → Fetches m f → Fetches n f
 fetches_same f e h = subst (λ (room : ℕ). Fetches room f) e h

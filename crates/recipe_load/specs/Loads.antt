@@ -1,5 +1,5 @@
 -- What the contracts on tables' files cite: what was fetched, and the table that it stands for.
-use Rattle.std.specs.Prelude.{ℕ, ◌≤◌, ◌≡◌, eqb, length, take, replicate, ℤ, pos, negsuc}
+use Rattle.std.specs.Prelude.{ℕ, ◌≤◌, ◌≡◌, eqb, length, take, replicate, ℤ, pos, negsuc, Result, Ok, Err, Option as Perhaps, Some, None}
 use Rattle.std.proofs.Math.Option.{Option, none, some}
 use Rattle.stages.specs.Bytes.{Text}
 use Rattle.stages.specs.Outcome.{pick}
@@ -17,14 +17,15 @@ Fetches room Absent = Unit {0}
 Fetches room Unread = Unit {0}
 
 -- a read that gave no byte: a file of so many bytes ended, or the read failed
-abbrev pub Ends : ℤ → ℕ → Fetched → Type 0
-Ends (pos k) done r = r ≡ File done
-Ends (negsuc k) done r = r ≡ Unread
+abbrev pub Ends : {E : Type 0} → Result ℕ E → ℕ → Fetched → Type 0
+Ends (Ok k) done r = r ≡ File done
+Ends (Err e) done r = r ≡ Unread
 
--- a file that cannot be opened, by C's number of the error: 2 is that there is no such file
-abbrev pub unopened_by : ℤ → Fetched
-unopened_by (pos k) = pick (eqb k 2) Absent Unread
-unopened_by (negsuc k) = Unread
+-- a file that cannot be opened, by C's number of the error, if it has one: 2 is that there is no such file
+abbrev pub unopened_by : Perhaps ℤ → Fetched
+unopened_by (Some (pos k)) = pick (eqb k 2) Absent Unread
+unopened_by (Some (negsuc k)) = Unread
+unopened_by None = Unread
 
 -- the table of a file, or of none, stands at the front of zeros, and is counted
 pub record Stands (file : Option Text) (room : ℕ) (left : Text) (r : Loaded) : Type 0 where

@@ -4,12 +4,19 @@
 
 ghost use Rattle.std.specs.Prelude.{◌≡◌, ◌≤◌, length, take, replicate};
 ghost use Rattle.std.proofs.Math.Option.{none};
+ghost use Rattle.std.specs.IoError.{raw_os_error};
 ghost use Rattle.stages.specs.Call.{over};
 ghost use Rattle.stages.specs.Program.{table_or};
 ghost use Rattle.text.specs.Putting.{Puts};
 ghost use Rattle.recipe_load.specs.Loads.{Fetches, Ends, unopened_by, Settles, Loads};
 
+use std::fs::File;
+use std::io;
+use std::io::Read;
 use text::numbers;
+
+// C's number of the error that there is no such file.
+const NO_SUCH_FILE: i32 = 2;
 
 #[derive(Clone, Copy)]
 pub enum Loaded {
@@ -31,26 +38,26 @@ enum Fetched {
 }
 
 // A read that gave no byte was the file's end, or has failed.
-fn end_of_file(got: isize, name: &[u8], done: usize) -> Fetched
+fn end_of_file(rt: &HostRuntime, got: io::Result<usize>, name: &str, done: usize) -> Fetched
     ensures { Ends got done result }
 {
-    if got < 0 {
-        os::fail(name);
+    if let Err(error) = got {
+        system::fail(rt, name.as_bytes(), error);
         return Fetched::Unread;
     }
     Fetched::File(done)
 }
 
 // Reads a file to its end, or until the buffer is full.
-fn read_file(fd: i32, name: &[u8], buffer: &mut [u8]) -> Fetched
+fn read_file(rt: &HostRuntime, file: &mut File, name: &str, buffer: &mut [u8]) -> Fetched
     ensures { Fetches (length buffer.old) result }
 {
     let mut done = 0;
     while done < buffer.len() {
-        let got = libc::read(fd, &mut buffer[done..]);
-        let n = io::count(got, &buffer[done..]);
+        let got = file.read(&mut buffer[done..]);
+        let n = got.unwrap_or(0);
         if n == 0 {
-            return end_of_file(got, name, done);
+            return end_of_file(rt, got, name, done);
         }
         done += n;
     }
@@ -58,27 +65,24 @@ fn read_file(fd: i32, name: &[u8], buffer: &mut [u8]) -> Fetched
 }
 
 // A file that cannot be opened is absent, or cannot be read.
-fn unopened(error: i32, name: &[u8]) -> Fetched
-    ensures { result ≡ unopened_by error }
+fn unopened(rt: &HostRuntime, error: io::Error, name: &str) -> Fetched
+    ensures { result ≡ unopened_by (raw_os_error error) }
 {
-    if error == libc::ENOENT {
+    if let Some(NO_SUCH_FILE) = error.raw_os_error() {
         return Fetched::Absent;
     }
-    os::fail(name);
+    system::fail(rt, name.as_bytes(), error);
     Fetched::Unread
 }
 
 // Fetches the file of that name.
-fn fetch(name: &[u8], buffer: &mut [u8]) -> Fetched
+fn fetch(rt: &HostRuntime, name: &str, buffer: &mut [u8]) -> Fetched
     ensures { Fetches (length buffer.old) result }
 {
-    let fd = os::open_read(name);
-    if fd < 0 {
-        return unopened(os::errno(), name);
+    match File::open(rt, name) {
+        Ok(mut file) => read_file(rt, &mut file, name, buffer),
+        Err(error) => unopened(rt, error, name),
     }
-    let fetched = read_file(fd, name, buffer);
-    libc::close(fd);
-    fetched
 }
 
 // Writes the table without records, and zeros behind it.
@@ -118,10 +122,10 @@ fn settle(fetched: Fetched, buffer: &mut [u8]) -> Loaded
 }
 
 // Reads the table of that name.
-pub fn load(name: &[u8], buffer: &mut [u8]) -> Loaded
+pub fn load(rt: &HostRuntime, name: &str, buffer: &mut [u8]) -> Loaded
     requires { 1 ≤ length buffer.old }
     ensures { Loads (length buffer.old) buffer.new result }
 {
-    let fetched = fetch(name, buffer);
+    let fetched = fetch(rt, name, buffer);
     settle(fetched, buffer)
 }

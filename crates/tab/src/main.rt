@@ -11,8 +11,8 @@ ghost use Rattle.stages.specs.Numbers.{image_limit, paths_limit};
 
 use call_check::Asked;
 use call_update::Updated;
-use libc::{STDIN_FILENO, STDOUT_FILENO};
 use recipe_load::Loaded;
+use std::io::Read;
 use tab_assign::Assigned;
 use tab_pack::Packed;
 use tab_show::Shown;
@@ -47,61 +47,61 @@ fn message_room() -> [u8; numbers::ROW_LIMIT] {
 }
 
 // Reading stopped: could the input be read to its end, or to the end of the buffer?
-fn was_read(n: usize, room: usize) -> bool {
+fn was_read(rt: &HostRuntime, n: usize, room: usize) -> bool {
     if room <= n {
         return true;
     }
     let mut one = [0u8; 16];
-    let got = libc::read(STDIN_FILENO, &mut one);
-    if got < 0 {
-        os::fail(b"standard input");
-        return false;
+    match rt.stdin().read(&mut one) {
+        Ok(_) => true,
+        Err(error) => {
+            system::fail(rt, b"standard input", error);
+            false
+        }
     }
-    true
 }
 
 // A text of n bytes was read into a buffer: all of it? If not, that is told.
-fn is_whole(n: usize, room: usize) -> bool {
-    if !was_read(n, room) {
+fn is_whole(rt: &HostRuntime, n: usize, room: usize) -> bool {
+    if !was_read(rt, n, room) {
         return false;
     }
     if n == room {
-        say(b"tab: a text of more than 131,075 bytes\n");
+        say(rt, b"tab: a text of more than 131,075 bytes\n");
         return false;
     }
     true
 }
 
 // Writes the first n bytes.
-fn write_out(out: &[u8], n: usize) {
+fn write_out(rt: &HostRuntime, out: &[u8], n: usize) {
     if out.len() < n {
         return;
     }
-    let is_written = io::write_all(STDOUT_FILENO, &out[..n]);
-    if !is_written {
-        os::fail(b"standard output");
+    if let Err(error) = system::write_out(rt, &out[..n]) {
+        system::fail(rt, b"standard output", error);
     }
 }
 
 // Shows the image that is read.
-fn show_input(kind: Kind, image: &mut [u8], out: &mut [u8])
+fn show_input(rt: &HostRuntime, kind: Kind, image: &mut [u8], out: &mut [u8])
     requires { 4 * length image.old ≤ length out.old }
 {
-    let n = io::read_full(STDIN_FILENO, image);
-    if !was_read(n, image.len()) {
+    let n = system::read_full(&mut rt.stdin(), image);
+    if !was_read(rt, n, image.len()) {
         return;
     }
     let shown = tab_show::show(kind, &image[..n], out);
     match shown {
-        Shown::Len(m) => write_out(out, m),
-        Shown::Malformed => say(b"tab: no image of this kind, or one that is too long\n"),
+        Shown::Len(m) => write_out(rt, out, m),
+        Shown::Malformed => say(rt, b"tab: no image of this kind, or one that is too long\n"),
     }
 }
 
-fn show(kind: Kind) {
+fn show(rt: &HostRuntime, kind: Kind) {
     let mut image = image_room();
     let mut out = lines_room();
-    show_input(kind, &mut image, &mut out);
+    show_input(rt, kind, &mut image, &mut out);
 }
 
 // Packs lines: records by their keys, fields as they stand.
@@ -117,29 +117,30 @@ fn pack_lines(kind: Kind, text: &[u8], image: &mut [u8], work: &mut [u8]) -> Pac
 }
 
 // Packs the lines that are read.
-fn pack_input(kind: Kind, text: &mut [u8], image: &mut [u8], work: &mut [u8])
+fn pack_input(rt: &HostRuntime, kind: Kind, text: &mut [u8], image: &mut [u8], work: &mut [u8])
     requires { (paths_limit + 1 ≡ length image.old) × (length text.old ≤ length work.old) }
 {
-    let n = io::read_full(STDIN_FILENO, text);
-    if !is_whole(n, text.len()) {
+    let n = system::read_full(&mut rt.stdin(), text);
+    if !is_whole(rt, n, text.len()) {
         return;
     }
     let packed = pack_lines(kind, &text[..n], image, work);
     match packed {
-        Packed::Len(m) => write_out(image, m),
-        Packed::Bad { line, fault } => telling::say_bad_line(line, kind, fault),
+        Packed::Len(m) => write_out(rt, image, m),
+        Packed::Bad { line, fault } => telling::say_bad_line(rt, line, kind, fault),
     }
 }
 
-fn pack(kind: Kind) {
+fn pack(rt: &HostRuntime, kind: Kind) {
     let mut text = lines_room();
     let mut image = image_room();
     let mut work = lines_room();
-    pack_input(kind, &mut text, &mut image, &mut work);
+    pack_input(rt, kind, &mut text, &mut image, &mut work);
 }
 
 // Applies assignment lines to variables and writes their image.
 fn assign_text(
+    rt: &HostRuntime,
     text: &[u8],
     vars: &mut [u8],
     asked: Asked,
@@ -150,18 +151,19 @@ fn assign_text(
 ) {
     let assigned = tab_assign::assign_lines(text, vars, asked, homes, params, work, message);
     match assigned {
-        Assigned::Done { vars_used } => write_out(vars, vars_used),
+        Assigned::Done { vars_used } => write_out(rt, vars, vars_used),
         Assigned::Refused {
             line,
             number,
             place,
             message_len,
-        } => say_refusal(line, number, place, &message[..message_len]),
+        } => say_refusal(rt, line, number, place, &message[..message_len]),
     }
 }
 
 // Applies the assignment lines that are read to the variables of the current folder.
 fn assign_input(
+    rt: &HostRuntime,
     shouts: bool,
     text: &mut [u8],
     vars: &mut [u8],
@@ -172,14 +174,14 @@ fn assign_input(
 )
     requires { (image_limit + 1 ≡ length vars.old) × (image_limit + 1 ≡ length homes.old) }
 {
-    let Loaded::Length(used) = recipe_load::load(b"vars.tab", vars) else {
+    let Loaded::Length(used) = recipe_load::load(rt, "vars.tab", vars) else {
         return;
     };
-    let Loaded::Length(h) = recipe_load::load(b"homes.tab", homes) else {
+    let Loaded::Length(h) = recipe_load::load(rt, "homes.tab", homes) else {
         return;
     };
-    let n = io::read_full(STDIN_FILENO, text);
-    if !is_whole(n, text.len()) {
+    let n = system::read_full(&mut rt.stdin(), text);
+    if !is_whole(rt, n, text.len()) {
         return;
     }
     let asked = Asked {
@@ -187,24 +189,34 @@ fn assign_input(
         shouts: shouts,
     };
     let front = &mut vars[..numbers::IMAGE_LIMIT];
-    assign_text(&text[..n], front, asked, &homes[..h], params, work, message);
+    assign_text(
+        rt,
+        &text[..n],
+        front,
+        asked,
+        &homes[..h],
+        params,
+        work,
+        message,
+    );
 }
 
 // Hears the arguments behind the first: the switch, and the positional parameters of the lines.
-fn assign() {
+fn assign(rt: &HostRuntime) {
     let mut params = pairs_room();
-    let heard = recipe_arguments::gather(2, &mut params);
+    let heard = recipe_arguments::gather(rt, 2, &mut params);
     if !heard.known {
-        telling::usage();
+        telling::usage(rt);
         return;
     }
     let packed = heard.used;
     let mut text = lines_room();
     let mut vars = pairs_room();
     let mut homes = pairs_room();
-    let mut work = io::large_buffer();
+    let mut work = system::large_buffer();
     let mut message = message_room();
     assign_input(
+        rt,
         heard.shouts,
         &mut text,
         &mut vars,
@@ -225,88 +237,89 @@ fn update(job: &[u8], image: &mut [u8], n: usize, path: &[u8]) -> Updated {
 }
 
 // Does so in the image that is read, and writes what it is then.
-fn update_input(job: &[u8], path: &[u8], image: &mut [u8]) {
-    let n = io::read_full(STDIN_FILENO, image);
-    if !was_read(n, image.len()) {
+fn update_input(rt: &HostRuntime, job: &[u8], path: &[u8], image: &mut [u8]) {
+    let n = system::read_full(&mut rt.stdin(), image);
+    if !was_read(rt, n, image.len()) {
         return;
     }
     let updated = update(job, image, n, path);
     if updated.number == numbers::ACCEPTED {
-        write_out(image, updated.used);
+        write_out(rt, image, updated.used);
     } else {
-        telling::say_not_updated(updated.number);
+        telling::say_not_updated(rt, updated.number);
     }
 }
 
-fn update_paths(job: &[u8], path: &[u8]) {
+fn update_paths(rt: &HostRuntime, job: &[u8], path: &[u8]) {
     let mut image = image_room();
-    update_input(job, path, &mut image);
+    update_input(rt, job, path, &mut image);
 }
 
-fn pack_named(word: &[u8]) {
+fn pack_named(rt: &HostRuntime, word: &[u8]) {
     if text::same(word, b"vars") {
-        pack(Kind::Variables);
+        pack(rt, Kind::Variables);
         return;
     }
     if text::same(word, b"homes") {
-        pack(Kind::Homes);
+        pack(rt, Kind::Homes);
         return;
     }
     if text::same(word, b"paths") {
-        pack(Kind::Paths);
+        pack(rt, Kind::Paths);
         return;
     }
     if text::same(word, b"fields") {
-        pack(Kind::Fields);
+        pack(rt, Kind::Fields);
         return;
     }
-    telling::usage();
+    telling::usage(rt);
 }
 
-fn show_named(word: &[u8]) {
+fn show_named(rt: &HostRuntime, word: &[u8]) {
     if text::same(word, b"vars") {
-        show(Kind::Variables);
+        show(rt, Kind::Variables);
         return;
     }
     if text::same(word, b"homes") {
-        show(Kind::Homes);
+        show(rt, Kind::Homes);
         return;
     }
     if text::same(word, b"paths") {
-        show(Kind::Paths);
+        show(rt, Kind::Paths);
         return;
     }
     if text::same(word, b"fields") {
-        show(Kind::Fields);
+        show(rt, Kind::Fields);
         return;
     }
-    telling::usage();
+    telling::usage(rt);
 }
 
-fn main() {
-    let mut job = io::buffer();
-    let n = os::arg(1, &mut job);
+fn main(rt: HostRuntime) {
+    let rt = &rt;
+    let mut job = system::buffer();
+    let n = system::arg(rt, 1, &mut job);
     if text::same(&job[..n], b"assign") {
-        assign();
+        assign(rt);
         return;
     }
     let mut word = lines_room();
-    let m = os::arg(2, &mut word);
-    if os::arg_count() != 3 {
-        telling::usage();
+    let m = system::arg(rt, 2, &mut word);
+    if system::arg_count(rt) != 3 {
+        telling::usage(rt);
         return;
     }
     if text::same(&job[..n], b"show") {
-        show_named(&word[..m]);
+        show_named(rt, &word[..m]);
         return;
     }
     if text::same(&job[..n], b"pack") {
-        pack_named(&word[..m]);
+        pack_named(rt, &word[..m]);
         return;
     }
     if text::same(&job[..n], b"insert") || text::same(&job[..n], b"delete") {
-        update_paths(&job[..n], &word[..m]);
+        update_paths(rt, &job[..n], &word[..m]);
         return;
     }
-    telling::usage();
+    telling::usage(rt);
 }

@@ -14,8 +14,8 @@ use Rattle.stages.specs.Bytes.{Text, part}
 use Rattle.stages.specs.Call as stage
 use Rattle.stages.specs.Program.{lines_of}
 use Rattle.stages.proofs.Assigns.{AssignerFits, assigner_fits}
-use Rattle.io.specs.Counts.{IsPrefixLen}
-use Rattle.io.proofs.Counting.{prefix_len_of_le}
+use Rattle.system.specs.Counts.{IsPrefixLen}
+use Rattle.system.proofs.Counting.{prefix_len_of_le}
 use Rattle.call_check.specs.Calls.{given}
 use Rattle.call_deliver.specs.Hands.{Gives}
 use Rattle.call_deliver.specs.declared.Answer.{Answer}

@@ -5,7 +5,7 @@ use Rattle.stages.specs.Bytes.{Text}
 use Rattle.stages.specs.Call.{assigner}
 use Rattle.stages.specs.Call as stage
 use Rattle.stages.specs.Program.{lines_of}
-use Rattle.io.specs.Counts.{IsPrefixLen}
+use Rattle.system.specs.Counts.{IsPrefixLen}
 use Rattle.call_check.specs.Calls.{given}
 use Rattle.tab_assign.specs.declared.Assigned.{Assigned}
 use Rattle.tab_assign.specs.declared.Assigned.TheVariants.{Done, Refused}

@@ -10,7 +10,7 @@ use borrow.Author.Tests.{leb-true}
 use lib.ListN.{length, take, drop, set, length-set, length-drop, drop_of_length-le}
 use lib.Seq.{take_at, take_all, drop-drop}
 use Rattle.stages.specs.Bytes.{Text, part}
-use Rattle.stages.specs.Images.{image, written, record_bytes, image_length}
+use Rattle.stages.specs.Images.{image, record_bytes, image_length}
 use Rattle.stages.specs.Call.{over}
 use Rattle.stages.specs.Program.{lines_of}
 use Rattle.stages.proofs.Images.{length_image}

@@ -2,12 +2,12 @@
 use Prim.Native.Nat.{ℕ, suc, ◌≤◌}
 use native.Mathlib.Omega.{arith}
 use mathlib.Core.Path.{◌≡◌, refl, sym, ap, ◌∙◌}
-use mathlib.Core.Bool.{true, false}
+use mathlib.Core.Bool.{false}
 use mathlib.Core.List.{List, [], ◌∷◌, ◌++◌, append_assoc, append-nil}
 use lib.ListN.{length}
 use borrow.Author.Tests.{le-leb}
 use Rattle.stages.specs.Bytes.{Text}
-use Rattle.stages.specs.Images.{keys, held_texts, image_length, image, record_bytes}
+use Rattle.stages.specs.Images.{held_texts, image_length, image}
 use Rattle.stages.specs.Call.{over}
 use Rattle.stages.specs.Program.{lines_of}
 use Rattle.stages.proofs.Outcomes.{Each}
@@ -16,7 +16,7 @@ use Rattle.stages.proofs.Tables.{texts_held_fine}
 use Rattle.table.specs.Places.{Listed}
 use Rattle.table.specs.declared.Kind.TheVariants.{Fields}
 use Rattle.tab_show.specs.Lines.{shown_text, shown_of}
-use Rattle.tab_escape.specs.Escapes.{Reading, good, read_text}
+use Rattle.tab_escape.specs.Escapes.{Reading}
 use Rattle.tab_escape.proofs.Again.{read_shown}
 use Rattle.tab_pack.specs.declared.Packed.{Packed}
 use Rattle.tab_pack.specs.declared.Packed.TheVariants as told

@@ -1,6 +1,6 @@
 -- Packing and showing again gives the same records: a table that is shown and packed is the same table, and the records of lines that are packed are
 -- shown as lines that are packed to them.
-use Prim.Native.Nat.{ℕ, suc, ◌+◌, ◌-◌, ◌≤◌}
+use Prim.Native.Nat.{ℕ, suc, ◌≤◌}
 use native.Mathlib.Omega.{arith}
 use mathlib.Core.Path.{◌≡◌, refl, sym, ap, ◌∙◌}
 use mathlib.Core.Bool.{Bool, true, false}

@@ -3,11 +3,11 @@ use Prim.Native.Nat.{ℕ, zero, suc, ◌+◌, ◌-◌, ◌≤◌, ◌<◌}
 use native.Mathlib.Omega.{arith}
 use mathlib.Core.Path.{◌≡◌, refl, sym, ap, ◌∙◌}
 use mathlib.Core.List.{List, [], ◌∷◌, ◌++◌, append_assoc}
-use mathlib.Core.Option.{Option, none, some}
+use mathlib.Core.Option.{none, some}
 use lib.ListN.{length, take, drop, length-append, length-drop}
 use lib.Seq.{take_at, length-take-le}
 use Rattle.stages.specs.Bytes.{Text, part}
-use Rattle.stages.specs.Images.{texts, held_texts, record_bytes, image_length, or_empty}
+use Rattle.stages.specs.Images.{held_texts, record_bytes, image_length, or_empty}
 use Rattle.stages.specs.Params.{numbered}
 use Rattle.stages.proofs.Images.{record_bytes_append}
 use Rattle.table.specs.Pieces.{piece_at}

@@ -4,7 +4,7 @@ use native.Mathlib.Omega.{arith}
 use mathlib.Core.Path.{◌≡◌, refl, sym, ap, ◌∙◌}
 use mathlib.Core.Bool.{true, false}
 use mathlib.Core.List.{[], ◌∷◌, ◌++◌, append_assoc, append-nil}
-use mathlib.Core.Option.{none, some}
+use mathlib.Core.Option.{Option, none, some}
 use lib.ListN.{length, take, drop, length-drop}
 use lib.Seq.{take_at, take-add, length-take-le}
 use Rattle.stages.specs.Bytes.{Text, part, eq_text, lt_text}
@@ -76,6 +76,10 @@ unfolding written
 nothing [] e = refl
 nothing (r ∷ v) e = absurd (omega arith)
 
+spot_is : (t key : Text) (at : ℕ) (o : Option Text) → place_of key (held t) ≡ at → lookup key (held t) ≡ o → spot_by key at o ≡ spot_in t key
+unfolding spot_in
+spot_is t key at o p e = sym (ap (λ (n : ℕ). spot_by key n (lookup key (held t))) p ∙ ap (spot_by key at) e)
+
 module _ (t key : Text) (at : ℕ) (s : Walking t key at) where
   -- where the records below the key end
 
@@ -96,9 +100,9 @@ module _ (t key : Text) (at : ℕ) (s : Walking t key at) where
   }
 
   new : before key s.rest ≡ [] → behind key s.rest ≡ s.rest → lookup key s.rest ≡ none → Placed t key (Fresh at)
-  unfolding spot_in spot_by
+  unfolding spot_by
   new b a n = record {
-    is = rw (place b, s.gets ∙ n, spot_by);
+    is = spot_is t key at none (place b) (s.gets ∙ n);
     rooms = fresh (hole at b (omega arith) s.within (rw a s.ahead)) (s.gets ∙ n);
   }
 
@@ -158,11 +162,14 @@ module _ (t key : Text) (at : ℕ) (s : Walking t key at) where
           there = s.gets ∙ ap (lookup key) f.is ∙ lookup_here key f.front f.more equal
 
           spot : Known at (at + 2 + n) (at + 2 + n + 2 + m) ≡ spot_in t key
-          unfolding spot_in spot_by
+          unfolding spot_by
           spot =
               let k : length key ≡ n = ap length (eq_text_same key f.front.0 equal) ∙ sym name_size in
-              let v : at + 2 + n + 2 + m ≡ at + 4 + n + length f.front.1 = omega (arith, value_size) in
-              rw (place none_before, there, spot_by, k) (ap (Known at (at + 2 + n)) v)
+              let mid : at + 2 + n ≡ at + 2 + length key = omega (arith, k) in
+              let end : at + 2 + n + 2 + m ≡ at + 4 + length key + length f.front.1 = omega (arith, value_size, k) in
+              ap (λ (x : ℕ). Known at x (at + 2 + n + 2 + m)) mid
+              ∙ ap (Known at (at + 2 + length key)) end
+              ∙ spot_is t key at (some f.front.1) (place none_before) there
 
           pub place_same : Placed t key (Known at (at + 2 + n) (at + 2 + n + 2 + m))
           place_same = record {

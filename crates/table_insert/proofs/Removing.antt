@@ -18,7 +18,6 @@ use Rattle.table_store.proofs.Splices.{spliced_length, splice_is}
 use Rattle.table_store.proofs.StoredImages.{drop_take}
 use Rattle.table_insert.specs.Added.{Gap, Spot}
 use Rattle.table_insert.specs.Removed.{Cuts, removing, Removes}
-use Rattle.table_insert.specs.declared.Removed.{Removed}
 use Rattle.table_insert.specs.declared.Removed.TheVariants.{Used, Missing}
 
 -- `cut`

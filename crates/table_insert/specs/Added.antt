@@ -1,5 +1,5 @@
 -- A path added to others: it comes where its order wants it, if it is not there yet and the image has room.
-use Rattle.std.specs.Prelude.{ℕ, ◌≤◌, ◌≡◌, Bool, true, false, List, [], ◌∷◌, ◌++◌, leb, length, take, drop}
+use Rattle.std.specs.Prelude.{ℕ, ◌≤◌, ◌≡◌, Bool, true, false, List, ◌∷◌, ◌++◌, leb, length, take, drop}
 use Rattle.std.proofs.Math.Option.{some}
 use Rattle.stages.specs.Bytes.{Text}
 use Rattle.stages.specs.Outcome.{pick}

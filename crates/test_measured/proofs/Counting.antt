@@ -1,12 +1,12 @@
 -- The walk that counts: so many paths were met, and those ahead are still to be counted.
-use Prim.Native.Nat.{ℕ, suc, ◌+◌, ◌≤◌, ◌<◌}
+use Prim.Native.Nat.{ℕ, suc, ◌+◌, ◌<◌}
 use native.Mathlib.Omega.{arith}
 use native.Mathlib.Nat.{zero-add}
 use mathlib.Core.Path.{◌≡◌, sym, ap, ◌∙◌}
 use mathlib.Core.Bool.{true, false}
-use mathlib.Core.List.{List, [], ◌∷◌}
+use mathlib.Core.List.{List, []}
 use lib.ListN.{length}
-use Rattle.stages.specs.Bytes.{Text, part}
+use Rattle.stages.specs.Bytes.{Text}
 use Rattle.stages.specs.Images.{held_texts}
 use Rattle.stages.specs.Pattern.{Element, elements, has_class}
 use Rattle.stages.specs.Paths.{chosen}

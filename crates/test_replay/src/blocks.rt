@@ -1,15 +1,17 @@
 // The block that cases are read into: it holds so many bytes, and each case is a line of them, taken from the front.
 ghost use Rattle.std.specs.Prelude.{◌≡◌, ◌≤◌, length};
-ghost use Rattle.io.specs.Counts.{IsPrefixLen};
+ghost use Rattle.system.specs.Counts.{IsPrefixLen};
+
+use std::io::Read;
 
 const NEWLINE: u8 = b'\n';
 
 // Reads behind the bytes that the block holds, and answers how many it holds then.
-pub(crate) fn read_behind(fd: i32, block: &mut [u8], have: usize) -> usize
+pub(crate) fn read_behind<R: Read>(input: &mut R, block: &mut [u8], have: usize) -> usize
     requires { have ≤ length block.old }
     ensures { (result ≤ length block.new) × (length block.new ≡ length block.old) }
 {
-    have + io::read_full(fd, &mut block[have..])
+    have + system::read_full(input, &mut block[have..])
 }
 
 // The place of the first newline among the bytes that the block holds, or their end.

@@ -1,6 +1,6 @@
 // The buffers of a call: cut to the case's sizes and filled as it says before the call, held against its answer after it.
 ghost use Rattle.std.specs.Prelude.{length};
-ghost use Rattle.io.specs.Counts.{IsPrefixLen};
+ghost use Rattle.system.specs.Counts.{IsPrefixLen};
 
 use crate::telling::{Told, hold_bytes, hold_number};
 use crate::words;

@@ -15,7 +15,10 @@ mod words;
 ghost use Rattle.std.specs.Prelude.{◌≡◌, length};
 
 use kinds::Job;
+use std::fs::File;
+use std::io::Read;
 use std::num::wrapping_add_u64;
+use std::{io, str};
 use telling::Told;
 use words::ROOM;
 
@@ -89,8 +92,9 @@ fn try_in_areas(told: Told, case: &[u8]) -> Told {
 }
 
 // Runs the case of a line, ends what is told of it, and answers whether it differs.
-fn differs(number: u64, case: &[u8]) -> bool {
+fn differs(rt: &HostRuntime, number: u64, case: &[u8]) -> bool {
     let begun = Told {
+        rt: *rt,
         line: number,
         any: false,
     };
@@ -101,11 +105,11 @@ fn differs(number: u64, case: &[u8]) -> bool {
 
 // Runs each case that is read. A proved loop has to end, so it counts its turns down from a number that no run uses up. A line longer than the block is
 // taken in pieces, which are no cases and are told.
-fn run_cases(fd: i32, block: &mut [u8]) {
+fn run_cases<R: Read>(rt: &HostRuntime, input: &mut R, block: &mut [u8]) {
     let mut cases: u64 = 0;
     let mut differ: u64 = 0;
     let mut turns = u64::MAX;
-    let mut have = blocks::read_behind(fd, block, 0);
+    let mut have = blocks::read_behind(input, block, 0);
     while have > 0 {
         if turns == 0 {
             return;
@@ -113,33 +117,39 @@ fn run_cases(fd: i32, block: &mut [u8]) {
         turns -= 1;
         let end = blocks::line_end(block, have);
         cases = wrapping_add_u64(cases, 1);
-        if differs(cases, &block[..end]) {
+        if differs(rt, cases, &block[..end]) {
             differ = wrapping_add_u64(differ, 1);
         }
         let left = blocks::drop_line(block, have, end);
-        have = blocks::read_behind(fd, block, left);
+        have = blocks::read_behind(input, block, left);
     }
-    telling::say_sum(cases, differ);
+    telling::say_sum(rt, cases, differ);
 }
 
 // Lends the block to a run.
-fn run(fd: i32) {
+fn run<R: Read>(rt: &HostRuntime, input: &mut R) {
     let mut held = block();
-    run_cases(fd, &mut held);
+    run_cases(rt, input, &mut held);
 }
 
-fn main() {
-    if os::arg_count() < 2 {
-        run(libc::STDIN_FILENO);
+// Runs the cases of the file of that name. A name that is no text names no file here.
+fn run_file(rt: &HostRuntime, path: &[u8]) {
+    let Ok(name) = str::from_utf8(path) else {
+        system::fail(rt, path, io::Error::from(io::ErrorKind::InvalidFilename));
+        return;
+    };
+    match File::open(rt, name) {
+        Ok(mut file) => run(rt, &mut file),
+        Err(error) => system::fail(rt, path, error),
+    }
+}
+
+fn main(rt: HostRuntime) {
+    if system::arg_count(&rt) < 2 {
+        run(&rt, &mut rt.stdin());
         return;
     }
-    let mut path = io::buffer();
-    let length = os::arg(1, &mut path);
-    let fd = os::open_read(&path[..length]);
-    if fd < 0 {
-        os::fail(&path[..length]);
-        return;
-    }
-    run(fd);
-    libc::close(fd);
+    let mut path = system::buffer();
+    let length = system::arg(&rt, 1, &mut path);
+    run_file(&rt, &path[..length]);
 }

@@ -2,43 +2,43 @@
 ghost use Rattle.std.specs.Prelude.{◌≡◌, true, ◌≢◌};
 
 use crate::words::byte_at;
-use libc::STDOUT_FILENO;
 
-// The line of a case, and whether a difference was told of it.
+// The line of a case, and whether a difference was told of it; and what it is told by.
 #[derive(Clone, Copy)]
 pub struct Told {
+    pub rt: HostRuntime,
     pub line: u64,
     pub any: bool,
 }
 
-fn say(text: &[u8]) {
-    io::write_all(STDOUT_FILENO, text);
+fn say(rt: &HostRuntime, text: &[u8]) {
+    let _ = system::write_out(rt, text);
 }
 
-fn say_number(n: usize) {
-    io::print_decimal(STDOUT_FILENO, n as u64);
+fn say_number(rt: &HostRuntime, n: usize) {
+    let _ = system::write_decimal(rt, n as u64);
 }
 
-fn say_byte(b: u8) {
-    say_number(b as usize);
+fn say_byte(rt: &HostRuntime, b: u8) {
+    say_number(rt, b as usize);
 }
 
 // Opens what is told of a difference, and names its subject.
 fn open_with(told: Told, what: &[u8]) {
     if told.any {
-        say(b"; ");
+        say(&told.rt, b"; ");
     } else {
-        say(b"line ");
-        io::print_decimal(STDOUT_FILENO, told.line);
-        say(b": ");
+        say(&told.rt, b"line ");
+        let _ = system::write_decimal(&told.rt, told.line);
+        say(&told.rt, b": ");
     }
-    say(what);
+    say(&told.rt, what);
 }
 
 // Ends the line of a case of which a difference was told.
 pub(crate) fn end_line(told: Told) {
     if told.any {
-        say(b"\n");
+        say(&told.rt, b"\n");
     }
 }
 
@@ -48,6 +48,7 @@ pub(crate) fn tell(told: Told, what: &[u8]) -> Told
 {
     open_with(told, what);
     Told {
+        rt: told.rt,
         line: told.line,
         any: true,
     }
@@ -61,11 +62,12 @@ pub(crate) fn hold_number(told: Told, what: &[u8], given: usize, wanted: usize) 
         return told;
     }
     open_with(told, what);
-    say(b" ");
-    say_number(given);
-    say(b", not ");
-    say_number(wanted);
+    say(&told.rt, b" ");
+    say_number(&told.rt, given);
+    say(&told.rt, b", not ");
+    say_number(&told.rt, wanted);
     Told {
+        rt: told.rt,
         line: told.line,
         any: true,
     }
@@ -102,22 +104,23 @@ pub(crate) fn hold_bytes(
         return told;
     }
     open_with(told, what);
-    say(b" byte ");
-    say_number(at);
-    say(b" is ");
-    say_byte(area[at]);
-    say(b", not ");
-    say_byte(wanted_at(after, before, fill, at));
+    say(&told.rt, b" byte ");
+    say_number(&told.rt, at);
+    say(&told.rt, b" is ");
+    say_byte(&told.rt, area[at]);
+    say(&told.rt, b", not ");
+    say_byte(&told.rt, wanted_at(after, before, fill, at));
     Told {
+        rt: told.rt,
         line: told.line,
         any: true,
     }
 }
 
 // Says how many cases were run and how many of them differ.
-pub(crate) fn say_sum(cases: u64, differ: u64) {
-    io::print_decimal(STDOUT_FILENO, cases);
-    say(b" cases, ");
-    io::print_decimal(STDOUT_FILENO, differ);
-    say(b" differ\n");
+pub(crate) fn say_sum(rt: &HostRuntime, cases: u64, differ: u64) {
+    let _ = system::write_decimal(rt, cases);
+    say(rt, b" cases, ");
+    let _ = system::write_decimal(rt, differ);
+    say(rt, b" differ\n");
 }

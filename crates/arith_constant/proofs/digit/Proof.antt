@@ -5,41 +5,41 @@ use Rattle.arith_constant.proofs.Digits.{dec, upper, lower, gap1, gap2, gap3, ga
 use Rattle.arith_constant.proofs.digit.Statement.{statement}
 use Rattle.arith_constant.proofs.digit.Tie as tie
 
-cast-result : tie.Need-overflow-cast-result
+cast-result : tie.Need-overflow_cast-result
 cast-result c = search rules
 
-cast-result-2 : tie.Need-overflow-cast-result-2
+cast-result-2 : tie.Need-overflow_cast-result-in-65-to-70
 cast-result-2 c = search rules
 
-add-result : tie.Need-overflow-add-result
+add-result : tie.Need-overflow_add-result
 add-result c = search rules
 
-cast-result-3 : tie.Need-overflow-cast-result-3
+cast-result-3 : tie.Need-overflow_cast-result-in-97-to-102
 cast-result-3 c = search rules
 
-add-result-2 : tie.Need-overflow-add-result-2
+add-result-2 : tie.Need-overflow_add-result-in-97-to-102
 add-result-2 c = search rules
 
-returns : tie.Need-returns
-returns c = dec c.before.before.args.b (omega arith) (omega arith)
+returns : tie.Need-returns-in-48-to-57
+returns c = dec c.args.b (omega arith) (omega arith)
 
-returns-2 : tie.Need-returns-2
-returns-2 c = upper c.before.before.before.before.args.b (omega arith) (omega arith)
+returns-2 : tie.Need-returns-in-65-to-70
+returns-2 c = upper c.args.b (omega arith) (omega arith)
 
-returns-3 : tie.Need-returns-3
-returns-3 c = lower c.before.before.before.before.before.before.args.b (omega arith) (omega arith)
+returns-3 : tie.Need-returns-in-97-to-102
+returns-3 c = lower c.args.b (omega arith) (omega arith)
 
-returns-4 : tie.Need-returns-4
-returns-4 c = gap1 c.before.args.b (omega arith)
+returns-4 : tie.Need-returns-in_default
+returns-4 c = gap1 c.args.b (omega arith)
 
-returns-5 : tie.Need-returns-5
-returns-5 c = gap2 c.before.before.before.args.b (omega arith) (omega arith)
+returns-5 : tie.Need-returns-in_default-2
+returns-5 c = gap2 c.args.b (omega arith) (omega arith)
 
-returns-6 : tie.Need-returns-6
-returns-6 c = gap3 c.before.before.before.before.before.args.b (omega arith) (omega arith)
+returns-6 : tie.Need-returns-in_default-3
+returns-6 c = gap3 c.args.b (omega arith) (omega arith)
 
-returns-7 : tie.Need-returns-7
-returns-7 c = gap4 c.before.before.before.before.before.before.args.b (omega arith)
+returns-7 : tie.Need-returns-in_default-4
+returns-7 c = gap4 c.args.b (omega arith)
 
 pub digit_spec : {M : Type 1} → statement M
 digit_spec =

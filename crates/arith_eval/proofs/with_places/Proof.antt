@@ -3,13 +3,13 @@ use borrow.Author.Rules.{rules}
 use Rattle.arith_eval.proofs.with_places.Statement.{statement}
 use Rattle.arith_eval.proofs.with_places.Tie as tie
 
-slice-aggregate-settled : tie.Need-slice-aggregate-settled
+slice-aggregate-settled : tie.Need-slice_bounds-settled-end
 slice-aggregate-settled c = search rules
 
 settled-requires : tie.Need-settled-requires
 settled-requires c κs = search rules
 
-same_length : tie.Need-same-length
+same_length : tie.Need-shape_of-vars
 same_length c = search rules
 
 returns : tie.Need-returns

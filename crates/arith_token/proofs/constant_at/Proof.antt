@@ -7,41 +7,41 @@ use borrow.Author.Rules.{rules}
 use Rattle.arith_token.proofs.constant_at.Statement.{statement}
 use Rattle.arith_token.proofs.constant_at.Tie as tie
 
-run-end-requires : tie.Need-run-end-requires
+run-end-requires : tie.Need-run_end-to-requires
 run-end-requires c κs = search rules
 
-sub-number-of : tie.Need-overflow-sub-number-of
+sub-number-of : tie.Need-slice_bounds-number_of-count
 sub-number-of c = search rules
 
-part-number-of-start : tie.Need-slice-bounds-number-of-start
+part-number-of-start : tie.Need-slice_bounds-number_of-start
 part-number-of-start c = search rules
 
-part-number-of-end : tie.Need-slice-bounds-number-of-end
+part-number-of-end : tie.Need-slice_bounds-number_of-end
 part-number-of-end c = search rules
 
-number-of-requires : tie.Need-number-of-requires
+number-of-requires : tie.Need-number_of-got-requires
 number-of-requires c κs = search rules
 
-enum-known-got : tie.Need-enum-known-got
+enum-known-got : tie.Need-enum_known-got
 enum-known-got c = search rules
 
-enum-known-got-2 : tie.Need-enum-known-got-2
+enum-known-got-2 : tie.Need-enum_known-got-in-Value-1
 enum-known-got-2 c = search rules
 
-returns : tie.Need-returns
+returns : tie.Need-returns-in-Refused
 returns c =
-    let s = c.before.before.before.before.before.before.before in
-    bad_constant s.args.text.now s.args.at c.before.before.before.before.before.run_end.result s.requires.within
-    c.before.before.before.before.before.run_end.ensures s.requires.bare s.requires.is _
-    (sym (ap numbered c.before.got.given.1) ∙ c.before.before.before.number_of_lem.ensures)
+    let s = c in
+    bad_constant s.args.text.now s.args.at c.run_end-to.result s.requires.within
+    c.run_end-to.ensures s.requires.bare s.requires.is _
+    (sym (ap numbered c.in-Refused.is) ∙ c.number_of-got.ensures)
 
-returns-2 : tie.Need-returns-2
+returns-2 : tie.Need-returns-in-Value
 returns-2 c =
-    let s = c.before.before.before.before.before.before.before in
-    rw (kept c.before.got2.given.0.0 c.known-told2.given.0.1)
-    (good_constant s.args.text.now s.args.at c.before.before.before.before.before.run_end.result s.requires.within
-    c.before.before.before.before.before.run_end.ensures s.requires.bare s.requires.is _
-    (sym (ap numbered c.before.got2.given.1) ∙ c.before.before.before.number_of_lem.ensures))
+    let s = c in
+    rw (kept c.in-Value.z c.in-Value.known_told-in-Value-1-own.given.0.1)
+    (good_constant s.args.text.now s.args.at c.run_end-to.result s.requires.within
+    c.run_end-to.ensures s.requires.bare s.requires.is _
+    (sym (ap numbered c.in-Value.is) ∙ c.number_of-got.ensures))
 
 pub constant_at_spec : {M : Type 1} → statement M
 constant_at_spec =

@@ -4,26 +4,31 @@ use borrow.Author.Rules.{rules}
 use Rattle.arith_token.proofs.paired.Statement.{statement}
 use Rattle.arith_token.proofs.paired.Tie as tie
 
-add-next : tie.Need-overflow-add-next
+add-next : tie.Need-overflow_add-next
 add-next c = search rules
 
-shared-slice-read-if2 : tie.Need-shared-slice-read-if2
+shared-slice-read-if2 : tie.Need-bounds-text-next
 shared-slice-read-if2 c = search rules
 
-returns : tie.Need-returns
+returns : tie.Need-returns-then-text-next
 returns c =
-    let s = c.before.before.before in let a = s.args in
-    with_second a.text.now a.at a.second a.alone a.both s.requires c.before.before.if1.true c.if2.true
+    let s = c in let a = s.args in
+    with_second a.text.now a.at a.second a.alone a.both s.requires c.if-next-text.true c.if-text-next.true
 
-returns-2 : tie.Need-returns-2
+returns-2 : tie.Need-returns-else-text-next
 returns-2 c =
-    let s = c.before.before.before in let a = s.args in
-    without_second a.text.now a.at a.second a.alone a.both s.requires c.before.before.if1.true c.if2.false
+    let s = c in let a = s.args in
+    without_second a.text.now a.at a.second a.alone a.both s.requires c.if-next-text.true c.if-text-next.false
 
-returns-3 : tie.Need-returns-3
+returns-3 : tie.Need-returns-else-next-text
 returns-3 c =
-    let s = c.before in let a = s.args in at_the_end a.text.now a.at a.second a.alone a.both s.requires c.if1.false
+    let s = c in let a = s.args in at_the_end a.text.now a.at a.second a.alone a.both s.requires c.if-next-text.false
 
 pub paired_spec : {M : Type 1} → statement M
 paired_spec =
-    tie.close (tie.spec add-next shared-slice-read-if2 returns returns-2 returns-3)
+    tie.close (tie.spec
+    add-next
+    shared-slice-read-if2
+    returns
+    returns-2
+    returns-3)

@@ -5,38 +5,38 @@ use borrow.Author.Rules.{rules}
 use Rattle.call_check.proofs.check_assignments.Statement.{statement}
 use Rattle.call_check.proofs.check_assignments.Tie as tie
 
-check-lent-requires : tie.Need-check-lent-requires
+check-lent-requires : tie.Need-check_lent-lent-requires
 check-lent-requires c κs = search rules
 
-enum-known-lent : tie.Need-enum-known-lent
+enum-known-lent : tie.Need-enum_known-lent
 enum-known-lent c = search rules
 
-returns : tie.Need-returns
-returns c b m = assign_unlent _ (unlent_of c.before.before.before.check-lent.ensures c.before.lent.given.1)
+returns : tie.Need-returns-in-Refused
+returns c b m = assign_unlent _ (unlent_of c.check_lent-lent.ensures c.in-Refused.is)
 
-enum_told : tie.Need-enum-told
+enum_told : tie.Need-enum_told-1
 enum_told c = search rules
 
-well-formed-requires : tie.Need-well-formed-requires
+well-formed-requires : tie.Need-well_formed-numbered-requires
 well-formed-requires c κs = search rules
 
-check-values-requires : tie.Need-check-values-requires
+check-values-requires : tie.Need-check_values-requires
 check-values-requires c κs =
-    let t = c.before.before in
-    (lends_of t.before.before.check-lent.ensures t.enum_told.given.1, sym c.before.well-formed-2.ensures ∙ c.if1.true)
+    let t = c in
+    (lends_of t.check_lent-lent.ensures t.in-Fine.is, sym c.well_formed-numbered.ensures ∙ c.if-numbered.true)
 
-returns-2 : tie.Need-returns-2
+returns-2 : tie.Need-returns-then-numbered
 returns-2 c = search rules
 
 refuse-requires : tie.Need-refuse-requires
 refuse-requires c κs = search rules
 
-returns-3 : tie.Need-returns-3
+returns-3 : tie.Need-returns
 returns-3 c b m =
-    let t = c.before.before.before in
+    let t = c in
     assign_refuses _ c.refuse.ensures
-    (assign_unnumbered _ (lends_of t.before.before.check-lent.ensures t.enum_told.given.1)
-    (sym c.before.before.well-formed-2.ensures ∙ c.before.if1.false))
+    (assign_unnumbered _ (lends_of t.check_lent-lent.ensures t.in-Fine.is)
+    (sym c.well_formed-numbered.ensures ∙ c.if-numbered.false))
 
 pub check_assignments_spec : {M : Type 1} → statement M
 check_assignments_spec =

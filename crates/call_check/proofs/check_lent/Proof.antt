@@ -11,50 +11,50 @@ use Rattle.call_check.proofs.check_lent.Tie as tie
 refuse-requires : tie.Need-refuse-requires
 refuse-requires c κs = search rules
 
-returns : tie.Need-returns
-returns c = unlent_as c.refuse.ensures (small_area c.before.if1.taken)
+returns : tie.Need-returns-then-work-lt-WORK_LEAST
+returns c = unlent_as c.refuse.ensures (small_area c.if-work-lt-WORK_LEAST.true)
 
-refuse-requires-2 : tie.Need-refuse-requires-2
+refuse-requires-2 : tie.Need-refuse-requires-then-vars-vars_used
 refuse-requires-2 c κs = search rules
 
-returns-2 : tie.Need-returns-2
-returns-2 c = unlent_as c.refuse2.ensures (used_beyond c.before.before.if1.left c.before.if2.taken)
+returns-2 : tie.Need-returns-then-vars-vars_used
+returns-2 c = unlent_as c.refuse-then-vars-vars_used.ensures (used_beyond c.if-work-lt-WORK_LEAST.false c.if-vars-vars_used.true)
 
-slice-aggregate-well-formed : tie.Need-slice-aggregate-well-formed
-slice-aggregate-well-formed c = sym (length-take-le _ _ c.before.if2.left)
+slice-aggregate-well-formed : tie.Need-slice_bounds-well_formed-end
+slice-aggregate-well-formed c = sym (length-take-le _ _ c.if-vars-vars_used.false)
 
-well-formed-requires : tie.Need-well-formed-requires
+well-formed-requires : tie.Need-well_formed-requires
 well-formed-requires c κs = search rules
 
-refuse-requires-3 : tie.Need-refuse-requires-3
+refuse-requires-3 : tie.Need-refuse-requires-then-not-well_formed
 refuse-requires-3 c κs = search rules
 
-returns-3 : tie.Need-returns-3
+returns-3 : tie.Need-returns-then-not-well_formed
 returns-3 c =
-    unlent_as c.refuse3.ensures
-    (vars_bad c.before.before.before.before.before.if1.left c.before.before.before.before.if2.left
-    (sym c.before.before.well-formed.ensures ∙ not-true _ c.before.if3.taken))
+    unlent_as c.refuse-then-not-well_formed.ensures
+    (vars_bad c.if-work-lt-WORK_LEAST.false c.if-vars-vars_used.false
+    (sym c.well_formed-2.ensures ∙ not-true _ c.if-not-well_formed.true-raw))
 
-well-formed-requires-2 : tie.Need-well-formed-requires-2
+well-formed-requires-2 : tie.Need-well_formed-requires-2
 well-formed-requires-2 c κs = search rules
 
-refuse-requires-4 : tie.Need-refuse-requires-4
+refuse-requires-4 : tie.Need-refuse-requires-then-not-well_formed-2
 refuse-requires-4 c κs = search rules
 
-returns-4 : tie.Need-returns-4
+returns-4 : tie.Need-returns-then-not-well_formed-2
 returns-4 c =
-    unlent_as c.refuse4.ensures
-    (homes_bad c.before.before.before.before.before.before.before.if1.left c.before.before.before.before.before.before.if2.left
-    (sym c.before.before.before.before.well-formed.ensures ∙ not-false _ c.before.before.before.if3.left)
-    (sym c.before.before.well-formed2.ensures ∙ not-true _ c.before.if4.taken))
+    unlent_as c.refuse-then-not-well_formed-2.ensures
+    (homes_bad c.if-work-lt-WORK_LEAST.false c.if-vars-vars_used.false
+    (sym c.well_formed-2.ensures ∙ not-false _ c.if-not-well_formed.false-raw)
+    (sym c.well_formed-3.ensures ∙ not-true _ c.if-not-well_formed-2.true-raw))
 
-returns-5 : tie.Need-returns-5
+returns-5 : tie.Need-returns
 returns-5 c =
     record {
-      area = c.before.before.before.before.before.before.if1.left;
-      inside = c.before.before.before.before.before.if2.left;
-      formed = sym c.before.before.before.well-formed.ensures ∙ not-false _ c.before.before.if3.left;
-      housed = sym c.before.well-formed2.ensures ∙ not-false _ c.if4.left;
+      area = c.if-work-lt-WORK_LEAST.false;
+      inside = c.if-vars-vars_used.false;
+      formed = sym c.well_formed-2.ensures ∙ not-false _ c.if-not-well_formed.false-raw;
+      housed = sym c.well_formed-3.ensures ∙ not-false _ c.if-not-well_formed-2.false-raw;
     }
 
 pub check_lent_spec : {M : Type 1} → statement M

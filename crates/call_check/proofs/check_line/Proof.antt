@@ -7,39 +7,31 @@ use borrow.Author.Rules.{rules}
 use Rattle.call_check.proofs.check_line.Statement.{statement}
 use Rattle.call_check.proofs.check_line.Tie as tie
 
--- the call's entry, where the line's bytes have been looked at
-abbrev entry : tie.After-check-bytes → tie.Start
-entry c = c.before.before.before.before.before.before.before.before
+-- what is known of the line's bytes, where the line has been read
+plain : (c : tie.After-read_line-read) → Plain c.args.line.now
+plain c = plain_of c.check_bytes-bytes.ensures c.in-Fine.is
 
--- where the line has been read: the place before, and what is known of its bytes
-module _ (c : tie.After-read-line) where
-  abbrev looked : tie.After-check-bytes
-  looked = c.before.before.before
-
-  plain : Plain (entry looked).args.line.now
-  plain = plain_of looked.check-bytes.ensures c.before.enum_told.given.1
-
-check-bytes-requires : tie.Need-check-bytes-requires
+check-bytes-requires : tie.Need-check_bytes-bytes-requires
 check-bytes-requires c κs = search rules
 
-enum-known-bytes : tie.Need-enum-known-bytes
+enum-known-bytes : tie.Need-enum_known-bytes
 enum-known-bytes c = search rules
 
-returns : tie.Need-returns
+returns : tie.Need-returns-in-Refused
 returns c b m =
-    let k = c.before.before.before in
-    line_unplain _ _ ((entry k).requires b m) (unplain_of k.check-bytes.ensures c.before.bytes.given.1)
+    let k = c.before in
+    line_unplain _ _ (c.requires b m) (unplain_of k.check_bytes-bytes.ensures c.in-Refused.is)
 
-enum_told : tie.Need-enum-told
+enum_told : tie.Need-enum_told-1
 enum_told c = search rules
 
-read-line-requires : tie.Need-read-line-requires
+read-line-requires : tie.Need-read_line-read-requires
 read-line-requires c κs = search rules
 
-enum-known-read : tie.Need-enum-known-read
+enum-known-read : tie.Need-enum_known-read
 enum-known-read c = search rules
 
-enum-told-2 : tie.Need-enum-told-2
+enum-told-2 : tie.Need-enum_told-in-Read
 enum-told-2 c = search rules
 
 room-requires : tie.Need-room-requires
@@ -48,26 +40,26 @@ room-requires c κs = search rules
 refuse-requires : tie.Need-refuse-requires
 refuse-requires c κs = search rules
 
-returns-2 : tie.Need-returns-2
+returns-2 : tie.Need-returns-then-room-eq0
 returns-2 c b m =
-    let r = c.before.before.before.before.before in
-    refuses _ _ c.refuse.ensures
-    (room_none _ _ ((entry (looked r)).requires b m) (plain r).short (plain r).whole
-    (accepted _ (read_as r.read-line.ensures c.before.before.before.enum-told2.given.1))
-    (sym c.before.before.room.ensures ∙ c.before.if1.true))
-
-returns-3 : tie.Need-returns-3
-returns-3 c b m =
-    let r = c.before.before.before in
-    line_refused _ _ ((entry (looked r)).requires b m) (plain r).short (plain r).whole _ _
-    (refused_line _ _ _ (read_as r.read-line.ensures c.before.read.given.1))
-
-returns-4 : tie.Need-returns-4
-returns-4 c b m =
     let r = c.before.before.before.before in
-    room_some _ _ ((entry (looked r)).requires b m) (plain r).short (plain r).whole
-    (accepted _ (read_as r.read-line.ensures c.before.before.enum-told2.given.1))
-    (λ e. c.if1.false (c.before.room.ensures ∙ e))
+    refuses _ _ c.refuse.ensures
+    (room_none _ _ (c.requires b m) (plain r).short (plain r).whole
+    (accepted _ (read_as r.read_line-read.ensures c.in-Read.is))
+    (sym c.room.ensures ∙ c.if-room-eq0.true))
+
+returns-3 : tie.Need-returns-in-Refused-read
+returns-3 c b m =
+    let r = c.before in
+    line_refused _ _ (c.requires b m) (plain r).short (plain r).whole _ _
+    (refused_line _ _ _ (read_as r.read_line-read.ensures c.in-Refused-read.is))
+
+returns-4 : tie.Need-returns-else-room-eq0
+returns-4 c b m =
+    let r = c.before.before.before in
+    room_some _ _ (c.requires b m) (plain r).short (plain r).whole
+    (accepted _ (read_as r.read_line-read.ensures c.in-Read.is))
+    (λ e. c.if-room-eq0.false (c.room.ensures ∙ e))
 
 pub check_line_spec : {M : Type 1} → statement M
 check_line_spec =

@@ -5,52 +5,44 @@ use borrow.Author.Rules.{rules}
 use Rattle.call_check.proofs.check_values.Statement.{statement}
 use Rattle.call_check.proofs.check_values.Tie as tie
 
--- the call's entry, where the line's bytes have been looked at
-abbrev entry : tie.After-check-bytes → tie.Start
-entry c = c.before.before.before.before.before.before
+-- what is known of the line's bytes, where the line has been read
+plain : (c : tie.After-read_assignments-read) → Plain c.args.line.now
+plain c = plain_of c.check_bytes-bytes.ensures c.in-Fine.is
 
--- where the line has been read: the place before, and what is known of its bytes
-module _ (c : tie.After-read-assignments) where
-  abbrev looked : tie.After-check-bytes
-  looked = c.before.before.before
-
-  plain : Plain (entry looked).args.line.now
-  plain = plain_of looked.check-bytes.ensures c.before.enum_told.given.1
-
-check-bytes-requires : tie.Need-check-bytes-requires
+check-bytes-requires : tie.Need-check_bytes-bytes-requires
 check-bytes-requires c κs = search rules
 
-enum-known-bytes : tie.Need-enum-known-bytes
+enum-known-bytes : tie.Need-enum_known-bytes
 enum-known-bytes c = search rules
 
-returns : tie.Need-returns
+returns : tie.Need-returns-in-Refused
 returns c b m =
-    let k = c.before.before.before in
-    assign_unplain _ (entry k).requires.0 (entry k).requires.1 (unplain_of k.check-bytes.ensures c.before.bytes.given.1)
+    let k = c.before in
+    assign_unplain _ c.requires.0 c.requires.1 (unplain_of k.check_bytes-bytes.ensures c.in-Refused.is)
 
-enum_told : tie.Need-enum-told
+enum_told : tie.Need-enum_told-1
 enum_told c = search rules
 
-read-assignments-requires : tie.Need-read-assignments-requires
+read-assignments-requires : tie.Need-read_assignments-read-requires
 read-assignments-requires c κs = search rules
 
-enum-known-read : tie.Need-enum-known-read
+enum-known-read : tie.Need-enum_known-read
 enum-known-read c = search rules
 
-enum-told-2 : tie.Need-enum-told-2
+enum-told-2 : tie.Need-enum_told-in-Read
 enum-told-2 c = search rules
 
-returns-2 : tie.Need-returns-2
+returns-2 : tie.Need-returns-in-Refused-read
 returns-2 c b m =
-    let r = c.before.before.before in
-    let s = entry (looked r) in
-    assign_unread _ s.pre.0 s.pre.1 (plain r) (read_as r.read-assignments.ensures c.before.read.given.1)
+    let r = c.before in
+    let s = r in
+    assign_unread _ s.requires.0 s.requires.1 (plain r) (read_as r.read_assignments-read.ensures c.in-Refused-read.is)
 
-returns-3 : tie.Need-returns-3
+returns-3 : tie.Need-returns-in-Read
 returns-3 c b m =
-    let r = c.before.before in
-    let s = entry (looked r) in
-    assign_passed _ s.pre.0 s.pre.1 (plain r) (read_as r.read-assignments.ensures c.enum-told2.given.1)
+    let r = c.before in
+    let s = r in
+    assign_passed _ s.requires.0 s.requires.1 (plain r) (read_as r.read_assignments-read.ensures c.in-Read.is)
 
 pub check_values_spec : {M : Type 1} → statement M
 check_values_spec =

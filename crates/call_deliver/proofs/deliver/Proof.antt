@@ -10,38 +10,38 @@ use borrow.Author.Rules.{rules}
 use Rattle.call_deliver.proofs.deliver.Statement.{statement}
 use Rattle.call_deliver.proofs.deliver.Tie as tie
 
-enum_told : tie.Need-enum-told
+enum_told : tie.Need-enum_told-1
 enum_told c = search rules
 
-copy-in-requires : tie.Need-copy-in-requires
+copy-in-requires : tie.Need-copy_in-requires
 copy-in-requires c κs =
-    let a = c.before.before.before.before.before.args in
-    subst (λ (j : Job). length a.image.now ≤ room_of j (length a.out.now)) c.before.enum_told.given.1
-    c.before.before.before.before.before.requires.0
+    let a = c.args in
+    subst (λ (j : Job). length a.image.now ≤ room_of j (length a.out.now)) c.in-Expander.is
+    c.requires.0
 
-enum-told-2 : tie.Need-enum-told-2
+enum-told-2 : tie.Need-enum_told-in-Normaliser
 enum-told-2 c = search rules
 
-quote-known-requires : tie.Need-quote-known-requires
+quote-known-requires : tie.Need-quote_known-requires
 quote-known-requires c κs = search rules
 
-same_length : tie.Need-same-length
+same_length : tie.Need-shape_of-out-in-Expander
 same_length c = search rules
 
-returns : tie.Need-returns
+returns : tie.Need-returns-in-Expander
 returns c =
-    let a = c.before.before.before.before.before.before.before.before.args in
-    copied_over _ _ _ c.before.before.copy-in.ensures ∙ ap (λ (j : Job). writing_of j a.image.now a.out.now)
-    (sym c.before.before.before.before.enum_told.given.1)
+    let a = c.args in
+    copied_over _ _ _ c.copy_in.ensures ∙ ap (λ (j : Job). writing_of j a.image.now a.out.now)
+    (sym c.in-Expander.is)
 
-same-length-2 : tie.Need-same-length-2
+same-length-2 : tie.Need-shape_of-out-in-Normaliser
 same-length-2 c = search rules
 
-returns-2 : tie.Need-returns-2
+returns-2 : tie.Need-returns-in-Normaliser
 returns-2 c =
-    let a = c.before.before.before.before.before.before.before.before.args in
-    c.before.before.quote-known.ensures ∙ ap (λ (j : Job). writing_of j a.image.now a.out.now)
-    (sym c.before.before.before.before.enum-told2.given.1)
+    let a = c.args in
+    c.quote_known.ensures ∙ ap (λ (j : Job). writing_of j a.image.now a.out.now)
+    (sym c.in-Normaliser.is)
 
 pub deliver_spec : {M : Type 1} → statement M
 deliver_spec =

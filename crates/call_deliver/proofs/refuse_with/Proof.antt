@@ -5,11 +5,13 @@ use borrow.Author.Rules.{rules}
 use Rattle.call_deliver.proofs.refuse_with.Statement.{statement}
 use Rattle.call_deliver.proofs.refuse_with.Tie as tie
 
-refuse-requires : tie.Need-refuse-requires
+refuse-requires : tie.Need-refuse-answer-requires
 refuse-requires c κs = search rules
 
 returns : tie.Need-returns
-returns c = let s = c.before in ap (λ (x : Answer). record { answer = x; at = s.args.at; len = s.args.len }) c.refuse.ensures
+returns c = let s = c in ap (λ (x : Answer). record { answer = x; at = s.args.at; len = s.args.len }) c.refuse-answer.ensures
 
 pub refuse_with_spec : {M : Type 1} → statement M
-refuse_with_spec = tie.close (tie.spec refuse-requires returns)
+refuse_with_spec = tie.close (tie.spec
+    refuse-requires
+    returns)

@@ -6,34 +6,34 @@ use borrow.Author.Rules.{rules}
 use Rattle.call_deliver.proofs.tell.Statement.{statement}
 use Rattle.call_deliver.proofs.tell.Tie as tie
 
-copy-in-requires : tie.Need-copy-in-requires
+copy-in-requires : tie.Need-copy_in-requires
 copy-in-requires c κs = search rules
 
-same_length : tie.Need-same-length
+same_length : tie.Need-shape_of-message-then-text-room
 same_length c = search rules
 
-returns : tie.Need-returns
+returns : tie.Need-returns-then-text-room
 returns c =
-    let a = c.before.before.before.before.before.before.before.args in
-    told_whole a.text.now a.message.now _ c.before.before.before.before.if1.true c.before.before.copy-in.ensures
+    let a = c.args in
+    told_whole a.text.now a.message.now _ c.if-text-room.true c.copy_in.ensures
 
-slice-aggregate-copy-in : tie.Need-slice-aggregate-copy-in
+slice-aggregate-copy-in : tie.Need-slice_bounds-copy_in-end
 slice-aggregate-copy-in c =
-    let a = c.before.before.before.before.args in
-    sym (cut_long a.text.now a.message.now c.before.if1.false)
+    let a = c.args in
+    sym (cut_long a.text.now a.message.now c.if-text-room.false)
 
-copy-in-requires-2 : tie.Need-copy-in-requires-2
+copy-in-requires-2 : tie.Need-copy_in-requires-2
 copy-in-requires-2 c κs =
-    let a = c.before.before.before.before.before.args in
-    omega (arith, cut_long a.text.now a.message.now c.before.before.if1.false)
+    let a = c.args in
+    omega (arith, cut_long a.text.now a.message.now c.if-text-room.false)
 
-same-length-2 : tie.Need-same-length-2
+same-length-2 : tie.Need-shape_of-message
 same-length-2 c = search rules
 
-returns-2 : tie.Need-returns-2
+returns-2 : tie.Need-returns
 returns-2 c =
-    let a = c.before.before.before.before.before.before.before.before.args in
-    told_cut a.text.now a.message.now _ c.before.before.before.before.before.if1.false c.before.before.copy-in2.ensures
+    let a = c.args in
+    told_cut a.text.now a.message.now _ c.if-text-room.false c.copy_in-2.ensures
 
 pub tell_spec : {M : Type 1} → statement M
 tell_spec =

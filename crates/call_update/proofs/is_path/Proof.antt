@@ -4,14 +4,17 @@ use borrow.Author.Rules.{rules}
 use Rattle.call_update.proofs.is_path.Statement.{statement}
 use Rattle.call_update.proofs.is_path.Tie as tie
 
-returns : tie.Need-returns
-returns c = no_path_there _ c.if1.true
+returns : tie.Need-returns-then-path-eq0
+returns c = no_path_there _ c.if-path-eq0.true
 
-run-end-requires : tie.Need-run-end-requires
+run-end-requires : tie.Need-run_end-requires
 run-end-requires c κs = search rules
 
-returns-2 : tie.Need-returns-2
-returns-2 c = path_is _ _ c.before.if1.false c.run_end.ensures
+returns-2 : tie.Need-returns
+returns-2 c = path_is _ _ c.if-path-eq0.false c.run_end.ensures
 
 pub is_path_spec : {M : Type 1} → statement M
-is_path_spec = tie.close (tie.spec returns run-end-requires returns-2)
+is_path_spec = tie.close (tie.spec
+    returns
+    run-end-requires
+    returns-2)

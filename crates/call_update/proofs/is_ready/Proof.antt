@@ -11,30 +11,28 @@ use Rattle.call_update.proofs.is_ready.Tie as tie
 
 -- the call, by what it is handed
 abbrev call : tie.Start → Updating
-call s = updating s.args.paths.now s.args.paths-used s.args.path.now
+call s = updating s.args.paths.now s.args.paths_used s.args.path.now
 
-returns : tie.Need-returns
-returns c = ready_beyond (call c.before.before.before) c.if1.true
+returns : tie.Need-returns-then-paths-paths_used
+returns c = ready_beyond (call c.before.before.before) c.if-paths-paths_used.true
 
-slice-aggregate-well-formed : tie.Need-slice-aggregate-well-formed
-slice-aggregate-well-formed c = sym (length-take-le _ _ c.before.if1.false)
+slice-aggregate-well-formed : tie.Need-slice_bounds-well_formed-end
+slice-aggregate-well-formed c = sym (length-take-le _ _ c.if-paths-paths_used.false)
 
-well-formed-requires : tie.Need-well-formed-requires
+well-formed-requires : tie.Need-well_formed-requires
 well-formed-requires c κs = search rules
 
-returns-2 : tie.Need-returns-2
+returns-2 : tie.Need-returns-then-not-well_formed
 returns-2 c =
-    let k = c.before.before.before in
-    ready_malformed (call k.before.before.before) k.if1.false (sym c.before.well-formed-2.ensures ∙ not-true _ c.if2.true)
+    ready_malformed (call c.before.before.before.before.before) c.if-paths-paths_used.false (sym c.well_formed-2.ensures ∙ not-true _ c.if-not-well_formed.true-raw)
 
-is-path-requires : tie.Need-is-path-requires
+is-path-requires : tie.Need-is_path-requires
 is-path-requires c κs = search rules
 
-returns-3 : tie.Need-returns-3
+returns-3 : tie.Need-returns
 returns-3 c =
-    let k = c.before.before.before.before in
-    ready_path (call k.before.before.before) k.if1.false (sym c.before.before.well-formed-2.ensures ∙ not-false _ c.before.if2.false)
-    c.is_path_lem.ensures
+    ready_path (call c.before.before.before.before.before.before) c.if-paths-paths_used.false (sym c.well_formed-2.ensures ∙ not-false _ c.if-not-well_formed.false-raw)
+    c.is_path.ensures
 
 pub is_ready_spec : {M : Type 1} → statement M
 is_ready_spec =

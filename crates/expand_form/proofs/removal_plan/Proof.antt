@@ -13,16 +13,19 @@ removed_back true false = refl
 removed_back false true = refl
 removed_back false false = refl
 
-is-refused-requires : tie.Need-is-refused-requires
+is-refused-requires : tie.Need-is_refused-requires
 is-refused-requires c κs = search rules
 
-returns : tie.Need-returns
-returns c = rw (sym c.before.is-refused.ensures ∙ c.if1.true)
+returns : tie.Need-returns-then-is_refused
+returns c = rw (sym c.is_refused.ensures ∙ c.if-is_refused.true)
 
-returns-2 : tie.Need-returns-2
+returns-2 : tie.Need-returns
 returns-2 c =
-    let a = c.before.before.args in
-    rw (sym c.before.is-refused.ensures ∙ c.if1.false, ← removed_back a.suffix a.long)
+    let a = c.args in
+    rw (sym c.is_refused.ensures ∙ c.if-is_refused.false, ← removed_back a.suffix a.long)
 
 pub removal_plan_spec : {M : Type 1} → statement M
-removal_plan_spec = tie.close (tie.spec is-refused-requires returns returns-2)
+removal_plan_spec = tie.close (tie.spec
+    is-refused-requires
+    returns
+    returns-2)

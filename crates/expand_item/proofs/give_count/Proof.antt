@@ -10,35 +10,41 @@ use mathlib.Core.Path.{sym}
 use Rattle.expand_item.proofs.give_count.Statement.{statement}
 use Rattle.expand_item.proofs.give_count.Tie as tie
 
-put-decimal-requires : tie.Need-put-decimal-requires
+put-decimal-requires : tie.Need-put_decimal-n-requires
 put-decimal-requires c κs = search rules
 
-slice-reshare-prefix-give-expanded : tie.Need-slice-reshare-prefix-give-expanded
-slice-reshare-prefix-give-expanded c = puts_inside c.before.before.put-decimal.ensures
+slice-reshare-prefix-give-expanded : tie.Need-slice_bounds-give_expanded-end
+slice-reshare-prefix-give-expanded c = puts_inside c.put_decimal-n.ensures
 
-slice-aggregate-give-expanded : tie.Need-slice-aggregate-give-expanded
+slice-aggregate-give-expanded : tie.Need-slice_bounds-give_expanded-end-2
 slice-aggregate-give-expanded c =
-    let p = c.before.before.before.put-decimal in
-    sym (length-take-le p.result p.new.0 (puts_inside p.ensures))
+    let p = c.put_decimal-n in
+    sym (length-take-le p.result p.new.out (puts_inside p.ensures))
 
-give-expanded-requires : tie.Need-give-expanded-requires
+give-expanded-requires : tie.Need-give_expanded-requires
 give-expanded-requires c κs = search rules
 
-same_length : tie.Need-same-length
+same_length : tie.Need-shape_of-digits
 same_length c = search rules
 
-same-length-2 : tie.Need-same-length-2
+same-length-2 : tie.Need-shape_of-area
 same-length-2 c = search rules
 
 returns : tie.Need-returns
 returns c =
-    let g = c.before.before.give-expanded in
-    let put = c.before.before.before.before.before.before.before in
-    let a = put.before.before.before.before.args in
-    adds_text a.row.units a.on (expanded_mark (mark_of a.row.mark)) g.new.1.1.1.0 g.result (puts_front put.put-decimal.ensures)
+    let g = c.give_expanded in
+    let put = c in
+    let a = put.args in
+    adds_text a.row.units a.on (expanded_mark (mark_of a.row.mark)) g.new.area g.result (puts_front put.put_decimal-n.ensures)
     g.ensures.adds
 
 pub give_count_spec : {M : Type 1} → statement M
 give_count_spec = tie.close
-    (tie.spec put-decimal-requires slice-reshare-prefix-give-expanded slice-aggregate-give-expanded give-expanded-requires same_length same-length-2
+    (tie.spec
+    put-decimal-requires
+    slice-reshare-prefix-give-expanded
+    slice-aggregate-give-expanded
+    give-expanded-requires
+    same_length
+    same-length-2
     returns)

@@ -8,47 +8,47 @@ use Rattle.expand_item.proofs.give_home.Statement.{statement}
 use Rattle.expand_item.proofs.give_home.Tie as tie
 
 -- the call's entry, where the login is looked at
-abbrev entry : tie.After-slice-known → tie.Start
+abbrev entry : tie.After-slice_known-1 → tie.Start
 entry c = c.before.before.before.before
 
-look-up-home-requires : tie.Need-look-up-home-requires
+look-up-home-requires : tie.Need-look_up_home-found-requires
 look-up-home-requires c κs = search rules
 
-give-found-requires : tie.Need-give-found-requires
+give-found-requires : tie.Need-give_found-requires
 give-found-requires c κs =
     let s = entry c.before.before.before in
-    (found_inside c.before.look-up-home.ensures.shows, s.pre.2, s.pre.3)
+    (found_inside c.look_up_home-found.ensures.shows, s.requires.2, s.requires.3)
 
-same_length : tie.Need-same-length
+same_length : tie.Need-shape_of-area-then-login-eq0
 same_length c = search rules
 
-returns : tie.Need-returns
+returns : tie.Need-returns-then-login-eq0
 returns c =
-    let g = c.before.before.give-found in
+    let g = c.give_found in
     let f = c.before.before.before.before in
     let a = (entry f.before.before).args in
-    adds_home a.row.units a.on a.login.now (mark_of a.row.mark) g.new.1.1.1.1.1.0 g.result
-    (empty_login (held a.vars.now) (held a.homes.now) a.login.now f.before.if1.true ∙ found_text f.look-up-home.ensures.shows)
+    adds_home a.row.units a.on a.login.now (mark_of a.row.mark) g.new.area g.result
+    (empty_login (held a.vars.now) (held a.homes.now) a.login.now f.if-login-eq0.true ∙ found_text f.look_up_home-found.ensures.shows)
     g.ensures
 
-look-up-requires : tie.Need-look-up-requires
+look-up-requires : tie.Need-look_up-found-requires
 look-up-requires c κs = search rules
 
-give-found-requires-2 : tie.Need-give-found-requires-2
+give-found-requires-2 : tie.Need-give_found-requires-2
 give-found-requires-2 c κs =
     let s = entry c.before.before.before in
-    (found_inside c.before.look_up.ensures.shows, s.pre.2, s.pre.3)
+    (found_inside c.look_up-found.ensures.shows, s.requires.2, s.requires.3)
 
-same-length-2 : tie.Need-same-length-2
+same-length-2 : tie.Need-shape_of-area
 same-length-2 c = search rules
 
-returns-2 : tie.Need-returns-2
+returns-2 : tie.Need-returns
 returns-2 c =
-    let g = c.before.before.give-found2 in
+    let g = c.give_found-2 in
     let f = c.before.before.before.before in
     let a = (entry f.before.before).args in
-    adds_home a.row.units a.on a.login.now (mark_of a.row.mark) g.new.1.1.1.1.1.0 g.result
-    (some_login (held a.vars.now) (held a.homes.now) a.login.now f.before.if1.false ∙ found_text f.look_up.ensures.shows)
+    adds_home a.row.units a.on a.login.now (mark_of a.row.mark) g.new.area g.result
+    (some_login (held a.vars.now) (held a.homes.now) a.login.now f.if-login-eq0.false ∙ found_text f.look_up-found.ensures.shows)
     g.ensures
 
 pub give_home_spec : {M : Type 1} → statement M

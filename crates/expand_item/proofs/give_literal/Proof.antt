@@ -16,65 +16,65 @@ use Rattle.expand_item.proofs.give_literal.Statement.{statement}
 use Rattle.expand_item.proofs.give_literal.Tie as tie
 
 -- the call's entry, where the first unit has been put
-abbrev entry : tie.After-put-unit → tie.Start
+abbrev entry : tie.After-put_unit → tie.Start
 entry c = c.before.before.before.before.before.before
 
 -- the area then, as long as before
-abbrev area : tie.After-put-unit → Text
-area c = c.put-unit.new.0
+abbrev area : tie.After-put_unit → Text
+area c = c.put_unit.new.area
 
-wide : (c : tie.After-put-unit) → 2 * row_limit ≤ length (area c) + 2 * (entry c).args.row.units
-wide c = omega (arith, (entry c).requires.1, c.put-unit.auto.0)
+wide : (c : tie.After-put_unit) → 2 * row_limit ≤ length (area c) + 2 * (entry c).args.row.units
+wide c = omega (arith, (entry c).requires.1, c.put_unit.auto.area)
 
 -- there is room for the first unit and the bytes
-room : (c : tie.After-put-unit) → (entry c).args.row.units + length (entry c).args.login.now + 1 ≤ row_limit
-room c = omega (arith, c.before.before.if1.false, (entry c).requires.0)
+room : (c : tie.After-put_unit) → (entry c).args.row.units + length (entry c).args.login.now + 1 ≤ row_limit
+room c = omega (arith, c.if-login-room.false, (entry c).requires.0)
 
-sub-room : tie.Need-overflow-sub-room
+sub-room : tie.Need-overflow_sub-room
 sub-room c = search rules
 
-returns : tie.Need-returns
+returns : tie.Need-returns-then-login-room
 unfolding tilde_row marked
 returns c =
-    let s = c.before.before.before.before in
+    let s = c in
     headed_full s.args.row.units s.args.on (cell (mark_of s.args.row.mark) (code "~")) (mark_of s.args.row.mark)
-    s.args.login.now (omega (arith, c.if1.true, s.requires.0))
+    s.args.login.now (omega (arith, c.if-login-room.true, s.requires.0))
 
-put-unit-requires : tie.Need-put-unit-requires
+put-unit-requires : tie.Need-put_unit-requires
 put-unit-requires c κs = search rules
 
-sub-put-marked : tie.Need-overflow-sub-put-marked
+sub-put-marked : tie.Need-slice_bounds-put_marked-count
 sub-put-marked c = let e = c.before.before in omega (arith, wide e, room e)
 
-part-put-marked-start : tie.Need-slice-bounds-put-marked-start
+part-put-marked-start : tie.Need-slice_bounds-put_marked-start
 part-put-marked-start c = let e = c.before.before in omega (arith, wide e, room e)
 
-part-put-marked-end : tie.Need-slice-bounds-put-marked-end
+part-put-marked-end : tie.Need-slice_bounds-put_marked-end
 part-put-marked-end c = let e = c.before.before in omega (arith, wide e, room e)
 
-put-marked-requires : tie.Need-put-marked-requires
+put-marked-requires : tie.Need-put_marked-requires
 put-marked-requires c κs =
     let e = c.before.before.before in
     omega (arith, wide e, room e, mid_len 2 (length (area e)) (area e) (omega (arith, wide e, room e)))
 
-add-t15 : tie.Need-overflow-add-t15
+add-t15 : tie.Need-overflow_add-result
 add-t15 c = search rules
 
-same_length : tie.Need-same-length
+same_length : tie.Need-shape_of-area
 same_length c =
-    let m = c.before.before.put-marked in
+    let m = c.put_marked in
     let e = c.before.before.before.before.before.before in
-    same_len_mid 2 (length (area e) - 2) (area e) m.new.1.1.0 m.auto.1.1.0 ∙ e.put-unit.auto.0
+    same_len_mid 2 (length (area e) - 2) (area e) m.new.area m.auto.area ∙ e.put_unit.auto.area
 
-returns-2 : tie.Need-returns-2
+returns-2 : tie.Need-returns
 unfolding tilde_row marked
 returns-2 c =
-    let m = c.before.before.put-marked in
+    let m = c.put_marked in
     let e = c.before.before.before.before.before.before in
     let a = (entry e).args in
     headed_fits a.row.units a.on (cell (mark_of a.row.mark) (code "~")) (mark_of a.row.mark) a.login.now (omega (arith, room e))
     a.area.now (area e) _
-    m.new.1.1.0 _ e.put-unit.ensures m.ensures
+    m.new.area _ e.put_unit.ensures m.ensures
 
 pub give_literal_spec : {M : Type 1} → statement M
 give_literal_spec =

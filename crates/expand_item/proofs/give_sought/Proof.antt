@@ -16,35 +16,40 @@ use Rattle.expand_item.proofs.give_sought.Tie as tie
 abbrev as_units : tie.Start → Text → Outcome Row
 as_units s t = done (marked (expanded_mark (mark_of s.args.row.mark)) t)
 
-must-shout-requires : tie.Need-must-shout-requires
+must-shout-requires : tie.Need-must_shout-requires
 must-shout-requires c κs = search rules
 
-returns : tie.Need-returns
+returns : tie.Need-returns-then-must_shout
 returns c =
     let at-must-shout = c.before in
     let s = at-must-shout.before.before.before.before.before in
     let a = s.args in
     sought_refuses a.shouts (held_texts a.params.now) (held a.vars.now) (param_of a.text.now a.param) (as_units s) a.row.units
-    (sym at-must-shout.must-shout.ensures ∙ c.if1.true)
+    (sym at-must-shout.must_shout.ensures ∙ c.if-must_shout.true)
 
-give-value-requires : tie.Need-give-value-requires
+give-value-requires : tie.Need-give_value-requires
 give-value-requires c κs = search rules
 
-same_length : tie.Need-same-length
+same_length : tie.Need-shape_of-area
 same_length c = search rules
 
-returns-2 : tie.Need-returns-2
+returns-2 : tie.Need-returns
 returns-2 c =
     let at-give-value = c.before.before in
     let at-if = at-give-value.before.before in
     let at-must-shout = at-if.before in
     let s = at-must-shout.before.before.before.before.before in
     let a = s.args in
-    let g = at-give-value.give-value in
-    adds_same a.row.units a.on g.new.1.1.1.1.1.1.0 g.result
+    let g = at-give-value.give_value in
+    adds_same a.row.units a.on g.new.area g.result
     (sym (sought_gives a.shouts (held_texts a.params.now) (held a.vars.now) (param_of a.text.now a.param) (as_units s)
-    (sym at-must-shout.must-shout.ensures ∙ at-if.if1.false)))
+    (sym at-must-shout.must_shout.ensures ∙ at-if.if-must_shout.false)))
     g.ensures
 
 pub give_sought_spec : {M : Type 1} → statement M
-give_sought_spec = tie.close (tie.spec must-shout-requires returns give-value-requires same_length returns-2)
+give_sought_spec = tie.close (tie.spec
+    must-shout-requires
+    returns
+    give-value-requires
+    same_length
+    returns-2)

@@ -6,19 +6,23 @@ use Rattle.expand_item.proofs.give_unit.Statement.{statement}
 use Rattle.expand_item.proofs.give_unit.Tie as tie
 use mathlib.Core.Path.{refl}
 
-returns : tie.Need-returns
-returns c = measured_full c.before.before.before.args.row.units _ (omega arith)
+returns : tie.Need-returns-then-row-ge-ROW_LIMIT
+returns c = measured_full c.args.row.units _ (omega arith)
 
-put-unit-requires : tie.Need-put-unit-requires
+put-unit-requires : tie.Need-put_unit-requires
 put-unit-requires c κs = search rules
 
-same_length : tie.Need-same-length
+same_length : tie.Need-shape_of-area
 same_length c = search rules
 
-returns-2 : tie.Need-returns-2
+returns-2 : tie.Need-returns
 returns-2 c =
-    let a = c.before.before.before.before.before.before.before.args in
-    fronted_fits a.row.units a.on 1 _ _ _ refl (omega arith) c.before.before.put-unit.ensures
+    let a = c.args in
+    fronted_fits a.row.units a.on 1 _ _ _ refl (omega arith) c.put_unit.ensures
 
 pub give_unit_spec : {M : Type 1} → statement M
-give_unit_spec = tie.close (tie.spec returns put-unit-requires same_length returns-2)
+give_unit_spec = tie.close (tie.spec
+    returns
+    put-unit-requires
+    same_length
+    returns-2)

@@ -17,65 +17,65 @@ use Rattle.expand_list.proofs.give_list.Statement.{statement}
 use Rattle.expand_list.proofs.give_list.Tie as tie
 
 -- the places: the call, the mark, the gap, and the list counted
-abbrev start : tie.After-list-units → tie.Start
+abbrev start : tie.After-list_units-units → tie.Start
 start u = u.before.before.before.before.before.before.before
 
 -- the row that is to be added
-abbrev whole : tie.After-list-units → Row
+abbrev whole : tie.After-list_units-units → Row
 whole u =
     let a = (start u).args in
     list_row (spread_of a.apart) (mark_of a.row.mark) (held_texts a.params.now) (held a.vars.now)
 
 -- the same of the code's gap and mark
-same : (u : tie.After-list-units) →
-    between (gap_row u.before.before.gap_of.result) (mark_of u.before.before.before.expanded-mark.result)
+same : (u : tie.After-list_units-units) →
+    between (gap_row u.gap_of-gap.result) (mark_of u.expanded_mark-mark.result)
     (held_texts (start u).args.params.now) ≡ whole u
 same u =
     let a = (start u).args in
-    list_is (spread_of a.apart) (mark_of a.row.mark) (held_texts a.params.now) (held a.vars.now) u.before.before.before.expanded-mark.ensures
-    u.before.before.gap_of.ensures
+    list_is (spread_of a.apart) (mark_of a.row.mark) (held_texts a.params.now) (held a.vars.now) u.expanded_mark-mark.ensures
+    u.gap_of-gap.ensures
 
-counted : (u : tie.After-list-units) → length (whole u) ≡ u.list-units.result
-counted u = sym (u.list-units.ensures.is _ _ (sym u.before.gap-units.ensures) ∙ ap length (same u))
+counted : (u : tie.After-list_units-units) → length (whole u) ≡ u.list_units-units.result
+counted u = sym (u.list_units-units.ensures.is _ _ (sym u.gap_units.ensures) ∙ ap length (same u))
 
-expanded-mark-requires : tie.Need-expanded-mark-requires
+expanded-mark-requires : tie.Need-expanded_mark-mark-requires
 expanded-mark-requires c κs = search rules
 
-gap-of-requires : tie.Need-gap-of-requires
+gap-of-requires : tie.Need-gap_of-gap-requires
 gap-of-requires c κs = search rules
 
-gap-units-requires : tie.Need-gap-units-requires
+gap-units-requires : tie.Need-gap_units-requires
 gap-units-requires c κs = search rules
 
-list-units-requires : tie.Need-list-units-requires
+list-units-requires : tie.Need-list_units-units-requires
 list-units-requires c κs =
-    (c.before.before.before.before.before.before.requires.0.1, omega (arith, c.gap-units.ensures, gap_short c.before.gap_of.result))
+    (c.requires.0.1, omega (arith, c.gap_units.ensures, gap_short c.gap_of-gap.result))
 
-sub-room : tie.Need-overflow-sub-room
+sub-room : tie.Need-overflow_sub-room
 sub-room c = search rules
 
-returns : tie.Need-returns
+returns : tie.Need-returns-then-units-room
 returns c =
     let u = c.before.before in
-    measured_full (start u).args.row.units (whole u) (omega (arith, c.if1.true, counted u, (start u).requires.1.0))
+    measured_full (start u).args.row.units (whole u) (omega (arith, c.if-units-room.true, counted u, (start u).requires.1.0))
 
-put-list-requires : tie.Need-put-list-requires
+put-list-requires : tie.Need-put_list-requires
 put-list-requires c κs =
     let u = c.before.before.before in
     let p = (start u).requires in
-    (p.0.1, omega (arith, ap length (same u), counted u, c.before.if1.false, p.1.0, p.1.1))
+    (p.0.1, omega (arith, ap length (same u), counted u, c.if-units-room.false, p.1.0, p.1.1))
 
-same_length : tie.Need-same-length
+same_length : tie.Need-shape_of-area
 same_length c = search rules
 
-returns-2 : tie.Need-returns-2
+returns-2 : tie.Need-returns
 returns-2 c =
     let p = c.before.before in
     let u = p.before.before.before.before in
     let a = (start u).args in
-    fronted_fits a.row.units a.on u.list-units.result (whole u) a.area.now _ (counted u)
-    (omega (arith, p.before.before.if1.false, (start u).requires.1.0))
-    (p.put-list.ensures ∙ ap (λ (r : Row). fronted (row_bytes r) a.area.now) (same u))
+    fronted_fits a.row.units a.on u.list_units-units.result (whole u) a.area.now _ (counted u)
+    (omega (arith, p.if-units-room.false, (start u).requires.1.0))
+    (p.put_list.ensures ∙ ap (λ (r : Row). fronted (row_bytes r) a.area.now) (same u))
 
 pub give_list_spec : {M : Type 1} → statement M
 give_list_spec =

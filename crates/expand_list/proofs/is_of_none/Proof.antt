@@ -11,37 +11,37 @@ use Rattle.expand_list.proofs.is_of_none.Tie as tie
 all : (s : tie.Start) → Ahead s.args.params.now 1 (held_texts s.args.params.now)
 all s = ahead_first _ _ s.requires
 
-returns : tie.Need-returns
-returns c = none_joint c.before.before.args.apart (held_texts c.before.before.args.params.now) (not-true _ c.if1.true)
+returns : tie.Need-returns-then-not-apart
+returns c = none_joint c.args.apart (held_texts c.args.params.now) (not-true _ c.if-not-apart.true-raw)
 
-text-at-requires : tie.Need-text-at-requires
+text-at-requires : tie.Need-text_at-piece-requires
 text-at-requires c κs = search rules
 
-enum_told : tie.Need-enum-told
+enum_told : tie.Need-enum_told-1
 enum_told c = search rules
 
-enum-told-2 : tie.Need-enum-told-2
+enum-told-2 : tie.Need-enum_told-in-Bad
 enum-told-2 c = search rules
 
-enum-told-3 : tie.Need-enum-told-3
+enum-told-3 : tie.Need-enum_told-in-At
 enum-told-3 c = search rules
 
-returns-2 : tie.Need-returns-2
+returns-2 : tie.Need-returns-in-End
 returns-2 c =
-    let t = c.before.before in
+    let t = c.before in
     let s = t.before.before.before in
-    none_apart s.args.apart (not-false _ t.before.if1.false) (ahead_end (all s) t.text_at.ensures c.enum_told.given.1)
+    none_apart s.args.apart (not-false _ t.if-not-apart.false-raw) (ahead_end (all s) t.text_at-piece.ensures c.in-End.is)
 
-returns-3 : tie.Need-returns-3
+returns-3 : tie.Need-returns-in-Bad
 returns-3 c =
-    let t = c.before.before in
-    absurd (ahead_bad (all t.before.before.before) t.text_at.ensures c.enum-told2.given.1)
+    let t = c.before in
+    absurd (ahead_bad (all t.before.before.before) t.text_at-piece.ensures c.in-Bad.is)
 
-returns-4 : tie.Need-returns-4
+returns-4 : tie.Need-returns-in-At
 returns-4 c =
-    let t = c.before.before in
+    let t = c.before in
     let s = t.before.before.before in
-    some_apart s.args.apart (not-false _ t.before.if1.false) (ahead_text (all s) t.text_at.ensures c.enum-told3.given.1).is
+    some_apart s.args.apart (not-false _ t.if-not-apart.false-raw) (ahead_text (all s) t.text_at-piece.ensures c.in-At.is).is
 
 pub is_of_none_spec : {M : Type 1} → statement M
 is_of_none_spec =

@@ -6,23 +6,29 @@ use Rattle.expand_operand.proofs.Fronts.{stripped_waits}
 use Rattle.expand_operand.proofs.demand.Statement.{statement}
 use Rattle.expand_operand.proofs.demand.Tie as tie
 
-mul-end : tie.Need-overflow-mul-end
+mul-end : tie.Need-overflow_mul-end
 mul-end c = search rules
 
-slice-relend-prefix-strip-marks : tie.Need-slice-relend-prefix-strip-marks
+slice-relend-prefix-strip-marks : tie.Need-slice_bounds-strip_marks-end
 slice-relend-prefix-strip-marks c = search rules
 
-slice-aggregate-strip-marks : tie.Need-slice-aggregate-strip-marks
-slice-aggregate-strip-marks c = let s = c.before.before in sym (length-take-le _ s.args.work.now s.requires)
+slice-aggregate-strip-marks : tie.Need-slice_bounds-strip_marks-end-2
+slice-aggregate-strip-marks c = let s = c in sym (length-take-le _ s.args.work.now s.requires)
 
-strip-marks-requires : tie.Need-strip-marks-requires
+strip-marks-requires : tie.Need-strip_marks-n-requires
 strip-marks-requires c κs = search rules
 
-same_length : tie.Need-same-length
+same_length : tie.Need-shape_of-work
 same_length c = search rules
 
 returns : tie.Need-returns
-returns c = stripped_waits _ c.before.before.strip-marks.ensures
+returns c = stripped_waits _ c.strip_marks-n.ensures
 
 pub demand_spec : {M : Type 1} → statement M
-demand_spec = tie.close (tie.spec mul-end slice-relend-prefix-strip-marks slice-aggregate-strip-marks strip-marks-requires same_length returns)
+demand_spec = tie.close (tie.spec
+    mul-end
+    slice-relend-prefix-strip-marks
+    slice-aggregate-strip-marks
+    strip-marks-requires
+    same_length
+    returns)

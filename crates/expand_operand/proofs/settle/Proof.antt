@@ -28,34 +28,34 @@ known : (s : tie.Start) {unused : Unused} → s.args.unused ≡ unused → (area
     → Gives s s.args.unused area r
 known s e area r h = subst (λ (u : Unused). Gives s u area r) (sym e) h
 
-enum_told : tie.Need-enum-told
+enum_told : tie.Need-enum_told-1
 enum_told c = search rules
 
-give-value-requires : tie.Need-give-value-requires
+give-value-requires : tie.Need-give_value-requires
 give-value-requires c κs = search rules
 
-enum-told-2 : tie.Need-enum-told-2
+enum-told-2 : tie.Need-enum_told-in-Nothing
 enum-told-2 c = search rules
 
-same_length : tie.Need-same-length
+same_length : tie.Need-shape_of-work
 same_length c = search rules
 
-returns : tie.Need-returns
+returns : tie.Need-returns-in-Value
 returns c =
-    let g = c.before.before.give-value in
+    let g = c.give_value in
     let told = c.before.before.before.before in
-    let s = told.before.before.before.before.before.before in
+    let s = told.before.before.before.before.before in
     let a = s.args in
-    known s told.enum_told.given.1 g.new.1.1.1.1.1.1.0 g.result
+    known s told.in-Value.is g.new.area g.result
     (λ room shouts homes. settle_value (lent_of room shouts homes a.params.now) a.vars.now a.params.now refl a.row.units a.on
-    (param_of a.text.now a.param) (mark_of a.row.mark) g.new.1.1.1.1.1.1.0 g.result g.ensures)
+    (param_of a.text.now a.param) (mark_of a.row.mark) g.new.area g.result g.ensures)
 
-returns-2 : tie.Need-returns-2
+returns-2 : tie.Need-returns-in-Nothing
 unfolding settled
 returns-2 c =
-    let s = c.before.before.before.before.before.before in
+    let s = c.before.before.before.before.before in
     let a = s.args in
-    known s c.enum-told2.given.1 a.work.now (answer.Row 0 a.on.next a.on.vars_used a.on.of_none)
+    known s c.in-Nothing.is a.work.now (answer.Row 0 a.on.next a.on.vars_used a.on.of_none)
     (λ room shouts homes. adds_none a.row.units a.on a.work.now s.requires.3)
 
 pub settle_spec : {M : Type 1} → statement M

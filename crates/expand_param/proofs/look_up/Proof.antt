@@ -6,34 +6,34 @@ use Rattle.expand_param.proofs.Finding.{finds_name, finds_number}
 use Rattle.expand_param.proofs.look_up.Statement.{statement}
 use Rattle.expand_param.proofs.look_up.Tie as tie
 
-sub-called : tie.Need-overflow-sub-called
+sub-called : tie.Need-slice_bounds-called-count
 sub-called c = search rules
 
-part-called-start : tie.Need-slice-bounds-called-start
+part-called-start : tie.Need-slice_bounds-called-start
 part-called-start c = search rules
 
-part-called-end : tie.Need-slice-bounds-called-end
+part-called-end : tie.Need-slice_bounds-called-end
 part-called-end c = search rules
 
-number-of-requires : tie.Need-number-of-requires
+number-of-requires : tie.Need-number_of-number-requires
 number-of-requires c κs = search rules
 
-find-text-requires : tie.Need-find-text-requires
+find-text-requires : tie.Need-find_text-requires
 find-text-requires c κs = search rules
 
-returns : tie.Need-returns
+returns : tie.Need-returns-then-param
 returns c =
-    let s = c.before.before.before.before.before.before.before in
+    let s = c in
     finds_number s.args.vars.now s.args.params.now (part s.args.text.now s.args.param.from s.args.param.to) s.requires.2 (omega arith)
-    c.before.number_of_lem.ensures c.before.before.if1.true c.find-text.ensures
+    c.number_of-number.ensures c.if-param.true c.find_text.ensures
 
-look-up-requires : tie.Need-look-up-requires
+look-up-requires : tie.Need-look_up-requires
 look-up-requires c κs = search rules
 
-returns-2 : tie.Need-returns-2
+returns-2 : tie.Need-returns
 returns-2 c =
-    let s = c.before.before.before.before.before.before in
-    finds_name s.args.vars.now s.args.params.now (part s.args.text.now s.args.param.from s.args.param.to) c.before.if1.false
+    let s = c in
+    finds_name s.args.vars.now s.args.params.now (part s.args.text.now s.args.param.from s.args.param.to) c.if-param.false
     c.look_up.ensures
 
 pub look_up_spec : {M : Type 1} → statement M

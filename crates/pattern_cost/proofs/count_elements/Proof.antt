@@ -12,52 +12,52 @@ use borrow.Author.Rules.{rules}
 use Rattle.pattern_cost.proofs.count_elements.Statement.{statement}
 use Rattle.pattern_cost.proofs.count_elements.Tie as tie
 
-abbrev invariant_loop : tie.invariant_loop
+abbrev invariant_loop : tie.invariant-loop-at
 invariant_loop pattern elements₀ at₀ elements at = Tallied pattern at elements
 
-abbrev decreases_loop : tie.decreases_loop
+abbrev decreases_loop : tie.decreases-loop-at
 decreases_loop pattern elements₀ at₀ elements at = length pattern - at
 
 -- the element at `at`, where it is read
-stood : (c : tie.After-search-piece invariant_loop decreases_loop) →
-    let q = c.search-piece.result in
-    let at = c.before.before.loop.at in
-    Standing Plain false c.before.before.before.before.args.pattern.now at q (behind_of Plain q at)
-stood c = record { there = omega (arith, c.before.loop-test.true); is = c.search-piece.ensures; ends = refl }
+stood : (c : tie.After-search_piece-piece invariant_loop decreases_loop) →
+    let q = c.search_piece-piece.result in
+    let at = c.loop-at.at in
+    Standing Plain false c.args.pattern.now at q (behind_of Plain q at)
+stood c = record { there = omega (arith, c.loop-at-test.true); is = c.search_piece-piece.ensures; ends = refl }
 
 -- and with the place behind it
-stands : (c : tie.After-behind invariant_loop decreases_loop) →
-    let r = c.before.before.before in
-    Standing Plain false r.before.before.before.before.args.pattern.now r.before.before.loop.at r.search-piece.result c.behind.result
-stands c = let s = stood c.before.before.before in record { there = s.there; is = s.is; ends = c.behind.ensures }
+stands : (c : tie.After-behind-at invariant_loop decreases_loop) →
+    let r = c in
+    Standing Plain false r.args.pattern.now r.loop-at.at r.search_piece-piece.result c.behind-at.result
+stands c = let s = stood c.before.before.before in record { there = s.there; is = s.is; ends = c.behind-at.ensures }
 
-loop-holds : tie.Need-loop-init invariant_loop decreases_loop
-loop-holds c = tallied_start c.before.args.pattern.now
+loop-holds : tie.Need-loop-at-init invariant_loop decreases_loop
+loop-holds c = tallied_start c.args.pattern.now
 
-search-piece-requires : tie.Need-search-piece-requires invariant_loop decreases_loop
-search-piece-requires c κs = omega (arith, c.loop-test.true)
+search-piece-requires : tie.Need-search_piece-piece-requires invariant_loop decreases_loop
+search-piece-requires c κs = omega (arith, c.loop-at-test.true)
 
-is-refusing-requires : tie.Need-is-refusing-requires invariant_loop decreases_loop
+is-refusing-requires : tie.Need-is_refusing-requires invariant_loop decreases_loop
 is-refusing-requires c κs = search rules
 
-returns : tie.Need-returns invariant_loop decreases_loop
-returns c = tallied_class c.before.before.before.before.loop.invariant (stood c.before.before) (sym c.before.is-refusing.ensures ∙ c.if1.true)
+returns : tie.Need-returns-then-is_refusing invariant_loop decreases_loop
+returns c = tallied_class c.loop-at.invariant (stood c.before.before) (sym c.is_refusing.ensures ∙ c.if-is_refusing.true)
 
-add-elements : tie.Need-overflow-add-elements invariant_loop decreases_loop
-add-elements c = let t = c.before.before.before.before.loop.invariant in omega (arith, t.fits, c.before.before.before.loop-test.true)
+add-elements : tie.Need-overflow_add-elements invariant_loop decreases_loop
+add-elements c = let t = c.loop-at.invariant in omega (arith, t.fits, c.loop-at-test.true)
 
-behind-requires : tie.Need-behind-requires invariant_loop decreases_loop
+behind-requires : tie.Need-behind-at-requires invariant_loop decreases_loop
 behind-requires c κs = omega (arith, piece_inside (stood c.before.before))
 
-loop-less : tie.Need-loop-smaller invariant_loop decreases_loop
-loop-less c = omega (arith, piece_further (stands c), c.before.before.before.before.loop-test.true)
+loop-less : tie.Need-loop-at-smaller invariant_loop decreases_loop
+loop-less c = omega (arith, piece_further (stands c), c.loop-at-test.true)
 
-loop-again : tie.Need-loop-preserved invariant_loop decreases_loop
+loop-again : tie.Need-loop-at-preserved invariant_loop decreases_loop
 loop-again c =
-    tallied_step c.before.before.before.before.before.loop.invariant (stands c) (sym c.before.before.is-refusing.ensures ∙ c.before.if1.false)
+    tallied_step c.loop-at.invariant (stands c) (sym c.is_refusing.ensures ∙ c.if-is_refusing.false)
 
-returns-2 : tie.Need-returns-2 invariant_loop decreases_loop
-returns-2 c = tallied_end c.before.loop.invariant c.loop-test.false
+returns-2 : tie.Need-returns invariant_loop decreases_loop
+returns-2 c = tallied_end c.loop-at.invariant c.loop-at-test.false
 
 pub count_elements_spec : {M : Type 1} → statement M
 count_elements_spec =

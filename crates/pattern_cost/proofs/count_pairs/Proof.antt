@@ -14,101 +14,101 @@ use borrow.Author.Rules.{rules}
 use Rattle.pattern_cost.proofs.count_pairs.Statement.{statement}
 use Rattle.pattern_cost.proofs.count_pairs.Tie as tie
 
-abbrev invariant_loop : tie.invariant_loop
+abbrev invariant_loop : tie.invariant-loop-at
 invariant_loop pattern text area₀ width count₀ base₀ at₀ area count base at =
     Counting pattern text area at base count × (width ≡ length text + 1) × (length area ≡ length area₀)
 
-abbrev decreases_loop : tie.decreases_loop
+abbrev decreases_loop : tie.decreases-loop-at
 decreases_loop pattern text area₀ width count₀ base₀ at₀ area count base at = length pattern - at
 
 -- the element at `at`, where it is read
-stood : (c : tie.After-search-piece invariant_loop decreases_loop) →
-    let at = c.before.before.loop.at in
-    let q = c.search-piece.result in
-    Standing Plain false c.before.before.before.before.before.before.args.pattern.now at q (behind_of Plain q at)
-stood c = record { there = omega (arith, c.before.loop-test.true); is = c.search-piece.ensures; ends = refl }
+stood : (c : tie.After-search_piece-piece invariant_loop decreases_loop) →
+    let at = c.loop-at.at in
+    let q = c.search_piece-piece.result in
+    Standing Plain false c.args.pattern.now at q (behind_of Plain q at)
+stood c = record { there = omega (arith, c.loop-at-test.true); is = c.search_piece-piece.ensures; ends = refl }
 
 -- and with the place behind it
-stands : (c : tie.After-behind invariant_loop decreases_loop) →
-    let r = c.before.before.before.before.before.before.before in
-    let p = r.before.before.before.before.before.before.args.pattern.now in
-    Standing Plain false p r.before.before.loop.at r.search-piece.result c.behind.result
-stands c = let s = stood c.before.before.before.before.before.before.before in record { there = s.there; is = s.is; ends = c.behind.ensures }
+stands : (c : tie.After-behind-at invariant_loop decreases_loop) →
+    let r = c in
+    let p = r.args.pattern.now in
+    Standing Plain false p r.loop-at.at r.search_piece-piece.result c.behind-at.result
+stands c = let s = stood c.before.before.before.before.before.before.before in record { there = s.there; is = s.is; ends = c.behind-at.ensures }
 
 -- what the loop has of the area's length
-long : (c : tie.At-loop invariant_loop decreases_loop) → length c.loop.area ≡ length c.before.before.before.before.args.area.now
-long c = c.loop.invariant.2 ∙ length-set c.before.before.before.before.args.area.now 0 _
+long : (c : tie.At-loop-at invariant_loop decreases_loop) → length c.loop-at.area ≡ length c.args.area.now
+long c = c.loop-at.invariant.2 ∙ length-set c.args.area.now 0 _
 
-add-width : tie.Need-overflow-add-width invariant_loop decreases_loop
+add-width : tie.Need-overflow_add-width invariant_loop decreases_loop
 add-width c = search rules
 
-slice-write-area : tie.Need-slice-write-area invariant_loop decreases_loop
-slice-write-area c = omega (arith, c.before.before.before.requires.room)
+slice-write-area : tie.Need-bounds-area-0 invariant_loop decreases_loop
+slice-write-area c = omega (arith, c.requires.room)
 
-loop-holds : tie.Need-loop-init invariant_loop decreases_loop
-loop-holds c = (counting_start _ _ _ c.before.before.before.requires, refl, refl)
+loop-holds : tie.Need-loop-at-init invariant_loop decreases_loop
+loop-holds c = (counting_start _ _ _ c.requires, refl, refl)
 
-search-piece-requires : tie.Need-search-piece-requires invariant_loop decreases_loop
-search-piece-requires c κs = omega (arith, c.loop-test.true)
+search-piece-requires : tie.Need-search_piece-piece-requires invariant_loop decreases_loop
+search-piece-requires c κs = omega (arith, c.loop-at-test.true)
 
-matched-by-requires : tie.Need-matched-by-requires invariant_loop decreases_loop
+matched-by-requires : tie.Need-matched_by-set-requires invariant_loop decreases_loop
 matched-by-requires c κs = piece_within (stood c)
 
-is-star-requires : tie.Need-is-star-requires invariant_loop decreases_loop
+is-star-requires : tie.Need-is_star-requires invariant_loop decreases_loop
 is-star-requires c κs = search rules
 
-walk-row-requires : tie.Need-walk-row-requires invariant_loop decreases_loop
-walk-row-requires c κs = let l = c.before.before.before.before.before.loop in (row_room _ _ l.invariant.0, l.invariant.0.clear)
+walk-row-requires : tie.Need-walk_row-count-requires invariant_loop decreases_loop
+walk-row-requires c κs = let l = c.loop-at in (row_room _ _ l.invariant.0, l.invariant.0.clear)
 
-add-count : tie.Need-overflow-add-count invariant_loop decreases_loop
+add-count : tie.Need-overflow_add-count invariant_loop decreases_loop
 add-count c =
     let l = c.before.before.before.before.before.before.before.before in
-    omega (arith, count_fits _ _ l.loop.invariant.0 (row_most c.before.before.walk-row.ensures), long l)
+    omega (arith, count_fits _ _ l.loop-at.invariant.0 (row_most c.walk_row-count.ensures), long l)
 
-add-base : tie.Need-overflow-add-base invariant_loop decreases_loop
+add-base : tie.Need-overflow_add-base invariant_loop decreases_loop
 add-base c =
     let l = c.before.before.before.before.before.before.before.before in
-    omega (arith, l.loop.invariant.0.room, l.loop.invariant.1, long l)
+    omega (arith, l.loop-at.invariant.0.room, l.loop-at.invariant.1, long l)
 
-behind-requires : tie.Need-behind-requires invariant_loop decreases_loop
+behind-requires : tie.Need-behind-at-requires invariant_loop decreases_loop
 behind-requires c κs = omega (arith, piece_inside (stood c.before.before.before.before.before.before))
 
-loop-less : tie.Need-loop-smaller invariant_loop decreases_loop
-loop-less c = omega (arith, piece_further (stands c), c.before.before.before.before.before.before.before.before.loop-test.true)
+loop-less : tie.Need-loop-at-smaller invariant_loop decreases_loop
+loop-less c = omega (arith, piece_further (stands c), c.loop-at-test.true)
 
-loop-again : tie.Need-loop-preserved invariant_loop decreases_loop
+loop-again : tie.Need-loop-at-preserved invariant_loop decreases_loop
 loop-again c =
-    let l = c.before.before.before.before.before.before.before.before.before.loop in
-    let w = c.before.before.before.walk-row in
-    let m = c.before.before.before.before.before.before.matched-by in
-    let t = c.before.before.before.before.before.before.before.before.before.before.before in (
-      counting_step _ _ l.invariant.0 (stands c) c.before.before.before.before.before.is_star_lem.ensures (has m.result.words)
-          (λ k b. m.ensures (get_or t.before.before.args.text.now k 0) (omega (arith, t.shared-slice-known2.given k))) w.ensures
-          w.auto.1.1.1.0,
+    let l = c.loop-at in
+    let w = c.walk_row-count in
+    let m = c.matched_by-set in
+    let t = c in (
+      counting_step _ _ l.invariant.0 (stands c) c.is_star.ensures (has m.result.words)
+          (λ k b. m.ensures (get_or t.args.text.now k 0) (omega (arith, t.shared_slice_known-2-1.given k))) w.ensures
+          w.auto.area,
       refl,
-      w.auto.1.1.1.0 ∙ l.invariant.2,
+      w.auto.area ∙ l.invariant.2,
     )
 
 none-requires : tie.Need-none-requires invariant_loop decreases_loop
 none-requires c κs = search rules
 
-walk-row-requires-2 : tie.Need-walk-row-requires-2 invariant_loop decreases_loop
-walk-row-requires-2 c κs = let l = c.before.before.before.loop in (row_room _ _ l.invariant.0, l.invariant.0.clear)
+walk-row-requires-2 : tie.Need-walk_row-requires invariant_loop decreases_loop
+walk-row-requires-2 c κs = let l = c.loop-at in (row_room _ _ l.invariant.0, l.invariant.0.clear)
 
-add-result : tie.Need-overflow-add-result invariant_loop decreases_loop
+add-result : tie.Need-overflow_add-result invariant_loop decreases_loop
 add-result c =
     let l = c.before.before.before.before.before.before in
-    omega (arith, count_fits _ _ l.loop.invariant.0 (row_most c.before.before.walk-row2.ensures), long l)
+    omega (arith, count_fits _ _ l.loop-at.invariant.0 (row_most c.walk_row.ensures), long l)
 
-same_length : tie.Need-same-length invariant_loop decreases_loop
-same_length c = c.before.before.walk-row2.auto.1.1.1.0 ∙ long c.before.before.before.before.before.before
+same_length : tie.Need-shape_of-area invariant_loop decreases_loop
+same_length c = c.walk_row.auto.area ∙ long c.before.before.before.before.before.before
 
 returns : tie.Need-returns invariant_loop decreases_loop
 returns c =
-    let t = c.before.before.before.before.before.before.before.before in
-    counting_end _ _ c.before.before.before.before.before.before.loop.invariant.0 c.before.before.before.before.before.loop-test.false
-    (λ k b. c.before.before.before.before.none.ensures (get_or t.before.before.args.text.now k 0) (omega (arith, t.shared-slice-known2.given k)))
-    c.before.before.walk-row2.ensures (same_length c)
+    let t = c in
+    counting_end _ _ c.loop-at.invariant.0 c.loop-at-test.false
+    (λ k b. c.none.ensures (get_or t.args.text.now k 0) (omega (arith, t.shared_slice_known-2-1.given k)))
+    c.walk_row.ensures (same_length c)
 
 pub count_pairs_spec : {M : Type 1} → statement M
 count_pairs_spec =

@@ -7,55 +7,55 @@ use borrow.Author.Rules.{rules}
 use Rattle.pattern_cost.proofs.lead_on.Statement.{statement}
 use Rattle.pattern_cost.proofs.lead_on.Tie as tie
 
-add-area : tie.Need-overflow-add-area
+add-area : tie.Need-overflow_add-area
 add-area c = search rules
 
-slice-write-area : tie.Need-slice-write-area
+slice-write-area : tie.Need-bounds-area-here
 slice-write-area c = search rules
 
-same_length : tie.Need-same-length
+same_length : tie.Need-shape_of-area-then-not-more
 same_length c = search rules
 
-returns : tie.Need-returns
+returns : tie.Need-returns-then-not-more
 returns c =
-    let a = c.before.before.args in
-    lead_row a.area.now a.here a.width (omega arith) a.star a.more a.taken c.before.if1.true (not-true _ c.if2.true)
+    let a = c.args in
+    lead_row a.area.now a.here a.width (omega arith) a.star a.more a.taken c.if-star.true (not-true _ c.if-not-more.true-raw)
 
-add-area-2 : tie.Need-overflow-add-area-2
+add-area-2 : tie.Need-overflow_add-area-then-star
 add-area-2 c = search rules
 
-slice-write-area-2 : tie.Need-slice-write-area-2
+slice-write-area-2 : tie.Need-bounds-area-here-then-star
 slice-write-area-2 c = simp length-set (omega arith)
 
-same-length-2 : tie.Need-same-length-2
+same-length-2 : tie.Need-shape_of-area-then-star
 same-length-2 c = search rules
 
-returns-2 : tie.Need-returns-2
+returns-2 : tie.Need-returns-then-star
 returns-2 c =
-    let a = c.before.before.args in
-    lead_star a.area.now a.here a.width (omega arith) a.star a.more a.taken c.before.if1.true (not-false _ c.if2.false)
+    let a = c.args in
+    lead_star a.area.now a.here a.width (omega arith) a.star a.more a.taken c.if-star.true (not-false _ c.if-not-more.false-raw)
 
-add-area-3 : tie.Need-overflow-add-area-3
+add-area-3 : tie.Need-overflow_add-area-then-taken
 add-area-3 c = search rules
 
-add-area-4 : tie.Need-overflow-add-area-4
+add-area-4 : tie.Need-overflow_add-area-then-taken-2
 add-area-4 c = search rules
 
-slice-write-area-3 : tie.Need-slice-write-area-3
+slice-write-area-3 : tie.Need-bounds-area-here-then-taken
 slice-write-area-3 c = search rules
 
-same-length-3 : tie.Need-same-length-3
+same-length-3 : tie.Need-shape_of-area
 same-length-3 c = search rules
 
-returns-3 : tie.Need-returns-3
+returns-3 : tie.Need-returns-then-taken
 returns-3 c =
-    let a = c.before.before.args in
-    lead_both a.area.now a.here a.width (omega arith) a.star a.more a.taken c.before.if1.false c.if3.true
+    let a = c.args in
+    lead_both a.area.now a.here a.width (omega arith) a.star a.more a.taken c.if-star.false c.if-taken.true
 
-returns-4 : tie.Need-returns-4
+returns-4 : tie.Need-returns-else-taken
 returns-4 c =
-    let a = c.before.before.args in
-    lead_nowhere a.area.now a.here a.width (omega arith) a.star a.more a.taken c.before.if1.false c.if3.false
+    let a = c.args in
+    lead_nowhere a.area.now a.here a.width (omega arith) a.star a.more a.taken c.if-star.false c.if-taken.false
 
 pub lead_on_spec : {M : Type 1} → statement M
 lead_on_spec =

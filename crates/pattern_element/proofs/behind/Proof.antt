@@ -7,103 +7,103 @@ use borrow.Author.Rules.{rules}
 use Rattle.pattern_element.proofs.behind.Statement.{statement}
 use Rattle.pattern_element.proofs.behind.Tie as tie
 
-unit-size-requires : tie.Need-unit-size-requires
+unit-size-requires : tie.Need-unit_size-size-requires
 unit-size-requires c κs = search rules
 
-enum_told : tie.Need-enum-told
+enum_told : tie.Need-enum_told-1
 enum_told c = search rules
 
-add-result : tie.Need-overflow-add-result
+add-result : tie.Need-overflow_add-result
 add-result c =
-    let a = c.before.before.before.args in
+    let a = c.args in
     omega (
       arith,
-      c.before.before.before.requires,
-      c.before.before.unit_size.ensures,
+      c.requires,
+      c.unit_size-size.ensures,
       ap (λ (q : Piece). behind_of a.width q a.at)
-          c.enum_told.given.1,
+          c.in-Star.is,
     )
 
-enum-told-2 : tie.Need-enum-told-2
+enum-told-2 : tie.Need-enum_told-in-One
 enum-told-2 c = search rules
 
-add-result-2 : tie.Need-overflow-add-result-2
+add-result-2 : tie.Need-overflow_add-result-in-One
 add-result-2 c =
-    let a = c.before.before.before.args in
+    let a = c.args in
     omega (
       arith,
-      c.before.before.before.requires,
-      c.before.before.unit_size.ensures,
+      c.requires,
+      c.unit_size-size.ensures,
       ap (λ (q : Piece). behind_of a.width q a.at)
-          c.enum-told2.given.1,
+          c.in-One.is,
     )
 
-enum-told-3 : tie.Need-enum-told-3
+enum-told-3 : tie.Need-enum_told-in-Byte
 enum-told-3 c = search rules
 
-add-result-3 : tie.Need-overflow-add-result-3
+add-result-3 : tie.Need-overflow_add-result-in-Byte
 add-result-3 c =
-    let a = c.before.before.before.args in
+    let a = c.args in
     omega (
       arith,
-      c.before.before.before.requires,
-      c.before.before.unit_size.ensures,
+      c.requires,
+      c.unit_size-size.ensures,
       ap (λ (q : Piece). behind_of a.width q a.at)
-          c.enum-told3.given.1,
+          c.in-Byte.is,
     )
 
-enum-told-4 : tie.Need-enum-told-4
+enum-told-4 : tie.Need-enum_told-in-Refusing
 enum-told-4 c = search rules
 
-add-result-4 : tie.Need-overflow-add-result-4
+add-result-4 : tie.Need-overflow_add-result-in-Refusing
 add-result-4 c =
-    let a = c.before.before.before.args in
+    let a = c.args in
     omega (
       arith,
-      c.before.before.before.requires,
-      c.before.before.unit_size.ensures,
+      c.requires,
+      c.unit_size-size.ensures,
       ap (λ (q : Piece). behind_of a.width q a.at)
-          c.enum-told4.given.1,
+          c.in-Refusing.is,
     )
 
-enum-known-piece : tie.Need-enum-known-piece
+enum-known-piece : tie.Need-enum_known-piece
 enum-known-piece c = search rules
 
-add-result-5 : tie.Need-overflow-add-result-5
+add-result-5 : tie.Need-overflow_add-result-in-Set
 add-result-5 c =
-    let a = c.before.before.before.before.args in
+    let a = c.args in
     omega (
       arith,
-      c.before.before.before.before.requires,
-      c.before.before.before.unit_size.ensures,
+      c.requires,
+      c.unit_size-size.ensures,
       ap
-          (λ (q : Piece). behind_of a.width q a.at) c.before.piece.given.1,
+          (λ (q : Piece). behind_of a.width q a.at) c.in-Set.is,
     )
 
-returns : tie.Need-returns
+returns : tie.Need-returns-in-Star
 returns c =
-    let a = c.before.before.before.args in
-    omega (arith, c.before.before.unit_size.ensures, ap (λ (q : Piece). behind_of a.width q a.at) c.enum_told.given.1)
+    let a = c.args in
+    omega (arith, c.unit_size-size.ensures, ap (λ (q : Piece). behind_of a.width q a.at) c.in-Star.is)
 
-returns-2 : tie.Need-returns-2
+returns-2 : tie.Need-returns-in-One
 returns-2 c =
-    let a = c.before.before.before.args in
-    omega (arith, c.before.before.unit_size.ensures, ap (λ (q : Piece). behind_of a.width q a.at) c.enum-told2.given.1)
+    let a = c.args in
+    omega (arith, c.unit_size-size.ensures, ap (λ (q : Piece). behind_of a.width q a.at) c.in-One.is)
 
-returns-3 : tie.Need-returns-3
+returns-3 : tie.Need-returns-in-Byte
 returns-3 c =
-    let a = c.before.before.before.args in
-    omega (arith, c.before.before.unit_size.ensures, ap (λ (q : Piece). behind_of a.width q a.at) c.enum-told3.given.1)
+    let a = c.args in
+    omega (arith, c.unit_size-size.ensures, ap (λ (q : Piece). behind_of a.width q a.at) c.in-Byte.is)
 
-returns-4 : tie.Need-returns-4
+returns-4 : tie.Need-returns-in-Refusing
 returns-4 c =
-    let a = c.before.before.before.args in
-    omega (arith, c.before.before.unit_size.ensures, ap (λ (q : Piece). behind_of a.width q a.at) c.enum-told4.given.1)
+    let a = c.args in
+    omega (arith, c.unit_size-size.ensures, ap (λ (q : Piece). behind_of a.width q a.at) c.in-Refusing.is)
 
-returns-5 : tie.Need-returns-5
+returns-5 : tie.Need-returns-in-Set
 returns-5 c =
-    let a = c.before.before.before.before.args in
-    omega (arith, c.before.before.before.unit_size.ensures, ap (λ (q : Piece). behind_of a.width q a.at) c.before.piece.given.1)
+    let a = c.args in
+    omega (arith, c.unit_size-size.ensures, ap (λ (q : Piece). behind_of a.width q a.at) c.in-Set.is)
 
 pub behind_spec : {M : Type 1} → statement M
 behind_spec =

@@ -13,67 +13,67 @@ use Rattle.pattern_element.proofs.piece_at.Statement.{statement}
 use Rattle.pattern_element.proofs.piece_at.Tie as tie
 
 -- no star stands there ..
-no_star_lem : (c : tie.Else1) → let a = c.before.before.before.before.args in begins 42 (signs_by a.width (drop a.at a.pattern.now)) ≡ false
-no_star_lem c = sym c.before.is_live.ensures ∙ c.if1.false
+no_star_lem : (c : tie.Else-is_live) → let a = c.args in begins 42 (signs_by a.width (drop a.at a.pattern.now)) ≡ false
+no_star_lem c = sym c.is_live.ensures ∙ c.if-is_live.false
 
 -- .. and no `?`
-no_query : (c : tie.Else2) →
-    let a = c.before.before.before.before.before.before.args in
+no_query : (c : tie.Else-is_live-2) →
+    let a = c.args in
     begins 63 (signs_by a.width (drop a.at a.pattern.now)) ≡ false
-no_query c = sym c.before.is-live2.ensures ∙ c.if2.false
+no_query c = sym c.is_live-2.ensures ∙ c.if-is_live-2.false
 
-is-live-requires : tie.Need-is-live-requires
+is-live-requires : tie.Need-is_live-requires
 is-live-requires c κs = search rules
 
-returns : tie.Need-returns
+returns : tie.Need-returns-then-is_live
 returns c =
-    let a = c.before.before.before.before.args in
-    piece_star a.width a.path a.pattern.now a.at c.before.before.before.before.requires.0 (sym c.before.is_live.ensures ∙ c.if1.true)
+    let a = c.args in
+    piece_star a.width a.path a.pattern.now a.at c.requires.0 (sym c.is_live.ensures ∙ c.if-is_live.true)
 
-is-live-requires-2 : tie.Need-is-live-requires-2
+is-live-requires-2 : tie.Need-is_live-requires-2
 is-live-requires-2 c κs = search rules
 
-returns-2 : tie.Need-returns-2
+returns-2 : tie.Need-returns-then-is_live-2
 returns-2 c =
-    let s = c.before.before.before.before.before.before in
+    let s = c in
     let a = s.args in
     piece_one a.width a.path a.pattern.now a.at s.requires.0 (no_star_lem c.before.before)
-    (sym c.before.is-live2.ensures ∙ c.if2.true)
+    (sym c.is_live-2.ensures ∙ c.if-is_live-2.true)
 
-is-live-requires-3 : tie.Need-is-live-requires-3
+is-live-requires-3 : tie.Need-is_live-requires-3
 is-live-requires-3 c κs = search rules
 
-unit-size-requires : tie.Need-unit-size-requires
+unit-size-requires : tie.Need-unit_size-requires
 unit-size-requires c κs = search rules
 
-add-bracket-at : tie.Need-overflow-add-bracket-at
+add-bracket-at : tie.Need-overflow_add-at
 add-bracket-at c = search rules
 
-bracket-at-requires : tie.Need-bracket-at-requires
+bracket-at-requires : tie.Need-bracket_at-requires
 bracket-at-requires c κs =
-    let s = c.before.before.before.before.before.before.before.before.before in
+    let s = c in
     rw c.unit_size.ensures (s.requires.0, served_behind s.requires.1)
 
-returns-3 : tie.Need-returns-3
+returns-3 : tie.Need-returns-then-is_live-3
 returns-3 c =
-    let s = c.before.before.before.before.before.before.before.before.before.before in
+    let s = c in
     let a = s.args in
-    c.bracket-at.ensures
-    ∙ rw c.before.unit_size.ensures
+    c.bracket_at.ensures
+    ∙ rw c.unit_size.ensures
     (piece_bracket a.width a.path a.pattern.now a.at s.requires.0 (no_star_lem c.before.before.before.before.before.before)
-    (no_query c.before.before.before.before) (sym c.before.before.before.is-live3.ensures ∙ c.before.before.if3.true))
+    (no_query c.before.before.before.before) (sym c.is_live-3.ensures ∙ c.if-is_live-3.true))
 
-shared-slice-read-t12 : tie.Need-shared-slice-read-t12
+shared-slice-read-t12 : tie.Need-bounds-pattern-at
 shared-slice-read-t12 c =
-    let s = c.before.before.before.before.before.before.before.before.before in
+    let s = c in
     omega (arith, s.requires.0, size_bounds s.args.width)
 
-returns-4 : tie.Need-returns-4
+returns-4 : tie.Need-returns
 returns-4 c =
-    let s = c.before.before.before.before.before.before.before.before.before in
+    let s = c in
     let a = s.args in
     piece_byte a.width a.path a.pattern.now a.at s.requires.0 (no_star_lem c.before.before.before.before.before)
-    (no_query c.before.before.before) (sym c.before.before.is-live3.ensures ∙ c.before.if3.false)
+    (no_query c.before.before.before) (sym c.is_live-3.ensures ∙ c.if-is_live-3.false)
 
 pub piece_at_spec : {M : Type 1} → statement M
 piece_at_spec =

@@ -16,144 +16,144 @@ use Rattle.pattern_match.proofs.Ends.{trails_on}
 use Rattle.pattern_match.proofs.behind_star.Statement.{statement}
 use Rattle.pattern_match.proofs.behind_star.Tie as tie
 
-abbrev invariant_loop : tie.invariant_loop
+abbrev invariant_loop : tie.invariant-loop-at
 invariant_loop cells sets text path last start since begins at₀ k₀ first₀ at k first =
     (at ≤ length cells) × (k ≤ length text)
     × ((es : List Element) → Shows sets cells es
     → behind_star path (drop start es) false begins (drop since text) ≡ behind_star path (drop at es) false first (drop k text))
 
-abbrev decreases_loop : tie.decreases_loop
+abbrev decreases_loop : tie.decreases-loop-at
 decreases_loop cells sets text path last start since begins at₀ k₀ first₀ at k first = (length cells - at) + (length text - k)
 
-loop-holds : tie.Need-loop-init invariant_loop decreases_loop
-loop-holds c = (c.before.before.before.requires.1.1.0, c.before.before.before.requires.1.1.1, λ es s. refl)
+loop-holds : tie.Need-loop-at-init invariant_loop decreases_loop
+loop-holds c = (c.requires.1.1.0, c.requires.1.1.1, λ es s. refl)
 
-mul-skip : tie.Need-overflow-mul-skip invariant_loop decreases_loop
-mul-skip c = omega (arith, c.before.before.before.before.before.requires.1.0.inside)
+mul-skip : tie.Need-offset_bounds-cells-at invariant_loop decreases_loop
+mul-skip c = omega (arith, c.requires.1.0.inside)
 
-shared-slice-read-skip : tie.Need-shared-slice-read-skip invariant_loop decreases_loop
-shared-slice-read-skip c = omega (arith, c.before.before.before.before.before.before.requires.1.0.inside)
+shared-slice-read-skip : tie.Need-bounds-cells-at invariant_loop decreases_loop
+shared-slice-read-skip c = omega (arith, c.requires.1.0.inside)
 
-skip-requires : tie.Need-skip-requires invariant_loop decreases_loop
-skip-requires c κs = c.before.before.loop.invariant.1
+skip-requires : tie.Need-skip-k-requires invariant_loop decreases_loop
+skip-requires c κs = c.loop-at.invariant.1
 
 -- the same from the place that is worth a look
-reached : (c : tie.After-skip invariant_loop decreases_loop) (es : List Element) →
-    let a = c.before.before.before.before.before.before.before.args in
-    let l = c.before.before.before.loop in
+reached : (c : tie.After-skip-k invariant_loop decreases_loop) (es : List Element) →
+    let a = c.args in
+    let l = c.loop-at in
     Shows a.sets.now a.cells.now es
     → behind_star a.path (drop a.start es) false a.begins (drop a.since a.text.now) ≡
-    behind_star a.path (drop l.at es) false l.first (drop c.skip.result a.text.now)
+    behind_star a.path (drop l.at es) false l.first (drop c.skip-k.result a.text.now)
 reached c es s =
-    let a = c.before.before.before.before.before.before.before.args in
-    let l = c.before.before.before.loop in
-    l.invariant.2 es s ∙ skip_reach s l.at (omega (arith, c.before.before.before.before.before.before.before.requires.1.0.inside))
-    a.path l.first a.text.now c.skip.ensures
+    let a = c.args in
+    let l = c.loop-at in
+    l.invariant.2 es s ∙ skip_reach s l.at (omega (arith, c.requires.1.0.inside))
+    a.path l.first a.text.now c.skip-k.ensures
 
-run-to-star-requires : tie.Need-run-to-star-requires invariant_loop decreases_loop
+run-to-star-requires : tie.Need-run_to_star-requires invariant_loop decreases_loop
 run-to-star-requires c κs =
-    (c.before.before.before.before.before.before.before.requires.0, (c.before.before.before.loop.invariant.0, c.skip.ensures.within))
+    (c.requires.0, (c.loop-at.invariant.0, c.skip-k.ensures.within))
 
-enum_told : tie.Need-enum-told invariant_loop decreases_loop
+enum_told : tie.Need-enum_told-1 invariant_loop decreases_loop
 enum_told c = search rules
 
-returns : tie.Need-returns invariant_loop decreases_loop
+returns : tie.Need-returns-in-Whole invariant_loop decreases_loop
 returns c es s =
-    let a = c.before.before.before.before.before.before.before.before.before.before.args in
-    let l = c.before.before.before.before.before.before.loop in
-    let k = c.before.before.before.skip.result in
-    sym (reached c.before.before.before es s ∙ end_matches a.path (drop l.at es) l.first a.text.now k
-    (says_whole a.path a.sets.now a.cells.now a.text.now l.at k false l.first c.before.before.run-to-star.ensures
-    c.enum_told.given.1 es s))
+    let a = c.args in
+    let l = c.loop-at in
+    let k = c.skip-k.result in
+    sym (reached c.before.before es s ∙ end_matches a.path (drop l.at es) l.first a.text.now k
+    (says_whole a.path a.sets.now a.cells.now a.text.now l.at k false l.first c.run_to_star.ensures
+    c.in-Whole.is es s))
 
-enum-told-2 : tie.Need-enum-told-2 invariant_loop decreases_loop
+enum-told-2 : tie.Need-enum_told-in-Fails invariant_loop decreases_loop
 enum-told-2 c = search rules
 
 -- the run from the last star failed
-failed : (c : tie.After-enum-told2 invariant_loop decreases_loop) (es : List Element) →
-    let a = c.before.before.before.before.before.before.before.before.before.before.args in
-    let l = c.before.before.before.before.before.before.loop in
+failed : (c : tie.In-Fails invariant_loop decreases_loop) (es : List Element) →
+    let a = c.args in
+    let l = c.loop-at in
     Shows a.sets.now a.cells.now es
-    → matches_from a.path (drop l.at es) false l.first (drop c.before.before.before.skip.result a.text.now) ≡ false
+    → matches_from a.path (drop l.at es) false l.first (drop c.skip-k.result a.text.now) ≡ false
 failed c es s =
-    let a = c.before.before.before.before.before.before.before.before.before.before.args in
-    let l = c.before.before.before.before.before.before.loop in
-    says_fails a.path a.sets.now a.cells.now a.text.now l.at c.before.before.before.skip.result false l.first
-    c.before.before.run-to-star.ensures c.enum-told2.given.1 es s
+    let a = c.args in
+    let l = c.loop-at in
+    says_fails a.path a.sets.now a.cells.now a.text.now l.at c.skip-k.result false l.first
+    c.run_to_star.ensures c.in-Fails.is es s
 
-returns-2 : tie.Need-returns-2 invariant_loop decreases_loop
+returns-2 : tie.Need-returns-then-text-k invariant_loop decreases_loop
 returns-2 c es s =
-    let a = c.before.before.before.before.before.before.before.before.before.before.before.args in
-    let l = c.before.before.before.before.before.before.before.loop in
-    let k = c.before.before.before.before.skip.result in
-    sym (reached c.before.before.before.before es s ∙ end_last a.path (drop l.at es) l.first a.text.now k
-    (failed c.before es s) c.if1.true)
+    let a = c.args in
+    let l = c.loop-at in
+    let k = c.skip-k.result in
+    sym (reached c.before.before.before es s ∙ end_last a.path (drop l.at es) l.first a.text.now k
+    (failed c.before es s) c.if-text-k.true)
 
-shared-slice-read-passes-byte : tie.Need-shared-slice-read-passes-byte invariant_loop decreases_loop
+shared-slice-read-passes-byte : tie.Need-bounds-text-k invariant_loop decreases_loop
 shared-slice-read-passes-byte c = search rules
 
-passes-byte-requires : tie.Need-passes-byte-requires invariant_loop decreases_loop
+passes-byte-requires : tie.Need-passes_byte-requires invariant_loop decreases_loop
 passes-byte-requires c κs = search rules
 
-returns-3 : tie.Need-returns-3 invariant_loop decreases_loop
+returns-3 : tie.Need-returns-then-not-passes_byte invariant_loop decreases_loop
 returns-3 c es s =
-    let a = c.before.before.before.before.before.before.before.before.before.before.before.before.before.before.args in
-    let l = c.before.before.before.before.before.before.before.before.before.before.loop in
-    let k = c.before.before.before.before.before.before.before.skip.result in
-    sym (reached c.before.before.before.before.before.before.before es s ∙ end_bars a.path (drop l.at es) l.first a.text.now k
-    (failed c.before.before.before.before es s) c.before.before.before.if1.false
-    (sym c.before.passes-byte.ensures ∙ not-true _ c.if2.true))
+    let a = c.args in
+    let l = c.loop-at in
+    let k = c.skip-k.result in
+    sym (reached c.before.before.before.before.before.before es s ∙ end_bars a.path (drop l.at es) l.first a.text.now k
+    (failed c.before.before.before.before es s) c.if-text-k.false
+    (sym c.passes_byte.ensures ∙ not-true _ c.if-not-passes_byte.true-raw))
 
-add-k : tie.Need-overflow-add-k invariant_loop decreases_loop
+add-k : tie.Need-overflow_add-k invariant_loop decreases_loop
 add-k c = search rules
 
-loop-less : tie.Need-loop-smaller invariant_loop decreases_loop
-loop-less c = omega (arith, c.before.before.before.before.before.before.before.skip.ensures.beyond)
+loop-less : tie.Need-loop-at-smaller-in-Fails invariant_loop decreases_loop
+loop-less c = omega (arith, c.skip-k.ensures.beyond)
 
-loop-again : tie.Need-loop-preserved invariant_loop decreases_loop
+loop-again : tie.Need-loop-at-preserved-in-Fails invariant_loop decreases_loop
 loop-again c =
-    let a = c.before.before.before.before.before.before.before.before.before.before.before.before.before.before.args in
-    let l = c.before.before.before.before.before.before.before.before.before.before.loop in
-    let k = c.before.before.before.before.before.before.before.skip.result in (
+    let a = c.args in
+    let l = c.loop-at in
+    let k = c.skip-k.result in (
       l.invariant.0,
       omega arith,
-      λ es s. reached c.before.before.before.before.before.before.before es s ∙ end_on a.path (drop l.at es) l.first a.text.now k
-          (failed c.before.before.before.before es s) c.before.before.before.if1.false
-          (sym c.before.passes-byte.ensures ∙ not-false _ c.if2.false),
+      λ es s. reached c.before.before.before.before.before.before es s ∙ end_on a.path (drop l.at es) l.first a.text.now k
+          (failed c.before.before.before.before es s) c.if-text-k.false
+          (sym c.passes_byte.ensures ∙ not-false _ c.if-not-passes_byte.false-raw),
     )
 
-enum-known-next : tie.Need-enum-known-next invariant_loop decreases_loop
+enum-known-next : tie.Need-enum_known-next invariant_loop decreases_loop
 enum-known-next c = search rules
 
-loop-less-2 : tie.Need-loop-smaller-2 invariant_loop decreases_loop
+loop-less-2 : tie.Need-loop-at-smaller invariant_loop decreases_loop
 loop-less-2 c =
-    let a = c.before.before.before.before.before.before.before.before.before.before.before.args in
-    let l = c.before.before.before.before.before.before.before.loop in
-    let k = c.before.before.before.before.skip.result in
-    let m = says_star a.path a.sets.now a.cells.now a.text.now l.at k false l.first c.before.before.before.run-to-star.ensures
-    c.before.next.given.1 in
-    omega (arith, c.before.before.before.before.skip.ensures.beyond, m.further, m.inside, m.beyond, m.within)
+    let a = c.args in
+    let l = c.loop-at in
+    let k = c.skip-k.result in
+    let m = says_star a.path a.sets.now a.cells.now a.text.now l.at k false l.first c.run_to_star.ensures
+    c.in-Star.is in
+    omega (arith, c.skip-k.ensures.beyond, m.further, m.inside, m.beyond, m.within)
 
-loop-again-2 : tie.Need-loop-preserved-2 invariant_loop decreases_loop
+loop-again-2 : tie.Need-loop-at-preserved invariant_loop decreases_loop
 loop-again-2 c =
-    let a = c.before.before.before.before.before.before.before.before.before.before.before.args in
-    let l = c.before.before.before.before.before.before.before.loop in
-    let k = c.before.before.before.before.skip.result in
-    let m = says_star a.path a.sets.now a.cells.now a.text.now l.at k false l.first c.before.before.before.run-to-star.ensures
-    c.before.next.given.1 in (
+    let a = c.args in
+    let l = c.loop-at in
+    let k = c.skip-k.result in
+    let m = says_star a.path a.sets.now a.cells.now a.text.now l.at k false l.first c.run_to_star.ensures
+    c.in-Star.is in (
       m.inside,
       m.within,
-      λ es s. reached c.before.before.before.before es s ∙ last_star a.path a.sets.now a.cells.now a.text.now l.at k l.first m es s,
+      λ es s. reached c.before.before es s ∙ last_star a.path a.sets.now a.cells.now a.text.now l.at k l.first m es s,
     )
 
-behind-last-star-requires : tie.Need-behind-last-star-requires invariant_loop decreases_loop
+behind-last-star-requires : tie.Need-behind_last_star-requires invariant_loop decreases_loop
 behind-last-star-requires c κs =
-    let l = c.before.loop in
-    let p = c.before.before.before.before.before.requires in
-    (p.0, (trails_on p.1.0 c.loop-test.false l.invariant.0, l.invariant.1))
+    let l = c.loop-at in
+    let p = c.requires in
+    (p.0, (trails_on p.1.0 c.loop-at-test.false l.invariant.0, l.invariant.1))
 
-returns-4 : tie.Need-returns-4 invariant_loop decreases_loop
-returns-4 c es s = c.behind-last-star.ensures es s ∙ sym (c.before.before.loop.invariant.2 es s)
+returns-4 : tie.Need-returns invariant_loop decreases_loop
+returns-4 c es s = c.behind_last_star.ensures es s ∙ sym (c.loop-at.invariant.2 es s)
 
 pub behind_star_spec : {M : Type 1} → statement M
 behind_star_spec =

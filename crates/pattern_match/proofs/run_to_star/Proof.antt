@@ -26,7 +26,7 @@ use Rattle.pattern_match.proofs.Matching.{
 use Rattle.pattern_match.proofs.run_to_star.Statement.{statement}
 use Rattle.pattern_match.proofs.run_to_star.Tie as tie
 
-abbrev invariant_loop : tie.invariant_loop
+abbrev invariant_loop : tie.invariant-loop-at
 invariant_loop cells sets text path start since starts begins head₀ first₀ at₀ k₀ head first at k =
     (at ≤ length cells) × (k ≤ length text) × (start ≤ at) × (since ≤ k)
     × ((es : List Element) → Shows sets cells es
@@ -34,27 +34,27 @@ invariant_loop cells sets text path start since starts begins head₀ first₀ a
     × ((es : List Element) → Shows sets cells es
     → behind_star path (drop start es) starts begins (drop since text) ≡ true → behind_star path (drop at es) head first (drop k text) ≡ true)
 
-abbrev decreases_loop : tie.decreases_loop
+abbrev decreases_loop : tie.decreases-loop-at
 decreases_loop cells sets text path start since starts begins head₀ first₀ at₀ k₀ head first at k = length cells - at
 
-loop-holds : tie.Need-loop-init invariant_loop decreases_loop
-loop-holds c = (c.before.before.before.requires.1.0, c.before.before.before.requires.1.1, omega arith, omega arith, λ es s. refl, λ es s z. z)
+loop-holds : tie.Need-loop-at-init invariant_loop decreases_loop
+loop-holds c = (c.requires.1.0, c.requires.1.1, omega arith, omega arith, λ es s. refl, λ es s z. z)
 
-mul-cell : tie.Need-overflow-mul-cell invariant_loop decreases_loop
+mul-cell : tie.Need-offset_bounds-cells-at invariant_loop decreases_loop
 mul-cell c = search rules
 
-shared-slice-read-cell : tie.Need-shared-slice-read-cell invariant_loop decreases_loop
+shared-slice-read-cell : tie.Need-bounds-cells-at invariant_loop decreases_loop
 shared-slice-read-cell c = search rules
 
-add-t18 : tie.Need-overflow-add-t18 invariant_loop decreases_loop
+add-t18 : tie.Need-overflow_add-result invariant_loop decreases_loop
 add-t18 c = search rules
 
-returns : tie.Need-returns invariant_loop decreases_loop
+returns : tie.Need-returns-then-cell-eq-STAR invariant_loop decreases_loop
 returns c =
-    let a = c.before.before.before.before.before.before.before.args in
-    let l = c.before.before.before.loop in
-    let h = c.before.before.loop-test.true in
-    let y = eq-eqb _ star_cell c.if1.true in
+    let a = c.args in
+    let l = c.loop-at in
+    let h = c.loop-at-test.true in
+    let y = eq-eqb _ star_cell c.if-cell-eq-STAR.true in
     record {
       says = λ es s. l.invariant.4 es s ∙ run_star s l.at h a.path l.head l.first a.text.now l.k y;
       keeps = λ es s z. star_met s l.at h a.path l.head l.first a.text.now l.k y (l.invariant.5 es s z);
@@ -65,69 +65,69 @@ returns c =
       within = l.invariant.1;
     }
 
-returns-2 : tie.Need-returns-2 invariant_loop decreases_loop
+returns-2 : tie.Need-returns-then-text-k invariant_loop decreases_loop
 returns-2 c es s =
-    let a = c.before.before.before.before.before.before.before.before.args in
-    let l = c.before.before.before.before.loop in
-    l.invariant.4 es s ∙ run_short s l.at c.before.before.before.loop-test.true a.path l.head l.first a.text.now l.k
-    (ne_eqb _ star_cell c.before.if1.false) c.if2.true
+    let a = c.args in
+    let l = c.loop-at in
+    l.invariant.4 es s ∙ run_short s l.at c.loop-at-test.true a.path l.head l.first a.text.now l.k
+    (ne_eqb _ star_cell c.if-cell-eq-STAR.false) c.if-text-k.true
 
-shared-slice-read-takes-one : tie.Need-shared-slice-read-takes-one invariant_loop decreases_loop
+shared-slice-read-takes-one : tie.Need-bounds-text-k invariant_loop decreases_loop
 shared-slice-read-takes-one c = search rules
 
-takes-one-requires : tie.Need-takes-one-requires invariant_loop decreases_loop
+takes-one-requires : tie.Need-takes_one-requires invariant_loop decreases_loop
 takes-one-requires c κs =
-    let p = c.before.before.before.before.before.before.before.before.before.requires in
-    cell_lies p.0.shows c.before.before.before.before.before.loop.at c.before.before.before.before.loop-test.true
+    let p = c.requires in
+    cell_lies p.0.shows c.loop-at.at c.loop-at-test.true
 
-returns-3 : tie.Need-returns-3 invariant_loop decreases_loop
+returns-3 : tie.Need-returns-then-not-takes_one invariant_loop decreases_loop
 returns-3 c es s =
-    let a = c.before.before.before.before.before.before.before.before.before.before.before.args in
-    let l = c.before.before.before.before.before.before.before.loop in
-    let h = c.before.before.before.before.before.before.loop-test.true in
+    let a = c.args in
+    let l = c.loop-at in
+    let h = c.loop-at-test.true in
     l.invariant.4 es s ∙ run_fails s l.at h a.path l.head l.first a.text.now l.k
-    (ne_eqb _ star_cell c.before.before.before.before.if1.false) c.before.before.before.if2.false c.before.takes_one.ensures
-    (not-true _ c.if3.true)
+    (ne_eqb _ star_cell c.if-cell-eq-STAR.false) c.if-text-k.false c.takes_one.ensures
+    (not-true _ c.if-not-takes_one.true-raw)
 
-cast-head : tie.Need-overflow-cast-head invariant_loop decreases_loop
+cast-head : tie.Need-overflow_cast-head invariant_loop decreases_loop
 cast-head c = search rules
 
-add_at : tie.Need-overflow-add-at invariant_loop decreases_loop
+add_at : tie.Need-overflow_add-at invariant_loop decreases_loop
 add_at c = search rules
 
-add-k : tie.Need-overflow-add-k invariant_loop decreases_loop
+add-k : tie.Need-overflow_add-k invariant_loop decreases_loop
 add-k c = search rules
 
-loop-less : tie.Need-loop-smaller invariant_loop decreases_loop
+loop-less : tie.Need-loop-at-smaller invariant_loop decreases_loop
 loop-less c = search rules
 
-loop-again : tie.Need-loop-preserved invariant_loop decreases_loop
+loop-again : tie.Need-loop-at-preserved invariant_loop decreases_loop
 loop-again c =
-    let a = c.before.before.before.before.before.before.before.before.before.before.before.args in
-    let l = c.before.before.before.before.before.before.before.loop in
-    let h = c.before.before.before.before.before.before.loop-test.true in
-    let n = ne_eqb _ star_cell c.before.before.before.before.if1.false in
-    let m = c.before.before.before.if2.false in
-    let y = not-false _ c.if3.false in (
+    let a = c.args in
+    let l = c.loop-at in
+    let h = c.loop-at-test.true in
+    let n = ne_eqb _ star_cell c.if-cell-eq-STAR.false in
+    let m = c.if-text-k.false in
+    let y = not-false _ c.if-not-takes_one.false-raw in (
       omega arith,
       omega arith,
       omega arith,
       omega arith,
-      λ es s. l.invariant.4 es s ∙ run_takes s l.at h a.path l.head l.first a.text.now l.k n m c.before.takes_one.ensures y,
-      λ es s z. star_takes s l.at h a.path l.head l.first a.text.now l.k n m c.before.takes_one.ensures y (l.invariant.5 es s z),
+      λ es s. l.invariant.4 es s ∙ run_takes s l.at h a.path l.head l.first a.text.now l.k n m c.takes_one.ensures y,
+      λ es s z. star_takes s l.at h a.path l.head l.first a.text.now l.k n m c.takes_one.ensures y (l.invariant.5 es s z),
     )
 
-returns-4 : tie.Need-returns-4 invariant_loop decreases_loop
+returns-4 : tie.Need-returns-then-k-text invariant_loop decreases_loop
 returns-4 c es s =
-    let a = c.before.before.before.before.before.before.args in
-    let l = c.before.before.loop in
-    l.invariant.4 es s ∙ run_left s l.at c.before.loop-test.false a.path l.head l.first a.text.now l.k c.if4.true
+    let a = c.args in
+    let l = c.loop-at in
+    l.invariant.4 es s ∙ run_left s l.at c.loop-at-test.false a.path l.head l.first a.text.now l.k c.if-k-text.true
 
-returns-5 : tie.Need-returns-5 invariant_loop decreases_loop
+returns-5 : tie.Need-returns invariant_loop decreases_loop
 returns-5 c es s =
-    let a = c.before.before.before.before.before.before.args in
-    let l = c.before.before.loop in
-    l.invariant.4 es s ∙ run_whole s l.at c.before.loop-test.false a.path l.head l.first a.text.now l.k c.if4.false
+    let a = c.args in
+    let l = c.loop-at in
+    l.invariant.4 es s ∙ run_whole s l.at c.loop-at-test.false a.path l.head l.first a.text.now l.k c.if-k-text.false
 
 pub run_to_star_spec : {M : Type 1} → statement M
 run_to_star_spec =

@@ -14,59 +14,59 @@ use Rattle.pattern_member.proofs.byte_member.Statement.{statement}
 use Rattle.pattern_member.proofs.byte_member.Tie as tie
 
 -- a range goes on ..
-ranged : (c : tie.Else1) →
-    let a = c.before.before.before.args in
+ranged : (c : tie.Else-not-is_range) →
+    let a = c.args in
     ranges a.path (signs_by a.width (drop a.at a.units.now)) ≡ true
-ranged c = sym c.before.is-range.ensures ∙ not-false _ c.if1.false
+ranged c = sym c.is_range.ensures ∙ not-false _ c.if-not-is_range.false-raw
 
 -- .. and its last unit is there
-inside : (c : tie.After-unit-size) →
-    let a = c.before.before.before.before.args in
+inside : (c : tie.After-unit_size) →
+    let a = c.args in
     a.at + c.unit_size.result + size a.width ≤ length a.units.now
 inside c =
-    let a = c.before.before.before.before.args in
+    let a = c.args in
     omega (arith, c.unit_size.ensures, range_inside a.width a.units.now a.at a.path (ranged c.before))
 
-is-range-requires : tie.Need-is-range-requires
+is-range-requires : tie.Need-is_range-requires
 is-range-requires c κs = search rules
 
-returns : tie.Need-returns
+returns : tie.Need-returns-then-not-is_range
 returns c =
-    let a = c.before.before.before.args in
-    byte_single a.width a.units.now a.at c.before.before.before.requires a.path a.b
-    (sym c.before.is-range.ensures ∙ not-true _ c.if1.true)
+    let a = c.args in
+    byte_single a.width a.units.now a.at c.requires a.path a.b
+    (sym c.is_range.ensures ∙ not-true _ c.if-not-is_range.true-raw)
 
-unit-size-requires : tie.Need-unit-size-requires
+unit-size-requires : tie.Need-unit_size-requires
 unit-size-requires c κs = search rules
 
-add-end : tie.Need-overflow-add-end
+add-end : tie.Need-overflow_add-end
 add-end c = omega (arith, inside c)
 
-opens-class-requires : tie.Need-opens-class-requires
+opens-class-requires : tie.Need-opens_class-requires
 opens-class-requires c κs = omega (arith, inside c)
 
-returns-2 : tie.Need-returns-2
+returns-2 : tie.Need-returns-then-opens_class
 returns-2 c =
-    let a = c.before.before.before.before.before.before.args in
-    byte_to_class a.width a.units.now a.at c.before.before.before.before.before.before.requires a.path a.b
+    let a = c.args in
+    byte_to_class a.width a.units.now a.at c.requires a.path a.b
     (ranged c.before.before.before)
-    (rw (sym c.before.before.unit_size.ensures) (sym c.before.opens-class.ensures ∙ c.if2.true))
+    (rw (sym c.unit_size.ensures) (sym c.opens_class.ensures ∙ c.if-opens_class.true))
 
-shared-slice-read-t12 : tie.Need-shared-slice-read-t12
+shared-slice-read-t12 : tie.Need-bounds-units-end
 shared-slice-read-t12 c = omega (
   arith,
   inside c.before.before.before,
   size_bounds
-      c.before.before.before.before.before.before.before.args.width,
+      c.args.width,
 )
 
-returns-3 : tie.Need-returns-3
+returns-3 : tie.Need-returns
 returns-3 c =
-    let a = c.before.before.before.before.before.before.before.args in
-    rw c.before.before.before.unit_size.ensures
-    (byte_to_byte a.width a.units.now a.at c.before.before.before.before.before.before.before.requires a.path a.b
+    let a = c.args in
+    rw c.unit_size.ensures
+    (byte_to_byte a.width a.units.now a.at c.requires a.path a.b
     (ranged c.before.before.before.before)
-    (rw (sym c.before.before.before.unit_size.ensures) (sym c.before.before.opens-class.ensures ∙ c.before.if2.false)))
+    (rw (sym c.unit_size.ensures) (sym c.opens_class.ensures ∙ c.if-opens_class.false)))
 
 pub byte_member_spec : {M : Type 1} → statement M
 byte_member_spec =

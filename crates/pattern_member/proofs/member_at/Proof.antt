@@ -11,39 +11,39 @@ use borrow.Author.Rules.{rules}
 use Rattle.pattern_member.proofs.member_at.Statement.{statement}
 use Rattle.pattern_member.proofs.member_at.Tie as tie
 
-unit-size-requires : tie.Need-unit-size-requires
+unit-size-requires : tie.Need-unit_size-requires
 unit-size-requires c κs = search rules
 
-add-next : tie.Need-overflow-add-next
+add-next : tie.Need-overflow_add-next
 add-next c = search rules
 
-opens-class-requires : tie.Need-opens-class-requires
+opens-class-requires : tie.Need-opens_class-requires
 opens-class-requires c κs = search rules
 
-class-member-requires : tie.Need-class-member-requires
+class-member-requires : tie.Need-class_member-requires
 class-member-requires c κs = search rules
 
-returns : tie.Need-returns
+returns : tie.Need-returns-then-opens_class
 returns c =
-    let s = c.before.before.before.before.before in
+    let s = c in
     let a = s.args in
-    subst (λ (m : pattern.Member). Says a.width a.units.now (a.at + size a.width) m c.class_member_lem.result)
-    (member_class a.width a.units.now a.at a.path s.requires (sym c.before.before.opens-class.ensures ∙ c.before.if1.true))
-    (rw c.before.before.before.unit_size.ensures at c.class_member_lem.ensures)
+    subst (λ (m : pattern.Member). Says a.width a.units.now (a.at + size a.width) m c.class_member.result)
+    (member_class a.width a.units.now a.at a.path s.requires (sym c.opens_class.ensures ∙ c.if-opens_class.true))
+    (rw c.unit_size.ensures at c.class_member.ensures)
 
-shared-slice-read-byte-member : tie.Need-shared-slice-read-byte-member
-shared-slice-read-byte-member c = let s = c.before.before.before.before.before in omega (arith, s.requires, size_bounds s.args.width)
+shared-slice-read-byte-member : tie.Need-bounds-units-at
+shared-slice-read-byte-member c = let s = c in omega (arith, s.requires, size_bounds s.args.width)
 
-byte-member-requires : tie.Need-byte-member-requires
+byte-member-requires : tie.Need-byte_member-requires
 byte-member-requires c κs = search rules
 
-returns-2 : tie.Need-returns-2
+returns-2 : tie.Need-returns
 returns-2 c =
-    let s = c.before.before.before.before.before.before in
+    let s = c in
     let a = s.args in
-    subst (λ (m : pattern.Member). Says a.width a.units.now (a.at + size a.width) m c.byte-member.result)
-    (member_byte a.width a.units.now a.at a.path s.requires (sym c.before.before.before.opens-class.ensures ∙ c.before.before.if1.false))
-    (rw c.before.before.before.before.unit_size.ensures at c.byte-member.ensures)
+    subst (λ (m : pattern.Member). Says a.width a.units.now (a.at + size a.width) m c.byte_member.result)
+    (member_byte a.width a.units.now a.at a.path s.requires (sym c.opens_class.ensures ∙ c.if-opens_class.false))
+    (rw c.unit_size.ensures at c.byte_member.ensures)
 
 pub member_at_spec : {M : Type 1} → statement M
 member_at_spec =

@@ -12,79 +12,79 @@ use Rattle.pattern_paths.proofs.Walking.{Passing, passing_start, passing_end, pa
 use Rattle.pattern_paths.proofs.next_path.Statement.{statement}
 use Rattle.pattern_paths.proofs.next_path.Tie as tie
 
-abbrev invariant_loop : tie.invariant_loop
+abbrev invariant_loop : tie.invariant-loop-end
 invariant_loop paths at cells sets last i₀ i = (es : List Element) → Shows sets cells es → Passing es paths at i
 
-abbrev decreases_loop : tie.decreases_loop
+abbrev decreases_loop : tie.decreases-loop-end
 decreases_loop paths at cells sets last i₀ i = length paths - i
 
 -- the call, and the walk for the elements of which it knows
-abbrev start : tie.At-loop invariant_loop decreases_loop → tie.Start invariant_loop decreases_loop
+abbrev start : tie.At-loop-end invariant_loop decreases_loop → tie.Start invariant_loop decreases_loop
 start c = c.before.before.before.before
 
-passing : (c : tie.At-loop invariant_loop decreases_loop) →
+passing : (c : tie.At-loop-end invariant_loop decreases_loop) →
     let s = start c in
-    Passing s.pre.1.0.es s.args.paths.now s.args.at c.loop.i
-passing c = let s = (start c).requires.1.0 in c.loop.invariant s.es s.shows
+    Passing s.requires.1.0.es s.args.paths.now s.args.at c.loop-end.i
+passing c = let s = (start c).requires.1.0 in c.loop-end.invariant s.es s.shows
 
 -- the text that is met lies in the image
-low : (c : tie.After-known-told invariant_loop decreases_loop) → c.before.before.before.before.loop.i + 2 ≤ c.before.end.given.0.0
-low c = let t = c.before.before.before in text_low (passing t.before) t.text_at.ensures c.before.end.given.1
+low : (c : tie.In-At invariant_loop decreases_loop) → c.loop-end.i + 2 ≤ c.in-At.end
+low c = let t = c.before in text_low (passing t.before) t.text_at.ensures c.in-At.is
 
-high : (c : tie.After-known-told invariant_loop decreases_loop) →
-    c.before.end.given.0.0 ≤ length (start c.before.before.before.before).args.paths.now
-high c = let t = c.before.before.before in text_high (passing t.before) t.text_at.ensures c.before.end.given.1
+high : (c : tie.In-At invariant_loop decreases_loop) →
+    c.in-At.end ≤ length (start c.before.before).args.paths.now
+high c = let t = c.before in text_high (passing t.before) t.text_at.ensures c.in-At.is
 
-loop-holds : tie.Need-loop-init invariant_loop decreases_loop
-loop-holds c = let s = c.before.before.before in λ es h. passing_start es s.args.paths.now s.args.at s.requires.0
+loop-holds : tie.Need-loop-end-init invariant_loop decreases_loop
+loop-holds c = let s = c in λ es h. passing_start es s.args.paths.now s.args.at s.requires.0
 
-text-at-requires : tie.Need-text-at-requires invariant_loop decreases_loop
+text-at-requires : tie.Need-text_at-requires invariant_loop decreases_loop
 text-at-requires c κs = search rules
 
-enum_told : tie.Need-enum-told invariant_loop decreases_loop
+enum_told : tie.Need-enum_told-1 invariant_loop decreases_loop
 enum_told c = search rules
 
-returns : tie.Need-returns invariant_loop decreases_loop
-returns c = let t = c.before.before in λ es h. passing_end (t.before.loop.invariant es h) t.text_at.ensures c.enum_told.given.1
+returns : tie.Need-returns-in-End invariant_loop decreases_loop
+returns c = let t = c in λ es h. passing_end (t.loop-end.invariant es h) t.text_at.ensures c.in-End.is
 
-enum-told-2 : tie.Need-enum-told-2 invariant_loop decreases_loop
+enum-told-2 : tie.Need-enum_told-in-Bad invariant_loop decreases_loop
 enum-told-2 c = search rules
 
-returns-2 : tie.Need-returns-2 invariant_loop decreases_loop
-returns-2 c = let t = c.before.before in λ es h. passing_bad (t.before.loop.invariant es h) t.text_at.ensures c.enum-told2.given.1
+returns-2 : tie.Need-returns-in-Bad invariant_loop decreases_loop
+returns-2 c = let t = c in λ es h. passing_bad (t.loop-end.invariant es h) t.text_at.ensures c.in-Bad.is
 
-enum-known-end : tie.Need-enum-known-end invariant_loop decreases_loop
+enum-known-end : tie.Need-enum_known-end invariant_loop decreases_loop
 enum-known-end c = search rules
 
-add_start : tie.Need-overflow-add-start invariant_loop decreases_loop
+add_start : tie.Need-overflow_add-start invariant_loop decreases_loop
 add_start c = omega (arith, low c, high c)
 
-sub-matches : tie.Need-overflow-sub-matches invariant_loop decreases_loop
+sub-matches : tie.Need-slice_bounds-matches-count invariant_loop decreases_loop
 sub-matches c = low c
 
-part-matches-start : tie.Need-slice-bounds-matches-start invariant_loop decreases_loop
+part-matches-start : tie.Need-slice_bounds-matches-start invariant_loop decreases_loop
 part-matches-start c = low c
 
-part-matches-end : tie.Need-slice-bounds-matches-end invariant_loop decreases_loop
+part-matches-end : tie.Need-slice_bounds-matches-end invariant_loop decreases_loop
 part-matches-end c = high c
 
 matches-requires : tie.Need-matches-requires invariant_loop decreases_loop
-matches-requires c κs = let s = start c.before.before.before.before.before in (s.pre.1.0, s.pre.1.1)
+matches-requires c κs = let s = start c.before.before.before in (s.requires.1.0, s.requires.1.1)
 
-returns-3 : tie.Need-returns-3 invariant_loop decreases_loop
+returns-3 : tie.Need-returns-then-matches invariant_loop decreases_loop
 returns-3 c =
-    let k = c.before.before.before in
-    let t = k.before.before.before in
-    λ es h. passing_found (t.before.loop.invariant es h) t.text_at.ensures k.before.end.given.1 (sym (c.before.matches.ensures es h) ∙ c.if1.true)
+    let k = c in
+    let t = k in
+    λ es h. passing_found (t.loop-end.invariant es h) t.text_at.ensures k.in-At.is (sym (c.matches.ensures es h) ∙ c.if-matches.true)
 
-loop-less : tie.Need-loop-smaller invariant_loop decreases_loop
+loop-less : tie.Need-loop-end-smaller invariant_loop decreases_loop
 loop-less c = let k = c.before.before.before in omega (arith, low k, high k)
 
-loop-again : tie.Need-loop-preserved invariant_loop decreases_loop
+loop-again : tie.Need-loop-end-preserved invariant_loop decreases_loop
 loop-again c =
-    let k = c.before.before.before in
-    let t = k.before.before.before in
-    λ es h. passing_on (t.before.loop.invariant es h) t.text_at.ensures k.before.end.given.1 (sym (c.before.matches.ensures es h) ∙ c.if1.false)
+    let k = c in
+    let t = k in
+    λ es h. passing_on (t.loop-end.invariant es h) t.text_at.ensures k.in-At.is (sym (c.matches.ensures es h) ∙ c.if-matches.false)
 
 pub next_path_spec : {M : Type 1} → statement M
 next_path_spec =

@@ -11,73 +11,73 @@ use Rattle.pattern_remove.proofs.Cutting.{cut_from, cut_here, cut_on, cut_none, 
 use Rattle.pattern_remove.proofs.cut_place.Statement.{statement}
 use Rattle.pattern_remove.proofs.cut_place.Tie as tie
 
-abbrev invariant_loop : tie.invariant_loop
+abbrev invariant_loop : tie.invariant-loop-i
 invariant_loop value cells sets suffix down bound n i₀ i =
     (n ≡ length value) × (i ≤ suc n)
     × ((p : List Element) → Shows sets cells p → cut_from (side_of suffix) down p value 0 ≡ cut_from (side_of suffix) down p value i)
 
-abbrev decreases_loop : tie.decreases_loop
+abbrev decreases_loop : tie.decreases-loop-i
 decreases_loop value cells sets suffix down bound n i₀ i = suc n - i
 
-loop-holds : tie.Need-loop-init invariant_loop decreases_loop
+loop-holds : tie.Need-loop-i-init invariant_loop decreases_loop
 loop-holds c = (refl, omega arith, λ p s. refl)
 
-cut-at-requires : tie.Need-cut-at-requires invariant_loop decreases_loop
+cut-at-requires : tie.Need-cut_at-k-requires invariant_loop decreases_loop
 cut-at-requires c κs = omega arith
 
-drops-match-requires : tie.Need-drops-match-requires invariant_loop decreases_loop
+drops-match-requires : tie.Need-drops_match-requires invariant_loop decreases_loop
 drops-match-requires c κs =
-    let b = c.before.before.before.before.before.before in
+    let b = c in
     let a = b.args in
     let p = b.requires.0.es in (
       b.requires.0,
       (
-        cut_within (side_of a.suffix) a.down p a.value.now c.before.before.loop.i c.before.loop-test.true
-            c.cut_at.ensures,
+        cut_within (side_of a.suffix) a.down p a.value.now c.loop-i.i c.loop-i-test.true
+            c.cut_at-k.ensures,
         b.requires.1,
       ),
     )
 
-returns : tie.Need-returns invariant_loop decreases_loop
+returns : tie.Need-returns-then-drops_match invariant_loop decreases_loop
 returns c =
-    let l = c.before.before.before.before.loop in
-    let a = c.before.before.before.before.before.before.before.before.args in
+    let l = c.loop-i in
+    let a = c.args in
     λ p s. cuts_at (side_of a.suffix) a.down p a.value.now
-    (cut_here (side_of a.suffix) a.down p a.value.now l.i c.before.before.before.loop-test.true c.before.before.cut_at.ensures
-    (sym (c.before.drops-match.ensures p s) ∙ c.if1.true) ∙ sym (l.invariant.2 p s))
-    (cut_within (side_of a.suffix) a.down p a.value.now l.i c.before.before.before.loop-test.true
-    c.before.before.cut_at.ensures)
+    (cut_here (side_of a.suffix) a.down p a.value.now l.i c.loop-i-test.true c.cut_at-k.ensures
+    (sym (c.drops_match.ensures p s) ∙ c.if-drops_match.true) ∙ sym (l.invariant.2 p s))
+    (cut_within (side_of a.suffix) a.down p a.value.now l.i c.loop-i-test.true
+    c.cut_at-k.ensures)
 
-add-i : tie.Need-overflow-add-i invariant_loop decreases_loop
+add-i : tie.Need-overflow_add-i invariant_loop decreases_loop
 add-i c = omega arith
 
-loop-less : tie.Need-loop-smaller invariant_loop decreases_loop
+loop-less : tie.Need-loop-i-smaller invariant_loop decreases_loop
 loop-less c = omega arith
 
-loop-again : tie.Need-loop-preserved invariant_loop decreases_loop
+loop-again : tie.Need-loop-i-preserved invariant_loop decreases_loop
 loop-again c =
-    let l = c.before.before.before.before.loop in
-    let a = c.before.before.before.before.before.before.before.before.args in (
+    let l = c.loop-i in
+    let a = c.args in (
       refl,
       omega arith,
-      λ p s. l.invariant.2 p s ∙ cut_on (side_of a.suffix) a.down p a.value.now l.i c.before.before.before.loop-test.true
-          c.before.before.cut_at.ensures (sym (c.before.drops-match.ensures p s) ∙ c.if1.false),
+      λ p s. l.invariant.2 p s ∙ cut_on (side_of a.suffix) a.down p a.value.now l.i c.loop-i-test.true
+          c.cut_at-k.ensures (sym (c.drops_match.ensures p s) ∙ c.if-drops_match.false),
     )
 
-returns-2 : tie.Need-returns-2 invariant_loop decreases_loop
+returns-2 : tie.Need-returns-then-suffix invariant_loop decreases_loop
 returns-2 c =
-    let l = c.before.before.loop in
-    let a = c.before.before.before.before.before.before.args in
+    let l = c.loop-i in
+    let a = c.args in
     λ p s. cuts_at (side_of a.suffix) a.down p a.value.now
-    (sym (l.invariant.2 p s ∙ cut_none (side_of a.suffix) a.down p a.value.now l.i c.before.loop-test.false ∙ rw c.if2.true))
+    (sym (l.invariant.2 p s ∙ cut_none (side_of a.suffix) a.down p a.value.now l.i c.loop-i-test.false ∙ rw c.if-suffix.true))
     (omega arith)
 
-returns-3 : tie.Need-returns-3 invariant_loop decreases_loop
+returns-3 : tie.Need-returns invariant_loop decreases_loop
 returns-3 c =
-    let l = c.before.before.loop in
-    let a = c.before.before.before.before.before.before.args in
+    let l = c.loop-i in
+    let a = c.args in
     λ p s. cuts_at (side_of a.suffix) a.down p a.value.now
-    (sym (l.invariant.2 p s ∙ cut_none (side_of a.suffix) a.down p a.value.now l.i c.before.loop-test.false ∙ rw c.if2.false))
+    (sym (l.invariant.2 p s ∙ cut_none (side_of a.suffix) a.down p a.value.now l.i c.loop-i-test.false ∙ rw c.if-suffix.false))
     (omega arith)
 
 pub cut_place_spec : {M : Type 1} → statement M

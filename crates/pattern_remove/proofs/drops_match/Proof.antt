@@ -24,109 +24,109 @@ use Rattle.pattern_remove.proofs.Deciding.{
 use Rattle.pattern_remove.proofs.drops_match.Statement.{statement}
 use Rattle.pattern_remove.proofs.drops_match.Tie as tie
 
-enum_told : tie.Need-enum-told
+enum_told : tie.Need-enum_told-1
 enum_told c = search rules
 
-drops-plain-requires : tie.Need-drops-plain-requires
+drops-plain-requires : tie.Need-drops_plain-requires
 drops-plain-requires c κs =
-    let b = c.before.before.before.before.before in
+    let b = c in
     let a = b.args in
-    (b.requires.0, (bound_free a.value.now a.suffix b.requires.1.1 b.requires.0 c.enum_told.given.1, b.requires.1.0))
+    (b.requires.0, (bound_free a.value.now a.suffix b.requires.1.1 b.requires.0 c.in-Free.is, b.requires.1.0))
 
-enum-told-2 : tie.Need-enum-told-2
+enum-told-2 : tie.Need-enum_told-in-Nothing
 enum-told-2 c = search rules
 
-enum-known-bound : tie.Need-enum-known-bound
+enum-known-bound : tie.Need-enum_known-bound
 enum-known-bound c = search rules
 
 -- the cut, where there is a bound
-held : (c : tie.After-known-told) →
-    let a = c.before.before.before.before.before.before.args in
-    let g = c.before.bound.given.0 in
-    Bounded a.sets.now a.cells.now a.value.now a.suffix a.k g.0 g.1.0 g.1.1.0
+held : (c : tie.In-Within) →
+    let a = c.args in
+    let g = c.in-Within in
+    Bounded a.sets.now a.cells.now a.value.now a.suffix a.k g.first g.last g.place
 held c =
-    let b = c.before.before.before.before.before.before in
+    let b = c in
     let a = b.args in
-    bound_within a.value.now a.suffix b.requires.1.1 c.before.bound.given.1 b.requires.0 a.k b.requires.1.0
+    bound_within a.value.now a.suffix b.requires.1.1 c.in-Within.is b.requires.0 a.k b.requires.1.0
 
-has-room-requires : tie.Need-has-room-requires
+has-room-requires : tie.Need-has_room-requires
 has-room-requires c κs = search rules
 
-returns : tie.Need-returns
+returns : tie.Need-returns-then-not-has_room
 returns c =
-    bound_out_suffix (held c.before.before.before) c.before.before.if1.true c.before.has_room.ensures (not-true _ c.if2.true)
+    bound_out_suffix (held c.before.before.before) c.if-suffix.true c.has_room.ensures (not-true _ c.if-not-has_room.true-raw)
 
-sub-matches : tie.Need-overflow-sub-matches
+sub-matches : tie.Need-slice_bounds-matches-count
 sub-matches c = search rules
 
-part-matches-start : tie.Need-slice-bounds-matches-start
+part-matches-start : tie.Need-slice_bounds-matches-start
 part-matches-start c = search rules
 
-part-matches-end : tie.Need-slice-bounds-matches-end
+part-matches-end : tie.Need-slice_bounds-matches-end
 part-matches-end c = search rules
 
 matches-requires : tie.Need-matches-requires
 matches-requires c κs =
-    let b = c.before.before.before.before.before.before.before.before.before.before in
+    let b = c in
     (b.requires.0, (held c.before.before.before.before).stars.ends.trails)
 
-returns-2 : tie.Need-returns-2
+returns-2 : tie.Need-returns-then-suffix
 returns-2 c =
-    let a = c.before.before.before.before.before.before.before.before.before.before.before.args in
+    let a = c.args in
     λ p s. c.matches.ensures p s ∙ ap (matches for_removal p) (part_suffix a.value.now a.k)
-    ∙ ap (λ (z : Bool). matched_at (side_of z) p a.value.now a.k) (sym c.before.before.before.before.if1.true)
+    ∙ ap (λ (z : Bool). matched_at (side_of z) p a.value.now a.k) (sym c.if-suffix.true)
 
-sub-count : tie.Need-overflow-sub-count
+sub-count : tie.Need-overflow_sub-count
 sub-count c = (held c.before).stars.ends.trails.inside
 
-has-room-requires-2 : tie.Need-has-room-requires-2
+has-room-requires-2 : tie.Need-has_room-requires-in-Within
 has-room-requires-2 c κs = search rules
 
-returns-3 : tie.Need-returns-3
+returns-3 : tie.Need-returns-then-not-has_room-2
 returns-3 c =
-    bound_out_prefix (held c.before.before.before) c.before.before.if1.false c.before.has-room2.ensures (not-true _ c.if3.true)
+    bound_out_prefix (held c.before.before.before) c.if-suffix.false c.has_room-in-Within.ensures (not-true _ c.if-not-has_room-2.true-raw)
 
-mul-stands-at : tie.Need-overflow-mul-stands-at
+mul-stands-at : tie.Need-offset_bounds-cells-last
 mul-stands-at c =
-    let b = c.before.before.before.before.before.before.before.before.before in
-    omega (arith, (held c.before.before.before).stars.ends.trails.inside, b.well-formed.1.0.1)
+    let b = c in
+    omega (arith, (held c.before.before.before).stars.ends.trails.inside, b.well_formed.1.0.1)
 
-sub-stands-at : tie.Need-overflow-sub-stands-at
+sub-stands-at : tie.Need-slice_bounds-stands_at-count
 sub-stands-at c = (held c.before.before.before).stars.ends.trails.inside
 
-part-stands-at-start : tie.Need-slice-bounds-stands-at-start
+part-stands-at-start : tie.Need-slice_bounds-stands_at-start
 part-stands-at-start c = (held c.before.before.before).stars.ends.trails.inside
 
-part-stands-at-end : tie.Need-slice-bounds-stands-at-end
+part-stands-at-end : tie.Need-slice_bounds-stands_at-end
 part-stands-at-end c = search rules
 
-sub-stands-at-2 : tie.Need-overflow-sub-stands-at-2
+sub-stands-at-2 : tie.Need-overflow_sub-k
 sub-stands-at-2 c =
-    bound_room (held c.before.before.before.before) c.before.before.has-room2.ensures (not-false _ c.before.if3.false)
+    bound_room (held c.before.before.before.before) c.has_room-in-Within.ensures (not-false _ c.if-not-has_room-2.false-raw)
 
-stands-at-requires : tie.Need-stands-at-requires
+stands-at-requires : tie.Need-stands_at-requires
 stands-at-requires c κs =
-    let b = c.before.before.before.before.before.before.before.before.before.before in
+    let b = c in
     let a = b.args in
-    let last = c.before.before.before.before.before.bound.given.0.1.0 in
-    let room = bound_room (held c.before.before.before.before) c.before.before.has-room2.ensures (not-false _ c.before.if3.false) in (
+    let last = c.in-Within.last in
+    let room = bound_room (held c.before.before.before.before) c.has_room-in-Within.ensures (not-false _ c.if-not-has_room-2.false-raw) in (
       shown_part b.requires.0 last (length a.cells.now - last),
       (trails_end (held c.before.before.before.before).stars.ends.trails, omega (arith, room, end_count a.cells.now last, b.requires.1.0)),
     )
 
-returns-4 : tie.Need-returns-4
+returns-4 : tie.Need-returns-in-Free
 returns-4 c = search rules
 
-returns-5 : tie.Need-returns-5
+returns-5 : tie.Need-returns-in-Nothing
 returns-5 c =
-    let b = c.before.before.before.before.before in
+    let b = c in
     let a = b.args in
-    bound_nothing a.value.now a.suffix b.requires.1.1 c.enum-told2.given.1 a.k b.requires.1.0
+    bound_nothing a.value.now a.suffix b.requires.1.1 c.in-Nothing.is a.k b.requires.1.0
 
-returns-6 : tie.Need-returns-6
+returns-6 : tie.Need-returns-else-not-has_room-2
 returns-6 c =
-    bound_in_prefix (held c.before.before.before.before.before) c.before.before.before.before.if1.false
-    c.before.before.before.has-room2.ensures (not-false _ c.before.before.if3.false) c.stands_at.ensures
+    bound_in_prefix (held c.before.before.before.before.before) c.if-suffix.false
+    c.has_room-in-Within.ensures (not-false _ c.if-not-has_room-2.false-raw) c.stands_at.ensures
 
 pub drops_match_spec : {M : Type 1} → statement M
 drops_match_spec =

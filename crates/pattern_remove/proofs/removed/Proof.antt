@@ -12,49 +12,49 @@ use Rattle.pattern_remove.proofs.Cutting.{cut_is}
 use Rattle.pattern_remove.proofs.removed.Statement.{statement}
 use Rattle.pattern_remove.proofs.removed.Tie as tie
 
-from-end-requires : tie.Need-from-end-requires
+from-end-requires : tie.Need-from_end-down-requires
 from-end-requires c κs = search rules
 
-bound-of-requires : tie.Need-bound-of-requires
+bound-of-requires : tie.Need-bound_of-bound-requires
 bound-of-requires c κs = search rules
 
-cut-place-requires : tie.Need-cut-place-requires
+cut-place-requires : tie.Need-cut_place-k-requires
 cut-place-requires c κs = search rules
 
-slice-aggregate-result : tie.Need-slice-aggregate-result
+slice-aggregate-result : tie.Need-slice_bounds-result-end
 slice-aggregate-result c =
-    let b = c.before.before.before.before.before.before.before.before in
-    sym (length-take-le _ _ (c.before.before.cut-place.ensures b.requires.es b.requires.shows).within)
+    let b = c in
+    sym (length-take-le _ _ (c.cut_place-k.ensures b.requires.es b.requires.shows).within)
 
-returns : tie.Need-returns
+returns : tie.Need-returns-then-suffix
 unfolding removed
 returns c =
-    let a = c.before.before.before.before.before.before.before.before.args in
+    let a = c.args in
     λ p s. ap (λ (k : ℕ). take k a.value.now) (cut_is (side_of a.suffix) (reach_of a.long) p a.value.now
-    c.before.before.before.before.from-end.ensures (c.before.before.cut-place.ensures p s))
-    ∙ ap (λ (z : Bool). left (side_of z) a.value.now (cut (side_of a.suffix) (reach_of a.long) p a.value.now)) (sym c.before.if1.true)
+    c.from_end-down.ensures (c.cut_place-k.ensures p s))
+    ∙ ap (λ (z : Bool). left (side_of z) a.value.now (cut (side_of a.suffix) (reach_of a.long) p a.value.now)) (sym c.if-suffix.true)
 
-sub-result : tie.Need-overflow-sub-result
+sub-result : tie.Need-slice_bounds-result-count
 sub-result c =
-    let b = c.before.before.before.before.before.before.before in
-    (c.before.cut-place.ensures b.requires.es b.requires.shows).within
+    let b = c in
+    (c.cut_place-k.ensures b.requires.es b.requires.shows).within
 
-part-result-start : tie.Need-slice-bounds-result-start
+part-result-start : tie.Need-slice_bounds-result-start
 part-result-start c =
-    let b = c.before.before.before.before.before.before.before in
-    (c.before.cut-place.ensures b.requires.es b.requires.shows).within
+    let b = c in
+    (c.cut_place-k.ensures b.requires.es b.requires.shows).within
 
-part-result-end : tie.Need-slice-bounds-result-end
+part-result-end : tie.Need-slice_bounds-result-end-2
 part-result-end c = search rules
 
-returns-2 : tie.Need-returns-2
+returns-2 : tie.Need-returns
 unfolding removed
 returns-2 c =
-    let a = c.before.before.before.before.before.before.before.before.args in
-    λ p s. part_suffix a.value.now c.before.before.cut-place.result
+    let a = c.args in
+    λ p s. part_suffix a.value.now c.cut_place-k.result
     ∙ ap (λ (k : ℕ). drop k a.value.now) (cut_is (side_of a.suffix) (reach_of a.long) p a.value.now
-    c.before.before.before.before.from-end.ensures (c.before.before.cut-place.ensures p s))
-    ∙ ap (λ (z : Bool). left (side_of z) a.value.now (cut (side_of a.suffix) (reach_of a.long) p a.value.now)) (sym c.before.if1.false)
+    c.from_end-down.ensures (c.cut_place-k.ensures p s))
+    ∙ ap (λ (z : Bool). left (side_of z) a.value.now (cut (side_of a.suffix) (reach_of a.long) p a.value.now)) (sym c.if-suffix.false)
 
 pub removed_spec : {M : Type 1} → statement M
 removed_spec =

@@ -7,23 +7,23 @@ use Rattle.pattern_remove.specs.Bounds.{Shortest, starred}
 use Rattle.pattern_remove.proofs.shortest.Statement.{statement}
 use Rattle.pattern_remove.proofs.shortest.Tie as tie
 
-shortest-suffix-requires : tie.Need-shortest-suffix-requires
+shortest-suffix-requires : tie.Need-shortest_suffix-requires
 shortest-suffix-requires c κs = search rules
 
-returns : tie.Need-returns
+returns : tie.Need-returns-then-suffix
 returns c =
-    let a = c.before.before.before.before.before.args in
-    λ p s. subst (λ (z : Bool). Shortest (side_of z) (starred (side_of z) a.first a.last p) a.value.now c.shortest-suffix.result)
-    (sym c.before.if1.true) (c.shortest-suffix.ensures p s)
+    let a = c.args in
+    λ p s. subst (λ (z : Bool). Shortest (side_of z) (starred (side_of z) a.first a.last p) a.value.now c.shortest_suffix.result)
+    (sym c.if-suffix.true) (c.shortest_suffix.ensures p s)
 
-shortest-prefix-requires : tie.Need-shortest-prefix-requires
+shortest-prefix-requires : tie.Need-shortest_prefix-requires
 shortest-prefix-requires c κs = search rules
 
-returns-2 : tie.Need-returns-2
+returns-2 : tie.Need-returns
 returns-2 c =
-    let a = c.before.before.before.before.before.args in
-    λ p s. subst (λ (z : Bool). Shortest (side_of z) (starred (side_of z) a.first a.last p) a.value.now c.shortest-prefix.result)
-    (sym c.before.if1.false) (c.shortest-prefix.ensures p s)
+    let a = c.args in
+    λ p s. subst (λ (z : Bool). Shortest (side_of z) (starred (side_of z) a.first a.last p) a.value.now c.shortest_prefix.result)
+    (sym c.if-suffix.false) (c.shortest_prefix.ensures p s)
 
 pub shortest_spec : {M : Type 1} → statement M
 shortest_spec =

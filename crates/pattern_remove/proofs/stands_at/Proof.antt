@@ -8,26 +8,26 @@ use Rattle.pattern_cell.proofs.Showing.{shown_length}
 use Rattle.pattern_remove.proofs.stands_at.Statement.{statement}
 use Rattle.pattern_remove.proofs.stands_at.Tie as tie
 
-add-matches : tie.Need-overflow-add-matches
+add-matches : tie.Need-overflow_add-at
 add-matches c = search rules
 
-sub-matches : tie.Need-overflow-sub-matches
+sub-matches : tie.Need-slice_bounds-matches-count
 sub-matches c = search rules
 
-part-matches-start : tie.Need-slice-bounds-matches-start
+part-matches-start : tie.Need-slice_bounds-matches-start
 part-matches-start c = search rules
 
-part-matches-end : tie.Need-slice-bounds-matches-end
+part-matches-end : tie.Need-slice_bounds-matches-end
 part-matches-end c = search rules
 
 matches-requires : tie.Need-matches-requires
 matches-requires c κs =
-    let b = c.before.before.before.before in
+    let b = c in
     (b.requires.0, b.requires.1.0)
 
 returns : tie.Need-returns
 returns c =
-    let a = c.before.before.before.before.before.args in
+    let a = c.args in
     λ x s. c.matches.ensures x s ∙ ap (λ (n : ℕ). matches for_removal x (part a.value.now a.at (a.at + n))) (sym (shown_length s))
 
 pub stands_at_spec : {M : Type 1} → statement M

@@ -9,83 +9,83 @@ use Rattle.pattern_row.proofs.Keeping.{Going, going_start, going_length, going_s
 use Rattle.pattern_row.proofs.drop_empty.Statement.{statement}
 use Rattle.pattern_row.proofs.drop_empty.Tie as tie
 
-abbrev invariant_loop : tie.invariant_loop
+abbrev invariant_loop : tie.invariant-loop-at
 invariant_loop row₀ at₀ to₀ row at to = Going row₀ row at to
 
-abbrev decreases_loop : tie.decreases_loop
+abbrev decreases_loop : tie.decreases-loop-at
 decreases_loop row₀ at₀ to₀ row at to = length row₀ - at
 
-loop-holds : tie.Need-loop-init invariant_loop decreases_loop
+loop-holds : tie.Need-loop-at-init invariant_loop decreases_loop
 loop-holds c = going_start _
 
-add-loop : tie.Need-overflow-add-loop invariant_loop decreases_loop
+add-loop : tie.Need-overflow_add-at invariant_loop decreases_loop
 add-loop c =
-    let l = c.loop in
+    let l = c.loop-at in
     omega (arith, going_length l.invariant, l.invariant.within)
 
-slice-read-b : tie.Need-slice-read-b invariant_loop decreases_loop
+slice-read-b : tie.Need-bounds-row-at invariant_loop decreases_loop
 slice-read-b c = omega arith
 
-add-m : tie.Need-overflow-add-m invariant_loop decreases_loop
+add-m : tie.Need-overflow_add-m invariant_loop decreases_loop
 add-m c = omega arith
 
-slice-read-m : tie.Need-slice-read-m invariant_loop decreases_loop
+slice-read-m : tie.Need-bounds-row-at-in-loop-at invariant_loop decreases_loop
 slice-read-m c = omega arith
 
-add_at : tie.Need-overflow-add-at invariant_loop decreases_loop
+add_at : tie.Need-overflow_add-at-in-loop-at invariant_loop decreases_loop
 add_at c = omega arith
 
-is-mark-requires : tie.Need-is-mark-requires invariant_loop decreases_loop
+is-mark-requires : tie.Need-is_mark-requires invariant_loop decreases_loop
 is-mark-requires c κs = search rules
 
-loop-less : tie.Need-loop-smaller invariant_loop decreases_loop
+loop-less : tie.Need-loop-at-smaller-then-not-is_mark invariant_loop decreases_loop
 loop-less c =
-    let l = c.before.before.before.before.before.loop in
+    let l = c.loop-at in
     omega (arith, going_length l.invariant)
 
-loop-again : tie.Need-loop-preserved invariant_loop decreases_loop
+loop-again : tie.Need-loop-at-preserved-then-not-is_mark invariant_loop decreases_loop
 loop-again c =
-    let l = c.before.before.before.before.before.loop in
-    going_skip l.invariant (omega (arith, going_length l.invariant)) (sym c.before.is_mark_lem.ensures ∙ not-true _ c.if1.true)
+    let l = c.loop-at in
+    going_skip l.invariant (omega (arith, going_length l.invariant)) (sym c.is_mark.ensures ∙ not-true _ c.if-not-is_mark.true-raw)
 
-slice-write-row : tie.Need-slice-write-row invariant_loop decreases_loop
+slice-write-row : tie.Need-bounds-row-to invariant_loop decreases_loop
 slice-write-row c =
-    let l = c.before.before.before.before.before.loop in
+    let l = c.loop-at in
     omega (arith, l.invariant.order)
 
-add_row : tie.Need-overflow-add-row invariant_loop decreases_loop
+add_row : tie.Need-overflow_add-row invariant_loop decreases_loop
 add_row c =
-    let l = c.before.before.before.before.before.loop in
+    let l = c.loop-at in
     omega (arith, l.invariant.order)
 
-slice-write-row-2 : tie.Need-slice-write-row-2 invariant_loop decreases_loop
+slice-write-row-2 : tie.Need-bounds-row-to-in-loop-at invariant_loop decreases_loop
 slice-write-row-2 c =
-    let l = c.before.before.before.before.before.loop in
+    let l = c.loop-at in
     simp length-set (omega (arith, l.invariant.order))
 
-add-to : tie.Need-overflow-add-to invariant_loop decreases_loop
+add-to : tie.Need-overflow_add-to invariant_loop decreases_loop
 add-to c =
-    let l = c.before.before.before.before.before.loop in
+    let l = c.loop-at in
     omega (arith, l.invariant.order)
 
-loop-less-2 : tie.Need-loop-smaller-2 invariant_loop decreases_loop
+loop-less-2 : tie.Need-loop-at-smaller invariant_loop decreases_loop
 loop-less-2 c =
-    let l = c.before.before.before.before.before.loop in
+    let l = c.loop-at in
     omega (arith, going_length l.invariant)
 
-loop-again-2 : tie.Need-loop-preserved-2 invariant_loop decreases_loop
+loop-again-2 : tie.Need-loop-at-preserved invariant_loop decreases_loop
 loop-again-2 c =
-    let l = c.before.before.before.before.before.loop in
-    going_keep l.invariant (omega (arith, going_length l.invariant)) (sym c.before.is_mark_lem.ensures ∙ not-false _ c.if1.false)
+    let l = c.loop-at in
+    going_keep l.invariant (omega (arith, going_length l.invariant)) (sym c.is_mark.ensures ∙ not-false _ c.if-not-is_mark.false-raw)
 
-same_length : tie.Need-same-length invariant_loop decreases_loop
+same_length : tie.Need-shape_of-row invariant_loop decreases_loop
 same_length c =
-    let l = c.before.loop in
+    let l = c.loop-at in
     going_length l.invariant
 
 returns : tie.Need-returns invariant_loop decreases_loop
 returns c =
-    let l = c.before.loop in
+    let l = c.loop-at in
     going_end l.invariant (omega (arith, going_length l.invariant))
 
 pub drop_empty_spec : {M : Type 1} → statement M

@@ -1,50 +1,53 @@
 -- The units passed are no signs of patterns. The measure is what is left.
 use Prim.Native.Nat.{◌-◌}
 use mathlib.Core.Path.{refl}
-use mathlib.Core.Logic.{⊎_elim}
 use native.Mathlib.Omega.{arith}
-use borrow.Author.Tests.{eqb-true, ne_eqb}
+use borrow.Author.Tests.{ne_eqb}
 use lib.ListN.{length, get_or}
 use Rattle.pattern_row.proofs.Plain.{sign, Seeking, seek_start, seek_end, seek_found, seek_on}
 use Rattle.pattern_row.proofs.is_plain.Statement.{statement}
 use Rattle.pattern_row.proofs.is_plain.Tie as tie
+use Rattle.pattern_row.proofs.is_plain.Lts.{then-b-eq42-via-then-b-eq42, then-b-eq42-via-else-b-eq42+then-b-eq63, then-b-eq42-via-else-b-eq42+else-b-eq63+then-b-eq91}
 
-abbrev invariant_loop : tie.invariant_loop
+abbrev invariant_loop : tie.invariant-loop-at
 invariant_loop row at₀ at = Seeking row at
 
-abbrev decreases_loop : tie.decreases_loop
+abbrev decreases_loop : tie.decreases-loop-at
 decreases_loop row at₀ at = length row - at
 
-loop-holds : tie.Need-loop-init invariant_loop decreases_loop
+loop-holds : tie.Need-loop-at-init invariant_loop decreases_loop
 loop-holds c = seek_start _
 
-sub-loop : tie.Need-overflow-sub-loop invariant_loop decreases_loop
-sub-loop c = omega (arith, c.loop.invariant.within)
+sub-loop : tie.Need-overflow_sub-row invariant_loop decreases_loop
+sub-loop c = omega (arith, c.loop-at.invariant.within)
 
-shared-slice-read-b : tie.Need-shared-slice-read-b invariant_loop decreases_loop
+shared-slice-read-b : tie.Need-bounds-row-at invariant_loop decreases_loop
 shared-slice-read-b c = omega arith
 
-returns : tie.Need-returns invariant_loop decreases_loop
+returns : tie.Need-returns-then-b-eq42 invariant_loop decreases_loop
 returns c =
-    let l = c.before.before.before in
-    let b = get_or l.before.args.row.now l.loop.at 0 in
-    seek_found l.loop.invariant (omega arith)
-    (⊎_elim (λ w. sign b 42 refl w.taken)
-    (⊎_elim (λ w. sign b 63 refl (eqb-true b 63 w.1.taken)) (λ w. sign b 91 refl (eqb-true b 91 w.2.taken))) c.if1.branch)
+    let l = c in
+    let b = get_or l.args.row.now l.loop-at.at 0 in
+    seek_found l.loop-at.invariant (omega arith)
+    (elim c.then-b-eq42.branch [
+      | then-b-eq42-via-then-b-eq42 w ↦ sign b 42 refl w.if-b-eq42.true
+      | then-b-eq42-via-else-b-eq42+then-b-eq63 w ↦ sign b 63 refl w.if-b-eq63.true
+      | then-b-eq42-via-else-b-eq42+else-b-eq63+then-b-eq91 w ↦ sign b 91 refl w.if-b-eq91.true
+    ])
 
-add_at : tie.Need-overflow-add-at invariant_loop decreases_loop
+add_at : tie.Need-overflow_add-at invariant_loop decreases_loop
 add_at c = omega arith
 
-loop-less : tie.Need-loop-smaller invariant_loop decreases_loop
+loop-less : tie.Need-loop-at-smaller invariant_loop decreases_loop
 loop-less c = omega arith
 
-loop-again : tie.Need-loop-preserved invariant_loop decreases_loop
+loop-again : tie.Need-loop-at-preserved invariant_loop decreases_loop
 loop-again c =
-    seek_on c.before.before.before.before.before.loop.invariant (omega arith)
-    (rw (ne_eqb _ _ c.before.before.if1.false, c.before.if2.false, c.if3.false))
+    seek_on c.loop-at.invariant (omega arith)
+    (rw (ne_eqb _ _ c.if-b-eq42.false, c.if-b-eq63.false-raw, c.if-b-eq91.false-raw))
 
-returns-2 : tie.Need-returns-2 invariant_loop decreases_loop
-returns-2 c = seek_end c.before.loop.invariant (omega arith)
+returns-2 : tie.Need-returns invariant_loop decreases_loop
+returns-2 c = seek_end c.loop-at.invariant (omega arith)
 
 pub is_plain_spec : {M : Type 1} → statement M
 is_plain_spec =

@@ -8,24 +8,28 @@ use borrow.Author.Rules.{rules}
 use Rattle.pattern_set.proofs.set_of.Statement.{statement}
 use Rattle.pattern_set.proofs.set_of.Tie as tie
 
-members-requires : tie.Need-members-requires
+members-requires : tie.Need-members-set-requires
 members-requires c κs = search rules
 
 others-requires : tie.Need-others-requires
 others-requires c κs = search rules
 
-returns : tie.Need-returns
+returns : tie.Need-returns-then-negative
 returns c =
-    let a = c.before.before.before.before.args in
-    λ k h. in_others (signs_by a.width a.units.now) k (c.before.before.members.ensures k h) (c.others.ensures k h) ∙ ap
-    (λ (b : Bool). in_set (sense_of b) (signs_by a.width a.units.now) k) (sym c.before.if1.true)
+    let a = c.args in
+    λ k h. in_others (signs_by a.width a.units.now) k (c.members-set.ensures k h) (c.others.ensures k h) ∙ ap
+    (λ (b : Bool). in_set (sense_of b) (signs_by a.width a.units.now) k) (sym c.if-negative.true)
 
-returns-2 : tie.Need-returns-2
+returns-2 : tie.Need-returns
 returns-2 c =
-    let a = c.before.before.before.args in
-    λ k h. in_members (signs_by a.width a.units.now) k (c.before.members.ensures k h) ∙ ap
+    let a = c.args in
+    λ k h. in_members (signs_by a.width a.units.now) k (c.members-set.ensures k h) ∙ ap
     (λ (b : Bool). in_set (sense_of b) (signs_by a.width a.units.now) k)
-    (sym c.if1.false)
+    (sym c.if-negative.false)
 
 pub set_of_spec : {M : Type 1} → statement M
-set_of_spec = tie.close (tie.spec members-requires others-requires returns returns-2)
+set_of_spec = tie.close (tie.spec
+    members-requires
+    others-requires
+    returns
+    returns-2)

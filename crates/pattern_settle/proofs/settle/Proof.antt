@@ -4,22 +4,27 @@ use borrow.Author.Rules.{rules}
 use Rattle.pattern_settle.proofs.settle.Statement.{statement}
 use Rattle.pattern_settle.proofs.settle.Tie as tie
 
-fill-ends-requires : tie.Need-fill-ends-requires
+fill-ends-requires : tie.Need-fill_ends-requires
 fill-ends-requires c κs = search rules
 
-settle-pieces-requires : tie.Need-settle-pieces-requires
+settle-pieces-requires : tie.Need-settle_pieces-requires
 settle-pieces-requires c κs =
-    let s = c.before.before.before.before.before.before.before.before.before in
-    fills_ended (record { room = s.requires.0; few = s.requires.1 }) c.before.before.before.before.fill_ends.ensures
+    let s = c in
+    fills_ended (record { room = s.requires.0; few = s.requires.1 }) c.fill_ends.ensures
 
-same_length : tie.Need-same-length
+same_length : tie.Need-shape_of-cells
 same_length c = search rules
 
-same-length-2 : tie.Need-same-length-2
+same-length-2 : tie.Need-shape_of-sets
 same-length-2 c = search rules
 
 returns : tie.Need-returns
 returns c = search rules
 
 pub settle_spec : {M : Type 1} → statement M
-settle_spec = tie.close (tie.spec fill-ends-requires settle-pieces-requires same_length same-length-2 returns)
+settle_spec = tie.close (tie.spec
+    fill-ends-requires
+    settle-pieces-requires
+    same_length
+    same-length-2
+    returns)

@@ -7,76 +7,76 @@ use Rattle.quote.proofs.Walks.{Field, Counts, counts_starts, counts_end, counts_
 use Rattle.quote.proofs.blanked_length.Statement.{statement}
 use Rattle.quote.proofs.blanked_length.Tie as tie
 
-abbrev invariant_loop : tie.invariant_loop
+abbrev invariant_loop : tie.invariant-loop-end
 invariant_loop fields from n₀ at₀ n at = Counts fields from at n
 
-abbrev decreases_loop : tie.decreases_loop
+abbrev decreases_loop : tie.decreases-loop-end
 decreases_loop fields from n₀ at₀ n at = length fields - at
 
-loop-holds : tie.Need-loop-init invariant_loop decreases_loop
-loop-holds c = counts_starts c.before.requires
+loop-holds : tie.Need-loop-end-init invariant_loop decreases_loop
+loop-holds c = counts_starts c.requires
 
-text-at-requires : tie.Need-text-at-requires invariant_loop decreases_loop
+text-at-requires : tie.Need-text_at-piece-requires invariant_loop decreases_loop
 text-at-requires c κs = tt
 
-enum_told : tie.Need-enum-told invariant_loop decreases_loop
+enum_told : tie.Need-enum_told-1 invariant_loop decreases_loop
 enum_told c = search rules
 
-returns : tie.Need-returns invariant_loop decreases_loop
-returns c = counts_end c.before.before.before.loop.invariant c.before.before.text_at.ensures c.enum_told.given.1
+returns : tie.Need-returns-in-End invariant_loop decreases_loop
+returns c = counts_end c.loop-end.invariant c.text_at-piece.ensures c.in-End.is
 
-enum-told-2 : tie.Need-enum-told-2 invariant_loop decreases_loop
+enum-told-2 : tie.Need-enum_told-in-Bad invariant_loop decreases_loop
 enum-told-2 c = search rules
 
-returns-2 : tie.Need-returns-2 invariant_loop decreases_loop
-returns-2 c = counts_bad c.before.before.before.loop.invariant c.before.before.text_at.ensures c.enum-told2.given.1
+returns-2 : tie.Need-returns-in-Bad invariant_loop decreases_loop
+returns-2 c = counts_bad c.loop-end.invariant c.text_at-piece.ensures c.in-Bad.is
 
-enum-known-piece : tie.Need-enum-known-piece invariant_loop decreases_loop
+enum-known-piece : tie.Need-enum_known-piece invariant_loop decreases_loop
 enum-known-piece c = search rules
 
 -- the field at the walk's place
-field : (c : tie.After-piece invariant_loop decreases_loop) →
-    let l = c.before.before.before in
-    Field l.before.before.args.fields.now (l.loop.at + 2) c.piece.given.0.0
-field c = counts_text c.before.before.before.loop.invariant c.before.before.text_at.ensures c.piece.given.1
+field : (c : tie.In-At invariant_loop decreases_loop) →
+    let l = c in
+    Field l.args.fields.now (l.loop-end.at + 2) c.in-At.end
+field c = counts_text c.loop-end.invariant c.text_at-piece.ensures c.in-At.is
 
 -- the count with that field
-more : (c : tie.After-field-length invariant_loop decreases_loop) →
-    let p = c.before.before.before in
-    let l = p.before.before.before in
-    let a = l.before.before.args in
-    Counts a.fields.now a.from p.piece.given.0.0 (l.loop.n + (1 + c.field-length.result))
+more : (c : tie.After-field_length invariant_loop decreases_loop) →
+    let p = c.before.before in
+    let l = p in
+    let a = l.args in
+    Counts a.fields.now a.from p.in-At.end (l.loop-end.n + (1 + c.field_length.result))
 more c =
-    let p = c.before.before.before in
-    let l = p.before.before.before in
-    counts_more l.loop.invariant p.before.before.text_at.ensures c.field-length.result p.piece.given.1 c.field-length.ensures
-    l.before.before.requires
+    let p = c.before.before in
+    let l = p in
+    counts_more l.loop-end.invariant p.text_at-piece.ensures c.field_length.result p.in-At.is c.field_length.ensures
+    l.requires
 
-add_start : tie.Need-overflow-add-start invariant_loop decreases_loop
-add_start c = let f = field c.before in omega (arith, f.low, f.high)
+add_start : tie.Need-overflow_add-start invariant_loop decreases_loop
+add_start c = let f = field c in omega (arith, f.low, f.high)
 
-sub-field-length : tie.Need-overflow-sub-field-length invariant_loop decreases_loop
-sub-field-length c = (field c.before).low
+sub-field-length : tie.Need-slice_bounds-field_length-count invariant_loop decreases_loop
+sub-field-length c = (field c).low
 
-part-field-length-start : tie.Need-slice-bounds-field-length-start invariant_loop decreases_loop
-part-field-length-start c = (field c.before).low
+part-field-length-start : tie.Need-slice_bounds-field_length-start invariant_loop decreases_loop
+part-field-length-start c = (field c).low
 
-part-field-length-end : tie.Need-slice-bounds-field-length-end invariant_loop decreases_loop
-part-field-length-end c = (field c.before).high
+part-field-length-end : tie.Need-slice_bounds-field_length-end invariant_loop decreases_loop
+part-field-length-end c = (field c).high
 
-field-length-requires : tie.Need-field-length-requires invariant_loop decreases_loop
-field-length-requires c κs = (field c.before.before).short
+field-length-requires : tie.Need-field_length-requires invariant_loop decreases_loop
+field-length-requires c κs = (field c.before).short
 
-add-n : tie.Need-overflow-add-n invariant_loop decreases_loop
-add-n c = omega (arith, c.field-length.ensures, (field c.before.before.before).small)
+add-n : tie.Need-overflow_add-n invariant_loop decreases_loop
+add-n c = omega (arith, c.field_length.ensures, (field c.before.before).small)
 
-add-n-2 : tie.Need-overflow-add-n-2 invariant_loop decreases_loop
+add-n-2 : tie.Need-overflow_add-n-in-At invariant_loop decreases_loop
 add-n-2 c = omega (arith, (more c).bound)
 
-loop-less : tie.Need-loop-smaller invariant_loop decreases_loop
-loop-less c = let f = field c.before.before.before in omega (arith, f.low, f.high)
+loop-less : tie.Need-loop-end-smaller invariant_loop decreases_loop
+loop-less c = let f = field c.before.before in omega (arith, f.low, f.high)
 
-loop-again : tie.Need-loop-preserved invariant_loop decreases_loop
+loop-again : tie.Need-loop-end-preserved invariant_loop decreases_loop
 loop-again c = more c
 
 pub blanked_length_spec : {M : Type 1} → statement M

@@ -8,35 +8,35 @@ use Rattle.quote.proofs.Lengths.{enclosed_length}
 use Rattle.quote.proofs.field_length.Statement.{statement}
 use Rattle.quote.proofs.field_length.Tie as tie
 
-look-at-requires : tie.Need-look-at-requires
+look-at-requires : tie.Need-look_at-look-requires
 look-at-requires c κs = search rules
 
-enum_told : tie.Need-enum-told
+enum_told : tie.Need-enum_told-1
 enum_told c = search rules
 
-enum-told-2 : tie.Need-enum-told-2
+enum-told-2 : tie.Need-enum_told-in-Plain
 enum-told-2 c = search rules
 
-add-result : tie.Need-overflow-add-result
+add-result : tie.Need-overflow_add-result
 add-result c = search rules
 
-enum-told-3 : tie.Need-enum-told-3
+enum-told-3 : tie.Need-enum_told-in-Changed
 enum-told-3 c = search rules
 
-changed-length-requires : tie.Need-changed-length-requires
-changed-length-requires c κs = (c.before.before.before.before.requires, c.before.before.look_at.ensures.changes c.enum-told3.given.1)
+changed-length-requires : tie.Need-changed_length-requires
+changed-length-requires c κs = (c.requires, c.look_at-look.ensures.changes c.in-Changed.is)
 
-returns : tie.Need-returns
-returns c = sym (ap length (c.before.before.look_at.ensures.leaves c.enum_told.given.1))
+returns : tie.Need-returns-in-Bare
+returns c = sym (ap length (c.look_at-look.ensures.leaves c.in-Bare.is))
 
-returns-2 : tie.Need-returns-2
+returns-2 : tie.Need-returns-in-Plain
 returns-2 c =
-    let l = c.before.before.look_at.ensures in
-    let e = c.enum-told2.given.1 in
-    omega (arith, ap length (l.encloses e), enclosed_length singled c.before.before.before.before.args.field.now, ap length (l.keeps e))
+    let l = c.look_at-look.ensures in
+    let e = c.in-Plain.is in
+    omega (arith, ap length (l.encloses e), enclosed_length singled c.args.field.now, ap length (l.keeps e))
 
-returns-3 : tie.Need-returns-3
-returns-3 c = c.changed-length.ensures
+returns-3 : tie.Need-returns-in-Changed
+returns-3 c = c.changed_length.ensures
 
 pub field_length_spec : {M : Type 1} → statement M
 field_length_spec =

@@ -8,56 +8,56 @@ use Rattle.quote.proofs.Fields.{same_put}
 use Rattle.quote.proofs.put_field.Statement.{statement}
 use Rattle.quote.proofs.put_field.Tie as tie
 
-look-at-requires : tie.Need-look-at-requires
+look-at-requires : tie.Need-look_at-look-requires
 look-at-requires c κs = search rules
 
-enum_told : tie.Need-enum-told
+enum_told : tie.Need-enum_told-1
 enum_told c = search rules
 
-copy-in-requires : tie.Need-copy-in-requires
+copy-in-requires : tie.Need-copy_in-requires
 copy-in-requires c κs =
-    let e = c.before in
-    omega (arith, ap length (e.before.before.look_at.ensures.leaves e.enum_told.given.1), e.before.before.before.before.before.requires)
+    let e = c in
+    omega (arith, ap length (e.look_at-look.ensures.leaves e.in-Bare.is), e.requires)
 
-enum-told-2 : tie.Need-enum-told-2
+enum-told-2 : tie.Need-enum_told-in-Plain
 enum-told-2 c = search rules
 
-put-plain-requires : tie.Need-put-plain-requires
+put-plain-requires : tie.Need-put_plain-requires
 put-plain-requires c κs =
-    let e = c.before in
-    let l = e.before.before.look_at.ensures in
-    let h = e.enum-told2.given.1 in
-    (l.keeps h, omega (arith, ap length (l.encloses h), e.before.before.before.before.before.requires))
+    let e = c in
+    let l = e.look_at-look.ensures in
+    let h = e.in-Plain.is in
+    (l.keeps h, omega (arith, ap length (l.encloses h), e.requires))
 
-enum-told-3 : tie.Need-enum-told-3
+enum-told-3 : tie.Need-enum_told-in-Changed
 enum-told-3 c = search rules
 
-put-changed-requires : tie.Need-put-changed-requires
+put-changed-requires : tie.Need-put_changed-requires
 put-changed-requires c κs =
-    let e = c.before in
-    (e.before.before.look_at.ensures.changes e.enum-told3.given.1, e.before.before.before.before.before.requires)
+    let e = c in
+    (e.look_at-look.ensures.changes e.in-Changed.is, e.requires)
 
-same_length : tie.Need-same-length
+same_length : tie.Need-shape_of-out-in-Bare
 same_length c = search rules
 
-returns : tie.Need-returns
+returns : tie.Need-returns-in-Bare
 returns c =
-    let e = c.before.before.before.before in
-    same_put _ _ _ _ _ (e.before.before.look_at.ensures.leaves e.enum_told.given.1) (puts_copied _ _ _ c.before.before.copy-in.ensures)
+    let e = c in
+    same_put _ _ _ _ _ (e.look_at-look.ensures.leaves e.in-Bare.is) (puts_copied _ _ _ c.copy_in.ensures)
 
-same-length-2 : tie.Need-same-length-2
+same-length-2 : tie.Need-shape_of-out-in-Plain
 same-length-2 c = search rules
 
-returns-2 : tie.Need-returns-2
+returns-2 : tie.Need-returns-in-Plain
 returns-2 c =
-    let e = c.before.before.before.before in
-    same_put _ _ _ _ _ (e.before.before.look_at.ensures.encloses e.enum-told2.given.1) c.before.before.put-plain.ensures
+    let e = c in
+    same_put _ _ _ _ _ (e.look_at-look.ensures.encloses e.in-Plain.is) c.put_plain.ensures
 
-same-length-3 : tie.Need-same-length-3
+same-length-3 : tie.Need-shape_of-out-in-Changed
 same-length-3 c = search rules
 
-returns-3 : tie.Need-returns-3
-returns-3 c = c.before.before.put-changed.ensures
+returns-3 : tie.Need-returns-in-Changed
+returns-3 c = c.put_changed.ensures
 
 pub put_field_spec : {M : Type 1} → statement M
 put_field_spec =

@@ -9,87 +9,87 @@ use Rattle.quote.proofs.Walks.{First, line_end, line_bad, line_first, line_lengt
 use Rattle.quote.proofs.put_line.Statement.{statement}
 use Rattle.quote.proofs.put_line.Tie as tie
 
-text-at-requires : tie.Need-text-at-requires
+text-at-requires : tie.Need-text_at-first-requires
 text-at-requires c κs = search rules
 
-enum_told : tie.Need-enum-told
+enum_told : tie.Need-enum_told-1
 enum_told c = search rules
 
-enum-told-2 : tie.Need-enum-told-2
+enum-told-2 : tie.Need-enum_told-in-Bad
 enum-told-2 c = search rules
 
-enum-known-first : tie.Need-enum-known-first
+enum-known-first : tie.Need-enum_known-first
 enum-known-first c = search rules
 
-abbrev start : tie.After-first → tie.Start
-start c = c.before.before.before.before.before
+abbrev start : tie.In-At → tie.Start
+start c = c.before.before.before.before
 
 -- the first field, and those after it
-first : (c : tie.After-first) → First (start c).args.fields.now c.first.given.0.0
+first : (c : tie.In-At) → First (start c).args.fields.now c.in-At.end
 first c =
     let s = start c in
-    line_first s.args.fields.now s.pre.0 c.before.before.text_at.ensures c.first.given.1
+    line_first s.args.fields.now s.requires.0 c.text_at-first.ensures c.in-At.is
 
 -- the first field is written
-begun : (c : tie.After-put-field) →
-    let f = c.before.before.before.before in
+begun : (c : tie.After-put_field-used) →
+    let f = c.before.before.before in
     let a = (start f).args in
-    Filling (quoted_line (held_texts a.fields.now)) (blanked (texts_from a.fields.now f.first.given.0.0)) a.out.now
-    c.put-field.new.1.0 c.put-field.result
-begun c = let f = c.before.before.before.before in line_begun (first f) (start f).requires.1 c.put-field.ensures
+    Filling (quoted_line (held_texts a.fields.now)) (blanked (texts_from a.fields.now f.in-At.end)) a.out.now
+    c.put_field-used.new.out c.put_field-used.result
+begun c = let f = c.before.before.before in line_begun (first f) (start f).requires.1 c.put_field-used.ensures
 
-sub-put-field : tie.Need-overflow-sub-put-field
-sub-put-field c = (first c.before).text.low
+sub-put-field : tie.Need-slice_bounds-put_field-count
+sub-put-field c = (first c).text.low
 
-part-put-field-start : tie.Need-slice-bounds-put-field-start
-part-put-field-start c = (first c.before).text.low
+part-put-field-start : tie.Need-slice_bounds-put_field-start
+part-put-field-start c = (first c).text.low
 
-part-put-field-end : tie.Need-slice-bounds-put-field-end
-part-put-field-end c = (first c.before).text.high
+part-put-field-end : tie.Need-slice_bounds-put_field-end
+part-put-field-end c = (first c).text.high
 
-put-field-requires : tie.Need-put-field-requires
-put-field-requires c κs = let f = c.before.before.before in omega (arith, line_length (first f), (start f).requires.1)
+put-field-requires : tie.Need-put_field-used-requires
+put-field-requires c κs = let f = c.before.before in omega (arith, line_length (first f), (start f).requires.1)
 
-sub-put-blanked : tie.Need-overflow-sub-put-blanked
+sub-put-blanked : tie.Need-slice_bounds-put_blanked-count
 sub-put-blanked c = let w = begun c.before.before in omega (arith, fill_room w, fill_length w)
 
-part-put-blanked-start : tie.Need-slice-bounds-put-blanked-start
+part-put-blanked-start : tie.Need-slice_bounds-put_blanked-start
 part-put-blanked-start c = let w = begun c.before.before in omega (arith, fill_room w, fill_length w)
 
-part-put-blanked-end : tie.Need-slice-bounds-put-blanked-end
+part-put-blanked-end : tie.Need-slice_bounds-put_blanked-end
 part-put-blanked-end c = search rules
 
-put-blanked-requires : tie.Need-put-blanked-requires
+put-blanked-requires : tie.Need-put_blanked-n-requires
 put-blanked-requires c κs =
     let p = c.before.before.before in
     let w = begun p in
-    ((first p.before.before.before.before).rest, omega (arith, fill_room w, fill_free_length w))
+    ((first p.before.before.before).rest, omega (arith, fill_room w, fill_free_length w))
 
-add-result : tie.Need-overflow-add-result
+add-result : tie.Need-overflow_add-result
 add-result c =
     let q = c.before.before in
     let p = q.before.before.before.before in
-    let f = p.before.before.before.before in
-    omega (arith, p.put-field.ensures.counts, q.put-blanked.ensures.counts, line_length (first f), (start f).requires.1)
+    let f = p.before.before.before in
+    omega (arith, p.put_field-used.ensures.counts, q.put_blanked-n.ensures.counts, line_length (first f), (start f).requires.1)
 
-returns : tie.Need-returns
+returns : tie.Need-returns-in-End
 returns c =
-    let s = c.before.before.before.before.before in
-    puts_none _ _ (line_end s.args.fields.now s.requires.0 c.before.before.text_at.ensures c.enum_told.given.1)
+    let s = c in
+    puts_none _ _ (line_end s.args.fields.now s.requires.0 c.text_at-first.ensures c.in-End.is)
 
-returns-2 : tie.Need-returns-2
+returns-2 : tie.Need-returns-in-Bad
 returns-2 c =
-    let s = c.before.before.before.before.before in
-    puts_none _ _ (line_bad s.args.fields.now s.requires.0 c.before.before.text_at.ensures c.enum-told2.given.1)
+    let s = c in
+    puts_none _ _ (line_bad s.args.fields.now s.requires.0 c.text_at-first.ensures c.in-Bad.is)
 
-same_length : tie.Need-same-length
+same_length : tie.Need-shape_of-out
 same_length c = search rules
 
-returns-3 : tie.Need-returns-3
+returns-3 : tie.Need-returns-in-At
 returns-3 c =
     let q = c.before.before in
-    let b = q.put-blanked in
-    line_whole (begun q.before.before.before.before) b.new.1.1.0 b.result b.ensures
+    let b = q.put_blanked-n in
+    line_whole (begun q.before.before.before.before) b.new.out b.result b.ensures
 
 pub put_line_spec : {M : Type 1} → statement M
 put_line_spec =

@@ -13,61 +13,61 @@ use Rattle.quote.proofs.put_plain.Statement.{statement}
 use Rattle.quote.proofs.put_plain.Tie as tie
 
 -- the first quote is written
-opened : (c : tie.After-slice-known) →
-    let a = c.before.before.args in
+opened : (c : tie.After-slice_known-1) →
+    let a = c.args in
     let t = a.field.now in
     Filling (enclosed singled t) (quoted_bytes singled t ++ (39 ∷ [])) a.out.now (set a.out.now 0 39) 1
-opened c = field_opened singled _ _ c.before.before.requires.1
+opened c = field_opened singled _ _ c.requires.1
 
-slice-write-out : tie.Need-slice-write-out
+slice-write-out : tie.Need-bounds-out-0
 slice-write-out c = omega (arith, fill_room (opened c))
 
-sub-copy-in : tie.Need-overflow-sub-copy-in
+sub-copy-in : tie.Need-slice_bounds-copy_in-count
 sub-copy-in c = omega (arith, fill_room (opened c), fill_length (opened c))
 
-part-copy-in-start : tie.Need-slice-bounds-copy-in-start
+part-copy-in-start : tie.Need-slice_bounds-copy_in-start
 part-copy-in-start c = omega (arith, fill_room (opened c), fill_length (opened c))
 
-part-copy-in-end : tie.Need-slice-bounds-copy-in-end
+part-copy-in-end : tie.Need-slice_bounds-copy_in-end
 part-copy-in-end c = search rules
 
-copy-in-requires : tie.Need-copy-in-requires
+copy-in-requires : tie.Need-copy_in-requires
 copy-in-requires c κs =
-    let s = c.before.before.before in
+    let s = c in
     omega (arith, ap length s.requires.0, fill_fits (opened c.before) (quoted_bytes singled s.args.field.now) (39 ∷ []) refl)
 
 -- the field is, and the last quote
-inside : (c : tie.After-slice-known2) →
-    let a = c.before.before.before.before.before.before.args in
+inside : (c : tie.After-slice_known-2-1) →
+    let a = c.args in
     let t = a.field.now in
     let first = set a.out.now 0 39 in
-    Filling (enclosed singled t) (39 ∷ []) a.out.now (put_mid 1 (length first - 1) first c.before.before.copy-in.new.1.0) (length t + 1)
+    Filling (enclosed singled t) (39 ∷ []) a.out.now (put_mid 1 (length first - 1) first c.copy_in.new.to) (length t + 1)
 inside c =
-    let s = c.before.before.before.before.before.before in
-    let call = c.before.before.copy-in in
-    field_inside singled _ _ s.requires.1 call.new.1.0 _ (plain_inside _ _ _ s.requires.0 call.ensures)
+    let s = c in
+    let call = c.copy_in in
+    field_inside singled _ _ s.requires.1 call.new.to _ (plain_inside _ _ _ s.requires.0 call.ensures)
 
-closed : (c : tie.After-slice-known2) →
-    let a = c.before.before.before.before.before.before.args in
+closed : (c : tie.After-slice_known-2-1) →
+    let a = c.args in
     let t = a.field.now in
     let first = set a.out.now 0 39 in
-    let body = put_mid 1 (length first - 1) first c.before.before.copy-in.new.1.0 in
+    let body = put_mid 1 (length first - 1) first c.copy_in.new.to in
     Filling (enclosed singled t) [] a.out.now (set body (length t + 1) 39) (length t + 2)
 closed c =
-    let s = c.before.before.before.before.before.before in
-    let call = c.before.before.copy-in in
-    field_closed singled _ _ s.requires.1 call.new.1.0 _ (plain_inside _ _ _ s.requires.0 call.ensures)
+    let s = c in
+    let call = c.copy_in in
+    field_closed singled _ _ s.requires.1 call.new.to _ (plain_inside _ _ _ s.requires.0 call.ensures)
 
-add-out : tie.Need-overflow-add-out
+add-out : tie.Need-overflow_add-out
 add-out c = search rules
 
-slice-write-out-2 : tie.Need-slice-write-out-2
+slice-write-out-2 : tie.Need-bounds-out-field
 slice-write-out-2 c = omega (arith, fill_room (inside c), fill_length (inside c))
 
-add-result : tie.Need-overflow-add-result
+add-result : tie.Need-overflow_add-result
 add-result c = search rules
 
-same_length : tie.Need-same-length
+same_length : tie.Need-shape_of-out
 same_length c = fill_length (closed c)
 
 returns : tie.Need-returns

@@ -6,24 +6,29 @@ use Rattle.quote.proofs.Answers.{fields_here, malformed}
 use Rattle.quote.proofs.quote_fields.Statement.{statement}
 use Rattle.quote.proofs.quote_fields.Tie as tie
 
-well-formed-requires : tie.Need-well-formed-requires
+well-formed-requires : tie.Need-well_formed-requires
 well-formed-requires c κs = search rules
 
-returns : tie.Need-returns
+returns : tie.Need-returns-then-not-well_formed
 returns c =
-    let a = c.before.before.before.before.args in
-    malformed a.fields.now a.out.now (sym c.before.well-formed-2.ensures ∙ not-true _ c.if1.true)
+    let a = c.args in
+    malformed a.fields.now a.out.now (sym c.well_formed-2.ensures ∙ not-true _ c.if-not-well_formed.true-raw)
 
-quote-known-requires : tie.Need-quote-known-requires
+quote-known-requires : tie.Need-quote_known-requires
 quote-known-requires c κs =
-    let e = c.before in
-    fields_here e.before.before.before.before.args.fields.now (sym e.before.well-formed-2.ensures ∙ not-false _ e.if1.false)
+    let e = c in
+    fields_here e.args.fields.now (sym e.well_formed-2.ensures ∙ not-false _ e.if-not-well_formed.false-raw)
 
-same_length : tie.Need-same-length
+same_length : tie.Need-shape_of-out
 same_length c = search rules
 
-returns-2 : tie.Need-returns-2
-returns-2 c = c.before.before.quote-known.ensures
+returns-2 : tie.Need-returns
+returns-2 c = c.quote_known.ensures
 
 pub quote_fields_spec : {M : Type 1} → statement M
-quote_fields_spec = tie.close (tie.spec well-formed-requires returns quote-known-requires same_length returns-2)
+quote_fields_spec = tie.close (tie.spec
+    well-formed-requires
+    returns
+    quote-known-requires
+    same_length
+    returns-2)

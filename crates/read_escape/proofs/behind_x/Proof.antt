@@ -7,35 +7,35 @@ use Rattle.read_escape.proofs.Places.{x_ends, x_bad, x_digits}
 use Rattle.read_escape.proofs.behind_x.Statement.{statement}
 use Rattle.read_escape.proofs.behind_x.Tie as tie
 
-add-first : tie.Need-overflow-add-first
+add-first : tie.Need-overflow_add-first
 add-first c = search rules
 
-returns : tie.Need-returns
+returns : tie.Need-returns-then-first-text
 returns c =
-    let a = c.before.before.args in
-    x_ends a.text.now a.at c.if1.true
+    let a = c.args in
+    x_ends a.text.now a.at c.if-first-text.true
 
-shared-slice-read-in-class : tie.Need-shared-slice-read-in-class
+shared-slice-read-in-class : tie.Need-bounds-text-first
 shared-slice-read-in-class c = search rules
 
-in-class-requires : tie.Need-in-class-requires
+in-class-requires : tie.Need-in_class-requires
 in-class-requires c κs = search rules
 
-returns-2 : tie.Need-returns-2
+returns-2 : tie.Need-returns-then-not-in_class
 returns-2 c =
-    let a = c.before.before.before.before.before.args in
-    x_bad a.text.now a.at c.before.before.before.if1.false (sym c.before.in-class.ensures ∙ not-true _ c.if2.true)
+    let a = c.args in
+    x_bad a.text.now a.at c.if-first-text.false (sym c.in_class.ensures ∙ not-true _ c.if-not-in_class.true-raw)
 
-digits-at-requires : tie.Need-digits-at-requires
-digits-at-requires c κs = (omega arith, omega (arith, c.before.before.before.if1.false), omega arith, omega arith, omega arith, λ b. refl)
+digits-at-requires : tie.Need-digits_at-requires
+digits-at-requires c κs = (omega arith, omega (arith, c.if-first-text.false), omega arith, omega arith, omega arith, λ b. refl)
 
-returns-3 : tie.Need-returns-3
+returns-3 : tie.Need-returns
 returns-3 c =
-    let e = c.before in
-    let a = e.before.before.before.before.before.args in
-    x_digits a.text.now a.at e.before.before.before.if1.false (sym e.before.in-class.ensures ∙ not-false _ e.if2.false)
-    c.digits-at.result
-    c.digits-at.ensures
+    let e = c in
+    let a = e.args in
+    x_digits a.text.now a.at e.if-first-text.false (sym e.in_class.ensures ∙ not-false _ e.if-not-in_class.false-raw)
+    c.digits_at.result
+    c.digits_at.ensures
 
 pub behind_x_spec : {M : Type 1} → statement M
 behind_x_spec =

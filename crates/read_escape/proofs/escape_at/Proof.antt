@@ -6,64 +6,64 @@ use Rattle.read_escape.proofs.Places.{escape_ends, escape_x, escape_digits, esca
 use Rattle.read_escape.proofs.escape_at.Statement.{statement}
 use Rattle.read_escape.proofs.escape_at.Tie as tie
 
-add-from : tie.Need-overflow-add-from
+add-from : tie.Need-overflow_add-from
 add-from c = search rules
 
-returns : tie.Need-returns
+returns : tie.Need-returns-then-from-text
 returns c =
-    let a = c.before.before.args in
-    escape_ends a.text.now a.at c.if1.true
+    let a = c.args in
+    escape_ends a.text.now a.at c.if-from-text.true
 
-shared-slice-read-b : tie.Need-shared-slice-read-b
+shared-slice-read-b : tie.Need-bounds-text-from
 shared-slice-read-b c = search rules
 
-behind-x-requires : tie.Need-behind-x-requires
-behind-x-requires c κs = omega (arith, c.before.before.if1.false)
+behind-x-requires : tie.Need-behind_x-requires
+behind-x-requires c κs = omega (arith, c.if-from-text.false)
 
-returns-2 : tie.Need-returns-2
+returns-2 : tie.Need-returns-then-b-eq120
 returns-2 c =
-    let e = c.before in
-    let a = e.before.before.before.before.args in
-    escape_x a.text.now a.at e.before.before.if1.false e.if2.true c.behind-x.result c.behind-x.ensures
+    let e = c in
+    let a = e.args in
+    escape_x a.text.now a.at e.if-from-text.false e.if-b-eq120.true c.behind_x.result c.behind_x.ensures
 
-in-class-requires : tie.Need-in-class-requires
+in-class-requires : tie.Need-in_class-requires
 in-class-requires c κs = search rules
 
-digits-at-requires : tie.Need-digits-at-requires
-digits-at-requires c κs = (omega arith, omega (arith, c.before.before.before.before.if1.false), omega arith, omega arith, omega arith, λ b. refl)
+digits-at-requires : tie.Need-digits_at-requires
+digits-at-requires c κs = (omega arith, omega (arith, c.if-from-text.false), omega arith, omega arith, omega arith, λ b. refl)
 
-returns-3 : tie.Need-returns-3
+returns-3 : tie.Need-returns-then-in_class
 returns-3 c =
     let e = c.before in
-    let t = e.before.before in
-    let a = t.before.before.before.before.args in
-    escape_digits a.text.now a.at t.before.before.if1.false t.if2.false (sym e.before.in-class.ensures ∙ e.if3.true)
-    c.digits-at.result
-    c.digits-at.ensures
+    let t = e in
+    let a = t.args in
+    escape_digits a.text.now a.at t.if-from-text.false t.if-b-eq120.false (sym e.in_class.ensures ∙ e.if-in_class.true)
+    c.digits_at.result
+    c.digits_at.ensures
 
-letter-of-requires : tie.Need-letter-of-requires
+letter-of-requires : tie.Need-letter_of-byte-requires
 letter-of-requires c κs = search rules
 
-returns-4 : tie.Need-returns-4
+returns-4 : tie.Need-returns-then-byte-eq0
 returns-4 c =
     let e = c.before.before in
-    let t = e.before.before in
-    let a = t.before.before.before.before.args in
-    escape_none a.text.now a.at t.before.before.if1.false t.if2.false (sym e.before.in-class.ensures ∙ e.if3.false)
-    c.before.letter-of.result
-    c.before.letter-of.ensures c.if4.true
+    let t = e in
+    let a = t.args in
+    escape_none a.text.now a.at t.if-from-text.false t.if-b-eq120.false (sym e.in_class.ensures ∙ e.if-in_class.false)
+    c.letter_of-byte.result
+    c.letter_of-byte.ensures c.if-byte-eq0.true
 
-add-t6 : tie.Need-overflow-add-t6
+add-t6 : tie.Need-overflow_add-result
 add-t6 c = search rules
 
-returns-5 : tie.Need-returns-5
+returns-5 : tie.Need-returns
 returns-5 c =
     let e = c.before.before in
-    let t = e.before.before in
-    let a = t.before.before.before.before.args in
-    escape_letter a.text.now a.at t.before.before.if1.false t.if2.false (sym e.before.in-class.ensures ∙ e.if3.false)
-    c.before.letter-of.result
-    c.before.letter-of.ensures c.if4.false (search rules)
+    let t = e in
+    let a = t.args in
+    escape_letter a.text.now a.at t.if-from-text.false t.if-b-eq120.false (sym e.in_class.ensures ∙ e.if-in_class.false)
+    c.letter_of-byte.result
+    c.letter_of-byte.ensures c.if-byte-eq0.false (search rules)
 
 pub escape_at_spec : {M : Type 1} → statement M
 escape_at_spec =

@@ -7,40 +7,40 @@ use Rattle.read_item.proofs.escaped_at.Statement.{statement}
 use Rattle.read_item.proofs.escaped_at.Tie as tie
 
 -- a byte stands after the backslash
-second : (c : tie.Else1) → let a = c.before.before.args in Second a.text.now a.from
-second c = record { there = omega (arith, c.if1.false) }
+second : (c : tie.Else-at-text) → let a = c.args in Second a.text.now a.from
+second c = record { there = omega (arith, c.if-at-text.false) }
 
-add-if1 : tie.Need-overflow-add-if1
+add-if1 : tie.Need-overflow_add-at
 add-if1 c = search rules
 
-returns : tie.Need-returns
-returns c = let a = c.before.before.args in escape_end a.text.now a.from c.if1.true
+returns : tie.Need-returns-then-at-text
+returns c = let a = c.args in escape_end a.text.now a.from c.if-at-text.true
 
-add-b : tie.Need-overflow-add-b
+add-b : tie.Need-overflow_add-b
 add-b c = search rules
 
-shared-slice-read-b : tie.Need-shared-slice-read-b
+shared-slice-read-b : tie.Need-bounds-text-at
 shared-slice-read-b c = search rules
 
-returns-2 : tie.Need-returns-2
-returns-2 c = escape_line (second c.before.before) c.if2.true
+returns-2 : tie.Need-returns-then-b-eq10
+returns-2 c = escape_line (second c.before.before) c.if-b-eq10.true
 
-is-quotable-requires : tie.Need-is-quotable-requires
+is-quotable-requires : tie.Need-is_quotable-requires
 is-quotable-requires c κs = search rules
 
-add-t12 : tie.Need-overflow-add-t12
+add-t12 : tie.Need-overflow_add-result
 add-t12 c = search rules
 
-returns-3 : tie.Need-returns-3
+returns-3 : tie.Need-returns-then-is_quotable
 returns-3 c =
-    escape_byte (second c.before.before.before.before) c.before.before.if2.false (sym c.before.is-quotable.ensures ∙ c.if3.true)
+    escape_byte (second c.before.before.before.before) c.if-b-eq10.false (sym c.is_quotable.ensures ∙ c.if-is_quotable.true)
 
-add-t7 : tie.Need-overflow-add-t7
+add-t7 : tie.Need-overflow_add-result-2
 add-t7 c = search rules
 
-returns-4 : tie.Need-returns-4
+returns-4 : tie.Need-returns
 returns-4 c =
-    escape_plain (second c.before.before.before.before) c.before.before.if2.false (sym c.before.is-quotable.ensures ∙ c.if3.false)
+    escape_plain (second c.before.before.before.before) c.if-b-eq10.false (sym c.is_quotable.ensures ∙ c.if-is_quotable.false)
 
 pub escaped_at_spec : {M : Type 1} → statement M
 escaped_at_spec =

@@ -5,25 +5,30 @@ use borrow.Author.Rules.{rules}
 use Rattle.read_item.proofs.is_end.Statement.{statement}
 use Rattle.read_item.proofs.is_end.Tie as tie
 
-may-end-requires : tie.Need-may-end-requires
+may-end-requires : tie.Need-may_end-requires
 may-end-requires c κs = search rules
 
-returns : tie.Need-returns
+returns : tie.Need-returns-then-at-text
 returns c =
-    let a = c.before.before.before.args in
-    end_of_line a.text.now a.at a.mode _ c.before.if1.true c.may-end.ensures
+    let a = c.args in
+    end_of_line a.text.now a.at a.mode _ c.if-at-text.true c.may_end.ensures
 
-shared-slice-read-is-closer : tie.Need-shared-slice-read-is-closer
+shared-slice-read-is-closer : tie.Need-bounds-text-at
 shared-slice-read-is-closer c = search rules
 
-is-closer-requires : tie.Need-is-closer-requires
+is-closer-requires : tie.Need-is_closer-requires
 is-closer-requires c κs = search rules
 
-returns-2 : tie.Need-returns-2
+returns-2 : tie.Need-returns
 returns-2 c =
-    let e = c.before.before in
-    let a = e.before.before.args in
-    end_at_byte a.text.now a.at a.mode (omega (arith, e.if1.false)) c.is-closer.ensures
+    let e = c in
+    let a = e.args in
+    end_at_byte a.text.now a.at a.mode (omega (arith, e.if-at-text.false)) c.is_closer.ensures
 
 pub is_end_spec : {M : Type 1} → statement M
-is_end_spec = tie.close (tie.spec may-end-requires returns shared-slice-read-is-closer is-closer-requires returns-2)
+is_end_spec = tie.close (tie.spec
+    may-end-requires
+    returns
+    shared-slice-read-is-closer
+    is-closer-requires
+    returns-2)

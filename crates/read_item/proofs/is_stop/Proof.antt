@@ -4,14 +4,17 @@ use borrow.Author.Rules.{rules}
 use Rattle.read_item.proofs.is_stop.Statement.{statement}
 use Rattle.read_item.proofs.is_stop.Tie as tie
 
-enum_told : tie.Need-enum-told
+enum_told : tie.Need-enum_told-1
 enum_told c = search rules
 
-returns : tie.Need-returns
+returns : tie.Need-returns-in-Stop
 returns c = search rules
 
-returns-2 : tie.Need-returns-2
-returns-2 c = no_stop c.before.args.item c.match.keys2
+returns-2 : tie.Need-returns-in_default
+returns-2 c = no_stop c.args.item c.in_default.in_default-own.keys2
 
 pub is_stop_spec : {M : Type 1} → statement M
-is_stop_spec = tie.close (tie.spec enum_told returns returns-2)
+is_stop_spec = tie.close (tie.spec
+    enum_told
+    returns
+    returns-2)

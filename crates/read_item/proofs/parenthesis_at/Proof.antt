@@ -10,28 +10,28 @@ use Rattle.read_item.proofs.parenthesis_at.Statement.{statement}
 use Rattle.read_item.proofs.parenthesis_at.Tie as tie
 
 -- a second parenthesis stands there
-second : (c : tie.Then1) → let a = c.before.before.before.args in is_at 40 (drop (a.from.at + 2) a.text.now) ≡ true
-second c = sym c.before.is_at.ensures ∙ c.if1.true
+second : (c : tie.Then-is_at) → let a = c.args in is_at 40 (drop (a.from.at + 2) a.text.now) ≡ true
+second c = sym c.is_at.ensures ∙ c.if-is_at.true
 
-add-is-at : tie.Need-overflow-add-is-at
+add-is-at : tie.Need-overflow_add-at
 add-is-at c = search rules
 
-is-at-requires : tie.Need-is-at-requires
+is-at-requires : tie.Need-is_at-requires
 is-at-requires c κs = search rules
 
-returns : tie.Need-returns
+returns : tie.Need-returns-then-from-eq0
 returns c =
-    let a = c.before.before.before.before.before.args in paren_deep a.text.now a.from (second c.before.before) c.if2.true
+    let a = c.args in paren_deep a.text.now a.from (second c.before.before) c.if-from-eq0.true
 
-add-t7 : tie.Need-overflow-add-t7
+add-t7 : tie.Need-overflow_add-result
 add-t7 c = search rules
 
-returns-2 : tie.Need-returns-2
+returns-2 : tie.Need-returns-then-is_at
 returns-2 c =
-    let a = c.before.before.before.before.before.args in paren_opens a.text.now a.from (second c.before.before) c.if2.false
+    let a = c.args in paren_opens a.text.now a.from (second c.before.before) c.if-from-eq0.false
 
-returns-3 : tie.Need-returns-3
-returns-3 c = let a = c.before.before.before.args in paren_other a.text.now a.from (sym c.before.is_at.ensures ∙ c.if1.false)
+returns-3 : tie.Need-returns
+returns-3 c = let a = c.args in paren_other a.text.now a.from (sym c.is_at.ensures ∙ c.if-is_at.false)
 
 pub parenthesis_at_spec : {M : Type 1} → statement M
 parenthesis_at_spec =

@@ -15,84 +15,81 @@ second : (s : tie.Start) → Second s.args.text.now s.args.from
 second s = record { there = s.requires }
 
 -- and it begins no number
-no_digit : (c : tie.Else1) → let a = c.before.before.before.before.args in is_first_digit (get_or a.text.now (a.from.at + 1) 0) ≡ false
-no_digit c = sym c.before.is-first-digit.ensures ∙ c.if1.false
+no_digit : (c : tie.Else-is_first_digit) → let a = c.args in is_first_digit (get_or a.text.now (a.from.at + 1) 0) ≡ false
+no_digit c = sym c.is_first_digit.ensures ∙ c.if-is_first_digit.false
 
 -- the call's entry, where it is known whether it is `@` or `*`
-abbrev entry : tie.After-is-in → tie.Start
-entry c = c.before.before.before.before.before.before.before
+abbrev entry : tie.After-is_in → tie.Start
+entry c = c.before.before.before.before.before.before.before.before
 
-add-b : tie.Need-overflow-add-b
+add-b : tie.Need-overflow_add-b
 add-b c = search rules
 
-shared-slice-read-b : tie.Need-shared-slice-read-b
+shared-slice-read-b : tie.Need-bounds-text-at
 shared-slice-read-b c = search rules
 
-is-first-digit-requires : tie.Need-is-first-digit-requires
+is-first-digit-requires : tie.Need-is_first_digit-requires
 is-first-digit-requires c κs = search rules
 
-add-t10 : tie.Need-overflow-add-t10
+add-t10 : tie.Need-overflow_add-result-then-is_first_digit
 add-t10 c = search rules
 
-add-t11 : tie.Need-overflow-add-t11
-add-t11 c = search rules
+returns : tie.Need-returns-then-is_first_digit
+returns c = special_digit (second c.before.before.before.before) (sym c.is_first_digit.ensures ∙ c.if-is_first_digit.true)
 
-add-t13 : tie.Need-overflow-add-t13
-add-t13 c = search rules
+returns-2 : tie.Need-returns-then-b-eq35
+returns-2 c = special_total (second c.before.before.before.before.before) (no_digit c.before) c.if-b-eq35.true
 
-returns : tie.Need-returns
-returns c = special_digit (second c.before.before.before.before) (sym c.before.is-first-digit.ensures ∙ c.if1.true)
-
-add-t15 : tie.Need-overflow-add-t15
-add-t15 c = search rules
-
-returns-2 : tie.Need-returns-2
-returns-2 c = special_total (second c.before.before.before.before.before) (no_digit c.before) c.if2.true
-
-slice-aggregate-is-in : tie.Need-slice-aggregate-is-in
-slice-aggregate-is-in c = search rules
-
-is-in-requires : tie.Need-is-in-requires
+is-in-requires : tie.Need-is_in-requires
 is-in-requires c κs = search rules
 
-spread-at-requires : tie.Need-spread-at-requires
+spread-at-requires : tie.Need-spread_at-requires
 spread-at-requires c κs = search rules
 
-returns-3 : tie.Need-returns-3
+returns-3 : tie.Need-returns-then-is_in
 returns-3 c =
     let i = c.before.before in
-    special_spread (second (entry i)) (no_digit i.before.before.before) i.before.before.if2.false (sym i.is-in.ensures ∙ c.before.if3.true)
+    special_spread (second (entry i)) (no_digit i.before.before.before.before) i.if-b-eq35.false (sym i.is_in.ensures ∙ c.if-is_in.true)
     c.spread_at.result c.spread_at.ensures
 
-is-not-served-requires : tie.Need-is-not-served-requires
+is-not-served-requires : tie.Need-is_not_served-requires
 is-not-served-requires c κs = search rules
 
-returns-4 : tie.Need-returns-4
+returns-4 : tie.Need-returns-then-is_not_served
 returns-4 c =
     let i = c.before.before.before in
-    special_unserved (second (entry i)) (no_digit i.before.before.before) i.before.before.if2.false
-    (sym i.is-in.ensures ∙ c.before.before.if3.false) (sym c.before.is-not-served.ensures ∙ c.if4.true)
+    special_unserved (second (entry i)) (no_digit i.before.before.before.before) i.if-b-eq35.false
+    (sym i.is_in.ensures ∙ c.if-is_in.false) (sym c.is_not_served.ensures ∙ c.if-is_not_served.true)
 
-quote-at-requires : tie.Need-quote-at-requires
+quote-at-requires : tie.Need-quote_at-requires
 quote-at-requires c κs = search rules
 
-returns-5 : tie.Need-returns-5
+returns-5 : tie.Need-returns-then-b-eq39
 returns-5 c =
     let e = c.before.before in
     let i = e.before.before.before in
-    special_quote (second (entry i)) (no_digit i.before.before.before) i.before.before.if2.false
-    (sym i.is-in.ensures ∙ e.before.before.if3.false) (sym e.before.is-not-served.ensures ∙ e.if4.false) c.before.if5.true
-    c.quote-at.result c.quote-at.ensures
+    special_quote (second (entry i)) (no_digit i.before.before.before.before) i.if-b-eq35.false
+    (sym i.is_in.ensures ∙ e.if-is_in.false) (sym e.is_not_served.ensures ∙ e.if-is_not_served.false) c.if-b-eq39.true
+    c.quote_at.result c.quote_at.ensures
 
-add-t6 : tie.Need-overflow-add-t6
-add-t6 c = search rules
-
-returns-6 : tie.Need-returns-6
+returns-6 : tie.Need-returns
 returns-6 c =
     let e = c.before in
     let i = e.before.before.before in
-    special_plain (second (entry i)) (no_digit i.before.before.before) i.before.before.if2.false
-    (sym i.is-in.ensures ∙ e.before.before.if3.false) (sym e.before.is-not-served.ensures ∙ e.if4.false) c.if5.false
+    special_plain (second (entry i)) (no_digit i.before.before.before.before) i.if-b-eq35.false
+    (sym i.is_in.ensures ∙ e.if-is_in.false) (sym e.is_not_served.ensures ∙ e.if-is_not_served.false) c.if-b-eq39.false
+
+overflow_add_result : tie.Need-overflow_add-result
+overflow_add_result = search rules
+
+overflow_add_result_then_is_first_digit_2 : tie.Need-overflow_add-result-then-is_first_digit-2
+overflow_add_result_then_is_first_digit_2 = search rules
+
+overflow_add_result_then_b_eq35 : tie.Need-overflow_add-result-then-b-eq35
+overflow_add_result_then_b_eq35 = search rules
+
+overflow_add_result_2 : tie.Need-overflow_add-result-2
+overflow_add_result_2 = search rules
 
 pub special_at_spec : {M : Type 1} → statement M
 special_at_spec =
@@ -101,13 +98,12 @@ special_at_spec =
     add-b
     shared-slice-read-b
     is-first-digit-requires
+    overflow_add_result
     add-t10
-    add-t11
-    add-t13
+    overflow_add_result_then_is_first_digit_2
     returns
-    add-t15
+    overflow_add_result_then_b_eq35
     returns-2
-    slice-aggregate-is-in
     is-in-requires
     spread-at-requires
     returns-3
@@ -115,5 +111,5 @@ special_at_spec =
     returns-4
     quote-at-requires
     returns-5
-    add-t6
+    overflow_add_result_2
     returns-6)

@@ -5,18 +5,21 @@ use borrow.Author.Rules.{rules}
 use Rattle.read_line.proofs.next_word.Statement.{statement}
 use Rattle.read_line.proofs.next_word.Tie as tie
 
-run-end-requires : tie.Need-run-end-requires
+run-end-requires : tie.Need-run_end-place-requires
 run-end-requires c κs = search rules
 
-returns : tie.Need-returns
+returns : tie.Need-returns-then-place-line
 returns c =
-    let a = c.before.before.before.args in
-    next_at a.line.now a.at _ c.before.run_end.ensures (omega (arith, c.if1.true))
+    let a = c.args in
+    next_at a.line.now a.at _ c.run_end-place.ensures (omega (arith, c.if-place-line.true))
 
-returns-2 : tie.Need-returns-2
+returns-2 : tie.Need-returns
 returns-2 c =
-    let a = c.before.before.before.args in
-    next_none a.line.now a.at _ c.before.run_end.ensures (omega (arith, c.if1.false))
+    let a = c.args in
+    next_none a.line.now a.at _ c.run_end-place.ensures (omega (arith, c.if-place-line.false))
 
 pub next_word_spec : {M : Type 1} → statement M
-next_word_spec = tie.close (tie.spec run-end-requires returns returns-2)
+next_word_spec = tie.close (tie.spec
+    run-end-requires
+    returns
+    returns-2)

@@ -6,35 +6,35 @@ use borrow.Author.Rules.{rules}
 use Rattle.read_line.proofs.read_assignment.Statement.{statement}
 use Rattle.read_line.proofs.read_assignment.Tie as tie
 
-assignment-at-requires : tie.Need-assignment-at-requires
+assignment-at-requires : tie.Need-assignment_at-found-requires
 assignment-at-requires c κs = search rules
 
-enum_told : tie.Need-enum-told
+enum_told : tie.Need-enum_told-1
 enum_told c = search rules
 
-enum-known-found : tie.Need-enum-known-found
+enum-known-found : tie.Need-enum_known-found
 enum-known-found c = search rules
 
 -- the assignment that was found
-found : (c : tie.After-found) → let s = c.before.before.before.before in AssignmentTo s.args.line.now s.args.place c.found.given.0.0
-found c = assignment_shown _ _ c.before.before.assignment-at.ensures c.found.given.1
+found : (c : tie.In-Named) → let s = c in AssignmentTo s.args.line.now s.args.place c.in-Named.equals
+found c = assignment_shown _ _ c.assignment_at-found.ensures c.in-Named.is
 
-add-read-from : tie.Need-overflow-add-read-from
-add-read-from c = omega (arith, (found c.before).within)
+add-read-from : tie.Need-overflow_add-equals
+add-read-from c = omega (arith, (found c).within)
 
-read-from-requires : tie.Need-read-from-requires
-read-from-requires c κs = omega (arith, (found c.before).within)
+read-from-requires : tie.Need-read_from-requires
+read-from-requires c κs = omega (arith, (found c).within)
 
-returns : tie.Need-returns
+returns : tie.Need-returns-in-Bad
 returns c =
-    let a = c.before.before.before.before.args in
-    bad_read a.line.now a.place (assignment_shown _ _ c.before.before.assignment-at.ensures c.enum_told.given.1)
+    let a = c.args in
+    bad_read a.line.now a.place (assignment_shown _ _ c.assignment_at-found.ensures c.in-Bad.is)
 
-returns-2 : tie.Need-returns-2
+returns-2 : tie.Need-returns-in-Named
 returns-2 c =
-    let f = c.before.before in
-    let a = f.before.before.before.before.args in
-    value_read a.line.now a.place f.found.given.0.0 (found f) c.read-from.result c.read-from.ensures
+    let f = c.before in
+    let a = f.args in
+    value_read a.line.now a.place f.in-Named.equals (found f) c.read_from.result c.read_from.ensures
 
 pub read_assignment_spec : {M : Type 1} → statement M
 read_assignment_spec =

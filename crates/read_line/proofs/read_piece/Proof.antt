@@ -8,51 +8,51 @@ use borrow.Author.Rules.{rules}
 use Rattle.read_line.proofs.read_piece.Statement.{statement}
 use Rattle.read_line.proofs.read_piece.Tie as tie
 
-shared-slice-read-b : tie.Need-shared-slice-read-b
+shared-slice-read-b : tie.Need-bounds-line-place
 shared-slice-read-b c = search rules
 
-in-class-requires : tie.Need-in-class-requires
+in-class-requires : tie.Need-in_class-requires
 in-class-requires c κs = search rules
 
-returns : tie.Need-returns
+returns : tie.Need-returns-then-in_class
 returns c =
-    let s = c.before.before.before.before in
-    kind_operator s.args.line.now s.args.place s.requires.0 s.requires.1 s.args.pieces (sym c.before.in-class.ensures ∙ c.if1.true)
+    let s = c in
+    kind_operator s.args.line.now s.args.place s.requires.0 s.requires.1 s.args.pieces (sym c.in_class.ensures ∙ c.if-in_class.true)
 
 -- no operator stands at the place
-plain : (c : tie.Else1) → let s = c.before.before.before.before in is_operator (get_or s.args.line.now s.args.place 0) ≡ false
-plain c = sym c.before.in-class.ensures ∙ c.if1.false
+plain : (c : tie.Else-in_class) → let s = c in is_operator (get_or s.args.line.now s.args.place 0) ≡ false
+plain c = sym c.in_class.ensures ∙ c.if-in_class.false
 
-returns-2 : tie.Need-returns-2
+returns-2 : tie.Need-returns-then-b-eq35
 returns-2 c =
-    let s = c.before.before.before.before.before in
-    kind_hash s.args.line.now s.args.place s.requires.0 s.requires.1 (plain c.before) s.args.pieces c.if2.true
+    let s = c in
+    kind_hash s.args.line.now s.args.place s.requires.0 s.requires.1 (plain c.before) s.args.pieces c.if-b-eq35.true
 
-enum_told : tie.Need-enum-told
+enum_told : tie.Need-enum_told-1
 enum_told c = search rules
 
-read-word-requires : tie.Need-read-word-requires
+read-word-requires : tie.Need-read_word-requires
 read-word-requires c κs = search rules
 
-enum-told-2 : tie.Need-enum-told-2
+enum-told-2 : tie.Need-enum_told-in-Assignments
 enum-told-2 c = search rules
 
-read-assignment-requires : tie.Need-read-assignment-requires
+read-assignment-requires : tie.Need-read_assignment-requires
 read-assignment-requires c κs = search rules
 
-returns-3 : tie.Need-returns-3
+returns-3 : tie.Need-returns-in-Words
 returns-3 c =
-    let h = c.before.before.before in
-    let s = h.before.before.before.before.before in
-    word_read s.args.line.now s.args.place s.requires.0 s.requires.1 (plain h.before) h.if2.false c.before.enum_told.given.1
+    let h = c.before.before in
+    let s = h in
+    word_read s.args.line.now s.args.place s.requires.0 s.requires.1 (plain h.before) h.if-b-eq35.false c.in-Words.is
     c.read_word.result c.read_word.ensures
 
-returns-4 : tie.Need-returns-4
+returns-4 : tie.Need-returns-in-Assignments
 returns-4 c =
-    let h = c.before.before.before in
-    let s = h.before.before.before.before.before in
-    assignment_read s.args.line.now s.args.place s.requires.0 s.requires.1 (plain h.before) h.if2.false c.before.enum-told2.given.1
-    c.read-assignment.result c.read-assignment.ensures
+    let h = c.before.before in
+    let s = h in
+    assignment_read s.args.line.now s.args.place s.requires.0 s.requires.1 (plain h.before) h.if-b-eq35.false c.in-Assignments.is
+    c.read_assignment.result c.read_assignment.ensures
 
 pub read_piece_spec : {M : Type 1} → statement M
 read_piece_spec =

@@ -8,60 +8,60 @@ use borrow.Author.Rules.{rules}
 use Rattle.read_line.proofs.read_pieces.Statement.{statement}
 use Rattle.read_line.proofs.read_pieces.Tie as tie
 
-abbrev invariant_loop : tie.invariant_loop
+abbrev invariant_loop : tie.invariant-loop-place
 invariant_loop pieces line at₀ at = Walks pieces line at
 
-abbrev decreases_loop : tie.decreases_loop
+abbrev decreases_loop : tie.decreases-loop-place
 decreases_loop pieces line at₀ at = length line - at
 
 -- the piece that was found
-found : (c : tie.After-word invariant_loop decreases_loop) →
-    let l = c.before.before.before in
-    NextAt l.before.before.args.line.now l.loop.at c.word.given.0.0
-found c = next_shown _ _ c.before.before.next_word.ensures c.word.given.1
+found : (c : tie.In-At invariant_loop decreases_loop) →
+    let l = c in
+    NextAt l.args.line.now l.loop-place.at c.in-At.place
+found c = next_shown _ _ c.next_word-word.ensures c.in-At.is
 
 -- and where it ends, if it is read
-read_to : (c : tie.After-got2 invariant_loop decreases_loop) →
-    let w = c.before.before.before.before in
-    let a = w.before.before.before.before.before.args in
-    PieceTo a.pieces a.line.now w.word.given.0.0 c.got2.given.0.0
-read_to c = piece_shown _ _ _ c.before.before.read-piece.ensures c.got2.given.1
+read_to : (c : tie.In-End invariant_loop decreases_loop) →
+    let w = c in
+    let a = w.args in
+    PieceTo a.pieces a.line.now w.in-At.place c.in-End.next
+read_to c = piece_shown _ _ _ c.read_piece-got.ensures c.in-End.is
 
-loop-holds : tie.Need-loop-init invariant_loop decreases_loop
+loop-holds : tie.Need-loop-place-init invariant_loop decreases_loop
 loop-holds c = walks_start _ _
 
-next-word-requires : tie.Need-next-word-requires invariant_loop decreases_loop
-next-word-requires c κs = c.loop.invariant.within
+next-word-requires : tie.Need-next_word-word-requires invariant_loop decreases_loop
+next-word-requires c κs = c.loop-place.invariant.within
 
-enum_told : tie.Need-enum-told invariant_loop decreases_loop
+enum_told : tie.Need-enum_told-1 invariant_loop decreases_loop
 enum_told c = search rules
 
-returns : tie.Need-returns invariant_loop decreases_loop
-returns c = walks_read c.before.before.before.loop.invariant (next_shown _ _ c.before.before.next_word.ensures c.enum_told.given.1)
+returns : tie.Need-returns-in-Nothing invariant_loop decreases_loop
+returns c = walks_read c.loop-place.invariant (next_shown _ _ c.next_word-word.ensures c.in-Nothing.is)
 
-enum-known-word : tie.Need-enum-known-word invariant_loop decreases_loop
+enum-known-word : tie.Need-enum_known-word invariant_loop decreases_loop
 enum-known-word c = search rules
 
-read-piece-requires : tie.Need-read-piece-requires invariant_loop decreases_loop
-read-piece-requires c κs = ((found c.before).within, (found c.before).starts)
+read-piece-requires : tie.Need-read_piece-got-requires invariant_loop decreases_loop
+read-piece-requires c κs = ((found c).within, (found c).starts)
 
-enum-known-got : tie.Need-enum-known-got invariant_loop decreases_loop
+enum-known-got : tie.Need-enum_known-got invariant_loop decreases_loop
 enum-known-got c = search rules
 
-returns-2 : tie.Need-returns-2 invariant_loop decreases_loop
+returns-2 : tie.Need-returns-in-Fault invariant_loop decreases_loop
 returns-2 c =
-    let w = c.before.before.before.before.before in
-    walks_fault w.before.before.before.loop.invariant (found w)
-    (piece_shown _ _ _ c.before.before.before.read-piece.ensures c.before.got.given.1)
+    let w = c.before.before in
+    walks_fault w.loop-place.invariant (found w)
+    (piece_shown _ _ _ c.read_piece-got.ensures c.in-Fault.is)
 
-enum-known-got-2 : tie.Need-enum-known-got-2 invariant_loop decreases_loop
+enum-known-got-2 : tie.Need-enum_known-got-in-End-1 invariant_loop decreases_loop
 enum-known-got-2 c = search rules
 
-loop-less : tie.Need-loop-smaller invariant_loop decreases_loop
-loop-less c = let r = c.before in omega (arith, (found r.before.before.before.before).onward, (read_to r).onward, (read_to r).within)
+loop-less : tie.Need-loop-place-smaller invariant_loop decreases_loop
+loop-less c = let r = c in omega (arith, (found r.before.before).onward, (read_to r).onward, (read_to r).within)
 
-loop-again : tie.Need-loop-preserved invariant_loop decreases_loop
-loop-again c = let w = c.before.before.before.before.before in walks_next w.before.before.before.loop.invariant (found w) (read_to c.before)
+loop-again : tie.Need-loop-place-preserved invariant_loop decreases_loop
+loop-again c = let w = c.before.before in walks_next w.loop-place.invariant (found w) (read_to c)
 
 pub read_pieces_spec : {M : Type 1} → statement M
 read_pieces_spec =

@@ -6,20 +6,24 @@ use borrow.Author.Rules.{rules}
 use Rattle.read_line.proofs.read_word.Statement.{statement}
 use Rattle.read_line.proofs.read_word.Tie as tie
 
-still-end-requires : tie.Need-still-end-requires
+still-end-requires : tie.Need-still_end-end-requires
 still-end-requires c κs = search rules
 
-returns : tie.Need-returns
+returns : tie.Need-returns-then-place-end
 returns c =
-    let a = c.before.before.before.args in
-    let r = end_reads depth_limit a.line.now a.place c.before.still-end.result c.before.still-end.ensures c.if1.true in
+    let a = c.args in
+    let r = end_reads depth_limit a.line.now a.place c.still_end-end.result c.still_end-end.ensures c.if-place-end.true in
     record { tree = r.reads.tree; is = r.reads.is; onward = omega arith; within = r.within }
 
-read-from-requires : tie.Need-read-from-requires
+read-from-requires : tie.Need-read_from-requires
 read-from-requires c κs = search rules
 
-returns-2 : tie.Need-returns-2
+returns-2 : tie.Need-returns
 returns-2 c = search rules
 
 pub read_word_spec : {M : Type 1} → statement M
-read_word_spec = tie.close (tie.spec still-end-requires returns read-from-requires returns-2)
+read_word_spec = tie.close (tie.spec
+    still-end-requires
+    returns
+    read-from-requires
+    returns-2)

@@ -1,6 +1,6 @@
 -- Bare bytes and what is quoted in turn: what was passed is said in front of what is behind it.
 use Prim.Native.Nat.{ℕ, ◌-◌}
-use mathlib.Core.Path.{◌≡◌, sym, ◌∙◌}
+use mathlib.Core.Path.{sym, ◌∙◌}
 use mathlib.Core.List.{[]}
 use lib.ListN.{length}
 use native.Mathlib.Omega.{arith}
@@ -15,66 +15,66 @@ record Passing (line : Text) (at i : ℕ) : Type 0 where
   said : Text
   walked : Walked line at i said
 
-abbrev invariant_loop : tie.invariant_loop
+abbrev invariant_loop : tie.invariant-loop-at
 invariant_loop line at i₀ i = Passing line at i
 
-abbrev decreases_loop : tie.decreases_loop
+abbrev decreases_loop : tie.decreases-loop-at
 decreases_loop line at i₀ i = length line - i
 
-loop-holds : tie.Need-loop-init invariant_loop decreases_loop
-loop-holds c = record { said = []; walked = walk_starts _ _ c.before.requires }
+loop-holds : tie.Need-loop-at-init invariant_loop decreases_loop
+loop-holds c = record { said = []; walked = walk_starts _ _ c.requires }
 
-run-end-requires : tie.Need-run-end-requires invariant_loop decreases_loop
-run-end-requires c κs = c.loop.invariant.walked.within
+run-end-requires : tie.Need-run_end-run-requires invariant_loop decreases_loop
+run-end-requires c κs = c.loop-at.invariant.walked.within
 
-returns : tie.Need-returns invariant_loop decreases_loop
-returns c = end_line c.before.before.loop.invariant.walked c.before.run_end.ensures (omega arith)
+returns : tie.Need-returns-then-run-line invariant_loop decreases_loop
+returns c = end_line c.loop-at.invariant.walked c.run_end-run.ensures (omega arith)
 
-shared-slice-read-in-class : tie.Need-shared-slice-read-in-class invariant_loop decreases_loop
+shared-slice-read-in-class : tie.Need-bounds-line-run invariant_loop decreases_loop
 shared-slice-read-in-class c = omega arith
 
-in-class-requires : tie.Need-in-class-requires invariant_loop decreases_loop
+in-class-requires : tie.Need-in_class-requires invariant_loop decreases_loop
 in-class-requires c κs = search rules
 
-returns-2 : tie.Need-returns-2 invariant_loop decreases_loop
+returns-2 : tie.Need-returns-then-in_class invariant_loop decreases_loop
 returns-2 c =
-    let r = c.before.before.before.before in
-    end_blank r.before.loop.invariant.walked r.run_end.ensures (omega arith) (sym c.before.in-class.ensures ∙ c.if2.true)
+    let r = c in
+    end_blank r.loop-at.invariant.walked r.run_end-run.ensures (omega arith) (sym c.in_class.ensures ∙ c.if-in_class.true)
 
-quoted-at-requires : tie.Need-quoted-at-requires invariant_loop decreases_loop
+quoted-at-requires : tie.Need-quoted_at-found-requires invariant_loop decreases_loop
 quoted-at-requires c κs = omega arith
 
-enum_told : tie.Need-enum-told invariant_loop decreases_loop
+enum_told : tie.Need-enum_told-1 invariant_loop decreases_loop
 enum_told c = search rules
 
-returns-3 : tie.Need-returns-3 invariant_loop decreases_loop
+returns-3 : tie.Need-returns-in-Nothing invariant_loop decreases_loop
 returns-3 c =
-    let q = c.before.before in
-    let b = q.before in
-    let r = b.before.before.before.before in
-    end_none r.before.loop.invariant.walked r.run_end.ensures (omega arith) (sym b.before.in-class.ensures ∙ b.if2.false)
-    (as_nothing _ _ _ q.quoted-at.result q.quoted-at.ensures c.enum_told.given.1)
+    let q = c in
+    let b = q in
+    let r = b in
+    end_none r.loop-at.invariant.walked r.run_end-run.ensures (omega arith) (sym b.in_class.ensures ∙ b.if-in_class.false)
+    (as_nothing _ _ _ q.quoted_at-found.result q.quoted_at-found.ensures c.in-Nothing.is)
 
-enum-known-found : tie.Need-enum-known-found invariant_loop decreases_loop
+enum-known-found : tie.Need-enum_known-found invariant_loop decreases_loop
 enum-known-found c = search rules
 
-loop-less : tie.Need-loop-smaller invariant_loop decreases_loop
+loop-less : tie.Need-loop-at-smaller invariant_loop decreases_loop
 loop-less c =
-    let q = c.before.before.before in
-    let r = q.before.before.before.before.before in
-    let e = as_bytes _ _ _ q.quoted-at.result q.quoted-at.ensures c.before.found.given.1 in
-    let s = r.run_end.ensures in
+    let q = c in
+    let r = q in
+    let e = as_bytes _ _ _ q.quoted_at-found.result q.quoted_at-found.ensures c.in-Bytes.is in
+    let s = r.run_end-run.ensures in
     omega (arith, e.onward, e.order, e.closes, e.within, s.onward, s.within)
 
-loop-again : tie.Need-loop-preserved invariant_loop decreases_loop
+loop-again : tie.Need-loop-at-preserved invariant_loop decreases_loop
 loop-again c =
-    let q = c.before.before.before in
-    let b = q.before in
-    let r = b.before.before.before.before in
+    let q = c in
+    let b = q in
+    let r = b in
     record {
       said = _;
-      walked = walk_goes r.before.loop.invariant.walked r.run_end.ensures (omega arith) (sym b.before.in-class.ensures ∙ b.if2.false)
-          (as_bytes _ _ _ q.quoted-at.result q.quoted-at.ensures c.before.found.given.1);
+      walked = walk_goes r.loop-at.invariant.walked r.run_end-run.ensures (omega arith) (sym b.in_class.ensures ∙ b.if-in_class.false)
+          (as_bytes _ _ _ q.quoted_at-found.result q.quoted_at-found.ensures c.in-Bytes.is);
     }
 
 pub still_end_spec : {M : Type 1} → statement M

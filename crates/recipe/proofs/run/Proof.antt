@@ -16,219 +16,207 @@ use Rattle.recipe.proofs.run.Tie as tie
 
 -- where each table has been loaded, and the entry
 abbrev begun : tie.After-load → tie.Start
-begun c = c.before.before.before.before.before.before.before
+begun c = c.before.before.before.before.before.before.before.before
 
-abbrev first : tie.After-load2 → tie.After-load
-first c = c.before.before.before.before.before.before.before.before
+abbrev first : tie.After-load-2 → tie.After-load
+first c = c.before.before.before.before.before.before.before
 
-abbrev second : tie.After-load3 → tie.After-load2
-second c = c.before.before.before.before.before.before.before.before
+abbrev second : tie.After-load-3 → tie.After-load-2
+second c = c.before.before.before.before.before.before.before
 
 -- where each was found to be read
-abbrev loaded : tie.After-vars-used → tie.After-load
-loaded c = c.before.before.before.before
+abbrev loaded : tie.In-Length → tie.After-load
+loaded c = c.before.before.before
 
-abbrev loaded_2 : tie.After-h → tie.After-load2
-loaded_2 c = c.before.before.before.before
+abbrev loaded_2 : tie.In-Length-load → tie.After-load-2
+loaded_2 c = c.before.before.before
 
-abbrev loaded_3 : tie.After-p → tie.After-load3
-loaded_3 c = c.before.before.before.before
+abbrev loaded_3 : tie.In-Length-load-2 → tie.After-load-3
+loaded_3 c = c.before.before.before
 
 -- where the arguments are heard, and where they are known
-abbrev gathered : tie.After-gather → tie.After-p
-gathered c = c.before.before.before
+abbrev gathered : tie.After-gather-heard → tie.In-Length-load-2
+gathered c = c.before.before
 
-abbrev heard : tie.After-answer-with-arg → tie.After-gather
+abbrev heard : tie.After-answer_with-arg-1 → tie.After-gather-heard
 heard c = c.before.before.before.before.before
 
-abbrev homed : tie.After-load3 → tie.After-h
+abbrev homed : tie.After-load-3 → tie.In-Length-load
 homed c = c.before.before.before.before
 
-module _ (c : tie.After-vars-used) where
+module _ (c : tie.In-Length) where
   abbrev room : ℕ
   room = length (begun (loaded c)).args.vars.now
 
-  vars_held : Held room c.vars-used.given.0.0 (loaded c).load.new.1.0
-  vars_held = loads_held room (loaded c).load.new.1.0 c.vars-used.given.1 (loaded c).load.ensures
+  vars_held : Held room c.in-Length.vars_used (loaded c).load.new.buffer
+  vars_held = loads_held room (loaded c).load.new.buffer c.in-Length.is (loaded c).load.ensures.0
 
-module _ (c : tie.After-h) where
+module _ (c : tie.In-Length-load) where
   abbrev room_2 : ℕ
   room_2 = length (begun (first (loaded_2 c))).args.homes.now
 
-  homes_held : Held room_2 c.h.given.0.0 (loaded_2 c).load2.new.1.0
-  homes_held = loads_held room_2 (loaded_2 c).load2.new.1.0 c.h.given.1 (loaded_2 c).load2.ensures
+  homes_held : Held room_2 c.in-Length-load.h (loaded_2 c).load-2.new.buffer
+  homes_held = loads_held room_2 (loaded_2 c).load-2.new.buffer c.in-Length-load.is (loaded_2 c).load-2.ensures.0
 
-module _ (c : tie.After-p) where
+module _ (c : tie.In-Length-load-2) where
   abbrev room_3 : ℕ
   room_3 = length (begun (first (second (loaded_3 c)))).args.paths.now
 
-  paths_held : Held room_3 c.p.given.0.0 (loaded_3 c).load3.new.1.0
-  paths_held = loads_held room_3 (loaded_3 c).load3.new.1.0 c.p.given.1 (loaded_3 c).load3.ensures
-
-slice-aggregate-load : tie.Need-slice-aggregate-load
-slice-aggregate-load c = search rules
+  paths_held : Held room_3 c.in-Length-load-2.p (loaded_3 c).load-3.new.buffer
+  paths_held = loads_held room_3 (loaded_3 c).load-3.new.buffer c.in-Length-load-2.is (loaded_3 c).load-3.ensures.0
 
 load-requires : tie.Need-load-requires
 load-requires c κs = search rules
 
-enum-known-vars-used : tie.Need-enum-known-vars-used
+enum-known-vars-used : tie.Need-enum_known-vars_used
 enum-known-vars-used c = search rules
 
-enum_told : tie.Need-enum-told
+enum_told : tie.Need-enum_told-1
 enum_told c = search rules
 
-same_length : tie.Need-same-length
+same_length : tie.Need-shape_of-vars-in_default
 same_length c = search rules
 
-returns : tie.Need-returns
+returns : tie.Need-returns-in_default
 returns c = λ e. absurd (no e)
-
-slice-aggregate-load-2 : tie.Need-slice-aggregate-load-2
-slice-aggregate-load-2 c = search rules
 
 load-requires-2 : tie.Need-load-requires-2
 load-requires-2 c κs = search rules
 
-enum-known-h : tie.Need-enum-known-h
+enum-known-h : tie.Need-enum_known-h
 enum-known-h c = search rules
 
-enum-told-2 : tie.Need-enum-told-2
+enum-told-2 : tie.Need-enum_told-in_default-load
 enum-told-2 c = search rules
 
-same-length-2 : tie.Need-same-length-2
+same-length-2 : tie.Need-shape_of-vars-in_default-load
 same-length-2 c = search rules
 
-same-length-3 : tie.Need-same-length-3
+same-length-3 : tie.Need-shape_of-homes-in_default-load
 same-length-3 c = search rules
 
-returns-2 : tie.Need-returns-2
+returns-2 : tie.Need-returns-in_default-load
 returns-2 c = λ e. absurd (no e)
-
-slice-aggregate-load-3 : tie.Need-slice-aggregate-load-3
-slice-aggregate-load-3 c = search rules
 
 load-requires-3 : tie.Need-load-requires-3
 load-requires-3 c κs = search rules
 
-enum-known-p : tie.Need-enum-known-p
+enum-known-p : tie.Need-enum_known-p
 enum-known-p c = search rules
 
-enum-told-3 : tie.Need-enum-told-3
+enum-told-3 : tie.Need-enum_told-in_default-load-2
 enum-told-3 c = search rules
 
-same-length-4 : tie.Need-same-length-4
+same-length-4 : tie.Need-shape_of-vars-in_default-load-2
 same-length-4 c = search rules
 
-same-length-5 : tie.Need-same-length-5
+same-length-5 : tie.Need-shape_of-homes-in_default-load-2
 same-length-5 c = search rules
 
-same-length-6 : tie.Need-same-length-6
+same-length-6 : tie.Need-shape_of-paths-in_default-load-2
 same-length-6 c = search rules
 
-returns-3 : tie.Need-returns-3
+returns-3 : tie.Need-returns-in_default-load-2
 returns-3 c = λ e. absurd (no e)
 
-gather-requires : tie.Need-gather-requires
+gather-requires : tie.Need-gather-heard-requires
 gather-requires c κs = search rules
 
-say-usage-requires : tie.Need-say-usage-requires
+say-usage-requires : tie.Need-say_usage-requires
 say-usage-requires c κs = search rules
 
-same-length-7 : tie.Need-same-length-7
+same-length-7 : tie.Need-shape_of-vars-then-not-heard
 same-length-7 c = search rules
 
-same-length-8 : tie.Need-same-length-8
+same-length-8 : tie.Need-shape_of-homes-then-not-heard
 same-length-8 c = search rules
 
-same-length-9 : tie.Need-same-length-9
+same-length-9 : tie.Need-shape_of-params-then-not-heard
 same-length-9 c = search rules
 
-same-length-10 : tie.Need-same-length-10
+same-length-10 : tie.Need-shape_of-paths-then-not-heard
 same-length-10 c = search rules
 
-returns-4 : tie.Need-returns-4
+returns-4 : tie.Need-returns-then-not-heard
 returns-4 c = λ e. absurd (no e)
 
-slice-relend-prefix-answer-with : tie.Need-slice-relend-prefix-answer-with
+slice-relend-prefix-answer-with : tie.Need-slice_bounds-answer_with-end
 slice-relend-prefix-answer-with c =
     let l = first (second (loaded_3 (gathered c.before.before.before.before))) in
-    omega (arith, l.load.kept.1.0, (begun l).pre.0)
+    omega (arith, l.load.auto.buffer, (begun l).requires.0)
 
-slice-aggregate-answer-with : tie.Need-slice-aggregate-answer-with
+slice-aggregate-answer-with : tie.Need-slice_bounds-answer_with-end-2
 slice-aggregate-answer-with c =
     let l = first (second (loaded_3 (gathered (heard c)))) in
-    sym (length-take-le _ l.load.last.1.0 (omega (arith, l.load.kept.1.0)))
+    sym (length-take-le _ l.load.new.buffer (omega (arith, l.load.auto.buffer)))
 
-slice-reshare-prefix-answer-with : tie.Need-slice-reshare-prefix-answer-with
+slice-reshare-prefix-answer-with : tie.Need-slice_bounds-answer_with-end-3
 slice-reshare-prefix-answer-with c = omega (arith, (homes_held (homed (loaded_3 (gathered (heard c))))).within)
 
-slice-aggregate-answer-with-2 : tie.Need-slice-aggregate-answer-with-2
-slice-aggregate-answer-with-2 c = sym (length-take-le _ _ (omega (arith, (homes_held (homed (loaded_3 (gathered (heard c.before))))).within)))
+slice-aggregate-answer-with-2 : tie.Need-slice_bounds-answer_with-end-4
+slice-aggregate-answer-with-2 c = sym (length-take-le _ _ (omega (arith, (homes_held (homed (loaded_3 (gathered (heard c))))).within)))
 
-slice-reshare-prefix-answer-with-2 : tie.Need-slice-reshare-prefix-answer-with-2
-slice-reshare-prefix-answer-with-2 c = (heard c.before).gather.ensures.holds.within
+slice-reshare-prefix-answer-with-2 : tie.Need-slice_bounds-answer_with-end-5
+slice-reshare-prefix-answer-with-2 c = (heard c).gather-heard.ensures.holds.within
 
-slice-aggregate-answer-with-3 : tie.Need-slice-aggregate-answer-with-3
-slice-aggregate-answer-with-3 c = sym (length-take-le _ _ (heard c.before.before).gather.ensures.holds.within)
+slice-aggregate-answer-with-3 : tie.Need-slice_bounds-answer_with-end-6
+slice-aggregate-answer-with-3 c = sym (length-take-le _ _ (heard c).gather-heard.ensures.holds.within)
 
-slice-reshare-prefix-answer-with-3 : tie.Need-slice-reshare-prefix-answer-with-3
-slice-reshare-prefix-answer-with-3 c = omega (arith, (paths_held (gathered (heard c.before.before))).within)
+slice-reshare-prefix-answer-with-3 : tie.Need-slice_bounds-answer_with-end-7
+slice-reshare-prefix-answer-with-3 c = omega (arith, (paths_held (gathered (heard c))).within)
 
-slice-aggregate-answer-with-4 : tie.Need-slice-aggregate-answer-with-4
-slice-aggregate-answer-with-4 c = sym (length-take-le _ _ (omega (arith, (paths_held (gathered (heard c.before.before.before))).within)))
+slice-aggregate-answer-with-4 : tie.Need-slice_bounds-answer_with-end-8
+slice-aggregate-answer-with-4 c = sym (length-take-le _ _ (omega (arith, (paths_held (gathered (heard c))).within)))
 
-answer-with-requires : tie.Need-answer-with-requires
+answer-with-requires : tie.Need-answer_with-requires
 answer-with-requires c κs = search rules
 
-same-length-11 : tie.Need-same-length-11
+same-length-11 : tie.Need-shape_of-vars
 same-length-11 c =
-    let a = c.before.before.answer-with in
-    let l = first (second (loaded_3 (gathered (heard c.before.before.before.before.before.before)))) in
-    let h : image_limit ≤ length l.load.last.1.0 = omega (arith, l.load.kept.1.0, (begun l).pre.0) in
-    same_room a.new.0 l.load.last.1.0 (a.auto.0 ∙ length-take-le image_limit l.load.last.1.0 h) h ∙ l.load.kept.1.0
+    let a = c.answer_with in
+    let l = first (second (loaded_3 (gathered (heard c.before.before.before)))) in
+    let h : image_limit ≤ length l.load.new.buffer = omega (arith, l.load.auto.buffer, (begun l).requires.0) in
+    same_room a.new.vars l.load.new.buffer (a.auto.vars ∙ length-take-le image_limit l.load.new.buffer h) h ∙ l.load.auto.buffer
 
-same-length-12 : tie.Need-same-length-12
+same-length-12 : tie.Need-shape_of-homes
 same-length-12 c = search rules
 
-same-length-13 : tie.Need-same-length-13
+same-length-13 : tie.Need-shape_of-params
 same-length-13 c = search rules
 
-same-length-14 : tie.Need-same-length-14
+same-length-14 : tie.Need-shape_of-paths
 same-length-14 c = search rules
 
-returns-5 : tie.Need-returns-5
+returns-5 : tie.Need-returns
 returns-5 c =
-    let w = c.before.before.before.before.before.before in
+    let w = c.before.before.before in
     let g = heard w in
     let p = gathered g in
     let l = loaded_3 p in
     let m = second l in
     let v = m.before.before.before.before in
-    let a = c.before.before.answer-with in
+    let a = c.answer_with in
     let e = (begun (loaded v)).requires.0 in
-    let k = a.auto.0 ∙ length-take-le image_limit (loaded v).load.last.1.0 (omega (arith, (loaded v).load.kept.1.0, e)) in
-    let i = (begun (loaded v)).requires.2 ∙ sym g.gather.kept.1.0 in
-    λ _. answers_run (vars_held v) (sym e) (homes_held (homed l)) m.load2.kept.1.0 (paths_held p) l.load3.kept.1.0 g.gather.ensures i
-    (not-false _ w.before.if1.false) a.ensures k
+    let k = a.auto.vars ∙ length-take-le image_limit (loaded v).load.new.buffer (omega (arith, (loaded v).load.auto.buffer, e)) in
+    let i = (begun (loaded v)).requires.2 ∙ sym g.gather-heard.auto.image in
+    λ _. answers_run (vars_held v) (sym e) (homes_held (homed l)) m.load-2.auto.buffer (paths_held p) l.load-3.auto.buffer g.gather-heard.ensures i
+    (not-false _ w.if-not-heard.false) a.ensures k
 
 pub run_spec : {M : Type 1} → statement M
 run_spec =
     tie.close
     (tie.spec
-    slice-aggregate-load
     load-requires
     enum-known-vars-used
     enum_told
     same_length
     returns
-    slice-aggregate-load-2
     load-requires-2
     enum-known-h
     enum-told-2
     same-length-2
     same-length-3
     returns-2
-    slice-aggregate-load-3
     load-requires-3
     enum-known-p
     enum-told-3

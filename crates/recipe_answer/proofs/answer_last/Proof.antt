@@ -13,48 +13,48 @@ use Rattle.recipe_answer.proofs.answer_last.Tie as tie
 inside : (c : tie.Start) → c.args.carried.kept ≤ length c.args.line.now
 inside c = omega (arith, c.requires.0.most, c.requires.0.room)
 
-slice-aggregate-is-last-line : tie.Need-slice-aggregate-is-last-line
+slice-aggregate-is-last-line : tie.Need-slice_bounds-is_last_line-end
 slice-aggregate-is-last-line c =
-    let a = c.before.before.before.before.before.before.before.before in
+    let a = c.before.before.before.before.before.before.before in
     sym (length-take-le _ a.args.line.now (omega (arith, inside a)))
 
-is-last-line-requires : tie.Need-is-last-line-requires
+is-last-line-requires : tie.Need-is_last_line-requires
 is-last-line-requires c κs = search rules
 
-slice-aggregate-say : tie.Need-slice-aggregate-say
+slice-aggregate-say : tie.Need-slice_bounds-say-end
 slice-aggregate-say c =
-    let a = c.before.before.before.before.before.before.before.before.before.before.before in
+    let a = c.before.before.before.before.before.before.before.before.before in
     sym (length-take-le _ a.args.line.now (omega (arith, inside a)))
 
 say-requires : tie.Need-say-requires
 say-requires c κs = search rules
 
-same_length : tie.Need-same-length
+same_length : tie.Need-shape_of-vars-then-is_last_line
 same_length c = search rules
 
-same-length-2 : tie.Need-same-length-2
+same-length-2 : tie.Need-shape_of-work-then-is_last_line
 same-length-2 c = search rules
 
-same-length-3 : tie.Need-same-length-3
+same-length-3 : tie.Need-shape_of-said-then-is_last_line
 same-length-3 c = search rules
 
-returns : tie.Need-returns
+returns : tie.Need-returns-then-is_last_line
 returns c =
     let s = c.before.before.before.before.before.before in
-    let i = s.before.before.before.before.before in
-    let a = i.before.before.before.before.before.before.before.before.before.before.args in
+    let i = s in
+    let a = i.args in
     let l = take a.carried.kept a.line.now in
-    let e = sym i.before.is-last-line.ensures ∙ i.if1.true in (
+    let e = sym i.is_last_line.ensures ∙ i.if-is_last_line.true in (
       last_said a.homes.now a.paths.now a.params.now (variables a.vars.now a.carried.vars_used a.carried.shouts) a.carried.line
           l e s.say.ensures.0,
       s.say.ensures.1 ∙ last_cleared l a.work.now e,
     )
 
-returns-2 : tie.Need-returns-2
+returns-2 : tie.Need-returns
 returns-2 c =
-    let a = c.before.before.before.before.before.before.before.before.before.before.args in
+    let a = c.args in
     let l = take a.carried.kept a.line.now in
-    let e = sym c.before.is-last-line.ensures ∙ c.if1.false in (
+    let e = sym c.is_last_line.ensures ∙ c.if-is_last_line.false in (
       last_unsaid a.homes.now a.paths.now a.params.now (variables a.vars.now a.carried.vars_used a.carried.shouts) a.carried.line
           l a.said.now e,
       last_kept l a.work.now e,

@@ -11,60 +11,60 @@ use Rattle.recipe_answer.proofs.answer_next.Statement.{statement}
 use Rattle.recipe_answer.proofs.answer_next.Tie as tie
 
 -- where a line ended: what is kept of it lies within its buffer
-inside : (c : tie.After-known-told2) → c.before.taken2.given.0.0 ≤ length c.before.before.before.before.before.take_in.new.0
+inside : (c : tie.In-Ended) → c.in-Ended.kept ≤ length c.take_in-taken.new.line
 inside c =
-    let t = c.before.before.before.before.before in
-    let a = t.before.before.before.before.before.before.before.before.before.before.before in
-    ended_inside t.take_in.ensures c.before.taken2.given.1 a.requires.0.room
+    let t = c.before.before.before in
+    let a = t in
+    ended_inside t.take_in-taken.ensures c.in-Ended.is a.requires.0.room
 
-take-in-requires : tie.Need-take-in-requires
+take-in-requires : tie.Need-take_in-taken-requires
 take-in-requires c κs = search rules
 
-enum-known-taken : tie.Need-enum-known-taken
+enum-known-taken : tie.Need-enum_known-taken
 enum-known-taken c = search rules
 
-enum-known-taken-2 : tie.Need-enum-known-taken-2
+enum-known-taken-2 : tie.Need-enum_known-taken-in-Ended-1
 enum-known-taken-2 c = search rules
 
-slice-reshare-prefix-say : tie.Need-slice-reshare-prefix-say
+slice-reshare-prefix-say : tie.Need-slice_bounds-say-end
 slice-reshare-prefix-say c = inside c
 
-slice-aggregate-say : tie.Need-slice-aggregate-say
-slice-aggregate-say c = sym (length-take-le _ _ (inside c.before))
+slice-aggregate-say : tie.Need-slice_bounds-say-end-in-Ended
+slice-aggregate-say c = sym (length-take-le _ _ (inside c))
 
-say-requires : tie.Need-say-requires
+say-requires : tie.Need-say-spoken-requires
 say-requires c κs = search rules
 
-same_length : tie.Need-same-length
+same_length : tie.Need-shape_of-line-in-Open
 same_length c = search rules
 
-returns : tie.Need-returns
+returns : tie.Need-returns-in-Open
 returns c =
-    let t = c.before.before.before.before.before in
-    let a = c.before.before.before.before.before.before.before.before.before.before.before.before.before.before.before.before.args in
-    (stays (turn_open a.begun.carried t.take_in.ensures a.vars.now a.said.now c.before.taken.given.1), refl)
+    let t = c in
+    let a = c.args in
+    (stays (turn_open a.begun.carried t.take_in-taken.ensures a.vars.now a.said.now c.in-Open.is), refl)
 
-same-length-2 : tie.Need-same-length-2
+same-length-2 : tie.Need-shape_of-line-in-Ended
 same-length-2 c = search rules
 
-same-length-3 : tie.Need-same-length-3
+same-length-3 : tie.Need-shape_of-vars
 same-length-3 c = search rules
 
-same-length-4 : tie.Need-same-length-4
+same-length-4 : tie.Need-shape_of-work
 same-length-4 c = search rules
 
-same-length-5 : tie.Need-same-length-5
+same-length-5 : tie.Need-shape_of-said
 same-length-5 c = search rules
 
-returns-2 : tie.Need-returns-2
+returns-2 : tie.Need-returns-in-Ended
 returns-2 c =
     let s = c.before.before.before.before.before.before in
-    let t = s.before.before.before.before.before.before.before.before.before.before in
-    let a = t.before.before.before.before.before.before.before.before.before.before.before.args in (
-      tells (turn_ended a.begun.carried t.take_in.ensures a.homes.now a.paths.now a.params.now a.vars.now s.say.new.1.1.0
-          a.said.now s.say.new.1.1.1.1.1.1.1.0 s.say.result s.before.before.before.before.before.before.taken2.given.1
-          s.say.ensures.0),
-      s.say.ensures.1,
+    let t = s in
+    let a = t.args in (
+      tells (turn_ended a.begun.carried t.take_in-taken.ensures a.homes.now a.paths.now a.params.now a.vars.now s.say-spoken.new.vars
+          a.said.now s.say-spoken.new.said s.say-spoken.result s.in-Ended.is
+          s.say-spoken.ensures.0),
+      s.say-spoken.ensures.1,
     )
 
 pub answer_next_spec : {M : Type 1} → statement M

@@ -6,35 +6,31 @@ use Rattle.recipe_cut.proofs.Saying.{ok_ended}
 use Rattle.recipe_cut.proofs.put_ok.Statement.{statement}
 use Rattle.recipe_cut.proofs.put_ok.Tie as tie
 
-slice-aggregate-copy-in : tie.Need-slice-aggregate-copy-in
-slice-aggregate-copy-in c = search rules
-
-copy-in-requires : tie.Need-copy-in-requires
+copy-in-requires : tie.Need-copy_in-requires
 copy-in-requires c κs = search rules
 
-add-end : tie.Need-overflow-add-end
+add-end : tie.Need-overflow_add-end
 add-end c = search rules
 
-slice-write-out : tie.Need-slice-write-out
+slice-write-out : tie.Need-bounds-out-end
 slice-write-out c = search rules
 
-add-result : tie.Need-overflow-add-result
+add-result : tie.Need-overflow_add-result
 add-result c = search rules
 
-same_length : tie.Need-same-length
+same_length : tie.Need-shape_of-out
 same_length c = search rules
 
 returns : tie.Need-returns
 returns c =
-    let a = c.before.before.before.before.before.before in
-    let p = c.before.before.copy-in in
-    fill_ends (ok_ended a.args.len a.args.out.now p.new.1.0 a.requires p.ensures) refl
+    let a = c in
+    let p = c.copy_in in
+    fill_ends (ok_ended a.args.len a.args.out.now p.new.to a.requires p.ensures) refl
 
 pub put_ok_spec : {M : Type 1} → statement M
 put_ok_spec =
     tie.close
     (tie.spec
-    slice-aggregate-copy-in
     copy-in-requires
     add-end
     slice-write-out

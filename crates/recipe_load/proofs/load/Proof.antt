@@ -7,23 +7,27 @@ use Rattle.recipe_load.proofs.Reading.{fetches_same, settles_loads}
 use Rattle.recipe_load.proofs.load.Statement.{statement}
 use Rattle.recipe_load.proofs.load.Tie as tie
 
-fetch-requires : tie.Need-fetch-requires
+fetch-requires : tie.Need-fetch-fetched-requires
 fetch-requires c κs = search rules
 
 settle-requires : tie.Need-settle-requires
 settle-requires c κs =
-    let f = c.before.before.before.fetch in
-    (omega (arith, f.auto.1.0), fetches_same f.result (sym f.auto.1.0) f.ensures)
+    let f = c.fetch-fetched in
+    (omega (arith, f.auto.buffer), fetches_same f.result (sym f.auto.buffer) f.ensures.0)
 
-same_length : tie.Need-same-length
+same_length : tie.Need-shape_of-buffer
 same_length c = search rules
 
 returns : tie.Need-returns
 returns c =
-    let a = c.before.before.before.before.before.before.before.before.before.before in
-    let f = c.before.before.before.before.before.before.fetch in
-    let s = c.before.before.settle in
-    settles_loads (length a.args.buffer.now) f.new.1.0 s.new.1.0 f.auto.1.0 f.result s.result a.requires f.ensures s.ensures
+    let a = c in
+    let f = c.fetch-fetched in
+    let s = c.settle in
+    (settles_loads (length a.args.buffer.now) f.new.buffer s.new.buffer f.auto.buffer f.result s.result a.requires.1 f.ensures.0 s.ensures, tt)
 
 pub load_spec : {M : Type 1} → statement M
-load_spec = tie.close (tie.spec fetch-requires settle-requires same_length returns)
+load_spec = tie.close (tie.spec
+    fetch-requires
+    settle-requires
+    same_length
+    returns)

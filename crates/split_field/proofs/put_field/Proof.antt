@@ -13,72 +13,72 @@ use Rattle.split_field.proofs.put_field.Statement.{statement}
 use Rattle.split_field.proofs.put_field.Tie as tie
 
 -- the call, where the field was looked at
-abbrev asked : tie.After-is-plain → tie.Start
-asked l = l.before.before.before.before.before
+abbrev asked : tie.After-is_plain → tie.Start
+asked l = l.before.before.before.before
 
 -- the call, where N is gone
-abbrev start : tie.After-drop-empty → tie.Start
+abbrev start : tie.After-drop_empty-n → tie.Start
 start d = asked d.before.before.before
 
 -- what is left stands in the field
-fits : (d : tie.After-drop-empty) → d.drop-empty.result ≤ length d.drop-empty.new.0
-fits d = dropped_fits d.drop-empty.ensures
+fits : (d : tie.After-drop_empty-n) → d.drop_empty-n.result ≤ length d.drop_empty-n.new.row
+fits d = dropped_fits d.drop_empty-n.ensures
 
-is-plain-requires : tie.Need-is-plain-requires
+is-plain-requires : tie.Need-is_plain-requires
 is-plain-requires c κs = search rules
 
-put-own-requires : tie.Need-put-own-requires
+put-own-requires : tie.Need-put_own-requires
 put-own-requires c κs = search rules
 
-answer-of-requires : tie.Need-answer-of-requires
+answer-of-requires : tie.Need-answer_of-requires
 answer-of-requires c κs = search rules
 
-same_length : tie.Need-same-length
+same_length : tie.Need-shape_of-field-then-is_plain
 same_length c = search rules
 
-same-length-2 : tie.Need-same-length-2
+same-length-2 : tie.Need-shape_of-out-then-is_plain
 same-length-2 c = search rules
 
-returns : tie.Need-returns
+returns : tie.Need-returns-then-is_plain
 returns c =
     let o = c.before.before.before.before.before in
     let t = o.before.before.before in
     let a = (asked t.before).args in
-    rw c.answer-of.ensures (record {
-      puts = puts_says (plain_own (held_texts a.paths.now) a.field.now (sym t.before.is_plain.ensures ∙ t.if1.true) o.put-own.ensures);
-      spares = spares_put o.put-own.result _ _;
+    rw c.answer_of.ensures (record {
+      puts = puts_says (plain_own (held_texts a.paths.now) a.field.now (sym t.is_plain.ensures ∙ t.if-is_plain.true) o.put_own.ensures);
+      spares = spares_put o.put_own.result _ _;
     })
 
-drop-empty-requires : tie.Need-drop-empty-requires
+drop-empty-requires : tie.Need-drop_empty-n-requires
 drop-empty-requires c κs = search rules
 
-slice-relend-prefix-put-pattern : tie.Need-slice-relend-prefix-put-pattern
+slice-relend-prefix-put-pattern : tie.Need-slice_bounds-put_pattern-end
 slice-relend-prefix-put-pattern c = fits c.before.before
 
-slice-aggregate-put-pattern : tie.Need-slice-aggregate-put-pattern
+slice-aggregate-put-pattern : tie.Need-slice_bounds-put_pattern-end-2
 slice-aggregate-put-pattern c = sym (length-take-le _ _ (fits c.before.before.before))
 
-put-pattern-requires : tie.Need-put-pattern-requires
+put-pattern-requires : tie.Need-put_pattern-requires
 put-pattern-requires c κs =
     let d = c.before.before.before.before in
     let s = start d in
-    let e = d.drop-empty.ensures in
-    let l = length-take-le d.drop-empty.result d.drop-empty.new.0 (fits d) in
-    (s.pre.0, (s.pre.1.0, dropped_full (held_texts s.args.paths.now) e, omega (arith, l, dropped_few e, s.pre.1.1)))
+    let e = d.drop_empty-n.ensures in
+    let l = length-take-le d.drop_empty-n.result d.drop_empty-n.new.row (fits d) in
+    (s.requires.0, (s.requires.1.0, dropped_full (held_texts s.args.paths.now) e, omega (arith, l, dropped_few e, s.requires.1.1)))
 
-same-length-3 : tie.Need-same-length-3
+same-length-3 : tie.Need-shape_of-field
 same-length-3 c = search rules
 
-same-length-4 : tie.Need-same-length-4
+same-length-4 : tie.Need-shape_of-out
 same-length-4 c = search rules
 
-returns-2 : tie.Need-returns-2
+returns-2 : tie.Need-returns
 returns-2 c =
     let p = c.before.before.before.before in
     let d = p.before.before.before.before.before in
     record {
-      puts = puts_says (dropped_says (held_texts (start d).args.paths.now) d.drop-empty.ensures p.put-pattern.ensures.0);
-      spares = p.put-pattern.ensures.1;
+      puts = puts_says (dropped_says (held_texts (start d).args.paths.now) d.drop_empty-n.ensures p.put_pattern.ensures.0);
+      spares = p.put_pattern.ensures.1;
     }
 
 pub put_field_spec : {M : Type 1} → statement M

@@ -4,36 +4,36 @@ use borrow.Author.Rules.{rules}
 use Rattle.tab_escape.proofs.hex_value.Statement.{statement}
 use Rattle.tab_escape.proofs.hex_value.Tie as tie
 
-returns : tie.Need-returns
-returns c = value_1 c.before.args.b c.if1.true
+returns : tie.Need-returns-then-b-lt48
+returns c = value_1 c.args.b c.if-b-lt48.true
 
-returns-2 : tie.Need-returns-2
-returns-2 c = value_2 c.before.before.args.b c.before.if1.false c.if2.true
+returns-2 : tie.Need-returns-then-b-lt58
+returns-2 c = value_2 c.args.b c.if-b-lt48.false c.if-b-lt58.true
 
-returns-3 : tie.Need-returns-3
-returns-3 c = value_3 c.before.before.before.args.b c.before.before.if1.false c.before.if2.false c.if3.true
+returns-3 : tie.Need-returns-then-b-lt65
+returns-3 c = value_3 c.args.b c.if-b-lt48.false c.if-b-lt58.false c.if-b-lt65.true
 
-sub-result : tie.Need-overflow-sub-result
+sub-result : tie.Need-overflow_sub-result-then-b-lt71
 sub-result c = search rules
 
-returns-4 : tie.Need-returns-4
-returns-4 c = value_4 c.before.before.before.before.args.b c.before.before.before.if1.false c.before.before.if2.false
-    c.before.if3.false c.if4.true
+returns-4 : tie.Need-returns-then-b-lt71
+returns-4 c = value_4 c.args.b c.if-b-lt48.false c.if-b-lt58.false
+    c.if-b-lt65.false c.if-b-lt71.true
 
-returns-5 : tie.Need-returns-5
-returns-5 c = value_5 c.before.before.before.before.before.args.b c.before.before.before.before.if1.false
-    c.before.before.before.if2.false c.before.before.if3.false c.before.if4.false c.if5.true
+returns-5 : tie.Need-returns-then-b-lt97
+returns-5 c = value_5 c.args.b c.if-b-lt48.false
+    c.if-b-lt58.false c.if-b-lt65.false c.if-b-lt71.false c.if-b-lt97.true
 
-sub-result-2 : tie.Need-overflow-sub-result-2
+sub-result-2 : tie.Need-overflow_sub-result-then-b-lt103
 sub-result-2 c = search rules
 
-returns-6 : tie.Need-returns-6
-returns-6 c = value_6 c.before.before.before.before.before.before.args.b c.before.before.before.before.before.if1.false
-    c.before.before.before.before.if2.false c.before.before.before.if3.false c.before.before.if4.false c.before.if5.false c.if6.true
+returns-6 : tie.Need-returns-then-b-lt103
+returns-6 c = value_6 c.args.b c.if-b-lt48.false
+    c.if-b-lt58.false c.if-b-lt65.false c.if-b-lt71.false c.if-b-lt97.false c.if-b-lt103.true
 
-returns-7 : tie.Need-returns-7
-returns-7 c = value_7 c.before.before.before.before.before.before.args.b c.before.before.before.before.before.if1.false
-    c.before.before.before.before.if2.false c.before.before.before.if3.false c.before.before.if4.false c.before.if5.false c.if6.false
+returns-7 : tie.Need-returns
+returns-7 c = value_7 c.args.b c.if-b-lt48.false
+    c.if-b-lt58.false c.if-b-lt65.false c.if-b-lt71.false c.if-b-lt97.false c.if-b-lt103.false
 
 pub hex_value_spec : {M : Type 1} → statement M
 hex_value_spec =

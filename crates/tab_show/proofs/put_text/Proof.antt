@@ -10,67 +10,67 @@ use Rattle.tab_show.proofs.Writing.{bytes_at, bytes_none}
 use Rattle.tab_show.proofs.put_text.Statement.{statement}
 use Rattle.tab_show.proofs.put_text.Tie as tie
 
-abbrev invariant_loop : tie.invariant_loop
+abbrev invariant_loop : tie.invariant-loop-i
 invariant_loop text out₀ used₀ i₀ out used i = (i ≤ length text) × Filling (shown_text text) (shown_text (drop i text)) out₀ out used
 
-abbrev decreases_loop : tie.decreases_loop
+abbrev decreases_loop : tie.decreases-loop-i
 decreases_loop text out₀ used₀ i₀ out used i = length text - i
 
-loop-holds : tie.Need-loop-init invariant_loop decreases_loop
+loop-holds : tie.Need-loop-i-init invariant_loop decreases_loop
 loop-holds c =
-    let a = c.before.before in
+    let a = c in
     (omega arith, fill_starts (shown_text a.args.text.now) a.args.out.now a.requires)
 
-shared-slice-read-put-byte : tie.Need-shared-slice-read-put-byte invariant_loop decreases_loop
+shared-slice-read-put-byte : tie.Need-bounds-text-i invariant_loop decreases_loop
 shared-slice-read-put-byte c = omega arith
 
-sub-put-byte : tie.Need-overflow-sub-put-byte invariant_loop decreases_loop
-sub-put-byte c = let f = c.before.before.loop.invariant.1 in omega (arith, fill_room f, fill_length f)
+sub-put-byte : tie.Need-slice_bounds-put_byte-count invariant_loop decreases_loop
+sub-put-byte c = let f = c.loop-i.invariant.1 in omega (arith, fill_room f, fill_length f)
 
-part-put-byte-start : tie.Need-slice-bounds-put-byte-start invariant_loop decreases_loop
-part-put-byte-start c = let f = c.before.before.loop.invariant.1 in omega (arith, fill_room f, fill_length f)
+part-put-byte-start : tie.Need-slice_bounds-put_byte-start invariant_loop decreases_loop
+part-put-byte-start c = let f = c.loop-i.invariant.1 in omega (arith, fill_room f, fill_length f)
 
-part-put-byte-end : tie.Need-slice-bounds-put-byte-end invariant_loop decreases_loop
+part-put-byte-end : tie.Need-slice_bounds-put_byte-end invariant_loop decreases_loop
 part-put-byte-end c = search rules
 
-put-byte-requires : tie.Need-put-byte-requires invariant_loop decreases_loop
+put-byte-requires : tie.Need-put_byte-n-requires invariant_loop decreases_loop
 put-byte-requires c κs =
-    let l = c.before.before.before.loop in
-    let t = c.before.before.before.before.before.before.args.text.now in
-    fill_fits l.invariant.1 (shown_byte (get_or t l.i 0)) (shown_text (drop (l.i + 1) t)) (bytes_at t l.i c.before.before.loop-test.true)
+    let l = c.loop-i in
+    let t = c.args.text.now in
+    fill_fits l.invariant.1 (shown_byte (get_or t l.i 0)) (shown_text (drop (l.i + 1) t)) (bytes_at t l.i c.loop-i-test.true)
 
-add-used : tie.Need-overflow-add-used invariant_loop decreases_loop
+add-used : tie.Need-overflow_add-used invariant_loop decreases_loop
 add-used c =
-    let l = c.before.before.before.before.before.before.loop in
-    let t = c.before.before.before.before.before.before.before.before.before.args.text.now in
+    let l = c.loop-i in
+    let t = c.args.text.now in
     omega (
       arith,
-      c.before.before.put_byte.ensures.counts,
+      c.put_byte-n.ensures.counts,
       fill_next l.invariant.1 (shown_byte (get_or t l.i 0)) (shown_text (drop (l.i + 1) t))
-          (bytes_at t l.i c.before.before.before.before.before.loop-test.true),
+          (bytes_at t l.i c.loop-i-test.true),
     )
 
-add-i : tie.Need-overflow-add-i invariant_loop decreases_loop
+add-i : tie.Need-overflow_add-i invariant_loop decreases_loop
 add-i c = omega arith
 
-loop-less : tie.Need-loop-smaller invariant_loop decreases_loop
+loop-less : tie.Need-loop-i-smaller invariant_loop decreases_loop
 loop-less c = omega arith
 
-loop-again : tie.Need-loop-preserved invariant_loop decreases_loop
+loop-again : tie.Need-loop-i-preserved invariant_loop decreases_loop
 loop-again c =
-    let l = c.before.before.before.before.before.before.loop in
-    let t = c.before.before.before.before.before.before.before.before.before.args.text.now in
-    let call = c.before.before.put_byte in (
+    let l = c.loop-i in
+    let t = c.args.text.now in
+    let call = c.put_byte-n in (
       omega arith,
-      fill_piece l.invariant.1 (shown_byte (get_or t l.i 0)) (shown_text (drop (l.i + 1) t)) call.new.1.0 call.result _
-          (bytes_at t l.i c.before.before.before.before.before.loop-test.true) call.ensures refl,
+      fill_piece l.invariant.1 (shown_byte (get_or t l.i 0)) (shown_text (drop (l.i + 1) t)) call.new.out call.result _
+          (bytes_at t l.i c.loop-i-test.true) call.ensures refl,
     )
 
-same_length : tie.Need-same-length invariant_loop decreases_loop
-same_length c = fill_length c.before.loop.invariant.1
+same_length : tie.Need-shape_of-out invariant_loop decreases_loop
+same_length c = fill_length c.loop-i.invariant.1
 
 returns : tie.Need-returns invariant_loop decreases_loop
-returns c = fill_ends c.before.loop.invariant.1 (bytes_none c.before.before.before.before.args.text.now c.before.loop.i c.loop-test.false)
+returns c = fill_ends c.loop-i.invariant.1 (bytes_none c.args.text.now c.loop-i.i c.loop-i-test.false)
 
 pub put_text_spec : {M : Type 1} → statement M
 put_text_spec =

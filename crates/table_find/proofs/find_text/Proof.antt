@@ -17,58 +17,58 @@ use Rattle.table_find.proofs.Numbering.{
 use Rattle.table_find.proofs.find_text.Statement.{statement}
 use Rattle.table_find.proofs.find_text.Tie as tie
 
-abbrev invariant_loop : tie.invariant_loop
+abbrev invariant_loop : tie.invariant-loop-end
 invariant_loop image number at₀ count₀ at count = Seeking image number at count
 
-abbrev decreases_loop : tie.decreases_loop
+abbrev decreases_loop : tie.decreases-loop-end
 decreases_loop image number at₀ count₀ at count = length image - at
 
 -- the text at the walk's place is within the image
-low : (c : tie.After-piece invariant_loop decreases_loop) → c.before.before.before.loop.at + 2 ≤ c.piece.given.0.0
-low c = next_low c.before.before.before.loop.invariant.walk c.before.before.text_at.ensures c.piece.given.1
+low : (c : tie.In-At invariant_loop decreases_loop) → c.loop-end.at + 2 ≤ c.in-At.end
+low c = next_low c.loop-end.invariant.walk c.text_at-piece.ensures c.in-At.is
 
-high : (c : tie.After-piece invariant_loop decreases_loop) → c.piece.given.0.0 ≤ length c.before.before.before.before.before.args.image.now
-high c = next_high c.before.before.before.loop.invariant.walk c.before.before.text_at.ensures c.piece.given.1
+high : (c : tie.In-At invariant_loop decreases_loop) → c.in-At.end ≤ length c.args.image.now
+high c = next_high c.loop-end.invariant.walk c.text_at-piece.ensures c.in-At.is
 
-loop-holds : tie.Need-loop-init invariant_loop decreases_loop
-loop-holds c = seeking_start _ _ c.before.requires
+loop-holds : tie.Need-loop-end-init invariant_loop decreases_loop
+loop-holds c = seeking_start _ _ c.requires
 
-text-at-requires : tie.Need-text-at-requires invariant_loop decreases_loop
+text-at-requires : tie.Need-text_at-piece-requires invariant_loop decreases_loop
 text-at-requires c κs = tt
 
-enum_told : tie.Need-enum-told invariant_loop decreases_loop
+enum_told : tie.Need-enum_told-1 invariant_loop decreases_loop
 enum_told c = search rules
 
-returns : tie.Need-returns invariant_loop decreases_loop
-returns c = seeking_none c.before.before.before.loop.invariant c.before.before.text_at.ensures c.enum_told.given.1
+returns : tie.Need-returns-in-End invariant_loop decreases_loop
+returns c = seeking_none c.loop-end.invariant c.text_at-piece.ensures c.in-End.is
 
-enum-told-2 : tie.Need-enum-told-2 invariant_loop decreases_loop
+enum-told-2 : tie.Need-enum_told-in-Bad invariant_loop decreases_loop
 enum-told-2 c = search rules
 
-returns-2 : tie.Need-returns-2 invariant_loop decreases_loop
-returns-2 c = seeking_bad c.before.before.before.loop.invariant c.before.before.text_at.ensures c.enum-told2.given.1
+returns-2 : tie.Need-returns-in-Bad invariant_loop decreases_loop
+returns-2 c = seeking_bad c.loop-end.invariant c.text_at-piece.ensures c.in-Bad.is
 
-enum-known-piece : tie.Need-enum-known-piece invariant_loop decreases_loop
+enum-known-piece : tie.Need-enum_known-piece invariant_loop decreases_loop
 enum-known-piece c = search rules
 
-add_start : tie.Need-overflow-add-start invariant_loop decreases_loop
-add_start c = omega (arith, low c.before, high c.before)
+add_start : tie.Need-overflow_add-start invariant_loop decreases_loop
+add_start c = omega (arith, low c, high c)
 
-add-count : tie.Need-overflow-add-count invariant_loop decreases_loop
-add-count c = omega (arith, low c.before, high c.before, counting_bound c.before.before.before.before.loop.invariant.walk)
+add-count : tie.Need-overflow_add-count invariant_loop decreases_loop
+add-count c = omega (arith, low c, high c, counting_bound c.loop-end.invariant.walk)
 
-returns-3 : tie.Need-returns-3 invariant_loop decreases_loop
+returns-3 : tie.Need-returns-then-count-number invariant_loop decreases_loop
 returns-3 c =
-    let p = c.before.before in
-    seeking_found p.before.before.before.loop.invariant p.before.before.text_at.ensures p.piece.given.1 c.if1.true
+    let p = c in
+    seeking_found p.loop-end.invariant p.text_at-piece.ensures p.in-At.is c.if-count-number.true
 
-loop-less : tie.Need-loop-smaller invariant_loop decreases_loop
-loop-less c = omega (arith, low c.before.before, high c.before.before)
+loop-less : tie.Need-loop-end-smaller invariant_loop decreases_loop
+loop-less c = omega (arith, low c.before, high c.before)
 
-loop-again : tie.Need-loop-preserved invariant_loop decreases_loop
+loop-again : tie.Need-loop-end-preserved invariant_loop decreases_loop
 loop-again c =
-    let p = c.before.before in
-    seeking_on p.before.before.before.loop.invariant p.before.before.text_at.ensures p.piece.given.1 c.if1.false
+    let p = c in
+    seeking_on p.loop-end.invariant p.text_at-piece.ensures p.in-At.is c.if-count-number.false
 
 pub find_text_spec : {M : Type 1} → statement M
 find_text_spec =

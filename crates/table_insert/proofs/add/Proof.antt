@@ -10,52 +10,52 @@ use Rattle.table_insert.proofs.add.Statement.{statement}
 use Rattle.table_insert.proofs.add.Tie as tie
 
 -- the place of a path that is not there
-gap : (c : tie.After-place) →
-    let a = c.before.before.before.before.before.before.args in
-    Gap (take a.used a.image.now) a.path.now c.place.given.0.0
-gap c = is_free c.before.before.place_of.ensures _ c.place.given.1
+gap : (c : tie.In-At) →
+    let a = c.args in
+    Gap (take a.used a.image.now) a.path.now c.in-At.at
+gap c = is_free c.place_of-place.ensures _ c.in-At.is
 
-slice-reshare-prefix-place-of : tie.Need-slice-reshare-prefix-place-of
+slice-reshare-prefix-place-of : tie.Need-slice_bounds-place_of-end
 slice-reshare-prefix-place-of c = search rules
 
-slice-aggregate-place-of : tie.Need-slice-aggregate-place-of
+slice-aggregate-place-of : tie.Need-slice_bounds-place_of-end-2
 slice-aggregate-place-of c =
-    let s = c.before.before.before in
+    let s = c in
     sym (length-take-le s.args.used s.args.image.now (omega (arith, s.requires.0)))
 
-place-of-requires : tie.Need-place-of-requires
+place-of-requires : tie.Need-place_of-place-requires
 place-of-requires c κs = search rules
 
-enum_told : tie.Need-enum-told
+enum_told : tie.Need-enum_told-1
 enum_told c = search rules
 
-enum-known-place : tie.Need-enum-known-place
+enum-known-place : tie.Need-enum_known-place
 enum-known-place c = search rules
 
 insert-requires : tie.Need-insert-requires
 insert-requires c κs =
-    let p = c.before.before in
-    let s = p.before.before.before.before.before.before in
+    let p = c.before in
+    let s = p in
     let a = s.args in
     (gap_within a.image.now a.path.now a.used _ (omega (arith, s.requires.0)) (gap p), s.requires.0.0, s.requires.0.1, s.requires.0.2)
 
-same_length : tie.Need-same-length
+same_length : tie.Need-shape_of-image-in-Taken
 same_length c = search rules
 
-returns : tie.Need-returns
+returns : tie.Need-returns-in-Taken
 returns c =
-    let a = c.before.before.before.before.before.before.args in
-    add_taken (is_taken c.before.before.place_of.ensures _ _ c.enum_told.given.1) a.limit a.image.now
+    let a = c.args in
+    add_taken (is_taken c.place_of-place.ensures _ _ c.in-Taken.is) a.limit a.image.now
 
-same-length-2 : tie.Need-same-length-2
+same-length-2 : tie.Need-shape_of-image-in-At
 same-length-2 c = search rules
 
-returns-2 : tie.Need-returns-2
+returns-2 : tie.Need-returns-in-At
 returns-2 c =
-    let p = c.before.before.before.before.before in
-    let s = p.before.before.before.before.before.before in
+    let p = c.before.before.before.before in
+    let s = p in
     let a = s.args in
-    add_inserts a.image.now a.path.now a.used _ (omega (arith, s.requires.0)) (gap p) c.before.before.insert.ensures
+    add_inserts a.image.now a.path.now a.used _ (omega (arith, s.requires.0)) (gap p) c.insert.ensures
 
 pub add_spec : {M : Type 1} → statement M
 add_spec =

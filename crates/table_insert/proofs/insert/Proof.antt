@@ -5,60 +5,60 @@ use Rattle.table_insert.proofs.Inserting.{insert_full, insert_kept}
 use Rattle.table_insert.proofs.insert.Statement.{statement}
 use Rattle.table_insert.proofs.insert.Tie as tie
 
-sub-room : tie.Need-overflow-sub-room
+sub-room : tie.Need-overflow_sub-room
 sub-room c = search rules
 
-returns : tie.Need-returns
+returns : tie.Need-returns-then-room-lt2
 returns c =
-    let s = c.before.before.before in
+    let s = c in
     let a = s.args in
-    insert_full a.image.now a.path.now a.used a.at a.limit s.requires (omega (arith, c.if1.true))
+    insert_full a.image.now a.path.now a.used a.at a.limit s.requires (omega (arith, c.if-room-lt2.true))
 
-returns-2 : tie.Need-returns-2
+returns-2 : tie.Need-returns-then-room-path
 returns-2 c =
-    let s = c.before.before.before.before in
+    let s = c in
     let a = s.args in
-    insert_full a.image.now a.path.now a.used a.at a.limit s.requires (omega (arith, c.before.if1.false, c.if2.true))
+    insert_full a.image.now a.path.now a.used a.at a.limit s.requires (omega (arith, c.if-room-lt2.false, c.if-room-path.true))
 
-add-size : tie.Need-overflow-add-size
+add-size : tie.Need-overflow_add-size
 add-size c = search rules
 
-add-shift : tie.Need-overflow-add-shift
+add-shift : tie.Need-overflow_add-at
 add-shift c = search rules
 
-sub-shift : tie.Need-overflow-sub-shift
+sub-shift : tie.Need-overflow_sub-used
 sub-shift c = search rules
 
 shift-requires : tie.Need-shift-requires
 shift-requires c κs = search rules
 
-sub-put-record : tie.Need-overflow-sub-put-record
+sub-put-record : tie.Need-slice_bounds-put_record-count
 sub-put-record c = search rules
 
-part-put-record-start : tie.Need-slice-bounds-put-record-start
+part-put-record-start : tie.Need-slice_bounds-put_record-start
 part-put-record-start c = search rules
 
-part-put-record-end : tie.Need-slice-bounds-put-record-end
+part-put-record-end : tie.Need-slice_bounds-put_record-end
 part-put-record-end c = search rules
 
-put-record-requires : tie.Need-put-record-requires
+put-record-requires : tie.Need-put_record-requires
 put-record-requires c κs = search rules
 
-add-t9 : tie.Need-overflow-add-t9
+add-t9 : tie.Need-overflow_add-result
 add-t9 c = search rules
 
-same_length : tie.Need-same-length
+same_length : tie.Need-shape_of-image
 same_length c = search rules
 
-returns-3 : tie.Need-returns-3
+returns-3 : tie.Need-returns
 returns-3 c =
     let written = c.before.before in
     let moved = written.before.before.before.before in
     let tested = moved.before.before in
-    let s = tested.before.before.before.before in
+    let s = tested in
     let a = s.args in
-    insert_kept a.image.now a.path.now a.used a.at a.limit s.requires moved.shift.new.0 written.put_record.new.0
-    (omega (arith, tested.before.if1.false, tested.if2.false)) moved.shift.ensures moved.shift.auto.0 written.put_record.ensures
+    insert_kept a.image.now a.path.now a.used a.at a.limit s.requires moved.shift.new.area written.put_record.new.out
+    (omega (arith, tested.if-room-lt2.false, tested.if-room-path.false)) moved.shift.ensures moved.shift.auto.area written.put_record.ensures
 
 pub insert_spec : {M : Type 1} → statement M
 insert_spec =

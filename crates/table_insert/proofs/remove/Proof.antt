@@ -1,5 +1,4 @@
 -- `table_insert::remove` meets its contract: a path that is not there is told, and the record of one that is there is cut out.
-use native.Mathlib.Omega.{arith}
 use mathlib.Core.Path.{sym}
 use lib.Seq.{length-take-le}
 use borrow.Author.Rules.{rules}
@@ -11,52 +10,52 @@ use Rattle.table_insert.proofs.remove.Statement.{statement}
 use Rattle.table_insert.proofs.remove.Tie as tie
 
 -- the record of a path that is there
-spot : (c : tie.After-place) →
-    let a = c.before.before.before.before.before.before.args in
-    Spot (take a.used a.image.now) a.path.now c.place.given.0.0 c.place.given.0.1.0
-spot c = is_taken c.before.before.place_of.ensures _ _ c.place.given.1
+spot : (c : tie.In-Taken) →
+    let a = c.args in
+    Spot (take a.used a.image.now) a.path.now c.in-Taken.at c.in-Taken.end
+spot c = is_taken c.place_of-place.ensures _ _ c.in-Taken.is
 
-slice-reshare-prefix-place-of : tie.Need-slice-reshare-prefix-place-of
+slice-reshare-prefix-place-of : tie.Need-slice_bounds-place_of-end
 slice-reshare-prefix-place-of c = search rules
 
-slice-aggregate-place-of : tie.Need-slice-aggregate-place-of
+slice-aggregate-place-of : tie.Need-slice_bounds-place_of-end-2
 slice-aggregate-place-of c =
-    let s = c.before.before.before in
+    let s = c in
     sym (length-take-le s.args.used s.args.image.now s.requires.0)
 
-place-of-requires : tie.Need-place-of-requires
+place-of-requires : tie.Need-place_of-place-requires
 place-of-requires c κs = search rules
 
-enum_told : tie.Need-enum-told
+enum_told : tie.Need-enum_told-1
 enum_told c = search rules
 
-enum-known-place : tie.Need-enum-known-place
+enum-known-place : tie.Need-enum_known-place
 enum-known-place c = search rules
 
-cut-requires : tie.Need-cut-requires
+cut-requires : tie.Need-cut-left-requires
 cut-requires c κs =
-    let p = c.before.before in
-    let s = p.before.before.before.before.before.before in
+    let p = c.before in
+    let s = p in
     let a = s.args in
     ((spot p).low, spot_within a.image.now a.path.now a.used _ _ s.requires.0 (spot p), s.requires.0)
 
-same_length : tie.Need-same-length
+same_length : tie.Need-shape_of-image-in-At
 same_length c = search rules
 
-returns : tie.Need-returns
+returns : tie.Need-returns-in-At
 returns c =
-    let a = c.before.before.before.before.before.before.args in
-    remove_none (is_free c.before.before.place_of.ensures _ c.enum_told.given.1) a.used a.image.now
+    let a = c.args in
+    remove_none (is_free c.place_of-place.ensures _ c.in-At.is) a.used a.image.now
 
-same-length-2 : tie.Need-same-length-2
+same-length-2 : tie.Need-shape_of-image-in-Taken
 same-length-2 c = search rules
 
-returns-2 : tie.Need-returns-2
+returns-2 : tie.Need-returns-in-Taken
 returns-2 c =
-    let p = c.before.before.before.before.before in
-    let s = p.before.before.before.before.before.before in
+    let p = c.before.before.before.before in
+    let s = p in
     let a = s.args in
-    remove_cuts a.image.now a.path.now a.used _ _ s.requires.0 (spot p) c.before.before.cut.ensures
+    remove_cuts a.image.now a.path.now a.used _ _ s.requires.0 (spot p) c.cut-left.ensures
 
 pub remove_spec : {M : Type 1} → statement M
 remove_spec =

@@ -18,21 +18,26 @@ verdict_number (done_at ws) = refl
 told : (w : Words) (r s : LineRead) → verdict w ≡ verdict_of r → r ≡ s → number_in (verdict_of s) ≡ number_of w
 told w r s e f = ap (λ (x : LineRead). number_in (verdict_of x)) (sym f) ∙ ap (λ v. number_in v) (sym e) ∙ verdict_number w
 
-read-line-requires : tie.Need-read-line-requires
+read-line-requires : tie.Need-read_line-read-requires
 read-line-requires c κs = search rules
 
-enum_told : tie.Need-enum-told
+enum_told : tie.Need-enum_told-1
 enum_told c = search rules
 
-enum-known-read : tie.Need-enum-known-read
+enum-known-read : tie.Need-enum_known-read
 enum-known-read c = search rules
 
-returns : tie.Need-returns
-returns c = told (read_line c.before.before.before.before.args.line.now) _ _ c.before.before.read-line.ensures c.enum_told.given.1
+returns : tie.Need-returns-in-Read
+returns c = told (read_line c.args.line.now) _ _ c.read_line-read.ensures c.in-Read.is
 
-returns-2 : tie.Need-returns-2
-returns-2 c = told (read_line c.before.before.before.before.before.args.line.now) _ _ c.before.before.before.read-line.ensures
-    c.before.read.given.1
+returns-2 : tie.Need-returns-in-Refused
+returns-2 c = told (read_line c.args.line.now) _ _ c.read_line-read.ensures
+    c.in-Refused.is
 
 pub measured_read_spec : {M : Type 1} → statement M
-measured_read_spec = tie.close (tie.spec read-line-requires enum_told enum-known-read returns returns-2)
+measured_read_spec = tie.close (tie.spec
+    read-line-requires
+    enum_told
+    enum-known-read
+    returns
+    returns-2)

@@ -326,8 +326,8 @@ use Rattle.arith_eval.proofs.climb.+enclosed_expression_further_operand_operator
 use Rattle.arith_eval.proofs.climb.+enclosed_expression_further_operand_operator_signed_skip_stepped_whole_worked.{statement}
 use Rattle.arith_eval.proofs.climb.+enclosed_expression_further_operand_operator_signed_skip_stepped_whole_worked.Tie.{close}
 
-pub +enclosed-expression-further-operand-operator-signed-skip-stepped-whole-worked-spec : {M : Type 1} → statement M
-+enclosed-expression-further-operand-operator-signed-skip-stepped-whole-worked-spec =
+pub +enclosed_expression_further_operand_operator_signed_skip_stepped_whole_worked_spec : {M : Type 1} → statement M
++enclosed_expression_further_operand_operator_signed_skip_stepped_whole_worked_spec =
     close μ-enclosed μ-expression μ-further μ-operand μ-operator μ-signed μ-skip μ-stepped μ-whole μ-worked
     (λ t. enclosed-lts.spec (enclosed_callees t) (enclosed_at t)
     enclosed.Post

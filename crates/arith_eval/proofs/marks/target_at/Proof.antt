@@ -15,53 +15,53 @@ use Rattle.arith_eval.proofs.marks.target_at.Statement.{statement}
 use Rattle.arith_eval.proofs.marks.target_at.Tie as tie
 
 -- the call, where the blanks were passed
-abbrev start : tie.After-run-end → tie.Start
+abbrev start : tie.After-run_end-from → tie.Start
 start r = r.before.before.before
 
 -- the run of blanks ends before the text does
-short : (c : tie.Else2) → c.before.run_end.result < length (start c.before).args.text.now
-short c = let w = c.before.run_end.ensures.within in let n = c.if2.false in omega arith
+short : (c : tie.Else-from-text) → c.run_end-from.result < length (start c.before).args.text.now
+short c = let w = c.run_end-from.ensures.within in let n = c.if-from-text.false in omega arith
 
 -- a name begins there, behind the test for one
-begins : (c : tie.Else3) → let r = c.before.before.before.before in
-    is_name_start (get_or (start r).args.text.now r.run_end.result 0) ≡ true
-begins c = sym c.before.in-class.ensures ∙ not-false c.before.in-class.result c.if3.false
+begins : (c : tie.Else-not-in_class) → let r = c.before.before.before.before in
+    is_name_start (get_or (start r).args.text.now r.run_end-from.result 0) ≡ true
+begins c = sym c.in_class.ensures ∙ not-false c.in_class.result c.if-not-in_class.false-raw
 
-returns : tie.Need-returns
+returns : tie.Need-returns-then-not-first
 returns c =
-    let s = c.before.before in
-    λ e. absurd (no (sym (not-true s.args.first c.if1.true) ∙ e))
+    let s = c in
+    λ e. absurd (no (sym (not-true s.args.first c.if-not-first.true-raw) ∙ e))
 
-run-end-requires : tie.Need-run-end-requires
+run-end-requires : tie.Need-run_end-from-requires
 run-end-requires c κs = search rules
 
-returns-2 : tie.Need-returns-2
+returns-2 : tie.Need-returns-then-from-text
 returns-2 c =
     let r = c.before in
     let a = (start r).args in
-    λ _. target_other _ _ _ (nothing_left a.text.now a.at r.run_end.result r.run_end.ensures c.if2.true).is refl
+    λ _. target_other _ _ _ (nothing_left a.text.now a.at r.run_end-from.result r.run_end-from.ensures c.if-from-text.true).is refl
 
-shared-slice-read-in-class : tie.Need-shared-slice-read-in-class
+shared-slice-read-in-class : tie.Need-bounds-text-from
 shared-slice-read-in-class c = search rules
 
-in-class-requires : tie.Need-in-class-requires
+in-class-requires : tie.Need-in_class-requires
 in-class-requires c κs = search rules
 
-returns-3 : tie.Need-returns-3
+returns-3 : tie.Need-returns-then-not-in_class
 returns-3 c =
     let e = c.before.before.before in
     let r = e.before in
     let a = (start r).args in
-    λ _ x v q. absurd (no_name_at a.text.now a.at r.run_end.result r.run_end.ensures (short e)
-    (sym c.before.in-class.ensures ∙ not-true c.before.in-class.result c.if3.true) x v q)
+    λ _ x v q. absurd (no_name_at a.text.now a.at r.run_end-from.result r.run_end-from.ensures (short e)
+    (sym c.in_class.ensures ∙ not-true c.in_class.result c.if-not-in_class.true-raw) x v q)
 
-run-end-requires-2 : tie.Need-run-end-requires-2
+run-end-requires-2 : tie.Need-run_end-to-requires
 run-end-requires-2 c κs = search rules
 
-setting-at-requires : tie.Need-setting-at-requires
-setting-at-requires c κs = c.run-end2.ensures.within
+setting-at-requires : tie.Need-setting_at-requires
+setting-at-requires c κs = c.run_end-to.ensures.within
 
-returns-4 : tie.Need-returns-4
+returns-4 : tie.Need-returns
 returns-4 c =
     let at-to = c.before in
     let d = at-to.before in
@@ -69,12 +69,12 @@ returns-4 c =
     let r = e.before in
     let a = (start r).args in
     let text = a.text.now in
-    let from = r.run_end.result in
-    targets_by text a.at a.first (not-false a.first r.before.if1.false)
-    (behind_blanks text a.at from r.run_end.ensures _
-    (name_at_lem text from at-to.run-end2.result (short e) at-to.run-end2.ensures (not_blank text a.at from r.run_end.ensures (short e))
+    let from = r.run_end-from.result in
+    targets_by text a.at a.first (not-false a.first r.if-not-first.false-raw)
+    (behind_blanks text a.at from r.run_end-from.ensures _
+    (name_at_lem text from at-to.run_end-to.result (short e) at-to.run_end-to.ensures (not_blank text a.at from r.run_end-from.ensures (short e))
     (start_no_digit _ (begins d)) (begins d)))
-    c.setting-at.result c.setting-at.ensures
+    c.setting_at.result c.setting_at.ensures
 
 pub target_at_spec : {M : Type 1} → statement M
 target_at_spec =

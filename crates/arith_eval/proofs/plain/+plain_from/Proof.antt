@@ -1,7 +1,7 @@
 -- `arith_eval::plain::plain_from` meets its contract: the loop plods on over operators whose right sides are constants and what binds tighter behind them.
 use Prim.Native.Nat.{ℕ, ◌<◌, ◌+◌, ◌-◌}
 use native.Mathlib.Omega.{arith}
-use mathlib.Core.Path.{◌≡◌, refl, sym, ap, ◌∙◌}
+use mathlib.Core.Path.{◌≡◌, sym, ap, ◌∙◌}
 use lib.ListN.{length}
 use mir.Syntax.{w64}
 use mir.Val.{to_z, of_z}
@@ -50,177 +50,177 @@ callees t = (
   operate-reads.Learnt,
 )
 
-abbrev invariant_loop : lts.invariant_loop
+abbrev invariant_loop : lts.invariant-loop-op
 invariant_loop text at least left value₀ i₀ value i = Plods text at least (to_z w64 value₀) (to_z w64 value) i
 
-abbrev decreases_loop : lts.decreases_loop
+abbrev decreases_loop : lts.decreases-loop-op
 decreases_loop text at least left value₀ i₀ value i = length text - i
 
 module _ (t : ℕ) where
   -- the operator, once it is known
-  between : (k : lts.After-known-told (callees t) (plain_from_at t) plain-from.Post invariant_loop decreases_loop) →
-      let l = k.before.before.before.before.loop in
-      let a = k.before.before.before.before.before.before.args in
-      Between a.text.now l.i k.before.sign.given.0.0 k.before.sign.given.0.1.0
+  between : (k : lts.In-Op (callees t) (plain_from_at t) plain-from.Post invariant_loop decreases_loop) →
+      let l = k.loop-op in
+      let a = k.args in
+      Between a.text.now l.i k.in-Op.op k.in-Op.next
   between k =
-      let l = k.before.before.before.before.loop in
-      let a = k.before.before.before.before.before.before.args in
-      signs_shown a.text.now l.i k.before.before.before.sign_at.ensures k.before.sign.given.1
+      let l = k.loop-op in
+      let a = k.args in
+      signs_shown a.text.now l.i k.sign_at-sign.ensures k.in-Op.is
 
   -- the constant behind it
-  number : (n : lts.After-known-told2 (callees t) (plain_from_at t) plain-from.Post invariant_loop decreases_loop) →
-      let k = n.before.before.before.before.before.before in
-      let a = k.before.before.before.before.before.before.args in
-      TokenAt a.text.now k.before.sign.given.0.1.0 (code.Number n.before.first.given.0.0 n.before.first.given.0.1.0)
+  number : (n : lts.In-Value (callees t) (plain_from_at t) plain-from.Post invariant_loop decreases_loop) →
+      let k = n in
+      let a = k.args in
+      TokenAt a.text.now k.in-Op.next (code.Number n.in-Value.y n.in-Value.n)
   number n =
-      let k = n.before.before.before.before.before.before in
-      let a = k.before.before.before.before.before.before.args in
-      constant_shown a.text.now k.before.sign.given.0.1.0 n.before.before.before.constant-at.ensures n.before.first.given.1
+      let k = n in
+      let a = k.args in
+      constant_shown a.text.now k.in-Op.next n.constant_at-first.ensures n.in-Value.is
 
   -- the whole right side
-  right_side : (p : lts.After-plain-from (callees t) (plain_from_at t) plain-from.Post invariant_loop decreases_loop) {g : Plain} → p.plain-from.result ≡ g →
+  right_side : (p : lts.After-plain_from-right (callees t) (plain_from_at t) plain-from.Post invariant_loop decreases_loop) {g : Plain} → p.plain_from-right.result ≡ g →
       let n = p.before in
-      let k = n.before.before.before.before.before.before in
-      let a = k.before.before.before.before.before.before.args in
-      PlainFrom a.text.now n.before.first.given.0.1.0 (level_of k.before.sign.given.0.0 + 1) n.before.first.given.0.0 g
+      let k = n.before.before.before.before in
+      let a = k.args in
+      PlainFrom a.text.now n.in-Value.n (level_of k.in-Op.op + 1) n.in-Value.y g
   right_side p e =
       let n = p.before in
-      let at_level = n.before.before.before.before.before in
-      let k = at_level.before in
-      let a = k.before.before.before.before.before.before.args in
-      plain_shown a.text.now n.before.first.given.0.1.0 (ap (λ (i : ℕ). i + 1) at_level.level.ensures)
-      (kept n.before.first.given.0.0 n.known-told2.given.0.1) e p.plain-from.ensures
+      let at_level = n.before.before.before in
+      let k = at_level in
+      let a = k.args in
+      plain_shown a.text.now n.in-Value.n (ap (λ (i : ℕ). i + 1) at_level.level-binds.ensures)
+      (kept n.in-Value.y n.in-Value.known_told-in-Value-1-own.given.0.1) e p.plain_from-right.ensures
 
-  loop-holds : lts.Need-loop-init (callees t) (plain_from_at t) plain-from.Post invariant_loop decreases_loop
+  loop-holds : lts.Need-loop-op-init (callees t) (plain_from_at t) plain-from.Post invariant_loop decreases_loop
   loop-holds c =
-      let s = c.before in
+      let s = c in
       plods_start s.args.text.now s.args.at s.args.least _ s.requires.1.0
 
-  sign-at-requires : lts.Need-sign-at-requires (callees t) (plain_from_at t) plain-from.Post invariant_loop decreases_loop
-  sign-at-requires c κs = c.loop.invariant.within
+  sign-at-requires : lts.Need-sign_at-sign-requires (callees t) (plain_from_at t) plain-from.Post invariant_loop decreases_loop
+  sign-at-requires c κs = c.loop-op.invariant.within
 
-  enum_told : lts.Need-enum-told (callees t) (plain_from_at t) plain-from.Post invariant_loop decreases_loop
+  enum_told : lts.Need-enum_told-1 (callees t) (plain_from_at t) plain-from.Post invariant_loop decreases_loop
   enum_told c = search rules
 
-  returns : lts.Need-returns (callees t) (plain_from_at t) plain-from.Post invariant_loop decreases_loop
+  returns : lts.Need-returns-in-Other (callees t) (plain_from_at t) plain-from.Post invariant_loop decreases_loop
   returns c = search rules
 
-  enum-told-2 : lts.Need-enum-told-2 (callees t) (plain_from_at t) plain-from.Post invariant_loop decreases_loop
+  enum-told-2 : lts.Need-enum_told-in-Stop (callees t) (plain_from_at t) plain-from.Post invariant_loop decreases_loop
   enum-told-2 c = search rules
 
-  returns-2 : lts.Need-returns-2 (callees t) (plain_from_at t) plain-from.Post invariant_loop decreases_loop
+  returns-2 : lts.Need-returns-in-Stop (callees t) (plain_from_at t) plain-from.Post invariant_loop decreases_loop
   returns-2 c =
-      let at_sign = c.before.before in
-      let l = at_sign.before.loop in
-      let s = at_sign.before.before.before in
+      let at_sign = c.before in
+      let l = at_sign.loop-op in
+      let s = at_sign in
       let a = s.args in
       rw (held a.left s.ranges.left) at
       (plods_stop a.text.now a.at a.least (to_z w64 (of_z w64 a.left)) l.invariant
-      (signs_shown a.text.now l.i at_sign.sign_at.ensures c.enum-told2.given.1))
+      (signs_shown a.text.now l.i at_sign.sign_at-sign.ensures c.in-Stop.is))
 
-  enum-known-sign : lts.Need-enum-known-sign (callees t) (plain_from_at t) plain-from.Post invariant_loop decreases_loop
+  enum-known-sign : lts.Need-enum_known-sign (callees t) (plain_from_at t) plain-from.Post invariant_loop decreases_loop
   enum-known-sign c = search rules
 
-  level-requires : lts.Need-level-requires (callees t) (plain_from_at t) plain-from.Post invariant_loop decreases_loop
+  level-requires : lts.Need-level-binds-requires (callees t) (plain_from_at t) plain-from.Post invariant_loop decreases_loop
   level-requires c κs = search rules
 
-  returns-3 : lts.Need-returns-3 (callees t) (plain_from_at t) plain-from.Post invariant_loop decreases_loop
+  returns-3 : lts.Need-returns-then-binds-least (callees t) (plain_from_at t) plain-from.Post invariant_loop decreases_loop
   returns-3 c =
       let at_level = c.before in
       let k = at_level.before in
-      let l = k.before.before.before.before.loop in
-      let s = k.before.before.before.before.before.before in
+      let l = k.loop-op in
+      let s = k in
       let a = s.args in
       rw (held a.left s.ranges.left) at
-      (plods_loose a.text.now a.at a.least (to_z w64 (of_z w64 a.left)) l.invariant (between k) (rw at_level.level.ensures at c.if1.true))
+      (plods_loose a.text.now a.at a.least (to_z w64 (of_z w64 a.left)) l.invariant (between k) (rw at_level.level-binds.ensures at c.if-binds-least.true))
 
-  constant-at-requires : lts.Need-constant-at-requires (callees t) (plain_from_at t) plain-from.Post invariant_loop decreases_loop
+  constant-at-requires : lts.Need-constant_at-first-requires (callees t) (plain_from_at t) plain-from.Post invariant_loop decreases_loop
   constant-at-requires c κs = (between c.before.before).token.ends.within
 
-  enum-told-3 : lts.Need-enum-told-3 (callees t) (plain_from_at t) plain-from.Post invariant_loop decreases_loop
+  enum-told-3 : lts.Need-enum_told-in-Unknown (callees t) (plain_from_at t) plain-from.Post invariant_loop decreases_loop
   enum-told-3 c = search rules
 
-  returns-4 : lts.Need-returns-4 (callees t) (plain_from_at t) plain-from.Post invariant_loop decreases_loop
+  returns-4 : lts.Need-returns-in-Unknown (callees t) (plain_from_at t) plain-from.Post invariant_loop decreases_loop
   returns-4 c = search rules
 
-  enum-known-first : lts.Need-enum-known-first (callees t) (plain_from_at t) plain-from.Post invariant_loop decreases_loop
+  enum-known-first : lts.Need-enum_known-first (callees t) (plain_from_at t) plain-from.Post invariant_loop decreases_loop
   enum-known-first c = search rules
 
-  add-plain-from : lts.Need-overflow-add-plain-from (callees t) (plain_from_at t) plain-from.Post invariant_loop decreases_loop
+  add-plain-from : lts.Need-overflow_add-binds (callees t) (plain_from_at t) plain-from.Post invariant_loop decreases_loop
   add-plain-from c =
-      let at_level = c.before.before.before.before.before in
-      omega (arith, at_level.level.ensures, level_small at_level.before.before.sign.given.0.0)
+      let at_level = c in
+      omega (arith, at_level.level-binds.ensures, level_small at_level.in-Op.op)
 
-  plain-from-requires : lts.Need-plain-from-requires (callees t) (plain_from_at t) plain-from.Post invariant_loop decreases_loop
+  plain-from-requires : lts.Need-plain_from-right-requires (callees t) (plain_from_at t) plain-from.Post invariant_loop decreases_loop
   plain-from-requires c κs =
-      let at-if1 = c.before.before.before.before in
+      let at-if1 = c.before.before in
       let at_level = at-if1.before in
       let k = at_level.before in
-      let l = k.before.before.before.before.loop in
-      let s = k.before.before.before.before.before.before in
+      let l = k.loop-op in
+      let s = k in
       let f = l.invariant.onward in
       let g = (between k).token.ends.onward in
       let h = (number c).ends.onward in
       let w = (number c).ends.within in
-      let e = at-if1.if1.false in
-      (omega (arith, s.requires.0), (w, omega (arith, s.requires.1.1, at_level.level.ensures)))
+      let e = at-if1.if-binds-least.false in
+      (omega (arith, s.requires.0), (w, omega (arith, s.requires.1.1, at_level.level-binds.ensures)))
 
-  enum-told-4 : lts.Need-enum-told-4 (callees t) (plain_from_at t) plain-from.Post invariant_loop decreases_loop
+  enum-told-4 : lts.Need-enum_told-in-Unknown-right (callees t) (plain_from_at t) plain-from.Post invariant_loop decreases_loop
   enum-told-4 c = search rules
 
-  returns-5 : lts.Need-returns-5 (callees t) (plain_from_at t) plain-from.Post invariant_loop decreases_loop
+  returns-5 : lts.Need-returns-in-Unknown-right (callees t) (plain_from_at t) plain-from.Post invariant_loop decreases_loop
   returns-5 c = search rules
 
-  enum-known-right : lts.Need-enum-known-right (callees t) (plain_from_at t) plain-from.Post invariant_loop decreases_loop
+  enum-known-right : lts.Need-enum_known-right (callees t) (plain_from_at t) plain-from.Post invariant_loop decreases_loop
   enum-known-right c = search rules
 
-  operate-requires : lts.Need-operate-requires (callees t) (plain_from_at t) plain-from.Post invariant_loop decreases_loop
+  operate-requires : lts.Need-operate-both-requires (callees t) (plain_from_at t) plain-from.Post invariant_loop decreases_loop
   operate-requires c κs = search rules
 
-  enum-told-5 : lts.Need-enum-told-5 (callees t) (plain_from_at t) plain-from.Post invariant_loop decreases_loop
+  enum-told-5 : lts.Need-enum_told-in-Refused (callees t) (plain_from_at t) plain-from.Post invariant_loop decreases_loop
   enum-told-5 c = search rules
 
-  returns-6 : lts.Need-returns-6 (callees t) (plain_from_at t) plain-from.Post invariant_loop decreases_loop
+  returns-6 : lts.Need-returns-in-Refused (callees t) (plain_from_at t) plain-from.Post invariant_loop decreases_loop
   returns-6 c = search rules
 
-  enum-known-both : lts.Need-enum-known-both (callees t) (plain_from_at t) plain-from.Post invariant_loop decreases_loop
+  enum-known-both : lts.Need-enum_known-both (callees t) (plain_from_at t) plain-from.Post invariant_loop decreases_loop
   enum-known-both c = search rules
 
-  loop-less : lts.Need-loop-smaller (callees t) (plain_from_at t) plain-from.Post invariant_loop decreases_loop
+  loop-less : lts.Need-loop-op-smaller (callees t) (plain_from_at t) plain-from.Post invariant_loop decreases_loop
   loop-less c =
-      let at_right = c.before.before.before.before.before in
-      let p = at_right.before.before in
+      let at_right = c.before.before in
+      let p = at_right.before in
       let n = p.before in
-      let k = n.before.before.before.before.before.before in
+      let k = n.before.before.before.before in
       let g = (between k).token.ends.onward in
       let h = (number n).ends.onward in
-      let r = right_side p at_right.right.given.1 in
+      let r = right_side p at_right.in-Value-right.is in
       let j = r.onward in
       let w = r.within in
       omega arith
 
-  loop-again : lts.Need-loop-preserved (callees t) (plain_from_at t) plain-from.Post invariant_loop decreases_loop
+  loop-again : lts.Need-loop-op-preserved (callees t) (plain_from_at t) plain-from.Post invariant_loop decreases_loop
   loop-again c =
-      let at_both = c.before in
-      let at-operate = at_both.before.before in
+      let at_both = c in
+      let at-operate = at_both.before in
       let at_told = at-operate.before in
-      let at_right = at_told.before in
-      let p = at_right.before.before in
+      let at_right = at_told in
+      let p = at_right.before in
       let n = p.before in
-      let at-if1 = n.before.before.before.before in
+      let at-if1 = n.before.before in
       let at_level = at-if1.before in
       let k = at_level.before in
-      let l = k.before.before.before.before.loop in
-      let s = k.before.before.before.before.before.before in
+      let l = k.loop-op in
+      let s = k in
       let a = s.args in
-      rw (kept at_both.both.given.0.0 c.known-told4.given.0.1)
+      rw (kept at_both.in-Value-both.x c.in-Value-both.known_told-in-Value-both-1-own.given.0.1)
       (plods_next a.text.now a.at a.least (to_z w64 (of_z w64 a.left)) l.invariant (between k) s.requires.1.1
-      (rw at_level.level.ensures at at-if1.if1.false) (number n) (right_side p at_right.right.given.1)
-      (sym (rw (kept at_right.right.given.0.0 at_told.known-told3.given.0.1) at at-operate.operate.ensures)
-      ∙ ap numbered at_both.both.given.1))
+      (rw at_level.level-binds.ensures at at-if1.if-binds-least.false) (number n) (right_side p at_right.in-Value-right.is)
+      (sym (rw (kept at_right.in-Value-right.z at_told.in-Value-right.known_told-in-Value-right-1-own.given.0.1) at at-operate.operate-both.ensures)
+      ∙ ap numbered at_both.in-Value-both.is))
 
-pub +plain-from-spec : {M : Type 1} → statement M
-+plain-from-spec = close μ-plain-from λ t. lts.spec (callees t) (plain_from_at t) plain-from.Post invariant_loop decreases_loop
+pub +plain_from_spec : {M : Type 1} → statement M
++plain_from_spec = close μ-plain-from λ t. lts.spec (callees t) (plain_from_at t) plain-from.Post invariant_loop decreases_loop
     (loop-holds t)
     (sign-at-requires t)
     (enum_told t)

@@ -14,123 +14,91 @@ use Rattle.arith_eval.proofs.values.assigned.Statement.{statement}
 use Rattle.arith_eval.proofs.values.assigned.Tie as tie
 
 -- where the place was looked at, and what stands there once its case is known
-abbrev start : tie.After-target-at → tie.Start
+abbrev start : tie.After-target_at-target → tie.Start
 start r = r.before.before.before
 
-assigned_target : (r : tie.After-target-at) {k : Target} → r.target_at.result ≡ k → Targets (start r).args.text.now (start r).args.place true k
-assigned_target r e = targets_shown (start r).args.text.now (start r).args.place true r.target_at.ensures e
+assigned_target : (r : tie.After-target_at-target) {k : Target} → r.target_at-target.result ≡ k → Targets (start r).args.text.now (start r).args.place true k
+assigned_target r e = targets_shown (start r).args.text.now (start r).args.place true r.target_at-target.ensures e
 
-target-at-requires : tie.Need-target-at-requires
+target-at-requires : tie.Need-target_at-target-requires
 target-at-requires c κs = search rules
 
-enum_told : tie.Need-enum-told
+enum_told : tie.Need-enum_told-1
 enum_told c = search rules
 
-enum-known-target : tie.Need-enum-known-target
+enum-known-target : tie.Need-enum_known-target
 enum-known-target c = search rules
 
-sub-updated : tie.Need-overflow-sub-updated
+sub-updated : tie.Need-slice_bounds-updated-count
 sub-updated c =
-    let at_Target = c.before in
-    let at-target-at = at_Target.before.before in
-    (assigned_target (at-target-at) at_Target.target.given.1).1.rising
+    (assigned_target (c.before) c.in-At.is).1.rising
 
-part-updated-start : tie.Need-slice-bounds-updated-start
+part-updated-start : tie.Need-slice_bounds-updated-start
 part-updated-start c =
-    let at_Target = c.before in
-    let at-target-at = at_Target.before.before in
-    (assigned_target (at-target-at) at_Target.target.given.1).1.rising
+    (assigned_target (c.before) c.in-At.is).1.rising
 
-part-updated-end : tie.Need-slice-bounds-updated-end
+part-updated-end : tie.Need-slice_bounds-updated-end
 part-updated-end c =
-    let at_Target = c.before in
-    let at-target-at = at_Target.before.before in
-    (assigned_target (at-target-at) at_Target.target.given.1).1.names.behind.within
+    (assigned_target (c.before) c.in-At.is).1.names.behind.within
 
-slice-reshare-prefix-updated : tie.Need-slice-reshare-prefix-updated
+slice-reshare-prefix-updated : tie.Need-slice_bounds-updated-end-in-At
 slice-reshare-prefix-updated c =
-    let s = c.before.before.before.before.before.before.before in
-    s.requires.1.inside
+    c.requires.1.inside
 
-slice-aggregate-updated : tie.Need-slice-aggregate-updated
+slice-aggregate-updated : tie.Need-slice_bounds-updated-end-in-At-2
 slice-aggregate-updated c =
-    let s = c.before.before.before.before.before.before.before.before in
-    let s = s in sym (length-take-le s.args.vars-used s.args.vars.now s.requires.1.inside)
+    sym (length-take-le c.args.vars_used c.args.vars.now c.requires.1.inside)
 
-updated-requires : tie.Need-updated-requires
+updated-requires : tie.Need-updated-got-requires
 updated-requires c κs =
-    let s = c.before.before.before.before.before.before.before.before in
-    let s = s in table_held s.args.vars-room s.args.vars.now s.args.vars-used s.requires.1
+    table_held c.args.vars_room c.args.vars.now c.args.vars_used c.requires.1
 
-enum-known-got : tie.Need-enum-known-got
+enum-known-got : tie.Need-enum_known-got
 enum-known-got c = search rules
 
-enum-known-got-2 : tie.Need-enum-known-got-2
+enum-known-got-2 : tie.Need-enum_known-got-in-Value-1
 enum-known-got-2 c = search rules
 
-sub-keep : tie.Need-overflow-sub-keep
+sub-keep : tie.Need-slice_bounds-keep-count
 sub-keep c =
-    let at_Target = c.before.before.before.before.before.before.before in
-    let at-target-at = at_Target.before.before in
-    (assigned_target (at-target-at) at_Target.target.given.1).1.rising
+    (assigned_target (c.before.before.before.before) c.in-At.is).1.rising
 
-part-keep-start : tie.Need-slice-bounds-keep-start
+part-keep-start : tie.Need-slice_bounds-keep-start
 part-keep-start c =
-    let at_Target = c.before.before.before.before.before.before.before in
-    let at-target-at = at_Target.before.before in
-    (assigned_target (at-target-at) at_Target.target.given.1).1.rising
+    (assigned_target (c.before.before.before.before) c.in-At.is).1.rising
 
-part-keep-end : tie.Need-slice-bounds-keep-end
+part-keep-end : tie.Need-slice_bounds-keep-end
 part-keep-end c =
-    let at_Target = c.before.before.before.before.before.before.before in
-    let at-target-at = at_Target.before.before in
-    (assigned_target (at-target-at) at_Target.target.given.1).1.names.behind.within
+    (assigned_target (c.before.before.before.before) c.in-At.is).1.names.behind.within
 
 keep-requires : tie.Need-keep-requires
 keep-requires c κs =
-    let at_Target = c.before.before.before.before.before.before.before.before.before in
-    let at-target-at = at_Target.before.before in
-    let s = at-target-at.before.before.before in
-    ((assigned_target (at-target-at) at_Target.target.given.1).1.named, s.requires.1)
+    ((assigned_target (c.before.before.before.before.before.before) c.in-At.is).1.named, c.requires.1)
 
-returns : tie.Need-returns
+returns : tie.Need-returns-in-Missing
 returns c =
-    let at-target-at = c.before.before in
-    let r = at-target-at in
-    λ g s. absurd (no_target (start r).args.text.now (start r).args.place g (assigned_target r c.enum_told.given.1) s)
+    λ g s. absurd (no_target (start (c.before)).args.text.now (start (c.before)).args.place g (assigned_target (c.before) c.in-Missing.is) s)
 
-same_length : tie.Need-same-length
+same_length : tie.Need-shape_of-vars-in-Refused
 same_length c = search rules
 
-returns-2 : tie.Need-returns-2
+returns-2 : tie.Need-returns-in-Refused
 returns-2 c =
-    let at-got = c.before in
-    let at-updated = at-got.before.before in
-    let at_Target = at-updated.before.before.before.before in
-    let at-target-at = at_Target.before.before in
-    let s = at-target-at.before.before.before in
-    let a = s.args in
-    assign_refused (alone a.vars-room a.shouts) a.text.now a.place a.value (inside a.vars.now a.vars-used) a.vars.now
-    (assigned_target (at-target-at) at_Target.target.given.1).1 at-updated.updated.result
-    (rw (held a.value s.ranges.value) at at-updated.updated.ensures) _ at-got.got.given.1
+    let a = c.args in
+    assign_refused (alone a.vars_room a.shouts) a.text.now a.place a.value (inside a.vars.now a.vars_used) a.vars.now
+    (assigned_target (c.before.before.before.before) c.in-At.is).1 c.updated-got.result
+    (rw (held a.value c.ranges.value) at c.updated-got.ensures) _ c.in-Refused.is
 
-same-length-2 : tie.Need-same-length-2
+same-length-2 : tie.Need-shape_of-vars-in-Value
 same-length-2 c = search rules
 
-returns-3 : tie.Need-returns-3
+returns-3 : tie.Need-returns-in-Value
 returns-3 c =
-    let at-keep = c.before.before in
-    let at-known-told3 = at-keep.before.before.before in
-    let at-got2 = at-known-told3.before in
-    let at-updated = at-got2.before.before in
-    let at_Target = at-updated.before.before.before.before in
-    let at-target-at = at_Target.before.before in
-    let s = at-target-at.before.before.before in
-    let a = s.args in
-    assign_puts (alone a.vars-room a.shouts) a.text.now a.place a.value (inside a.vars.now a.vars-used) _
-    (assigned_target (at-target-at) at_Target.target.given.1).1 at-updated.updated.result
-    (rw (held a.value s.ranges.value) at at-updated.updated.ensures) _ at-got2.got2.given.1 at-keep.keep.result
-    (rw (kept at-got2.got2.given.0.0 at-known-told3.known-told3.given.0.1) at at-keep.keep.ensures)
+    let a = c.args in
+    assign_puts (alone a.vars_room a.shouts) a.text.now a.place a.value (inside a.vars.now a.vars_used) _
+    (assigned_target (c.before.before.before.before.before.before.before.before.before) c.in-At.is).1 c.updated-got.result
+    (rw (held a.value c.ranges.value) at c.updated-got.ensures) _ c.in-Value.is c.keep.result
+    (rw (kept c.in-Value.z c.in-Value.known_told-in-Value-1-own.given.0.1) at c.keep.ensures)
 
 pub assigned_spec : {M : Type 1} → statement M
 assigned_spec =

@@ -5,20 +5,20 @@ use borrow.Author.Rules.{rules}
 use Rattle.arith_eval.proofs.values.keep.Statement.{statement}
 use Rattle.arith_eval.proofs.values.keep.Tie as tie
 
-slice-aggregate-put-value : tie.Need-slice-aggregate-put-value
+slice-aggregate-put-value : tie.Need-slice_bounds-put_value-end
 slice-aggregate-put-value c = search rules
 
-put-value-requires : tie.Need-put-value-requires
+put-value-requires : tie.Need-put_value-requires
 put-value-requires c κs = search rules
 
-same_length : tie.Need-same-length
+same_length : tie.Need-shape_of-vars
 same_length c = search rules
 
 returns : tie.Need-returns
 returns c =
     let at-put-value = c.before.before.before in
-    let s = at-put-value.before.before.before.before.before in
-    let g = at-put-value.put-value in
+    let s = at-put-value in
+    let g = at-put-value.put_value in
     rw (to_z-of_z w64 s.args.value s.ranges.value) at g.ensures
 
 pub keep_spec : {M : Type 1} → statement M

@@ -1,5 +1,5 @@
 -- `arith_eval::values::name_number` meets its contract: the value that the look_up shows; where it shows none, 0 or 25.
-use mathlib.Core.Path.{◌≡◌, refl, sym, ap, ◌∙◌}
+use mathlib.Core.Path.{◌≡◌, sym, ap, ◌∙◌}
 use mathlib.Core.Bool.{Bool, true, false}
 use mathlib.Core.Option.{Option, none, some}
 use lib.IntN.{pos}
@@ -27,40 +27,40 @@ unset_zero : {s : Bool} {o : Option Text} → o ≡ none → s ≡ false → don
 unfolding name_number or_shout valued
 unset_zero {s} e h = sym (ap (name_number s) e ∙ ap (λ (s : Bool). name_number s none) h)
 
-look-up-requires : tie.Need-look-up-requires
+look-up-requires : tie.Need-look_up-found-requires
 look-up-requires c κs = search rules
 
-enum-known-found : tie.Need-enum-known-found
+enum-known-found : tie.Need-enum_known-found
 enum-known-found c = search rules
 
-sub-value-of : tie.Need-overflow-sub-value-of
+sub-value-of : tie.Need-slice_bounds-value_of-count
 sub-value-of c =
-    (is_shown c.before.before.before.look_up.ensures _ _ c.before.found.given.1).low
+    (is_shown c.look_up-found.ensures _ _ c.in-At.is).low
 
-part-value-of-start : tie.Need-slice-bounds-value-of-start
+part-value-of-start : tie.Need-slice_bounds-value_of-start
 part-value-of-start c =
-    (is_shown c.before.before.before.look_up.ensures _ _ c.before.found.given.1).low
+    (is_shown c.look_up-found.ensures _ _ c.in-At.is).low
 
-part-value-of-end : tie.Need-slice-bounds-value-of-end
+part-value-of-end : tie.Need-slice_bounds-value_of-end
 part-value-of-end c =
-    (is_shown c.before.before.before.look_up.ensures _ _ c.before.found.given.1).high
+    (is_shown c.look_up-found.ensures _ _ c.in-At.is).high
 
-value-of-requires : tie.Need-value-of-requires
+value-of-requires : tie.Need-value_of-requires
 value-of-requires c κs = search rules
 
-enum_told : tie.Need-enum-told
+enum_told : tie.Need-enum_told-1
 enum_told c = search rules
 
-returns : tie.Need-returns
-returns c = unset_refused (is_absent c.before.before.before.look_up.ensures c.before.enum_told.given.1) c.if1.true
+returns : tie.Need-returns-then-shouts
+returns c = unset_refused (is_absent c.look_up-found.ensures c.in-Missing.is) c.if-shouts.true
 
-returns-2 : tie.Need-returns-2
+returns-2 : tie.Need-returns-in-At
 returns-2 c =
-    c.value_of_lem.ensures
-    ∙ set_number _ (is_shown c.before.before.before.before.before.look_up.ensures _ _ c.before.before.before.found.given.1).gets
+    c.value_of.ensures
+    ∙ set_number _ (is_shown c.look_up-found.ensures _ _ c.in-At.is).gets
 
-returns-3 : tie.Need-returns-3
-returns-3 c = unset_zero (is_absent c.before.before.before.look_up.ensures c.before.enum_told.given.1) c.if1.false
+returns-3 : tie.Need-returns-else-shouts
+returns-3 c = unset_zero (is_absent c.look_up-found.ensures c.in-Missing.is) c.if-shouts.false
 
 pub name_number_spec : {M : Type 1} → statement M
 name_number_spec =

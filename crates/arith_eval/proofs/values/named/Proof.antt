@@ -10,41 +10,41 @@ use borrow.Author.Rules.{rules}
 use Rattle.arith_eval.proofs.values.named.Statement.{statement}
 use Rattle.arith_eval.proofs.values.named.Tie as tie
 
-returns : tie.Need-returns
+returns : tie.Need-returns-then-not-counts
 returns c =
-    let s = c.before.before.before in rw (not-true s.args.counts c.if1.true)
+    let s = c in rw (not-true s.args.counts c.if-not-counts.true-raw)
 
-sub-name-number : tie.Need-overflow-sub-name-number
+sub-name-number : tie.Need-slice_bounds-name_number-count
 sub-name-number c = search rules
 
-part-name-number-start : tie.Need-slice-bounds-name-number-start
+part-name-number-start : tie.Need-slice_bounds-name_number-start
 part-name-number-start c = search rules
 
-part-name-number-end : tie.Need-slice-bounds-name-number-end
+part-name-number-end : tie.Need-slice_bounds-name_number-end
 part-name-number-end c = search rules
 
-name-number-requires : tie.Need-name-number-requires
+name-number-requires : tie.Need-name_number-got-requires
 name-number-requires c κs = search rules
 
-enum-known-got : tie.Need-enum-known-got
+enum-known-got : tie.Need-enum_known-got
 enum-known-got c = search rules
 
-enum-known-got-2 : tie.Need-enum-known-got-2
+enum-known-got-2 : tie.Need-enum_known-got-in-Value-1
 enum-known-got-2 c = search rules
 
-returns-2 : tie.Need-returns-2
+returns-2 : tie.Need-returns-in-Refused
 returns-2 c =
-    let s = c.before.before.before.before.before.before.before.before in
-    rw (not-false s.args.counts c.before.before.before.before.before.if1.false)
-    (ap (λ (o : Outcome ℤ). climbing o s.args.to s.args.vars-used)
-    (sym (ap numbered c.before.got.given.1) ∙ c.before.before.before.name-number.ensures))
+    let s = c in
+    rw (not-false s.args.counts c.if-not-counts.false-raw)
+    (ap (λ (o : Outcome ℤ). climbing o s.args.to s.args.vars_used)
+    (sym (ap numbered c.in-Refused.is) ∙ c.name_number-got.ensures))
 
-returns-3 : tie.Need-returns-3
+returns-3 : tie.Need-returns-in-Value
 returns-3 c =
-    let s = c.before.before.before.before.before.before.before.before in
-    rw (not-false s.args.counts c.before.before.before.before.before.if1.false, kept c.before.got2.given.0.0 c.known-told2.given.0.1)
-    (ap (λ (o : Outcome ℤ). climbing o s.args.to s.args.vars-used)
-    (sym (ap numbered c.before.got2.given.1) ∙ c.before.before.before.name-number.ensures))
+    let s = c in
+    rw (not-false s.args.counts c.if-not-counts.false-raw, kept c.in-Value.z c.in-Value.known_told-in-Value-1-own.given.0.1)
+    (ap (λ (o : Outcome ℤ). climbing o s.args.to s.args.vars_used)
+    (sym (ap numbered c.in-Value.is) ∙ c.name_number-got.ensures))
 
 pub named_spec : {M : Type 1} → statement M
 named_spec =

@@ -8,30 +8,30 @@ use borrow.Author.Rules.{rules}
 use Rattle.arith_eval.proofs.values.needed.Statement.{statement}
 use Rattle.arith_eval.proofs.values.needed.Tie as tie
 
-returns : tie.Need-returns
+returns : tie.Need-returns-then-not-counts
 returns c =
-    let s = c.before in rw (not-true s.args.counts c.if1.true)
+    let s = c in rw (not-true s.args.counts c.if-not-counts.true-raw)
 
-decided-requires : tie.Need-decided-requires
+decided-requires : tie.Need-decided-early-requires
 decided-requires c κs = search rules
 
-enum_told : tie.Need-enum-told
+enum_told : tie.Need-enum_told-1
 enum_told c = search rules
 
-enum-told-2 : tie.Need-enum-told-2
+enum-told-2 : tie.Need-enum_told-in-Open
 enum-told-2 c = search rules
 
-returns-2 : tie.Need-returns-2
+returns-2 : tie.Need-returns-in-Decides
 returns-2 c =
-    let s = c.before.before.before.before in
-    rw (not-false s.args.counts c.before.before.before.if1.false)
-    (ap is_none (sym (ap known c.enum_told.given.1) ∙ (rw (held s.args.left s.ranges.left) at c.before.before.decided.ensures)))
+    let s = c in
+    rw (not-false s.args.counts c.if-not-counts.false-raw)
+    (ap is_none (sym (ap known c.in-Decides.is) ∙ (rw (held s.args.left s.ranges.left) at c.decided-early.ensures)))
 
-returns-3 : tie.Need-returns-3
+returns-3 : tie.Need-returns-in-Open
 returns-3 c =
-    let s = c.before.before.before.before in
-    rw (not-false s.args.counts c.before.before.before.if1.false)
-    (ap is_none (sym (ap known c.enum-told2.given.1) ∙ (rw (held s.args.left s.ranges.left) at c.before.before.decided.ensures)))
+    let s = c in
+    rw (not-false s.args.counts c.if-not-counts.false-raw)
+    (ap is_none (sym (ap known c.in-Open.is) ∙ (rw (held s.args.left s.ranges.left) at c.decided-early.ensures)))
 
 pub needed_spec : {M : Type 1} → statement M
 needed_spec =

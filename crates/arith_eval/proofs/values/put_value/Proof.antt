@@ -12,65 +12,54 @@ use borrow.Author.Rules.{rules}
 use Rattle.arith_eval.proofs.values.put_value.Statement.{statement}
 use Rattle.arith_eval.proofs.values.put_value.Tie as tie
 
-put-signed-requires : tie.Need-put-signed-requires
+put-signed-requires : tie.Need-put_signed-n-requires
 put-signed-requires c κs = search rules
 
-slice-reshare-prefix-store-within : tie.Need-slice-reshare-prefix-store-within
+slice-reshare-prefix-store-within : tie.Need-slice_bounds-store_within-end
 slice-reshare-prefix-store-within c =
-    let at-put-signed = c.before.before in
-    puts_inside at-put-signed.put_signed.ensures
+    puts_inside c.put_signed-n.ensures
 
-slice-aggregate-store-within : tie.Need-slice-aggregate-store-within
+slice-aggregate-store-within : tie.Need-slice_bounds-store_within-end-2
 slice-aggregate-store-within c =
-    let at-put-signed = c.before.before.before in
-    let p = at-put-signed.put_signed in sym (length-take-le p.result p.new.0 (puts_inside p.ensures))
+    let p = c.put_signed-n in sym (length-take-le p.result p.new.out (puts_inside p.ensures))
 
-store-within-requires : tie.Need-store-within-requires
-store-within-requires c κs =
-    let at-put-signed = c.before.before.before.before in
-    let s = at-put-signed.before.before.before.before.before in (
-      number_settable s.args.name.now s.args.value s.requires.0
-          (number_told at-put-signed.put_signed.ensures (to_z-of_z w64 s.args.value s.ranges.value)),
-      s.requires.1,
-    )
+store-within-requires : tie.Need-store_within-kept-requires
+store-within-requires c κs = (
+  number_settable c.args.name.now c.args.value c.requires.0
+      (number_told c.put_signed-n.ensures (to_z-of_z w64 c.args.value c.ranges.value)),
+  c.requires.1,
+)
 
-enum_told : tie.Need-enum-told
+enum_told : tie.Need-enum_told-1
 enum_told c = search rules
 
-enum-known-kept : tie.Need-enum-known-kept
+enum-known-kept : tie.Need-enum_known-kept
 enum-known-kept c = search rules
 
-same_length : tie.Need-same-length
+same_length : tie.Need-shape_of-vars-in-Full
 same_length c = search rules
 
-same-length-2 : tie.Need-same-length-2
+same-length-2 : tie.Need-shape_of-digits-in-Full
 same-length-2 c = search rules
 
-returns : tie.Need-returns
+returns : tie.Need-returns-in-Full
 returns c =
-    let at-store-within = c.before.before.before.before in
-    let at-put-signed = at-store-within.before.before.before.before.before in
-    let s = at-put-signed.before.before.before.before.before in
-    put_full s.args.vars-room s.args.name.now s.args.value
-    (number_told at-put-signed.put_signed.ensures (to_z-of_z w64 s.args.value s.ranges.value)) (inside s.args.vars.now s.args.vars-used)
-    s.args.vars.now (stored_known _ _ _ _ _ at-store-within.store-within.ensures c.enum_told.given.1)
+    put_full c.args.vars_room c.args.name.now c.args.value
+    (number_told c.put_signed-n.ensures (to_z-of_z w64 c.args.value c.ranges.value)) (inside c.args.vars.now c.args.vars_used)
+    c.args.vars.now (stored_known _ _ _ _ _ c.store_within-kept.ensures c.in-Full.is)
 
-same-length-3 : tie.Need-same-length-3
+same-length-3 : tie.Need-shape_of-vars-in-Used
 same-length-3 c = search rules
 
-same-length-4 : tie.Need-same-length-4
+same-length-4 : tie.Need-shape_of-digits-in-Used
 same-length-4 c = search rules
 
-returns-2 : tie.Need-returns-2
+returns-2 : tie.Need-returns-in-Used
 returns-2 c =
-    let at-kept = c.before in
-    let at-store-within = at-kept.before.before.before.before in
-    let at-put-signed = at-store-within.before.before.before.before.before in
-    let s = at-put-signed.before.before.before.before.before in
-    rw (held s.args.value s.ranges.value)
-    (put_used s.args.vars-room s.args.name.now s.args.value
-    (number_told at-put-signed.put_signed.ensures (to_z-of_z w64 s.args.value s.ranges.value)) (inside s.args.vars.now s.args.vars-used) _ _
-    (stored_known _ _ _ _ _ at-store-within.store-within.ensures at-kept.kept.given.1))
+    rw (held c.args.value c.ranges.value)
+    (put_used c.args.vars_room c.args.name.now c.args.value
+    (number_told c.put_signed-n.ensures (to_z-of_z w64 c.args.value c.ranges.value)) (inside c.args.vars.now c.args.vars_used) _ _
+    (stored_known _ _ _ _ _ c.store_within-kept.ensures c.in-Used.is))
 
 pub put_value_spec : {M : Type 1} → statement M
 put_value_spec =

@@ -11,34 +11,40 @@ use borrow.Author.Rules.{rules}
 use Rattle.arith_eval.proofs.values.turned.Statement.{statement}
 use Rattle.arith_eval.proofs.values.turned.Tie as tie
 
-returns : tie.Need-returns
+returns : tie.Need-returns-then-not-counts
 returns c =
-    let s = c.before in rw (not-true s.args.counts c.if1.true, held s.args.value s.ranges.value)
+    let s = c in rw (not-true s.args.counts c.if-not-counts.true-raw, held s.args.value s.ranges.value)
 
-operate-alone-requires : tie.Need-operate-alone-requires
+operate-alone-requires : tie.Need-operate_alone-got-requires
 operate-alone-requires c κs = search rules
 
-enum-known-got : tie.Need-enum-known-got
+enum-known-got : tie.Need-enum_known-got
 enum-known-got c = search rules
 
-enum-known-got-2 : tie.Need-enum-known-got-2
+enum-known-got-2 : tie.Need-enum_known-got-in-Value-1
 enum-known-got-2 c = search rules
 
-returns-2 : tie.Need-returns-2
+returns-2 : tie.Need-returns-in-Refused
 returns-2 c =
-    let s = c.before.before.before.before.before in
-    rw (not-false s.args.counts c.before.before.before.before.if1.false)
-    (ap (λ (o : Outcome ℤ). climbing o s.args.next s.args.vars-used)
-    (sym (ap numbered c.before.got.given.1) ∙ (rw (held s.args.value s.ranges.value) at c.before.before.before.operate-alone.ensures)))
+    let s = c in
+    rw (not-false s.args.counts c.if-not-counts.false-raw)
+    (ap (λ (o : Outcome ℤ). climbing o s.args.next s.args.vars_used)
+    (sym (ap numbered c.in-Refused.is) ∙ (rw (held s.args.value s.ranges.value) at c.operate_alone-got.ensures)))
 
-returns-3 : tie.Need-returns-3
+returns-3 : tie.Need-returns-in-Value
 returns-3 c =
-    let s = c.before.before.before.before.before in
-    rw (not-false s.args.counts c.before.before.before.before.if1.false, kept c.before.got2.given.0.0 c.known-told2.given.0.1)
-    (ap (λ (o : Outcome ℤ). climbing o s.args.next s.args.vars-used)
-    (sym (ap numbered c.before.got2.given.1) ∙ (rw (held s.args.value s.ranges.value) at c.before.before.before.operate-alone.ensures)))
+    let s = c in
+    rw (not-false s.args.counts c.if-not-counts.false-raw, kept c.in-Value.z c.in-Value.known_told-in-Value-1-own.given.0.1)
+    (ap (λ (o : Outcome ℤ). climbing o s.args.next s.args.vars_used)
+    (sym (ap numbered c.in-Value.is) ∙ (rw (held s.args.value s.ranges.value) at c.operate_alone-got.ensures)))
 
 pub turned_spec : {M : Type 1} → statement M
 turned_spec =
     tie.close
-    (tie.spec returns operate-alone-requires enum-known-got enum-known-got-2 returns-2 returns-3)
+    (tie.spec
+    returns
+    operate-alone-requires
+    enum-known-got
+    enum-known-got-2
+    returns-2
+    returns-3)

@@ -7,29 +7,35 @@ use borrow.Author.Rules.{rules}
 use Rattle.quote.proofs.ways.byte_length.Statement.{statement}
 use Rattle.quote.proofs.ways.byte_length.Tie as tie
 
-enum_told : tie.Need-enum-told
+enum_told : tie.Need-enum_told-1
 enum_told c = search rules
 
-singled-length-requires : tie.Need-singled-length-requires
+singled-length-requires : tie.Need-singled_length-requires
 singled-length-requires c κs = search rules
 
-enum-told-2 : tie.Need-enum-told-2
+enum-told-2 : tie.Need-enum_told-in-Dollared
 enum-told-2 c = search rules
 
-dollared-length-requires : tie.Need-dollared-length-requires
+dollared-length-requires : tie.Need-dollared_length-requires
 dollared-length-requires c κs = search rules
 
-returns : tie.Need-returns
+returns : tie.Need-returns-in-Singled
 returns c =
-    let b = c.before.before.before.args.b in
-    c.singled_length.ensures ∙ ap (λ way. length (quoted_byte (way_is way) b)) (sym c.before.enum_told.given.1)
+    let b = c.args.b in
+    c.singled_length.ensures ∙ ap (λ way. length (quoted_byte (way_is way) b)) (sym c.in-Singled.is)
 
-returns-2 : tie.Need-returns-2
+returns-2 : tie.Need-returns-in-Dollared
 returns-2 c =
-    let b = c.before.before.before.args.b in
-    c.dollared_length.ensures ∙ ap (λ way. length (quoted_byte (way_is way) b)) (sym c.before.enum-told2.given.1)
+    let b = c.args.b in
+    c.dollared_length.ensures ∙ ap (λ way. length (quoted_byte (way_is way) b)) (sym c.in-Dollared.is)
 
 pub byte_length_spec : {M : Type 1} → statement M
 byte_length_spec =
     tie.close
-    (tie.spec enum_told singled-length-requires enum-told-2 dollared-length-requires returns returns-2)
+    (tie.spec
+    enum_told
+    singled-length-requires
+    enum-told-2
+    dollared-length-requires
+    returns
+    returns-2)

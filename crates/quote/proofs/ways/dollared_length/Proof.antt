@@ -6,29 +6,31 @@ use borrow.Author.Rules.{rules}
 use Rattle.quote.proofs.ways.dollared_length.Statement.{statement}
 use Rattle.quote.proofs.ways.dollared_length.Tie as tie
 
-slice-aggregate-is-in : tie.Need-slice-aggregate-is-in
-slice-aggregate-is-in c = search rules
-
-is-in-requires : tie.Need-is-in-requires
+is-in-requires : tie.Need-is_in-requires
 is-in-requires c κs = search rules
 
-returns : tie.Need-returns
-returns c = ap length (sym (byte_sign _ (sym c.before.is-in.ensures ∙ c.if1.true)))
+returns : tie.Need-returns-then-is_in
+returns c = ap length (sym (byte_sign _ (sym c.is_in.ensures ∙ c.if-is_in.true)))
 
-in-class-requires : tie.Need-in-class-requires
+in-class-requires : tie.Need-in_class-requires
 in-class-requires c κs = search rules
 
-returns-2 : tie.Need-returns-2
+returns-2 : tie.Need-returns-then-in_class
 returns-2 c =
-    let e = c.before.before in
-    ap length (sym (byte_plain _ (sym e.before.is-in.ensures ∙ e.if1.false) (sym c.before.in-class.ensures ∙ c.if2.true)))
+    let e = c in
+    ap length (sym (byte_plain _ (sym e.is_in.ensures ∙ e.if-is_in.false) (sym c.in_class.ensures ∙ c.if-in_class.true)))
 
-returns-3 : tie.Need-returns-3
+returns-3 : tie.Need-returns-else-in_class
 returns-3 c =
-    let e = c.before.before in
-    ap length (sym (byte_control _ (sym e.before.is-in.ensures ∙ e.if1.false) (sym c.before.in-class.ensures ∙ c.if2.false)))
+    let e = c in
+    ap length (sym (byte_control _ (sym e.is_in.ensures ∙ e.if-is_in.false) (sym c.in_class.ensures ∙ c.if-in_class.false)))
 
 pub dollared_length_spec : {M : Type 1} → statement M
 dollared_length_spec =
     tie.close
-    (tie.spec slice-aggregate-is-in is-in-requires returns in-class-requires returns-2 returns-3)
+    (tie.spec
+    is-in-requires
+    returns
+    in-class-requires
+    returns-2
+    returns-3)

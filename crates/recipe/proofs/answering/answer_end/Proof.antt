@@ -8,54 +8,54 @@ use Rattle.recipe.proofs.Running.{last_spoken}
 use Rattle.recipe.proofs.answering.answer_end.Statement.{statement}
 use Rattle.recipe.proofs.answering.answer_end.Tie as tie
 
-answer-last-requires : tie.Need-answer-last-requires
+answer-last-requires : tie.Need-answer_last-spoken-requires
 answer-last-requires c κs = search rules
 
-add-end : tie.Need-overflow-add-end
+add-end : tie.Need-overflow_add-end
 add-end c =
     let l = c.before.before.before.before.before.before.before.before in
-    let a = l.before.before.before.before.before.before.before.before.before.before.before in
-    omega (arith, l.answer-last.ensures.0.inside, l.answer-last.auto.1.1.1.1.1.1.1.0, a.well-formed)
+    let a = l in
+    omega (arith, l.answer_last-spoken.ensures.0.inside, l.answer_last-spoken.auto.said, a.well_formed)
 
-slice-reshare-prefix-write-answer : tie.Need-slice-reshare-prefix-write-answer
-slice-reshare-prefix-write-answer c = c.before.before.before.before.before.before.before.before.answer-last.ensures.0.inside
+slice-reshare-prefix-write-answer : tie.Need-slice_bounds-write_answer-end
+slice-reshare-prefix-write-answer c = c.answer_last-spoken.ensures.0.inside
 
-slice-aggregate-write-answer : tie.Need-slice-aggregate-write-answer
+slice-aggregate-write-answer : tie.Need-slice_bounds-write_answer-end-then-len-gt0
 slice-aggregate-write-answer c =
-    sym (length-take-le _ _ c.before.before.before.before.before.before.before.before.before.answer-last.ensures.0.inside)
+    sym (length-take-le _ _ c.answer_last-spoken.ensures.0.inside)
 
-write-answer-requires : tie.Need-write-answer-requires
+write-answer-requires : tie.Need-write_answer-requires
 write-answer-requires c κs =
-    let l = c.before.before.before.before.before.before.before.before.before in
-    let a = l.before.before.before.before.before.before.before.before.before.before.before.args in
-    last_spoken (take a.run.kept a.line.now) l.answer-last.ensures.0 c.before.before.if1.true
+    let l = c in
+    let a = l.args in
+    last_spoken (take a.run.kept a.line.now) l.answer_last-spoken.ensures.0 c.if-len-gt0.true
 
-same_length : tie.Need-same-length
+same_length : tie.Need-shape_of-vars-then-len-gt0
 same_length c = search rules
 
-same-length-2 : tie.Need-same-length-2
+same-length-2 : tie.Need-shape_of-work-then-len-gt0
 same-length-2 c = search rules
 
-same-length-3 : tie.Need-same-length-3
+same-length-3 : tie.Need-shape_of-said-then-len-gt0
 same-length-3 c = search rules
 
-returns : tie.Need-returns
+returns : tie.Need-returns-then-len-gt0
 returns c =
-    let a = c.before.before.before.before.before.before.before.before.before.before.answer-last in
+    let a = c.answer_last-spoken in
     record { stops = refl; len = a.result.len; told = a.result.told; says = a.ensures.0 }
 
-same-length-4 : tie.Need-same-length-4
+same-length-4 : tie.Need-shape_of-vars-else-len-gt0
 same-length-4 c = search rules
 
-same-length-5 : tie.Need-same-length-5
+same-length-5 : tie.Need-shape_of-work-else-len-gt0
 same-length-5 c = search rules
 
-same-length-6 : tie.Need-same-length-6
+same-length-6 : tie.Need-shape_of-said-else-len-gt0
 same-length-6 c = search rules
 
-returns-2 : tie.Need-returns-2
+returns-2 : tie.Need-returns-else-len-gt0
 returns-2 c =
-    let a = c.before.before.before.before.before.before.before.answer-last in
+    let a = c.answer_last-spoken in
     record { stops = refl; len = a.result.len; told = a.result.told; says = a.ensures.0 }
 
 pub answer_end_spec : {M : Type 1} → statement M

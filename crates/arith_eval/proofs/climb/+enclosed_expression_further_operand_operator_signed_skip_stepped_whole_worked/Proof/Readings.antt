@@ -36,104 +36,104 @@ skip_callees t = (
   mark-at-reads.Learnt,
 )
 
-abbrev pub skip_Inv_loop : skip-lts.invariant_loop
+abbrev pub skip_Inv_loop : skip-lts.invariant-loop-next
 skip_Inv_loop text at begins colons vars₀ places₀ idle i₀ first₀ awaited₀ vars places i first awaited =
     Skipping text at idle.room colons begins awaited i first × (vars ≡ vars₀) × (length places ≡ length places₀)
 
-abbrev pub skip-μ-loop : skip-lts.decreases_loop
+abbrev pub skip-μ-loop : skip-lts.decreases-loop-next
 skip-μ-loop text at begins colons vars₀ places₀ idle i₀ first₀ awaited₀ vars places i first awaited = length text - i
 
 module _ (t : ℕ) where
-  skip_target_at : (r : skip-lts.After-target-at (skip_callees t) (skip_at t) skip.Post skip_Inv_loop skip-μ-loop) {g : Target}
-      → r.target_at.result ≡ g →
+  skip_target_at : (r : skip-lts.After-target_at-target (skip_callees t) (skip_at t) skip.Post skip_Inv_loop skip-μ-loop) {g : Target}
+      → r.target_at-target.result ≡ g →
       let at-loop = r.before in
-      let s = at-loop.before.before.before.before in
+      let s = at-loop in
       let a = s.args in
-      let l = at-loop.loop in
+      let l = at-loop.loop-next in
       Targets a.text.now l.i l.first g
   skip_target_at r e =
       let at-loop = r.before in
-      let s = at-loop.before.before.before.before in
+      let s = at-loop in
       let a = s.args in
-      let l = at-loop.loop in
-      targets_shown a.text.now l.i l.first r.target_at.ensures e
+      let l = at-loop.loop-next in
+      targets_shown a.text.now l.i l.first r.target_at-target.ensures e
 
-  skip_expression : (r : skip-lts.After-expression (skip_callees t) (skip_at t) skip.Post skip_Inv_loop skip-μ-loop) {g : Climbed}
-      → r.expression.result ≡ g →
-      let at-loop = r.before.before.before.before.before.before in
-      let s = at-loop.before.before.before.before in
+  skip_expression : (r : skip-lts.After-expression-got (skip_callees t) (skip_at t) skip.Post skip_Inv_loop skip-μ-loop) {g : Climbed}
+      → r.expression-got.result ≡ g →
+      let at-loop = r.before.before.before.before.before in
+      let s = at-loop in
       let a = s.args in
-      let l = at-loop.loop in
+      let l = at-loop.loop-next in
       Says (lent_in a.scope) a.text.now l.i l.vars a.scope.vars_used false
-      (stage.expression stage.grow a.scope.room lowest (drop l.i a.text.now)) r.expression.new.1.1.1.1.0 g
+      (stage.expression stage.grow a.scope.room lowest (drop l.i a.text.now)) r.expression-got.new.vars g
   skip_expression r e =
-      let at-loop = r.before.before.before.before.before.before in
-      let s = at-loop.before.before.before.before in
+      let at-loop = r.before.before.before.before.before in
+      let s = at-loop in
       let a = s.args in
-      let l = at-loop.loop in
+      let l = at-loop.loop-next in
       says_shown (lent_in a.scope) a.text.now l.i l.vars a.scope.vars_used false
-      (stage.expression stage.grow a.scope.room lowest (drop l.i a.text.now)) _ r.expression.ensures e
+      (stage.expression stage.grow a.scope.room lowest (drop l.i a.text.now)) _ r.expression-got.ensures e
 
-  skip_mark_at : (r : skip-lts.After-mark-at (skip_callees t) (skip_at t) skip.Post skip_Inv_loop skip-μ-loop) {g : Mark}
-      → r.mark-at.result ≡ g →
-      let at-got2 = r.before.before in
-      let at-expression = at-got2.before.before.before.before.before.before in
-      let s = at-expression.before.before.before.before.before.before.before.before.before.before in
+  skip_mark_at : (r : skip-lts.After-mark_at-mark (skip_callees t) (skip_at t) skip.Post skip_Inv_loop skip-μ-loop) {g : Mark}
+      → r.mark_at-mark.result ≡ g →
+      let at-got2 = r.before in
+      let at-expression = at-got2.before.before.before.before.before in
+      let s = at-expression in
       let a = s.args in
-      Marks a.text.now at-got2.got2.given.0.1.0 g
+      Marks a.text.now at-got2.in-Value.next g
   skip_mark_at r e =
-      let at-got2 = r.before.before in
-      let at-expression = at-got2.before.before.before.before.before.before in
-      let s = at-expression.before.before.before.before.before.before.before.before.before.before in
+      let at-got2 = r.before in
+      let at-expression = at-got2.before.before.before.before.before in
+      let s = at-expression in
       let a = s.args in
-      marks_shown a.text.now at-got2.got2.given.0.1.0 r.mark-at.ensures e
+      marks_shown a.text.now at-got2.in-Value.next r.mark_at-mark.ensures e
 
-  pub skip_loop_holds : skip-lts.Need-loop-init (skip_callees t) (skip_at t) skip.Post skip_Inv_loop skip-μ-loop
+  pub skip_loop_holds : skip-lts.Need-loop-next-init (skip_callees t) (skip_at t) skip.Post skip_Inv_loop skip-μ-loop
   skip_loop_holds c =
-      let s = c.before.before.before in
+      let s = c in
       let a = s.args in
       (skipping_start a.text.now a.at a.scope.room a.colons a.begins s.requires.1.ready.start s.requires.1.few, refl, refl)
 
-  pub skip_target_at_requires : skip-lts.Need-target-at-requires (skip_callees t) (skip_at t) skip.Post skip_Inv_loop skip-μ-loop
+  pub skip_target_at_requires : skip-lts.Need-target_at-target-requires (skip_callees t) (skip_at t) skip.Post skip_Inv_loop skip-μ-loop
   skip_target_at_requires c κs =
-      c.loop.invariant.0.within
+      c.loop-next.invariant.0.within
 
-  pub skip_enum_known_target : skip-lts.Need-enum-known-target (skip_callees t) (skip_at t) skip.Post skip_Inv_loop skip-μ-loop
+  pub skip_enum_known_target : skip-lts.Need-enum_known-target (skip_callees t) (skip_at t) skip.Post skip_Inv_loop skip-μ-loop
   skip_enum_known_target c = search rules
 
-  pub skip_loop_less : skip-lts.Need-loop-smaller (skip_callees t) (skip_at t) skip.Post skip_Inv_loop skip-μ-loop
+  pub skip_loop_less : skip-lts.Need-loop-next-smaller-in-At (skip_callees t) (skip_at t) skip.Post skip_Inv_loop skip-μ-loop
   skip_loop_less c =
-      let at_Target = c.before in
-      let at-target-at = at_Target.before.before in
-      let h = (skip_target_at (at-target-at) at_Target.target.given.1).1 in
+      let at_Target = c in
+      let at-target-at = at_Target.before in
+      let h = (skip_target_at (at-target-at) at_Target.in-At.is).1 in
       let x = h.names.behind.onward in
       let y = h.sets.behind.onward in
       let w = h.sets.behind.within in
       omega arith
 
-  pub skip_loop_again : skip-lts.Need-loop-preserved (skip_callees t) (skip_at t) skip.Post skip_Inv_loop skip-μ-loop
+  pub skip_loop_again : skip-lts.Need-loop-next-preserved-in-At (skip_callees t) (skip_at t) skip.Post skip_Inv_loop skip-μ-loop
   skip_loop_again c =
-      let at_Target = c.before in
-      let at-target-at = at_Target.before.before in
+      let at_Target = c in
+      let at-target-at = at_Target.before in
       let at-loop = at-target-at.before in
-      let s = at-loop.before.before.before.before in
+      let s = at-loop in
       let a = s.args in
-      let l = at-loop.loop in
-      let h = (skip_target_at (at-target-at) at_Target.target.given.1) in (
+      let l = at-loop.loop-next in
+      let h = (skip_target_at (at-target-at) at_Target.in-At.is) in (
         skip_target a.text.now a.at a.scope.room a.colons a.begins l.awaited l.i l.first l.invariant.0 h.0 h.1,
         l.invariant.1,
         l.invariant.2,
       )
 
-  pub skip_enum_told : skip-lts.Need-enum-told (skip_callees t) (skip_at t) skip.Post skip_Inv_loop skip-μ-loop
+  pub skip_enum_told : skip-lts.Need-enum_told-1 (skip_callees t) (skip_at t) skip.Post skip_Inv_loop skip-μ-loop
   skip_enum_told c = search rules
 
-  pub skip_expression_requires : skip-lts.Need-expression-requires (skip_callees t) (skip_at t) skip.Post skip_Inv_loop skip-μ-loop
+  pub skip_expression_requires : skip-lts.Need-expression-got-requires (skip_callees t) (skip_at t) skip.Post skip_Inv_loop skip-μ-loop
   skip_expression_requires c κs =
-      let at-loop = c.before.before.before.before.before in
-      let s = at-loop.before.before.before.before in
+      let at-loop = c.before.before.before.before in
+      let s = at-loop in
       let a = s.args in
-      let l = at-loop.loop in
+      let l = at-loop.loop-next in
       let o = l.invariant.0.onward in
       let w = l.invariant.0.within in (
         omega (arith, s.requires.0),
@@ -144,250 +144,250 @@ module _ (t : ℕ) where
         },
       )
 
-  pub skip_enum_known_got : skip-lts.Need-enum-known-got (skip_callees t) (skip_at t) skip.Post skip_Inv_loop skip-μ-loop
+  pub skip_enum_known_got : skip-lts.Need-enum_known-got (skip_callees t) (skip_at t) skip.Post skip_Inv_loop skip-μ-loop
   skip_enum_known_got c = search rules
 
-  pub skip_same_length : skip-lts.Need-same-length (skip_callees t) (skip_at t) skip.Post skip_Inv_loop skip-μ-loop
+  pub skip_same_length : skip-lts.Need-shape_of-vars-in-Refused (skip_callees t) (skip_at t) skip.Post skip_Inv_loop skip-μ-loop
   skip_same_length c =
-      let at-expression = c.before.before.before.before.before.before.before in
-      let at-loop = at-expression.before.before.before.before.before.before in
-      at-expression.expression.auto.1.1.1.1.0 ∙ ap length at-loop.loop.invariant.1
+      let at-expression = c.before.before.before.before.before in
+      let at-loop = at-expression in
+      at-expression.expression-got.auto.vars ∙ ap length at-loop.loop-next.invariant.1
 
-  pub skip_same_length_2 : skip-lts.Need-same-length-2 (skip_callees t) (skip_at t) skip.Post skip_Inv_loop skip-μ-loop
+  pub skip_same_length_2 : skip-lts.Need-shape_of-places-in-Refused (skip_callees t) (skip_at t) skip.Post skip_Inv_loop skip-μ-loop
   skip_same_length_2 c =
-      let at-expression = c.before.before.before.before.before.before.before in
-      let at-loop = at-expression.before.before.before.before.before.before in
-      at-expression.expression.auto.1.1.1.1.1.0 ∙ at-loop.loop.invariant.2
+      let at-expression = c.before.before.before.before.before in
+      let at-loop = at-expression in
+      at-expression.expression-got.auto.places ∙ at-loop.loop-next.invariant.2
 
-  pub skip_returns : skip-lts.Need-returns (skip_callees t) (skip_at t) skip.Post skip_Inv_loop skip-μ-loop
+  pub skip_returns : skip-lts.Need-returns-in-Refused (skip_callees t) (skip_at t) skip.Post skip_Inv_loop skip-μ-loop
   skip_returns c =
-      let at-got = c.before in
-      let at-expression = at-got.before.before.before.before.before.before in
+      let at-got = c in
+      let at-expression = at-got.before.before.before.before.before in
       let at-enum-told = at-expression.before.before.before in
-      let at-target-at = at-enum-told.before.before in
+      let at-target-at = at-enum-told.before in
       let at-loop = at-target-at.before in
-      let s = at-loop.before.before.before.before in
+      let s = at-loop in
       let a = s.args in
-      let l = at-loop.loop in
+      let l = at-loop.loop-next in
       skip_fails a.text.now a.at a.scope.room a.colons a.begins l.awaited l.i l.first l.invariant.0
-      (skip_target_at (at-target-at) at-enum-told.enum_told.given.1) (lent_in a.scope) _ a.vars.now a.vars.now _
-      (skip_expression (at-expression) at-got.got.given.1)
+      (skip_target_at (at-target-at) at-enum-told.in-Missing.is) (lent_in a.scope) _ a.vars.now a.vars.now _
+      (skip_expression (at-expression) at-got.in-Refused.is)
 
-  pub skip_enum_known_got_2 : skip-lts.Need-enum-known-got-2 (skip_callees t) (skip_at t) skip.Post skip_Inv_loop skip-μ-loop
+  pub skip_enum_known_got_2 : skip-lts.Need-enum_known-got-in-Value-1 (skip_callees t) (skip_at t) skip.Post skip_Inv_loop skip-μ-loop
   skip_enum_known_got_2 c = search rules
 
-  pub skip_mark_at_requires : skip-lts.Need-mark-at-requires (skip_callees t) (skip_at t) skip.Post skip_Inv_loop skip-μ-loop
+  pub skip_mark_at_requires : skip-lts.Need-mark_at-mark-requires (skip_callees t) (skip_at t) skip.Post skip_Inv_loop skip-μ-loop
   skip_mark_at_requires c κs =
-      let at-got2 = c.before in
-      let at-expression = at-got2.before.before.before.before.before.before in
-      (skip_expression (at-expression) at-got2.got2.given.1).0.within
+      let at-got2 = c in
+      let at-expression = at-got2.before.before.before.before.before in
+      (skip_expression (at-expression) at-got2.in-Value.is).0.within
 
-  pub skip_enum_known_mark : skip-lts.Need-enum-known-mark (skip_callees t) (skip_at t) skip.Post skip_Inv_loop skip-μ-loop
+  pub skip_enum_known_mark : skip-lts.Need-enum_known-mark (skip_callees t) (skip_at t) skip.Post skip_Inv_loop skip-μ-loop
   skip_enum_known_mark c = search rules
 
-  pub skip_same_length_3 : skip-lts.Need-same-length-3 (skip_callees t) (skip_at t) skip.Post skip_Inv_loop skip-μ-loop
+  pub skip_same_length_3 : skip-lts.Need-shape_of-vars-in-Refused-mark (skip_callees t) (skip_at t) skip.Post skip_Inv_loop skip-μ-loop
   skip_same_length_3 c =
-      let at-expression = c.before.before.before.before.before.before.before.before.before.before.before in
-      let at-loop = at-expression.before.before.before.before.before.before in
-      at-expression.expression.auto.1.1.1.1.0 ∙ ap length at-loop.loop.invariant.1
+      let at-expression = c.before.before.before.before.before.before.before in
+      let at-loop = at-expression in
+      at-expression.expression-got.auto.vars ∙ ap length at-loop.loop-next.invariant.1
 
-  pub skip_same_length_4 : skip-lts.Need-same-length-4 (skip_callees t) (skip_at t) skip.Post skip_Inv_loop skip-μ-loop
+  pub skip_same_length_4 : skip-lts.Need-shape_of-places-in-Refused-mark (skip_callees t) (skip_at t) skip.Post skip_Inv_loop skip-μ-loop
   skip_same_length_4 c =
-      let at-expression = c.before.before.before.before.before.before.before.before.before.before.before in
-      let at-loop = at-expression.before.before.before.before.before.before in
-      at-expression.expression.auto.1.1.1.1.1.0 ∙ at-loop.loop.invariant.2
+      let at-expression = c.before.before.before.before.before.before.before in
+      let at-loop = at-expression in
+      at-expression.expression-got.auto.places ∙ at-loop.loop-next.invariant.2
 
-  pub skip_returns_2 : skip-lts.Need-returns-2 (skip_callees t) (skip_at t) skip.Post skip_Inv_loop skip-μ-loop
+  pub skip_returns_2 : skip-lts.Need-returns-in-Refused-mark (skip_callees t) (skip_at t) skip.Post skip_Inv_loop skip-μ-loop
   skip_returns_2 c =
-      let at_mark = c.before in
-      let at-mark-at = at_mark.before.before in
-      let at-got2 = at-mark-at.before.before in
-      let at-expression = at-got2.before.before.before.before.before.before in
+      let at_mark = c in
+      let at-mark-at = at_mark.before in
+      let at-got2 = at-mark-at.before in
+      let at-expression = at-got2.before.before.before.before.before in
       let at-enum-told = at-expression.before.before.before in
-      let at-target-at = at-enum-told.before.before in
+      let at-target-at = at-enum-told.before in
       let at-loop = at-target-at.before in
-      let s = at-loop.before.before.before.before in
+      let s = at-loop in
       let a = s.args in
-      let l = at-loop.loop in
+      let l = at-loop.loop-next in
       skip_refused a.text.now a.at a.scope.room a.colons a.begins l.awaited l.i l.first l.invariant.0
-      (skip_target_at (at-target-at) at-enum-told.enum_told.given.1) (skip_expression (at-expression) at-got2.got2.given.1).0
-      a.vars.now a.vars.now _ (skip_mark_at (at-mark-at) at_mark.mark.given.1)
+      (skip_target_at (at-target-at) at-enum-told.in-Missing.is) (skip_expression (at-expression) at-got2.in-Value.is).0
+      a.vars.now a.vars.now _ (skip_mark_at (at-mark-at) at_mark.in-Refused-mark.is)
 
-  pub skip_enum_known_mark_2 : skip-lts.Need-enum-known-mark-2 (skip_callees t) (skip_at t) skip.Post skip_Inv_loop skip-μ-loop
+  pub skip_enum_known_mark_2 : skip-lts.Need-enum_known-mark-in-Query-1 (skip_callees t) (skip_at t) skip.Post skip_Inv_loop skip-μ-loop
   skip_enum_known_mark_2 c = search rules
 
-  pub skip_add_awaited : skip-lts.Need-overflow-add-awaited (skip_callees t) (skip_at t) skip.Post skip_Inv_loop skip-μ-loop
+  pub skip_add_awaited : skip-lts.Need-overflow_add-awaited (skip_callees t) (skip_at t) skip.Post skip_Inv_loop skip-μ-loop
   skip_add_awaited c =
-      let at-mark2 = c.before in
-      let at-mark-at = at-mark2.before.before in
-      let at-got2 = at-mark-at.before.before in
-      let at-expression = at-got2.before.before.before.before.before.before in
-      let at-loop = at-expression.before.before.before.before.before.before in
-      let g = (skip_expression (at-expression) at-got2.got2.given.1).0.onward in
-      let h = (skip_mark_at (at-mark-at) at-mark2.mark2.given.1).behind in
+      let at-mark2 = c in
+      let at-mark-at = at-mark2.before in
+      let at-got2 = at-mark-at.before in
+      let at-expression = at-got2.before.before.before.before.before in
+      let at-loop = at-expression in
+      let g = (skip_expression (at-expression) at-got2.in-Value.is).0.onward in
+      let h = (skip_mark_at (at-mark-at) at-mark2.in-Query.is).behind in
       let x = h.onward in
       let w = h.within in
-      let f = at-loop.loop.invariant.0.few in
-      omega (arith, c.known-told5.given.0.1)
+      let f = at-loop.loop-next.invariant.0.few in
+      omega (arith, c.in-Query.known_told-in-Query-1-own.given.0.1)
 
-  pub skip_loop_less_2 : skip-lts.Need-loop-smaller-2 (skip_callees t) (skip_at t) skip.Post skip_Inv_loop skip-μ-loop
+  pub skip_loop_less_2 : skip-lts.Need-loop-next-smaller-in-Query (skip_callees t) (skip_at t) skip.Post skip_Inv_loop skip-μ-loop
   skip_loop_less_2 c =
-      let at-mark2 = c.before in
-      let at-mark-at = at-mark2.before.before in
-      let at-got2 = at-mark-at.before.before in
-      let at-expression = at-got2.before.before.before.before.before.before in
-      let at-loop = at-expression.before.before.before.before.before.before in
-      let g = (skip_expression (at-expression) at-got2.got2.given.1).0.onward in
-      let h = (skip_mark_at (at-mark-at) at-mark2.mark2.given.1).behind in
+      let at-mark2 = c in
+      let at-mark-at = at-mark2.before in
+      let at-got2 = at-mark-at.before in
+      let at-expression = at-got2.before.before.before.before.before in
+      let at-loop = at-expression in
+      let g = (skip_expression (at-expression) at-got2.in-Value.is).0.onward in
+      let h = (skip_mark_at (at-mark-at) at-mark2.in-Query.is).behind in
       let x = h.onward in
       let w = h.within in
-      let f = at-loop.loop.invariant.0.few in
+      let f = at-loop.loop-next.invariant.0.few in
       omega arith
 
-  pub skip_loop_again_2 : skip-lts.Need-loop-preserved-2 (skip_callees t) (skip_at t) skip.Post skip_Inv_loop skip-μ-loop
+  pub skip_loop_again_2 : skip-lts.Need-loop-next-preserved-in-Query (skip_callees t) (skip_at t) skip.Post skip_Inv_loop skip-μ-loop
   skip_loop_again_2 c =
-      let at-mark2 = c.before in
-      let at-mark-at = at-mark2.before.before in
-      let at-got2 = at-mark-at.before.before in
-      let at-expression = at-got2.before.before.before.before.before.before in
+      let at-mark2 = c in
+      let at-mark-at = at-mark2.before in
+      let at-got2 = at-mark-at.before in
+      let at-expression = at-got2.before.before.before.before.before in
       let at-enum-told = at-expression.before.before.before in
-      let at-target-at = at-enum-told.before.before in
+      let at-target-at = at-enum-told.before in
       let at-loop = at-target-at.before in
-      let s = at-loop.before.before.before.before in
+      let s = at-loop in
       let a = s.args in
-      let l = at-loop.loop in (
+      let l = at-loop.loop-next in (
         skip_query a.text.now a.at a.scope.room a.colons a.begins l.awaited l.i l.first l.invariant.0
-            (skip_target_at (at-target-at) at-enum-told.enum_told.given.1) (skip_expression (at-expression) at-got2.got2.given.1).0 _
-            (skip_mark_at (at-mark-at) at-mark2.mark2.given.1),
-        ((skip_expression (at-expression) at-got2.got2.given.1).1.bytes refl ∙ l.invariant.1),
-        at-expression.expression.auto.1.1.1.1.1.0 ∙ l.invariant.2,
+            (skip_target_at (at-target-at) at-enum-told.in-Missing.is) (skip_expression (at-expression) at-got2.in-Value.is).0 _
+            (skip_mark_at (at-mark-at) at-mark2.in-Query.is),
+        ((skip_expression (at-expression) at-got2.in-Value.is).1.bytes refl ∙ l.invariant.1),
+        at-expression.expression-got.auto.places ∙ l.invariant.2,
       )
 
-  pub skip_enum_known_mark_3 : skip-lts.Need-enum-known-mark-3 (skip_callees t) (skip_at t) skip.Post skip_Inv_loop skip-μ-loop
+  pub skip_enum_known_mark_3 : skip-lts.Need-enum_known-mark-in-Colon-1 (skip_callees t) (skip_at t) skip.Post skip_Inv_loop skip-μ-loop
   skip_enum_known_mark_3 c = search rules
 
-  pub skip_same_length_5 : skip-lts.Need-same-length-5 (skip_callees t) (skip_at t) skip.Post skip_Inv_loop skip-μ-loop
+  pub skip_same_length_5 : skip-lts.Need-shape_of-vars-then-awaited-eq0 (skip_callees t) (skip_at t) skip.Post skip_Inv_loop skip-μ-loop
   skip_same_length_5 c =
-      let at-expression = c.before.before.before.before.before.before.before.before.before.before.before.before in
-      let at-loop = at-expression.before.before.before.before.before.before in
-      at-expression.expression.auto.1.1.1.1.0 ∙ ap length at-loop.loop.invariant.1
+      let at-expression = c.before.before.before.before.before.before.before.before in
+      let at-loop = at-expression in
+      at-expression.expression-got.auto.vars ∙ ap length at-loop.loop-next.invariant.1
 
-  pub skip_same_length_6 : skip-lts.Need-same-length-6 (skip_callees t) (skip_at t) skip.Post skip_Inv_loop skip-μ-loop
+  pub skip_same_length_6 : skip-lts.Need-shape_of-places-then-awaited-eq0 (skip_callees t) (skip_at t) skip.Post skip_Inv_loop skip-μ-loop
   skip_same_length_6 c =
-      let at-expression = c.before.before.before.before.before.before.before.before.before.before.before.before in
-      let at-loop = at-expression.before.before.before.before.before.before in
-      at-expression.expression.auto.1.1.1.1.1.0 ∙ at-loop.loop.invariant.2
+      let at-expression = c.before.before.before.before.before.before.before.before in
+      let at-loop = at-expression in
+      at-expression.expression-got.auto.places ∙ at-loop.loop-next.invariant.2
 
-  pub skip_returns_3 : skip-lts.Need-returns-3 (skip_callees t) (skip_at t) skip.Post skip_Inv_loop skip-μ-loop
+  pub skip_returns_3 : skip-lts.Need-returns-then-awaited-eq0 (skip_callees t) (skip_at t) skip.Post skip_Inv_loop skip-μ-loop
   skip_returns_3 c =
-      let at-mark3 = c.before.before in
-      let at-mark-at = at-mark3.before.before in
-      let at-got2 = at-mark-at.before.before in
-      let at-expression = at-got2.before.before.before.before.before.before in
+      let at-mark3 = c.before in
+      let at-mark-at = at-mark3.before in
+      let at-got2 = at-mark-at.before in
+      let at-expression = at-got2.before.before.before.before.before in
       let at-enum-told = at-expression.before.before.before in
-      let at-target-at = at-enum-told.before.before in
+      let at-target-at = at-enum-told.before in
       let at-loop = at-target-at.before in
-      let s = at-loop.before.before.before.before in
+      let s = at-loop in
       let a = s.args in
-      let l = at-loop.loop in
+      let l = at-loop.loop-next in
       skip_end_colon a.text.now a.at a.scope.room a.colons a.begins l.awaited l.i l.first l.invariant.0
-      (skip_target_at (at-target-at) at-enum-told.enum_told.given.1) (skip_expression (at-expression) at-got2.got2.given.1).0
-      a.vars.now _ ((skip_expression (at-expression) at-got2.got2.given.1).1.bytes refl ∙ l.invariant.1) _ c.if1.true
-      (skip_mark_at (at-mark-at) at-mark3.mark3.given.1)
+      (skip_target_at (at-target-at) at-enum-told.in-Missing.is) (skip_expression (at-expression) at-got2.in-Value.is).0
+      a.vars.now _ ((skip_expression (at-expression) at-got2.in-Value.is).1.bytes refl ∙ l.invariant.1) _ c.if-awaited-eq0.true
+      (skip_mark_at (at-mark-at) at-mark3.in-Colon.is)
 
-  pub skip_sub_awaited : skip-lts.Need-overflow-sub-awaited (skip_callees t) (skip_at t) skip.Post skip_Inv_loop skip-μ-loop
+  pub skip_sub_awaited : skip-lts.Need-overflow_sub-awaited (skip_callees t) (skip_at t) skip.Post skip_Inv_loop skip-μ-loop
   skip_sub_awaited c =
-      let n = c.if1.false in omega arith
+      let n = c.if-awaited-eq0.false in omega arith
 
-  pub skip_loop_less_3 : skip-lts.Need-loop-smaller-3 (skip_callees t) (skip_at t) skip.Post skip_Inv_loop skip-μ-loop
+  pub skip_loop_less_3 : skip-lts.Need-loop-next-smaller (skip_callees t) (skip_at t) skip.Post skip_Inv_loop skip-μ-loop
   skip_loop_less_3 c =
-      let at-mark3 = c.before.before in
-      let at-mark-at = at-mark3.before.before in
-      let at-got2 = at-mark-at.before.before in
-      let at-expression = at-got2.before.before.before.before.before.before in
-      let at-loop = at-expression.before.before.before.before.before.before in
-      let g = (skip_expression (at-expression) at-got2.got2.given.1).0.onward in
-      let h = (skip_mark_at (at-mark-at) at-mark3.mark3.given.1).behind in
+      let at-mark3 = c.before in
+      let at-mark-at = at-mark3.before in
+      let at-got2 = at-mark-at.before in
+      let at-expression = at-got2.before.before.before.before.before in
+      let at-loop = at-expression in
+      let g = (skip_expression (at-expression) at-got2.in-Value.is).0.onward in
+      let h = (skip_mark_at (at-mark-at) at-mark3.in-Colon.is).behind in
       let x = h.onward in
       let w = h.within in
-      let f = at-loop.loop.invariant.0.few in
+      let f = at-loop.loop-next.invariant.0.few in
       omega arith
 
-  pub skip_loop_again_3 : skip-lts.Need-loop-preserved-3 (skip_callees t) (skip_at t) skip.Post skip_Inv_loop skip-μ-loop
+  pub skip_loop_again_3 : skip-lts.Need-loop-next-preserved (skip_callees t) (skip_at t) skip.Post skip_Inv_loop skip-μ-loop
   skip_loop_again_3 c =
-      let at-mark3 = c.before.before in
-      let at-mark-at = at-mark3.before.before in
-      let at-got2 = at-mark-at.before.before in
-      let at-expression = at-got2.before.before.before.before.before.before in
+      let at-mark3 = c.before in
+      let at-mark-at = at-mark3.before in
+      let at-got2 = at-mark-at.before in
+      let at-expression = at-got2.before.before.before.before.before in
       let at-enum-told = at-expression.before.before.before in
-      let at-target-at = at-enum-told.before.before in
+      let at-target-at = at-enum-told.before in
       let at-loop = at-target-at.before in
-      let s = at-loop.before.before.before.before in
+      let s = at-loop in
       let a = s.args in
-      let l = at-loop.loop in (
+      let l = at-loop.loop-next in (
         skip_colon a.text.now a.at a.scope.room a.colons a.begins l.awaited l.i l.first l.invariant.0
-            (skip_target_at (at-target-at) at-enum-told.enum_told.given.1) (skip_expression (at-expression) at-got2.got2.given.1).0 _
-            c.if1.false (skip_mark_at (at-mark-at) at-mark3.mark3.given.1),
-        ((skip_expression (at-expression) at-got2.got2.given.1).1.bytes refl ∙ l.invariant.1),
-        at-expression.expression.auto.1.1.1.1.1.0 ∙ l.invariant.2,
+            (skip_target_at (at-target-at) at-enum-told.in-Missing.is) (skip_expression (at-expression) at-got2.in-Value.is).0 _
+            c.if-awaited-eq0.false (skip_mark_at (at-mark-at) at-mark3.in-Colon.is),
+        ((skip_expression (at-expression) at-got2.in-Value.is).1.bytes refl ∙ l.invariant.1),
+        at-expression.expression-got.auto.places ∙ l.invariant.2,
       )
 
-  pub skip_enum_told_2 : skip-lts.Need-enum-told-2 (skip_callees t) (skip_at t) skip.Post skip_Inv_loop skip-μ-loop
+  pub skip_enum_told_2 : skip-lts.Need-enum_told-in-Other (skip_callees t) (skip_at t) skip.Post skip_Inv_loop skip-μ-loop
   skip_enum_told_2 c = search rules
 
-  pub skip_same_length_7 : skip-lts.Need-same-length-7 (skip_callees t) (skip_at t) skip.Post skip_Inv_loop skip-μ-loop
+  pub skip_same_length_7 : skip-lts.Need-shape_of-vars-then-awaited-eq0-2 (skip_callees t) (skip_at t) skip.Post skip_Inv_loop skip-μ-loop
   skip_same_length_7 c =
-      let at-expression = c.before.before.before.before.before.before.before.before.before.before.before in
-      let at-loop = at-expression.before.before.before.before.before.before in
-      at-expression.expression.auto.1.1.1.1.0 ∙ ap length at-loop.loop.invariant.1
+      let at-expression = c.before.before.before.before.before.before.before.before in
+      let at-loop = at-expression in
+      at-expression.expression-got.auto.vars ∙ ap length at-loop.loop-next.invariant.1
 
-  pub skip_same_length_8 : skip-lts.Need-same-length-8 (skip_callees t) (skip_at t) skip.Post skip_Inv_loop skip-μ-loop
+  pub skip_same_length_8 : skip-lts.Need-shape_of-places-then-awaited-eq0-2 (skip_callees t) (skip_at t) skip.Post skip_Inv_loop skip-μ-loop
   skip_same_length_8 c =
-      let at-expression = c.before.before.before.before.before.before.before.before.before.before.before in
-      let at-loop = at-expression.before.before.before.before.before.before in
-      at-expression.expression.auto.1.1.1.1.1.0 ∙ at-loop.loop.invariant.2
+      let at-expression = c.before.before.before.before.before.before.before.before in
+      let at-loop = at-expression in
+      at-expression.expression-got.auto.places ∙ at-loop.loop-next.invariant.2
 
-  pub skip_returns_4 : skip-lts.Need-returns-4 (skip_callees t) (skip_at t) skip.Post skip_Inv_loop skip-μ-loop
+  pub skip_returns_4 : skip-lts.Need-returns-then-awaited-eq0-2 (skip_callees t) (skip_at t) skip.Post skip_Inv_loop skip-μ-loop
   skip_returns_4 c =
       let at-enum-told2 = c.before in
-      let at-mark-at = at-enum-told2.before.before in
-      let at-got2 = at-mark-at.before.before in
-      let at-expression = at-got2.before.before.before.before.before.before in
+      let at-mark-at = at-enum-told2.before in
+      let at-got2 = at-mark-at.before in
+      let at-expression = at-got2.before.before.before.before.before in
       let at-enum-told = at-expression.before.before.before in
-      let at-target-at = at-enum-told.before.before in
+      let at-target-at = at-enum-told.before in
       let at-loop = at-target-at.before in
-      let s = at-loop.before.before.before.before in
+      let s = at-loop in
       let a = s.args in
-      let l = at-loop.loop in
+      let l = at-loop.loop-next in
       skip_end a.text.now a.at a.scope.room a.colons a.begins l.awaited l.i l.first l.invariant.0
-      (skip_target_at (at-target-at) at-enum-told.enum_told.given.1) (skip_expression (at-expression) at-got2.got2.given.1).0
-      a.vars.now _ ((skip_expression (at-expression) at-got2.got2.given.1).1.bytes refl ∙ l.invariant.1) c.if2.true
-      (skip_mark_at (at-mark-at) at-enum-told2.enum-told2.given.1)
+      (skip_target_at (at-target-at) at-enum-told.in-Missing.is) (skip_expression (at-expression) at-got2.in-Value.is).0
+      a.vars.now _ ((skip_expression (at-expression) at-got2.in-Value.is).1.bytes refl ∙ l.invariant.1) c.if-awaited-eq0-2.true
+      (skip_mark_at (at-mark-at) at-enum-told2.in-Other.is)
 
-  pub skip_same_length_9 : skip-lts.Need-same-length-9 (skip_callees t) (skip_at t) skip.Post skip_Inv_loop skip-μ-loop
+  pub skip_same_length_9 : skip-lts.Need-shape_of-vars-in-Other (skip_callees t) (skip_at t) skip.Post skip_Inv_loop skip-μ-loop
   skip_same_length_9 c =
-      let at-expression = c.before.before.before.before.before.before.before.before.before.before.before in
-      let at-loop = at-expression.before.before.before.before.before.before in
-      at-expression.expression.auto.1.1.1.1.0 ∙ ap length at-loop.loop.invariant.1
+      let at-expression = c.before.before.before.before.before.before.before.before in
+      let at-loop = at-expression in
+      at-expression.expression-got.auto.vars ∙ ap length at-loop.loop-next.invariant.1
 
-  pub skip_same_length_10 : skip-lts.Need-same-length-10 (skip_callees t) (skip_at t) skip.Post skip_Inv_loop skip-μ-loop
+  pub skip_same_length_10 : skip-lts.Need-shape_of-places-in-Other (skip_callees t) (skip_at t) skip.Post skip_Inv_loop skip-μ-loop
   skip_same_length_10 c =
-      let at-expression = c.before.before.before.before.before.before.before.before.before.before.before in
-      let at-loop = at-expression.before.before.before.before.before.before in
-      at-expression.expression.auto.1.1.1.1.1.0 ∙ at-loop.loop.invariant.2
+      let at-expression = c.before.before.before.before.before.before.before.before in
+      let at-loop = at-expression in
+      at-expression.expression-got.auto.places ∙ at-loop.loop-next.invariant.2
 
-  pub skip_returns_5 : skip-lts.Need-returns-5 (skip_callees t) (skip_at t) skip.Post skip_Inv_loop skip-μ-loop
+  pub skip_returns_5 : skip-lts.Need-returns-in-Other (skip_callees t) (skip_at t) skip.Post skip_Inv_loop skip-μ-loop
   skip_returns_5 c =
       let at-enum-told2 = c.before in
-      let at-mark-at = at-enum-told2.before.before in
-      let at-got2 = at-mark-at.before.before in
-      let at-expression = at-got2.before.before.before.before.before.before in
+      let at-mark-at = at-enum-told2.before in
+      let at-got2 = at-mark-at.before in
+      let at-expression = at-got2.before.before.before.before.before in
       let at-enum-told = at-expression.before.before.before in
-      let at-target-at = at-enum-told.before.before in
+      let at-target-at = at-enum-told.before in
       let at-loop = at-target-at.before in
-      let s = at-loop.before.before.before.before in
+      let s = at-loop in
       let a = s.args in
-      let l = at-loop.loop in
+      let l = at-loop.loop-next in
       skip_lacks a.text.now a.at a.scope.room a.colons a.begins l.awaited l.i l.first l.invariant.0
-      (skip_target_at (at-target-at) at-enum-told.enum_told.given.1) (skip_expression (at-expression) at-got2.got2.given.1).0
-      a.vars.now a.vars.now c.if2.false (skip_mark_at (at-mark-at) at-enum-told2.enum-told2.given.1)
+      (skip_target_at (at-target-at) at-enum-told.in-Missing.is) (skip_expression (at-expression) at-got2.in-Value.is).0
+      a.vars.now a.vars.now c.if-awaited-eq0-2.false (skip_mark_at (at-mark-at) at-enum-told2.in-Other.is)

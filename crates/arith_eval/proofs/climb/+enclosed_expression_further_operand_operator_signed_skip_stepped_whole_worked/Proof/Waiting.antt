@@ -42,137 +42,101 @@ worked_callees t = (
   stored-all-reads.Learnt,
 )
 
-abbrev pub worked_Inv_loop : worked-lts.invariant_loop
+abbrev pub worked_Inv_loop : worked-lts.invariant-loop-next
 worked_Inv_loop text at scope vars₀ places₀ i₀ first₀ awaited₀ waiting₀ used₀ vars places i first awaited waiting used =
     Working (lent_in scope) text (inside vars₀ scope.vars_used) at scope.room awaited i first waiting places (inside vars used)
     × Holds scope.vars_room vars used × (length vars ≡ length vars₀) × (length places ≡ length places₀)
 
-abbrev pub worked-μ-loop : worked-lts.decreases_loop
+abbrev pub worked-μ-loop : worked-lts.decreases-loop-next
 worked-μ-loop text at scope vars₀ places₀ i₀ first₀ awaited₀ waiting₀ used₀ vars places i first awaited waiting used = length text - i
 
 module _ (t : ℕ) where
-  pub worked_target_at : (r : worked-lts.After-target-at (worked_callees t) (worked_at t) worked.Post worked_Inv_loop worked-μ-loop) {g : Target}
-      → r.target_at.result ≡ g →
-      let at-loop = r.before in
-      let s = at-loop.before.before.before.before in
-      let a = s.args in
-      let l = at-loop.loop in
+  pub worked_target_at : (r : worked-lts.After-target_at-target (worked_callees t) (worked_at t) worked.Post worked_Inv_loop worked-μ-loop) {g : Target}
+      → r.target_at-target.result ≡ g →
+      let a = r.args in
+      let l = r.loop-next in
       Targets a.text.now l.i l.first g
   worked_target_at r e =
-      let at-loop = r.before in
-      let s = at-loop.before.before.before.before in
-      let a = s.args in
-      let l = at-loop.loop in
-      targets_shown a.text.now l.i l.first r.target_at.ensures e
+      let a = r.args in
+      let l = r.loop-next in
+      targets_shown a.text.now l.i l.first r.target_at-target.ensures e
 
-  pub worked_expression : (r : worked-lts.After-expression (worked_callees t) (worked_at t) worked.Post worked_Inv_loop worked-μ-loop) {g : Climbed}
-      → r.expression.result ≡ g →
-      let at-loop = r.before.before.before.before.before.before in
-      let s = at-loop.before.before.before.before in
-      let a = s.args in
-      let l = at-loop.loop in
+  pub worked_expression : (r : worked-lts.After-expression-got (worked_callees t) (worked_at t) worked.Post worked_Inv_loop worked-μ-loop) {g : Climbed}
+      → r.expression-got.result ≡ g →
+      let a = r.args in
+      let l = r.loop-next in
       Says (lent_in a.scope) a.text.now l.i l.vars l.used true
-      (stage.expression stage.grow a.scope.room lowest (drop l.i a.text.now)) r.expression.new.1.1.1.1.0 g
+      (stage.expression stage.grow a.scope.room lowest (drop l.i a.text.now)) r.expression-got.new.vars g
   worked_expression r e =
-      let at-loop = r.before.before.before.before.before.before in
-      let s = at-loop.before.before.before.before in
-      let a = s.args in
-      let l = at-loop.loop in
+      let a = r.args in
+      let l = r.loop-next in
       says_shown (lent_in a.scope) a.text.now l.i l.vars l.used true
-      (stage.expression stage.grow a.scope.room lowest (drop l.i a.text.now)) _ r.expression.ensures e
+      (stage.expression stage.grow a.scope.room lowest (drop l.i a.text.now)) _ r.expression-got.ensures e
 
   -- the places behind it: those of the names are as they were
-  abbrev pub worked_places : worked-lts.After-expression (worked_callees t) (worked_at t) worked.Post worked_Inv_loop worked-μ-loop → List ℕ
+  abbrev pub worked_places : worked-lts.After-expression-got (worked_callees t) (worked_at t) worked.Post worked_Inv_loop worked-μ-loop → List ℕ
   worked_places r =
-      let at-loop = r.before.before.before.before.before.before in
-      let l = at-loop.loop in
-      put_mid l.waiting (length l.places - l.waiting) l.places r.expression.last.1.1.1.1.1.0
+      let l = r.loop-next in
+      put_mid l.waiting (length l.places - l.waiting) l.places r.expression-got.new.places
 
-  pub worked_length : (r : worked-lts.After-expression (worked_callees t) (worked_at t) worked.Post worked_Inv_loop worked-μ-loop) →
-      let s = r.before.before.before.before.before.before.before.before.before.before in
-      let a = s.args in
+  pub worked_length : (r : worked-lts.After-expression-got (worked_callees t) (worked_at t) worked.Post worked_Inv_loop worked-μ-loop) →
+      let a = r.args in
       length (worked_places r) ≡ length a.places.now
   worked_length r =
-      let at-loop = r.before.before.before.before.before.before in
-      let l = at-loop.loop in
-      same_len_mid l.waiting (length l.places - l.waiting) l.places r.expression.new.1.1.1.1.1.0
-      r.expression.auto.1.1.1.1.1.0 ∙ l.invariant.3
+      let l = r.loop-next in
+      same_len_mid l.waiting (length l.places - l.waiting) l.places r.expression-got.new.places
+      r.expression-got.auto.places ∙ l.invariant.3
 
-  pub worked_lent : (r : worked-lts.After-expression (worked_callees t) (worked_at t) worked.Post worked_Inv_loop worked-μ-loop) →
-      let at-loop = r.before.before.before.before.before.before in
-      let s = at-loop.before.before.before.before in
-      let a = s.args in
-      let l = at-loop.loop in
+  pub worked_lent : (r : worked-lts.After-expression-got (worked_callees t) (worked_at t) worked.Post worked_Inv_loop worked-μ-loop) →
+      let a = r.args in
+      let l = r.loop-next in
       Working (lent_in a.scope) a.text.now (inside a.vars.now a.scope.vars_used) a.at a.scope.room l.awaited l.i l.first
       l.waiting
       (worked_places r) (inside l.vars l.used)
   worked_lent r =
-      let at-loop = r.before.before.before.before.before.before in
-      let s = at-loop.before.before.before.before in
-      let l = at-loop.loop in
+      let l = r.loop-next in
       let k = l.invariant.0 in
-      working_lent k (waiting_fits s.requires.1 l.i l.waiting k.deep k.within l.places l.invariant.3)
-      (length l.places - l.waiting) r.expression.new.1.1.1.1.1.0
+      working_lent k (waiting_fits r.requires.1 l.i l.waiting k.deep k.within l.places l.invariant.3)
+      (length l.places - l.waiting) r.expression-got.new.places
 
-  pub worked_stepped : (r : worked-lts.After-stepped (worked_callees t) (worked_at t) worked.Post worked_Inv_loop worked-μ-loop) {g : Step}
-      → r.stepped.result ≡ g →
-      let at-got2 = r.before.before.before.before in
-      let at-expression = at-got2.before.before.before.before.before.before in
-      let at-loop = at-expression.before.before.before.before.before.before in
-      let s = at-loop.before.before.before.before in
-      let a = s.args in
-      let l = at-loop.loop in
-      Steps a.text.now at-got2.got2.given.0.1.0 a.scope.room at-got2.got2.given.0.0 l.awaited
-      at-expression.expression.new.1.1.1.1.0 r.stepped.new.1.1.1.1.1.0 g
+  pub worked_stepped : (r : worked-lts.After-stepped-step (worked_callees t) (worked_at t) worked.Post worked_Inv_loop worked-μ-loop) {g : Step}
+      → r.stepped-step.result ≡ g →
+      let a = r.args in
+      let l = r.loop-next in
+      Steps a.text.now r.in-Value.next a.scope.room r.in-Value.value l.awaited
+      r.expression-got.new.vars r.stepped-step.new.vars g
   worked_stepped r e =
-      let at-known-told3 = r.before.before.before in
-      let at-got2 = at-known-told3.before in
-      let at-expression = at-got2.before.before.before.before.before.before in
-      let at-loop = at-expression.before.before.before.before.before.before in
-      let s = at-loop.before.before.before.before in
-      let a = s.args in
-      let l = at-loop.loop in
-      steps_shown a.text.now at-got2.got2.given.0.1.0 a.scope.room at-got2.got2.given.0.0 l.awaited
-      at-expression.expression.new.1.1.1.1.0 _
-      (rw (kept at-got2.got2.given.0.0 at-known-told3.known-told3.given.0.1) at r.stepped.ensures) e
+      let a = r.args in
+      let l = r.loop-next in
+      steps_shown a.text.now r.in-Value.next a.scope.room r.in-Value.value l.awaited
+      r.expression-got.new.vars _
+      (rw (kept r.in-Value.value r.in-Value.known_told-in-Value-1-own.given.0.1) at r.stepped-step.ensures) e
 
-  abbrev pub worked_places_2 : worked-lts.After-stepped (worked_callees t) (worked_at t) worked.Post worked_Inv_loop worked-μ-loop → List ℕ
+  abbrev pub worked_places_2 : worked-lts.After-stepped-step (worked_callees t) (worked_at t) worked.Post worked_Inv_loop worked-μ-loop → List ℕ
   worked_places_2 r =
-      let at-expression = r.before.before.before.before.before.before.before.before.before.before in
-      let at-loop = at-expression.before.before.before.before.before.before in
-      let l = at-loop.loop in
-      let ps = worked_places at-expression in
-      put_mid l.waiting (length ps - l.waiting) ps r.stepped.last.1.1.1.1.1.1.0
+      let l = r.loop-next in
+      let ps = worked_places (r.before.before.before.before.before.before.before.before) in
+      put_mid l.waiting (length ps - l.waiting) ps r.stepped-step.new.places
 
-  pub worked_length_2 : (r : worked-lts.After-stepped (worked_callees t) (worked_at t) worked.Post worked_Inv_loop worked-μ-loop) →
-      let at-expression = r.before.before.before.before.before.before.before.before.before.before in
-      let s = at-expression.before.before.before.before.before.before.before.before.before.before in
-      let a = s.args in
+  pub worked_length_2 : (r : worked-lts.After-stepped-step (worked_callees t) (worked_at t) worked.Post worked_Inv_loop worked-μ-loop) →
+      let a = r.args in
       length (worked_places_2 r) ≡ length a.places.now
   worked_length_2 r =
-      let at-expression = r.before.before.before.before.before.before.before.before.before.before in
-      let at-loop = at-expression.before.before.before.before.before.before in
-      let l = at-loop.loop in
-      let ps = worked_places at-expression in
-      same_len_mid l.waiting (length ps - l.waiting) ps r.stepped.new.1.1.1.1.1.1.0
-      r.stepped.auto.1.1.1.1.1.1.0 ∙ worked_length at-expression
+      let l = r.loop-next in
+      let ps = worked_places (r.before.before.before.before.before.before.before.before) in
+      same_len_mid l.waiting (length ps - l.waiting) ps r.stepped-step.new.places
+      r.stepped-step.auto.places ∙ worked_length (r.before.before.before.before.before.before.before.before)
 
-  pub worked_lent_2 : (r : worked-lts.After-stepped (worked_callees t) (worked_at t) worked.Post worked_Inv_loop worked-μ-loop) →
-      let at-expression = r.before.before.before.before.before.before.before.before.before.before in
-      let at-loop = at-expression.before.before.before.before.before.before in
-      let s = at-loop.before.before.before.before in
-      let a = s.args in
-      let l = at-loop.loop in
+  pub worked_lent_2 : (r : worked-lts.After-stepped-step (worked_callees t) (worked_at t) worked.Post worked_Inv_loop worked-μ-loop) →
+      let a = r.args in
+      let l = r.loop-next in
       Working (lent_in a.scope) a.text.now (inside a.vars.now a.scope.vars_used) a.at a.scope.room l.awaited l.i l.first
       l.waiting
       (worked_places_2 r) (inside l.vars l.used)
   worked_lent_2 r =
-      let at-expression = r.before.before.before.before.before.before.before.before.before.before in
-      let at-loop = at-expression.before.before.before.before.before.before in
-      let s = at-loop.before.before.before.before in
-      let l = at-loop.loop in
+      let l = r.loop-next in
       let k = l.invariant.0 in
-      let ps = worked_places at-expression in
-      working_lent (worked_lent at-expression)
-      (waiting_fits s.requires.1 l.i l.waiting k.deep k.within ps (worked_length at-expression))
-      (length ps - l.waiting) r.stepped.new.1.1.1.1.1.1.0
+      let ps = worked_places (r.before.before.before.before.before.before.before.before) in
+      working_lent (worked_lent (r.before.before.before.before.before.before.before.before))
+      (waiting_fits r.requires.1 l.i l.waiting k.deep k.within ps (worked_length (r.before.before.before.before.before.before.before.before)))
+      (length ps - l.waiting) r.stepped-step.new.places

@@ -27,85 +27,85 @@ abbrev pub whole_callees : ℕ → whole-lts.Claims
 whole_callees t = (worked_below t, worked.Post, skip_below t, skip.Post)
 
 module _ (t : ℕ) where
-  whole_skip : (r : whole-lts.After-skip (whole_callees t) (whole_at t) whole.Post) {g : Skipped}
-      → r.skip.result ≡ g →
-      let s = r.before.before.before.before.before.before.before in
+  whole_skip : (r : whole-lts.After-skip-got (whole_callees t) (whole_at t) whole.Post) {g : Skipped}
+      → r.skip-got.result ≡ g →
+      let s = r in
       let a = s.args in
-      Skips a.text.now a.at a.scope.room 0 true a.vars.now r.skip.new.1.1.1.1.1.0 g
+      Skips a.text.now a.at a.scope.room 0 true a.vars.now r.skip-got.new.vars g
   whole_skip r e =
-      let s = r.before.before.before.before.before.before.before in
+      let s = r in
       let a = s.args in
-      skips_shown a.text.now a.at a.scope.room 0 true a.vars.now _ r.skip.ensures e
+      skips_shown a.text.now a.at a.scope.room 0 true a.vars.now _ r.skip-got.ensures e
 
   pub whole_worked_requires : whole-lts.Need-worked-requires (whole_callees t) (whole_at t) whole.Post
   whole_worked_requires c κs =
-      let s = c.before.before.before.before.before.before in
+      let s = c in
       let a = s.args in
       (omega (arith, s.requires.0), s.requires.1)
 
-  pub whole_same_length : whole-lts.Need-same-length (whole_callees t) (whole_at t) whole.Post
+  pub whole_same_length : whole-lts.Need-shape_of-vars-then-scope (whole_callees t) (whole_at t) whole.Post
   whole_same_length c = search rules
 
-  pub whole_same_length_2 : whole-lts.Need-same-length-2 (whole_callees t) (whole_at t) whole.Post
+  pub whole_same_length_2 : whole-lts.Need-shape_of-places-then-scope (whole_callees t) (whole_at t) whole.Post
   whole_same_length_2 c = search rules
 
-  pub whole_returns : whole-lts.Need-returns (whole_callees t) (whole_at t) whole.Post
+  pub whole_returns : whole-lts.Need-returns-then-scope (whole_callees t) (whole_at t) whole.Post
   whole_returns c =
       let at-worked = c.before.before.before.before in
       let at-if1 = at-worked.before.before.before in
-      let s = at-if1.before.before.before.before in
+      let s = at-if1 in
       let a = s.args in
       says_counts (lent_in a.scope) a.text.now a.at a.vars.now a.scope.vars_used
-      (stage.expression stage.grow a.scope.room stage.whole_level (drop a.at a.text.now)) at-worked.worked.new.1.1.1.0
-      at-worked.worked.result at-if1.if1.true at-worked.worked.ensures
+      (stage.expression stage.grow a.scope.room stage.whole_level (drop a.at a.text.now)) at-worked.worked.new.vars
+      at-worked.worked.result at-if1.if-scope.true at-worked.worked.ensures
 
-  pub whole_skip_requires : whole-lts.Need-skip-requires (whole_callees t) (whole_at t) whole.Post
+  pub whole_skip_requires : whole-lts.Need-skip-got-requires (whole_callees t) (whole_at t) whole.Post
   whole_skip_requires c κs =
-      let s = c.before.before.before.before.before.before in
+      let s = c in
       let a = s.args in
       (omega (arith, s.requires.0), record { ready = s.requires.1; few = omega arith })
 
-  pub whole_enum_known_got : whole-lts.Need-enum-known-got (whole_callees t) (whole_at t) whole.Post
+  pub whole_enum_known_got : whole-lts.Need-enum_known-got (whole_callees t) (whole_at t) whole.Post
   whole_enum_known_got c = search rules
 
-  pub whole_enum_known_got_2 : whole-lts.Need-enum-known-got-2 (whole_callees t) (whole_at t) whole.Post
+  pub whole_enum_known_got_2 : whole-lts.Need-enum_known-got-in-Next-1 (whole_callees t) (whole_at t) whole.Post
   whole_enum_known_got_2 c = search rules
 
-  pub whole_same_length_3 : whole-lts.Need-same-length-3 (whole_callees t) (whole_at t) whole.Post
+  pub whole_same_length_3 : whole-lts.Need-shape_of-vars-in-Refused (whole_callees t) (whole_at t) whole.Post
   whole_same_length_3 c = search rules
 
-  pub whole_same_length_4 : whole-lts.Need-same-length-4 (whole_callees t) (whole_at t) whole.Post
+  pub whole_same_length_4 : whole-lts.Need-shape_of-places-in-Refused (whole_callees t) (whole_at t) whole.Post
   whole_same_length_4 c = search rules
 
-  pub whole_returns_2 : whole-lts.Need-returns-2 (whole_callees t) (whole_at t) whole.Post
+  pub whole_returns_2 : whole-lts.Need-returns-in-Refused (whole_callees t) (whole_at t) whole.Post
   whole_returns_2 c =
-      let at-got = c.before in
-      let at-skip = at-got.before.before.before.before.before.before in
+      let at-got = c in
+      let at-skip = at-got.before.before.before.before.before in
       let at-if1 = at-skip.before.before.before in
-      let s = at-if1.before.before.before.before in
+      let s = at-if1 in
       let a = s.args in
       says_counts (lent_in a.scope) a.text.now a.at a.vars.now a.scope.vars_used
-      (stage.expression stage.grow a.scope.room stage.whole_level (drop a.at a.text.now)) at-skip.skip.new.1.1.1.1.1.0
-      (climbed.Refused at-got.got.given.0.0) at-if1.if1.false
+      (stage.expression stage.grow a.scope.room stage.whole_level (drop a.at a.text.now)) at-skip.skip-got.new.vars
+      (climbed.Refused at-got.in-Refused.e) at-if1.if-scope.false
       (whole_skipped (lent_in a.scope) a.text.now a.at a.scope.room a.vars.now a.scope.vars_used
-      at-skip.skip.new.1.1.1.1.1.0 _ (whole_skip (at-skip) at-got.got.given.1))
+      at-skip.skip-got.new.vars _ (whole_skip (at-skip) at-got.in-Refused.is))
 
-  pub whole_same_length_5 : whole-lts.Need-same-length-5 (whole_callees t) (whole_at t) whole.Post
+  pub whole_same_length_5 : whole-lts.Need-shape_of-vars-in-Next (whole_callees t) (whole_at t) whole.Post
   whole_same_length_5 c = search rules
 
-  pub whole_same_length_6 : whole-lts.Need-same-length-6 (whole_callees t) (whole_at t) whole.Post
+  pub whole_same_length_6 : whole-lts.Need-shape_of-places-in-Next (whole_callees t) (whole_at t) whole.Post
   whole_same_length_6 c = search rules
 
-  pub whole_returns_3 : whole-lts.Need-returns-3 (whole_callees t) (whole_at t) whole.Post
+  pub whole_returns_3 : whole-lts.Need-returns-in-Next (whole_callees t) (whole_at t) whole.Post
   whole_returns_3 c =
-      let at-got2 = c.before in
-      let at-skip = at-got2.before.before.before.before.before.before in
+      let at-got2 = c in
+      let at-skip = at-got2.before.before.before.before.before in
       let at-if1 = at-skip.before.before.before in
-      let s = at-if1.before.before.before.before in
+      let s = at-if1 in
       let a = s.args in
       says_counts (lent_in a.scope) a.text.now a.at a.vars.now a.scope.vars_used
-      (stage.expression stage.grow a.scope.room stage.whole_level (drop a.at a.text.now)) at-skip.skip.new.1.1.1.1.1.0
-      (climbed.Value (pos 0) at-got2.got2.given.0.0 a.scope.vars_used) at-if1.if1.false
+      (stage.expression stage.grow a.scope.room stage.whole_level (drop a.at a.text.now)) at-skip.skip-got.new.vars
+      (climbed.Value (pos 0) at-got2.in-Next.next a.scope.vars_used) at-if1.if-scope.false
       (whole_read (lent_in a.scope) a.text.now a.at a.scope.room a.vars.now a.scope.vars_used
-      at-skip.skip.new.1.1.1.1.1.0 s.requires.1.holds _
-      (whole_skip (at-skip) at-got2.got2.given.1))
+      at-skip.skip-got.new.vars s.requires.1.holds _
+      (whole_skip (at-skip) at-got2.in-Next.is))
