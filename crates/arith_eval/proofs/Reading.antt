@@ -120,7 +120,8 @@ beyond_aside text at h d = ap (λ (o : Lexed). o >>= λ s. other d s) h.is ∙ a
 
 module _ (d : ℕ) where
   -- what begins with no assignment is a storey, and perhaps a `?`
-  pub storey_above : (first : Bool) (t : Text) → (first ≡ true → NoTarget t) → expression grow d (level_at first) t ≡ (expression grow d lowest t >>= upstairs d)
+  pub storey_above : (first : Bool) (t : Text) → (first ≡ true → NoTarget t) →
+      expression grow d (level_at first) t ≡ (expression grow d lowest t >>= upstairs d)
   storey_above true t bare = whole_above d t (bare refl)
   storey_above false t bare = choice_above d t
 

@@ -12,7 +12,8 @@ use Rattle.expand_form.specs.Plans.{plan_of, operand_mark}
 use Rattle.expand_form.specs.declared.Plan.{Plan}
 use Rattle.expand_form.specs.declared.Used.{Used}
 
-pub plan_of_determined : (f : Form) (found : Found) (shouts : Bool) (r s : Plan) → r ≡ plan_of f (missing_in found) shouts → s ≡ plan_of f (missing_in found) shouts
+pub plan_of_determined : (f : Form) (found : Found) (shouts : Bool) (r s : Plan) → r ≡ plan_of f (missing_in found) shouts →
+    s ≡ plan_of f (missing_in found) shouts
     → r ≡ s
 plan_of_determined f found shouts r s = one_answer
 

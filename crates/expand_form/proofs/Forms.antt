@@ -90,13 +90,15 @@ module _ (a : Lent) (operand : Mark → Pairs → Made) (x : Param) (m : Mark) (
       ap (λ (o : Outcome Text). o >>= λ _. operand L v >>= λ p. cut_by a side reach x m p) sought_plan ∙ removal_plan side reach shout
 
 -- "missing", as the images hold the parameter
-missing_held_lem : (a : Lent) (c : Colon) (x : Param) (vars params : Text) → a.params ≡ held_texts params → missing a c x (held vars) ≡ missing_held vars params x c
+missing_held_lem : (a : Lent) (c : Colon) (x : Param) (vars params : Text) → a.params ≡ held_texts params →
+    missing a c x (held vars) ≡ missing_held vars params x c
 unfolding missing
 missing_held_lem a c x vars params e = ap (absent c) (holding_held a (held_texts params) e (held vars) x)
 
 -- a plan by where the value was found, and that of a removal by nothing, the switch being off
 module _ (f : Form) (x : Param) (vars params : Text) (s : Bool) where
-  pub found_plan : {found : Found} {own : Plan} → Shown vars params x found → own ≡ plan_of f (missing_in found) s → own ≡ plan_of f (missing_held vars params x) s
+  pub found_plan : {found : Found} {own : Plan} → Shown vars params x found → own ≡ plan_of f (missing_in found) s →
+      own ≡ plan_of f (missing_held vars params x) s
   found_plan {found} h e =
       let a = lent_of 0 s [] params in
       e ∙ plan_same f (missing_in found) (missing_held vars params x) (λ c. missing_found a refl h c ∙ missing_held_lem a c x vars params refl) s
@@ -111,7 +113,8 @@ module _ (a : Lent) (operand : Mark → Pairs → Made) (x : Param) (m : Mark) (
   by_held k =
       parameter_plan a operand x m (held vars) f
       ∙ ap (by_plan a operand x m (held vars))
-      (sym (sym k ∙ e ∙ plan_same f (missing_held vars params x) (λ c. missing a c x (held vars)) (λ c. sym (missing_held_lem a c x vars params lent)) a.shouts))
+      (sym (sym k ∙ e ∙ plan_same f (missing_held vars params x) (λ c. missing a c x (held vars))
+      (λ c. sym (missing_held_lem a c x vars params lent)) a.shouts))
 
   pub unused_operand : {unused : Unused} → own ≡ plan.Unused unused
       → parameter a operand x f m (held vars) ≡ beside (held vars) false (settled unused a x m (held vars))

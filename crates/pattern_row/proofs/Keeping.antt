@@ -99,7 +99,8 @@ module _ {entry row : Text} {at to : ℕ} (g : Going entry row at to) where
         ap (λ (l : Text). set l (to + 1) m) first
         ∙ set_at (g.front ++ b ∷ []) (get_or entry (to + 1) 0) d m (to + 1) (simp length-append (omega arith)) ∙ simp append_assoc
 
-    pub going_keep : is_mark (get_or row (at + 1) 0) ≡ true → Going entry (set (set row to (get_or row at 0)) (to + 1) (get_or row (at + 1) 0)) (at + 2) (to + 2)
+    pub going_keep : is_mark (get_or row (at + 1) 0) ≡ true →
+        Going entry (set (set row to (get_or row at 0)) (to + 1) (get_or row (at + 1) 0)) (at + 2) (to + 2)
     going_keep y = record {
       front = g.front ++ get_or row at 0 ∷ get_or row (at + 1) 0 ∷ [];
       whole = g.whole

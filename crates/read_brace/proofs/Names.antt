@@ -60,7 +60,8 @@ sign_is s from p colon sign t e =
     ap (λ (x : Bool). pick (x && eqb (get_or s sign 0) 61) (fault unserved)
     (inner (param_of s p) (sign_form (get_or s sign 0) (colon_of colon)) (operand_mode (mode_of from.mode) (let_by (get_or s sign 0))) (sign - from.at))) n
     ∙ ap (λ (x : Bool). pick x (fault unserved)
-    (inner (param_of s p) (sign_form (get_or s sign 0) (colon_of colon)) (operand_mode (mode_of from.mode) (let_by (get_or s sign 0))) (sign - from.at))) (sym e)
+    (inner (param_of s p) (sign_form (get_or s sign 0) (colon_of colon)) (operand_mode (mode_of from.mode) (let_by (get_or s sign 0))) (sign - from.at)))
+    (sym e)
 
 module _ {s : Text} {from : Cursor} {p : code-param.Param} {colon : Bool} {sign : ℕ} (h : Signed s from p colon sign) {t : Bool}
     (e : t ≡ (p.numbered && eqb (get_or s sign 0) 61)) where

@@ -5,7 +5,8 @@
 ghost use Rattle.std.specs.Prelude.{◌≡◌, ◌+◌, ◌≤◌, ◌<◌, length, drop, get_or};
 ghost use Rattle.stages.specs.Syntax.{arith};
 ghost use Rattle.stages.specs.Escapes.{escape_at};
-ghost use Rattle.stages.specs.Items.{item, is_bare_text, behind_backslash, said_item, expansion, parenthesis, spread_at, lists_in, closed, behind_tilde, closer_length};
+ghost use Rattle.stages.specs.Items.{item, is_bare_text, behind_backslash, said_item, expansion, parenthesis, spread_at, lists_in, closed, behind_tilde};
+ghost use Rattle.stages.specs.Items.{closer_length};
 ghost use Rattle.read_mode.specs.Modes.{mode_of, open_in};
 ghost use Rattle.read_brace.specs.Shows.{Shows};
 ghost use Rattle.read_item.specs.After.{mode_after, is_stop, is_end, dollar_quote, special};

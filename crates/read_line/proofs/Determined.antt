@@ -67,6 +67,7 @@ verdict_determined w (Refused n place) Read p q = absurd (let z : ◌≡◌ {A =
 pub read_line_determined : (line : Text) (r s : LineRead) → verdict (read_line line) ≡ verdict_of r → verdict (read_line line) ≡ verdict_of s → r ≡ s
 read_line_determined line r s p q = verdict_determined (verdict (read_line line)) r s p q
 
-pub read_assignments_determined : (line : Text) (r s : LineRead) → verdict (read_assignments line) ≡ verdict_of r → verdict (read_assignments line) ≡ verdict_of s
+pub read_assignments_determined : (line : Text) (r s : LineRead) → verdict (read_assignments line) ≡ verdict_of r →
+    verdict (read_assignments line) ≡ verdict_of s
     → r ≡ s
 read_assignments_determined line r s p q = verdict_determined (verdict (read_assignments line)) r s p q

@@ -200,8 +200,11 @@ module _ (d : ℕ) where
   -- THE WALK
 
   run_of : {t s u : Text} → span is_bare_byte t ≡ (s, u) → (all is_bare_byte s ≡ true) × (t ≡ s ++ u)
-  run_of {t} e =
-      (ap (λ (z : Text × Text). all is_bare_byte z.0) (sym e) ∙ span_all is_bare_byte t, sym (span_join is_bare_byte t) ∙ ap (λ (z : Text × Text). z.0 ++ z.1) e)
+  run_of {t} e = (
+    ap (λ (z : Text × Text). all is_bare_byte z.0) (sym e) ∙ span_all is_bare_byte t,
+    sym (span_join is_bare_byte t)
+        ∙ ap (λ (z : Text × Text). z.0 ++ z.1) e,
+  )
 
   quoted_as : (s : Start) (t : Text) {q w : Text} → quoted_in t ≡ some (q, w) → (o : Said) → ReadsAs begun d w o → ReadsAs s d t (behind q o)
   quoted_as s t e none r = tt

@@ -174,7 +174,8 @@ module _ (paths : List Text) {field : Text} (f : NoEmpty field) {used : ℕ} {ol
   settled_class y = class (rw (full_refused for_paths f y))
 
   pub settled_texts : has_class true 0 (signs_of field) ≡ false → {r : Written}
-      → Says (done (paths_for paths (row_of field) (elements true 0 (signs_of field)))) used old after r → Says (field_texts paths (row_of field)) used old after r
+      → Says (done (paths_for paths (row_of field) (elements true 0 (signs_of field)))) used old after r →
+      Says (field_texts paths (row_of field)) used old after r
   unfolding field_texts
   settled_texts n s = rw (full_done for_paths f n) s
 
@@ -202,7 +203,8 @@ paths_bytes paths p r s e = go (active p) refl
     go false q = rw (q, paths_for, e)
 
 module _ (paths : List Text) (field : Text) where
-  texts_of_lem : (o : Outcome (List Element)) → (o >>= λ p. done (paths_for paths (row_of (kept field)) p)) ≡ (o >>= λ p. done (paths_for paths (row_of field) p))
+  texts_of_lem : (o : Outcome (List Element)) →
+      (o >>= λ p. done (paths_for paths (row_of (kept field)) p)) ≡ (o >>= λ p. done (paths_for paths (row_of field) p))
   texts_of_lem (refused e) = refl
   texts_of_lem (demands t) = refl
   texts_of_lem (done p) = ap done (paths_bytes paths p (row_of (kept field)) (row_of field) (kept_bytes field))

@@ -376,7 +376,15 @@ module _ (fields out : Text) where
         place = refl;
         out_kept = over_length (quoted_line l) out j;
         refuses = λ h. absurd (h refl);
-        accepts = λ _. record { list = l; reads = r; output = over_front (quoted_line l) out; short = i; out_fits = j; behind = over_behind (quoted_line l) out };
+        accepts = λ _. record {
+          list = l;
+          reads = r;
+          output = over_front (quoted_line l) out;
+          short = i;
+          out_fits = j;
+          behind =
+              over_behind (quoted_line l) out;
+        };
       })
 
   pub quoter_fits : QuoterFits fields out (quoter fields out)

@@ -7,7 +7,8 @@ use mathlib.Core.Bool.{false, not}
 use mathlib.Core.List.{List, [], ◌∷◌}
 use lib.Dec.{leb}
 use lib.ListN.{length, take}
-use Rattle.stages.specs.Numbers.{accepted, work_too_small, bad_variables, bad_homes, bad_paths, line_too_long, zero_byte, output_room, bad_parameters, unset_name}
+use Rattle.stages.specs.Numbers.{accepted, work_too_small, bad_variables, bad_homes, bad_paths, line_too_long, zero_byte, output_room, bad_parameters}
+use Rattle.stages.specs.Numbers.{unset_name}
 use Rattle.stages.specs.Numbers.{work_least, line_limit, image_limit}
 use Rattle.stages.specs.Bytes.{Text, is_in}
 use Rattle.stages.specs.Outcome.{Outcome, Placed, refused_at, demands_at, done_at, placed_at, ◌then◌, require}

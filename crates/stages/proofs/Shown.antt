@@ -104,7 +104,8 @@ enclosed_shown t u e s =
 field_shown : (t : Text) → Shown (quoted_field t)
 unfolding quoted_field way_of
 field_shown t =
-    either (is_bare t) (λ e. rw e (unfold written is_bare in all_weaker is_bare_byte not_control bare_shown t (and_right (not_empty t) (all is_bare_byte t) e))) λ e.
+    either (is_bare t) (λ e. rw e (unfold written is_bare in
+    all_weaker is_bare_byte not_control bare_shown t (and_right (not_empty t) (all is_bare_byte t) e))) λ e.
     either (has_control t) (λ h. rw (e, h) (dollar (dollared_bytes t)))
     (λ h. rw (e, h) (quotes (singled_bytes t (unfold has_control in not-false (all not_control t) h))))
   where
@@ -142,7 +143,8 @@ digits_shown : (k n : ℕ) → Shown (digits k n)
 unfolding digits
 digits_shown zero n = refl
 digits_shown (suc k) n =
-    either (ltb n 10) (λ e. let h : n < 10 = ltb-true n 10 e in rw (digits_one k n h) (and_both (shown_byte_lem (48 + n) (omega arith) (omega arith)) refl)) λ e.
+    either (ltb n 10) (λ e. let h : n < 10 = ltb-true n 10 e in
+    rw (digits_one k n h) (and_both (shown_byte_lem (48 + n) (omega arith) (omega arith)) refl)) λ e.
     rw (digits_more k n (ltb-false n 10 e))
     (all_append not_control (digits k (n / 10)) ((48 + n % 10) ∷ []) (digits_shown k (n / 10))
     (and_both (shown_byte_lem (48 + n % 10) (omega arith) (omega arith)) refl))

@@ -91,7 +91,8 @@ other_words =
     ∷ bare_dollar "${x-\"$y\"}"
     ∷ bare_sign "*\"$x\"" ∷ bare_sign "a?" ∷ bare_sign "[a]" ∷ bare_sign "\"$x\"*" ∷ bare_sign "~*"
     ∷ a_list "\"$@\"" ∷ a_list "\"$*\"" ∷ a_list "\"${@}\"" ∷ a_list "\"${x-$@}\""
-    ∷ a_mention "\"${IFS}\"" ∷ a_mention "\"${x:=$IFS}\"" ∷ a_mention "\"$IFS\"" ∷ a_mention "\"${IFS:=a}\"" ∷ a_mention "\"${#IFS}\"" ∷ a_mention "\"${x%$IFS}\""
+    ∷ a_mention "\"${IFS}\"" ∷ a_mention "\"${x:=$IFS}\"" ∷ a_mention "\"$IFS\"" ∷ a_mention "\"${IFS:=a}\"" ∷ a_mention "\"${#IFS}\""
+    ∷ a_mention "\"${x%$IFS}\""
     ∷ a_mention "\"$((IFS))\"" ∷ a_mention "\"$((1?2:-IFS))\"" ∷ a_mention "\"$((IFS=1))\"" ∷ a_mention "\"$((n=IFS))\"" ∷ a_mention "\"$((n&&(IFS+=1)))\""
     ∷ dollar_in_sum "\"$(($n))\"" ∷ dollar_in_sum "\"$((${#n}))\"" ∷ dollar_in_sum "\"${x-$((1+$n))}\"" ∷ dollar_in_sum "\"$(($((1))))\""
     ∷ record { line = "$@"; clauses = false ∷ true ∷ false ∷ true ∷ true ∷ [] }

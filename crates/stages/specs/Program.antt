@@ -91,7 +91,8 @@ after_lines homes paths params v (l ∷ ls) = after_lines homes paths params (af
 unfoldable pub said_of : Text → Text → Text → Variables → List Text → Text
 unfolding given_line normaliser said after_line
 said_of homes paths params v [] = []
-said_of homes paths params v (l ∷ ls) = said (normaliser (given_line homes paths params l v)) ++ said_of homes paths params (after_line homes paths params v l) ls
+said_of homes paths params v (l ∷ ls) = said (normaliser (given_line homes paths params l v))
+    ++ said_of homes paths params (after_line homes paths params v l) ls
 
 -- what lines demand, the first of which has the number n
 unfoldable pub told_of : Text → Text → Text → Variables → ℕ → List Text → Text

@@ -159,7 +159,8 @@ pub pair_of_lem : (kind : Kind) (line k t : Text) → pair_of kind line ≡ entr
 unfolding pair_of
 pair_of_lem kind line k t e = either (leb (length line) (up_to 61 line)) (λ d. absurd (faulty_entry (rw d at e))) (λ d. by_key (rw d at e))
   where
-    by_key : pick (key_fits kind [] (take (up_to 61 line) line)) (valued (take (up_to 61 line) line) (read_text (drop (suc (up_to 61 line)) line))) (faulty NoKey)
+    by_key : pick (key_fits kind [] (take (up_to 61 line) line)) (valued (take (up_to 61 line) line) (read_text (drop (suc (up_to 61 line)) line)))
+        (faulty NoKey)
         ≡ entry k t → Pair kind line k t
     by_key e =
         either (key_fits kind [] (take (up_to 61 line) line))

@@ -9,7 +9,8 @@ use mathlib.Core.Option.{none, some}
 use lib.ListN.{length, drop}
 use borrow.Author.Tests.{le-leb}
 use Rattle.stages.specs.Bytes.{Text, eq_text, lt_text}
-use Rattle.stages.specs.Images.{Pairs, texts, is_name, is_login, not_empty, keys, all_texts, rising, flat, image, image_length, lookup, stored, held, held_texts}
+use Rattle.stages.specs.Images.{Pairs, texts, is_name, is_login, not_empty, keys, all_texts, rising, flat, image, image_length, lookup, stored, held}
+use Rattle.stages.specs.Images.{held_texts}
 use Rattle.stages.specs.Call.{over}
 use Rattle.stages.specs.Program.{lines_of}
 use Rattle.stages.proofs.Bools.{no, apart, either, and_left, and_right}

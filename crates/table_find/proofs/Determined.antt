@@ -29,7 +29,8 @@ value_of_determined image key r s = one_answer
 pub find_text_determined : (image : Text) (k : ℕ) (r s : Found) → Numbers image k r → Numbers image k s → r ≡ s
 find_text_determined image k r s p q = one_answer p.is q.is
 
-pub text_of_determined : (image : Text) (k : ℕ) (r s : Text) → r ≡ or_empty (numbered k (held_texts image)) → s ≡ or_empty (numbered k (held_texts image)) → r ≡ s
+pub text_of_determined : (image : Text) (k : ℕ) (r s : Text) → r ≡ or_empty (numbered k (held_texts image)) → s ≡ or_empty (numbered k (held_texts image)) →
+    r ≡ s
 text_of_determined image k r s = one_answer
 
 pub count_texts_determined : (image : Text) (r s : ℕ) → r ≡ length (held_texts image) → s ≡ length (held_texts image) → r ≡ s

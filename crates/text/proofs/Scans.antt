@@ -124,7 +124,13 @@ module _ (a b : Text) (i : ℕ) (p : Alike a b i) where
     pub order_again : get_or a i 0 ≡ get_or b i 0 → Alike a b (i + 1)
     order_again e = record {
       within = omega arith;
-      less = p.less ∙ rw (drop-cons a i 0, drop-cons b i 0, le-ltb (get_or a i 0) (get_or b i 0) (omega arith), eq-eqb (get_or a i 0) (get_or b i 0) e, add-one i);
+      less = p.less ∙ rw (
+        drop-cons a i 0,
+        drop-cons b i 0,
+        le-ltb (get_or a i 0) (get_or b i 0) (omega arith),
+        eq-eqb (get_or a i 0) (get_or b i 0) e,
+        add-one i,
+      );
       same = p.same ∙ rw (drop-cons a i 0, drop-cons b i 0, eq-eqb (get_or a i 0) (get_or b i 0) e, add-one i);
     }
 

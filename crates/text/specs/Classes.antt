@@ -1,6 +1,7 @@
 -- The classes of bytes by the stage's tests, and what the end of a longest run says of a text.
 use Rattle.std.specs.Prelude.{ℕ, ◌≤◌, ◌≡◌, Bool, true, false, ◌&&◌, not, List, [], ◌∷◌, length, drop}
-use Rattle.stages.specs.Bytes.{Text, part, span, not_zero, is_digit, is_name_start, is_name_byte, is_login_byte, is_bare_byte, is_blank, is_operator, not_control}
+use Rattle.stages.specs.Bytes.{Text, part, span, not_zero, is_digit, is_name_start, is_name_byte, is_login_byte, is_bare_byte, is_blank, is_operator}
+use Rattle.stages.specs.Bytes.{not_control}
 use Rattle.stages.specs.Constants.{is_digit_in}
 use Rattle.stages.specs.Quote.{is_sign}
 use Rattle.text.specs.Bits.{all_bits}

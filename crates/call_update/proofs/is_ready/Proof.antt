@@ -24,14 +24,16 @@ well-formed-requires c κs = search rules
 
 returns-2 : tie.Need-returns-then-not-well_formed
 returns-2 c =
-    ready_malformed (call c.before.before.before.before.before) c.if-paths-paths_used.false (sym c.well_formed-2.ensures ∙ not-true _ c.if-not-well_formed.true-raw)
+    ready_malformed (call c.before.before.before.before.before) c.if-paths-paths_used.false
+    (sym c.well_formed-2.ensures ∙ not-true _ c.if-not-well_formed.true-raw)
 
 is-path-requires : tie.Need-is_path-requires
 is-path-requires c κs = search rules
 
 returns-3 : tie.Need-returns
 returns-3 c =
-    ready_path (call c.before.before.before.before.before.before) c.if-paths-paths_used.false (sym c.well_formed-2.ensures ∙ not-false _ c.if-not-well_formed.false-raw)
+    ready_path (call c.before.before.before.before.before.before) c.if-paths-paths_used.false
+    (sym c.well_formed-2.ensures ∙ not-false _ c.if-not-well_formed.false-raw)
     c.is_path.ensures
 
 pub is_ready_spec : {M : Type 1} → statement M

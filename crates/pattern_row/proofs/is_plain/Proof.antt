@@ -7,7 +7,8 @@ use lib.ListN.{length, get_or}
 use Rattle.pattern_row.proofs.Plain.{sign, Seeking, seek_start, seek_end, seek_found, seek_on}
 use Rattle.pattern_row.proofs.is_plain.Statement.{statement}
 use Rattle.pattern_row.proofs.is_plain.Tie as tie
-use Rattle.pattern_row.proofs.is_plain.Lts.{then-b-eq42-via-then-b-eq42, then-b-eq42-via-else-b-eq42+then-b-eq63, then-b-eq42-via-else-b-eq42+else-b-eq63+then-b-eq91}
+use Rattle.pattern_row.proofs.is_plain.Lts.{then-b-eq42-via-then-b-eq42, then-b-eq42-via-else-b-eq42+then-b-eq63}
+use Rattle.pattern_row.proofs.is_plain.Lts.{then-b-eq42-via-else-b-eq42+else-b-eq63+then-b-eq91}
 
 abbrev invariant_loop : tie.invariant-loop-at
 invariant_loop row at₀ at = Seeking row at

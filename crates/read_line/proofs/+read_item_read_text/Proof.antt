@@ -246,7 +246,8 @@ module _ (t : ℕ) where
   read_text_loop_holds : read-text-lts.Need-loop-place-init (read_text_callees t) (read_text_at t) read-text.Post invariant_loop decreases_loop
   read_text_loop_holds c = let b = c in reads_start b.args.text.now b.args.from b.requires.1.0 b.requires.1.1
 
-  read_text_behind_literals_requires : read-text-lts.Need-behind_literals-place-requires (read_text_callees t) (read_text_at t) read-text.Post invariant_loop decreases_loop
+  read_text_behind_literals_requires : read-text-lts.Need-behind_literals-place-requires (read_text_callees t)
+      (read_text_at t) read-text.Post invariant_loop decreases_loop
   read_text_behind_literals_requires c κs = c.loop-place.invariant.within
 
   read_text_is_end_requires : read-text-lts.Need-is_end-requires (read_text_callees t) (read_text_at t) read-text.Post invariant_loop decreases_loop

@@ -48,7 +48,13 @@ mul-high-4 : tie.Need-overflow_mul-high-4
 mul-high-4 c = omega (arith, c.shared_slice_known-4-1.given 3)
 
 add-high-3 : tie.Need-overflow_add-high-3
-add-high-3 c = omega (arith, c.shared_slice_known-4-1.given 0, c.shared_slice_known-4-1.given 1, c.shared_slice_known-4-1.given 2, c.shared_slice_known-4-1.given 3)
+add-high-3 c = omega (
+  arith,
+  c.shared_slice_known-4-1.given 0,
+  c.shared_slice_known-4-1.given 1,
+  c.shared_slice_known-4-1.given 2,
+  c.shared_slice_known-4-1.given 3,
+)
 
 shared-slice-read-low : tie.Need-bounds-text-4
 shared-slice-read-low c = search rules
@@ -90,7 +96,13 @@ cast-low-4 : tie.Need-overflow_cast-low-4
 cast-low-4 c = omega (arith, c.shared_slice_known-8-1.given 7)
 
 add-low-3 : tie.Need-overflow_add-low-3
-add-low-3 c = omega (arith, c.shared_slice_known-8-1.given 4, c.shared_slice_known-8-1.given 5, c.shared_slice_known-8-1.given 6, c.shared_slice_known-8-1.given 7)
+add-low-3 c = omega (
+  arith,
+  c.shared_slice_known-8-1.given 4,
+  c.shared_slice_known-8-1.given 5,
+  c.shared_slice_known-8-1.given 6,
+  c.shared_slice_known-8-1.given 7,
+)
 
 add-result : tie.Need-overflow_add-result
 add-result c =

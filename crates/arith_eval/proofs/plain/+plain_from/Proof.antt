@@ -78,7 +78,8 @@ module _ (t : ℕ) where
       constant_shown a.text.now k.in-Op.next n.constant_at-first.ensures n.in-Value.is
 
   -- the whole right side
-  right_side : (p : lts.After-plain_from-right (callees t) (plain_from_at t) plain-from.Post invariant_loop decreases_loop) {g : Plain} → p.plain_from-right.result ≡ g →
+  right_side : (p : lts.After-plain_from-right (callees t) (plain_from_at t) plain-from.Post invariant_loop decreases_loop) {g : Plain} →
+      p.plain_from-right.result ≡ g →
       let n = p.before in
       let k = n.before.before.before.before in
       let a = k.args in

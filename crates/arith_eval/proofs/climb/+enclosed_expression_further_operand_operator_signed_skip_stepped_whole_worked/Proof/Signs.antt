@@ -191,4 +191,5 @@ module _ (t : ℕ) where
       rw (kept c.in-Value.value c.in-Value.known_told-in-Value-1-own.given.0.1)
       (enclosed_says (lent_in a.scope) a.text.now a.vars.now a.scope.vars_used a.scope.counts a.at a.scope.room _ _ _ _
       c.if-scope-eq0.false
-      (enclosed_whole (c.before.before.before.before.before.before.before) c.in-Value.is) _ (closes_shown a.text.now c.in-Value.next c.closed-shut.ensures c.in-Next.is))
+      (enclosed_whole (c.before.before.before.before.before.before.before) c.in-Value.is) _
+      (closes_shown a.text.now c.in-Value.next c.closed-shut.ensures c.in-Next.is))

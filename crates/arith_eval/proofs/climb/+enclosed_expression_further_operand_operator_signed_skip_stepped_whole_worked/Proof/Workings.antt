@@ -134,7 +134,8 @@ module _ (t : ℕ) where
       let l = c.loop-next in
       work_fails (lent_in a.scope) a.text.now (inside a.vars.now a.scope.vars_used) a.at a.scope.room l.awaited l.i
       l.first l.waiting l.places _ l.invariant.0
-      (worked_target_at t (c.before.before.before.before.before.before.before.before.before) c.in-Missing.is) _ (worked_expression t (c.before.before.before.before.before) c.in-Refused.is)
+      (worked_target_at t (c.before.before.before.before.before.before.before.before.before) c.in-Missing.is) _
+      (worked_expression t (c.before.before.before.before.before) c.in-Refused.is)
 
   pub worked_enum_known_got_2 : worked-lts.Need-enum_known-got-in-Value-1 (worked_callees t) (worked_at t) worked.Post worked_Inv_loop worked-μ-loop
   worked_enum_known_got_2 c = search rules
@@ -184,7 +185,8 @@ module _ (t : ℕ) where
       let l = c.loop-next in
       work_refused (lent_in a.scope) a.text.now (inside a.vars.now a.scope.vars_used) a.at a.scope.room l.awaited l.i
       l.first l.waiting l.places _ l.invariant.0
-      (worked_target_at t (c.before.before.before.before.before.before.before.before.before.before.before.before.before.before.before.before.before) c.in-Missing.is) c.in-Value.value c.in-Value.next _
+      (worked_target_at t (c.before.before.before.before.before.before.before.before.before.before.before.before.before.before.before.before.before)
+      c.in-Missing.is) c.in-Value.value c.in-Value.next _
       (worked_expression t (c.before.before.before.before.before.before.before.before.before.before.before.before.before) c.in-Value.is).0
       a.vars.now a.vars.now _ (worked_stepped t (c.before.before.before.before.before) c.in-Refused-step.is)
 
@@ -223,9 +225,14 @@ module _ (t : ℕ) where
       let h = (worked_stepped t (c.before.before.before.before.before.before.before.before.before) c.in-Last.is) in
       work_last (lent_in a.scope) a.text.now a.vars.now a.scope.vars_used a.at a.scope.room l.awaited l.i l.first
       l.waiting
-      (worked_places_2 t (c.before.before.before.before.before.before.before.before.before)) _ (worked_lent_2 t (c.before.before.before.before.before.before.before.before.before)) (worked_target_at t (c.before.before.before.before.before.before.before.before.before.before.before.before.before.before.before.before.before.before.before.before.before) c.in-Missing.is)
+      (worked_places_2 t (c.before.before.before.before.before.before.before.before.before)) _
+      (worked_lent_2 t (c.before.before.before.before.before.before.before.before.before))
+      (worked_target_at t
+      (c.before.before.before.before.before.before.before.before.before.before.before.before.before.before.before.before.before.before.before.before.before)
+      c.in-Missing.is)
       c.in-Value.value c.in-Value.next _ c.in-Value.vars_used
-      (worked_expression t (c.before.before.before.before.before.before.before.before.before.before.before.before.before.before.before.before.before) c.in-Value.is).0 _ h.0 _ c.stored_all.result
+      (worked_expression t (c.before.before.before.before.before.before.before.before.before.before.before.before.before.before.before.before.before)
+      c.in-Value.is).0 _ h.0 _ c.stored_all.result
       (subst (λ x. Stores (lent_in a.scope) a.text.now c.in-Last.end c.in-Value.value l.waiting
       (worked_places_2 t (c.before.before.before.before.before.before.before.before.before)) x c.in-Value.vars_used
       c.stored_all.new.vars c.stored_all.result) h.1
@@ -262,7 +269,8 @@ module _ (t : ℕ) where
             (worked_places_2 t (c.before.before.before.before.before)) (inside x c.in-Value.vars_used)) (sym h.2)
             (work_middle (lent_in a.scope) a.text.now (inside a.vars.now a.scope.vars_used) a.at a.scope.room l.awaited l.i
             l.first l.waiting (worked_places_2 t (c.before.before.before.before.before)) _ (worked_lent_2 t (c.before.before.before.before.before))
-            (worked_target_at t (c.before.before.before.before.before.before.before.before.before.before.before.before.before.before.before.before.before) c.in-Missing.is) c.in-Value.value c.in-Value.next _
+            (worked_target_at t (c.before.before.before.before.before.before.before.before.before.before.before.before.before.before.before.before.before)
+            c.in-Missing.is) c.in-Value.value c.in-Value.next _
             (worked_expression t (c.before.before.before.before.before.before.before.before.before.before.before.before.before) c.in-Value.is).0 _ h.0 h.1),
         subst (λ x. Holds a.scope.vars_room x c.in-Value.vars_used) (sym h.2)
             (worked_expression t (c.before.before.before.before.before.before.before.before.before.before.before.before.before) c.in-Value.is).1.holds,
@@ -292,7 +300,8 @@ module _ (t : ℕ) where
             (worked_places_2 t (c.before.before.before.before.before)) (inside x c.in-Value.vars_used)) (sym h.2)
             (work_behind (lent_in a.scope) a.text.now (inside a.vars.now a.scope.vars_used) a.at a.scope.room l.awaited l.i
             l.first l.waiting (worked_places_2 t (c.before.before.before.before.before)) _ (worked_lent_2 t (c.before.before.before.before.before))
-            (worked_target_at t (c.before.before.before.before.before.before.before.before.before.before.before.before.before.before.before.before.before) c.in-Missing.is) c.in-Value.value c.in-Value.next _
+            (worked_target_at t (c.before.before.before.before.before.before.before.before.before.before.before.before.before.before.before.before.before)
+            c.in-Missing.is) c.in-Value.value c.in-Value.next _
             (worked_expression t (c.before.before.before.before.before.before.before.before.before.before.before.before.before) c.in-Value.is).0 _ h.1 h.0),
         subst (λ x. Holds a.scope.vars_room x c.in-Value.vars_used) (sym h.2)
             (worked_expression t (c.before.before.before.before.before.before.before.before.before.before.before.before.before) c.in-Value.is).1.holds,
