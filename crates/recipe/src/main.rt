@@ -85,13 +85,13 @@ fn run(
         × (paths_limit + 1 ≡ length paths.old) }
     ensures { result ≡ true → Runs vars.new homes.new paths.new params.new }
 {
-    let Loaded::Length(vars_used) = recipe_load::load(rt, "vars.tab", vars) else {
+    let Loaded::Length(vars_used) = recipe_load::load(rt, b"vars.tab", vars) else {
         return false;
     };
-    let Loaded::Length(h) = recipe_load::load(rt, "homes.tab", homes) else {
+    let Loaded::Length(h) = recipe_load::load(rt, b"homes.tab", homes) else {
         return false;
     };
-    let Loaded::Length(p) = recipe_load::load(rt, "paths.tab", paths) else {
+    let Loaded::Length(p) = recipe_load::load(rt, b"paths.tab", paths) else {
         return false;
     };
     let heard = recipe_arguments::gather(rt, 1, params);

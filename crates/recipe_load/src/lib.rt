@@ -38,18 +38,18 @@ enum Fetched {
 }
 
 // A read that gave no byte was the file's end, or has failed.
-fn end_of_file(rt: &HostRuntime, got: io::Result<usize>, name: &str, done: usize) -> Fetched
+fn end_of_file(rt: &HostRuntime, got: io::Result<usize>, name: &[u8], done: usize) -> Fetched
     ensures { Ends got done result }
 {
     if let Err(error) = got {
-        system::fail(rt, name.as_bytes(), error);
+        system::fail(rt, name, error);
         return Fetched::Unread;
     }
     Fetched::File(done)
 }
 
 // Reads a file to its end, or until the buffer is full.
-fn read_file(rt: &HostRuntime, file: &mut File, name: &str, buffer: &mut [u8]) -> Fetched
+fn read_file(rt: &HostRuntime, file: &mut File, name: &[u8], buffer: &mut [u8]) -> Fetched
     ensures { Fetches (length buffer.old) result }
 {
     let mut done = 0;
@@ -65,21 +65,25 @@ fn read_file(rt: &HostRuntime, file: &mut File, name: &str, buffer: &mut [u8]) -
 }
 
 // A file that cannot be opened is absent, or cannot be read.
-fn unopened(rt: &HostRuntime, error: io::Error, name: &str) -> Fetched
+fn unopened(rt: &HostRuntime, error: io::Error, name: &[u8]) -> Fetched
     ensures { result ≡ unopened_by (raw_os_error error) }
 {
     if let Some(NO_SUCH_FILE) = error.raw_os_error() {
         return Fetched::Absent;
     }
-    system::fail(rt, name.as_bytes(), error);
+    system::fail(rt, name, error);
     Fetched::Unread
 }
 
-// Fetches the file of that name.
-fn fetch(rt: &HostRuntime, name: &str, buffer: &mut [u8]) -> Fetched
+// Fetches the file of that name. A path of std is text: a name that is none cannot be read.
+fn fetch(rt: &HostRuntime, name: &[u8], buffer: &mut [u8]) -> Fetched
     ensures { Fetches (length buffer.old) result }
 {
-    match File::open(rt, name) {
+    let Ok(path) = str::from_utf8(name) else {
+        system::fail(rt, name, io::Error::from(io::ErrorKind::InvalidFilename));
+        return Fetched::Unread;
+    };
+    match File::open(rt, path) {
         Ok(mut file) => read_file(rt, &mut file, name, buffer),
         Err(error) => unopened(rt, error, name),
     }
@@ -122,7 +126,7 @@ fn settle(fetched: Fetched, buffer: &mut [u8]) -> Loaded
 }
 
 // Reads the table of that name.
-pub fn load(rt: &HostRuntime, name: &str, buffer: &mut [u8]) -> Loaded
+pub fn load(rt: &HostRuntime, name: &[u8], buffer: &mut [u8]) -> Loaded
     requires { 1 ≤ length buffer.old }
     ensures { Loads (length buffer.old) buffer.new result }
 {

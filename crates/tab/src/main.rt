@@ -174,10 +174,10 @@ fn assign_input(
 )
     requires { (image_limit + 1 ≡ length vars.old) × (image_limit + 1 ≡ length homes.old) }
 {
-    let Loaded::Length(used) = recipe_load::load(rt, "vars.tab", vars) else {
+    let Loaded::Length(used) = recipe_load::load(rt, b"vars.tab", vars) else {
         return;
     };
-    let Loaded::Length(h) = recipe_load::load(rt, "homes.tab", homes) else {
+    let Loaded::Length(h) = recipe_load::load(rt, b"homes.tab", homes) else {
         return;
     };
     let n = system::read_full(&mut rt.stdin(), text);

@@ -13,7 +13,7 @@ fetch-requires c κs = search rules
 settle-requires : tie.Need-settle-requires
 settle-requires c κs =
     let f = c.fetch-fetched in
-    (omega (arith, f.auto.buffer), fetches_same f.result (sym f.auto.buffer) f.ensures.0)
+    (omega (arith, f.auto.buffer), fetches_same f.result (sym f.auto.buffer) f.ensures)
 
 same_length : tie.Need-shape_of-buffer
 same_length c = search rules
@@ -23,7 +23,7 @@ returns c =
     let a = c in
     let f = c.fetch-fetched in
     let s = c.settle in
-    (settles_loads (length a.args.buffer.now) f.new.buffer s.new.buffer f.auto.buffer f.result s.result a.requires.1 f.ensures.0 s.ensures, tt)
+    settles_loads (length a.args.buffer.now) f.new.buffer s.new.buffer f.auto.buffer f.result s.result a.requires f.ensures s.ensures
 
 pub load_spec : {M : Type 1} → statement M
 load_spec = tie.close (tie.spec
