@@ -127,7 +127,8 @@ module _ {line : Text} {at : ℕ} {vars : Text} {vars_used room : ℕ} {houses p
       }
 
   module _ (area vars' : Text) (got : Expanded)
-      (h : Expands room line at 0 (λ t. expand (lent_of room shouts houses params) t L 0 v) (parts (words fresh) depth_limit (drop at line)) area vars' got) where
+      (h : Expands room line at 0 (λ t. expand (lent_of room shouts houses params) t L 0 v)
+      (parts (words fresh) depth_limit (drop at line)) area vars' got) where
     pub row_of_lem : {s : Expanded} → got ≡ s → RowOf room line at 0 (expand (lent_of room shouts houses params) tree L 0 v) rest area vars' s
     row_of_lem e =
         subst (λ (x : Expanded). RowOf room line at 0 (expand (lent_of room shouts houses params) tree L 0 v) rest area vars' x) e
@@ -151,7 +152,8 @@ module _ {line : Text} {at : ℕ} {vars : Text} {vars_used room : ℕ} {houses p
       module _ {out : Text} {r : Written}
           (p : Puts (texts_of_fields (held_texts paths) (fields_of_row (held (take left vars')) (row_of (take (2 * units) area)))) used old out r) where
         split : Says (texts_of_fields (held_texts paths) (fields_of_row (held (take left vars')) there.row)) used old out r
-        split = subst (λ (x : Row). Says (texts_of_fields (held_texts paths) (fields_of_row (held (take left vars')) x)) used old out r) (row_there there) p.says
+        split = subst (λ (x : Row). Says (texts_of_fields (held_texts paths) (fields_of_row (held (take left vars')) x)) used old out r)
+            (row_there there) p.says
 
         pub word_class : {work' : Text} → r ≡ Class → WordSays a (parts (words fresh) depth_limit (drop at line)) line at used v vars' old out work'
             (word.Refused bracket_class)

@@ -39,7 +39,8 @@ slice-relend-prefix-expand-line : tie.Need-slice_bounds-expand_line-end
 slice-relend-prefix-expand-line c = size_within c.args.out.now c.requires.0 c.args.image.now c.requires.1 c.room-size.result c.room-size.ensures
 
 slice-aggregate-expand-line : tie.Need-slice_bounds-expand_line-end-2
-slice-aggregate-expand-line c = sym (length-take-le _ _ (size_within c.args.out.now c.requires.0 c.args.image.now c.requires.1 c.room-size.result c.room-size.ensures))
+slice-aggregate-expand-line c =
+    sym (length-take-le _ _ (size_within c.args.out.now c.requires.0 c.args.image.now c.requires.1 c.room-size.result c.room-size.ensures))
 
 expand-line-requires : tie.Need-expand_line-got-requires
 expand-line-requires c κs =

@@ -32,16 +32,20 @@ abbrev decreases_loop : tie.decreases-loop-row
 decreases_loop row₀ ifs paths out₀ used top at₀ len₀ full₀ row out at len full = length (ahead row at)
 
 -- the places of a turn: the call, the turn's start in the outer loop, the field's end in the inner one, and its texts written
-abbrev start : tie.At-loop-row invariant-loop2 decreases-loop2 invariant_loop decreases_loop → tie.Start invariant-loop2 decreases-loop2 invariant_loop decreases_loop
+abbrev start : tie.At-loop-row invariant-loop2 decreases-loop2 invariant_loop decreases_loop →
+    tie.Start invariant-loop2 decreases-loop2 invariant_loop decreases_loop
 start l = l.before.before.before.before.before.before.before
 
-abbrev outer : tie.At-loop-row-2 invariant-loop2 decreases-loop2 invariant_loop decreases_loop → tie.At-loop-row invariant-loop2 decreases-loop2 invariant_loop decreases_loop
+abbrev outer : tie.At-loop-row-2 invariant-loop2 decreases-loop2 invariant_loop decreases_loop →
+    tie.At-loop-row invariant-loop2 decreases-loop2 invariant_loop decreases_loop
 outer e = e.before.before
 
-abbrev ended : tie.After-behind_field-next invariant-loop2 decreases-loop2 invariant_loop decreases_loop → tie.At-loop-row-2 invariant-loop2 decreases-loop2 invariant_loop decreases_loop
+abbrev ended : tie.After-behind_field-next invariant-loop2 decreases-loop2 invariant_loop decreases_loop →
+    tie.At-loop-row-2 invariant-loop2 decreases-loop2 invariant_loop decreases_loop
 ended b = b.before.before.before
 
-abbrev passed : tie.After-put_field invariant-loop2 decreases-loop2 invariant_loop decreases_loop → tie.After-behind_field-next invariant-loop2 decreases-loop2 invariant_loop decreases_loop
+abbrev passed : tie.After-put_field invariant-loop2 decreases-loop2 invariant_loop decreases_loop →
+    tie.After-behind_field-next invariant-loop2 decreases-loop2 invariant_loop decreases_loop
 passed p = p.before.before.before
 
 -- what a turn knows behind the call for its field
@@ -67,7 +71,8 @@ turn p =
       kept = p.put_field.auto.out;
     }
 
-abbrev settled : tie.After-slice_known-in-loop-row-2-1 invariant-loop2 decreases-loop2 invariant_loop decreases_loop → tie.After-put_field invariant-loop2 decreases-loop2 invariant_loop decreases_loop
+abbrev settled : tie.After-slice_known-in-loop-row-2-1 invariant-loop2 decreases-loop2 invariant_loop decreases_loop →
+    tie.After-put_field invariant-loop2 decreases-loop2 invariant_loop decreases_loop
 settled c = c.before.before.before.before
 
 -- the field goes on with the unit that the inner loop is at

@@ -75,7 +75,8 @@ same_vars_lem c = c.assign-answer.auto.vars ∙ (walk (line_of c)).loop-asked.in
 same_work : (c : tie.After-assign-answer invariant_loop decreases_loop) → length c.assign-answer.new.work ≡ length (start (walk (line_of c))).args.work.now
 same_work c = c.assign-answer.auto.work ∙ (walk (line_of c)).loop-asked.invariant.2
 
-same_message : (c : tie.After-assign-answer invariant_loop decreases_loop) → length c.assign-answer.new.message ≡ length (start (walk (line_of c))).args.message.now
+same_message : (c : tie.After-assign-answer invariant_loop decreases_loop) →
+    length c.assign-answer.new.message ≡ length (start (walk (line_of c))).args.message.now
 same_message c = c.assign-answer.auto.message ∙ (walk (line_of c)).loop-asked.invariant.3
 
 same_length : tie.Need-shape_of-vars-then-answer-ne-ACCEPTED invariant_loop decreases_loop

@@ -173,7 +173,11 @@ module _ (t : ℕ) where
   flagged c =
       let g = c.before in
       let before = (run_from (put (stood (given g)))).loop-from.of_none in
-      elim c.if-of_none.branch [ lts.then-of_none w ↦ came_before before _ (w.if-of_none.true, w.of_none-is) | lts.else-of_none w ↦ came_now before _ (w.if-of_none.false, w.of_none-is) ]
+      elim c.if-of_none.branch [
+        | lts.then-of_none w ↦ came_before before _ (w.if-of_none.true, w.of_none-is)
+        | lts.else-of_none w ↦ came_now before _
+            (w.if-of_none.false, w.of_none-is)
+      ]
 
   pub loop-holds : lts.Need-loop-from-init (callees t) (expand_text_at t) expand-text.Post Inv-loop μ-loop
   loop-holds c =
