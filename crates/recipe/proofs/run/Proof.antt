@@ -49,21 +49,21 @@ module _ (c : tie.In-Length) where
   room = length (begun (loaded c)).args.vars.now
 
   vars_held : Held room c.in-Length.vars_used (loaded c).load.new.buffer
-  vars_held = loads_held room (loaded c).load.new.buffer c.in-Length.is (loaded c).load.ensures.0
+  vars_held = loads_held room (loaded c).load.new.buffer c.in-Length.is (loaded c).load.ensures
 
 module _ (c : tie.In-Length-load) where
   abbrev room_2 : ℕ
   room_2 = length (begun (first (loaded_2 c))).args.homes.now
 
   homes_held : Held room_2 c.in-Length-load.h (loaded_2 c).load-2.new.buffer
-  homes_held = loads_held room_2 (loaded_2 c).load-2.new.buffer c.in-Length-load.is (loaded_2 c).load-2.ensures.0
+  homes_held = loads_held room_2 (loaded_2 c).load-2.new.buffer c.in-Length-load.is (loaded_2 c).load-2.ensures
 
 module _ (c : tie.In-Length-load-2) where
   abbrev room_3 : ℕ
   room_3 = length (begun (first (second (loaded_3 c)))).args.paths.now
 
   paths_held : Held room_3 c.in-Length-load-2.p (loaded_3 c).load-3.new.buffer
-  paths_held = loads_held room_3 (loaded_3 c).load-3.new.buffer c.in-Length-load-2.is (loaded_3 c).load-3.ensures.0
+  paths_held = loads_held room_3 (loaded_3 c).load-3.new.buffer c.in-Length-load-2.is (loaded_3 c).load-3.ensures
 
 load-requires : tie.Need-load-requires
 load-requires c κs = search rules
