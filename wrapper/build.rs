@@ -8,7 +8,9 @@ fn main() {
     println!("cargo:rerun-if-env-changed=DRUNQUILL_ARCHIVE");
     let folder = match env::var_os("DRUNQUILL_ARCHIVE") {
         Some(folder) => PathBuf::from(folder),
-        None => PathBuf::from(env::var_os("CARGO_MANIFEST_DIR").expect("set by cargo")).join("../crates/drunquill_c/out"),
+        None => {
+            PathBuf::from(env::var_os("CARGO_MANIFEST_DIR").expect("set by cargo")).join("../crates/drunquill_c/out")
+        }
     };
     let archive = |name: &str| folder.join(format!("lib{name}.a"));
     let name = ["drunquill_c", "drunquill"].into_iter().find(|name| archive(name).exists());
