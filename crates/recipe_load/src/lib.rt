@@ -80,8 +80,7 @@ fn fetch(rt: &HostRuntime, name: &[u8], buffer: &mut [u8]) -> Fetched
     ensures { Fetches (length buffer.old) result }
 {
     let Ok(path) = str::from_utf8(name) else {
-        system::fail(rt, name, io::Error::from(io::ErrorKind::InvalidFilename));
-        return Fetched::Unread;
+        return unopened(rt, io::Error::from(io::ErrorKind::InvalidFilename), name);
     };
     match File::open(rt, path) {
         Ok(mut file) => read_file(rt, &mut file, name, buffer),
