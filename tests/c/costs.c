@@ -124,11 +124,11 @@ static void short_ones(void) {
         set("", "");
         for (int i = (state >> 8) % 12; i > 0; i--) {
             state = state * 1103515245 + 12345;
-            add(&pattern, "**?aab" + (state >> 16) % 6, 1);
+            add(&pattern, &"**?aab"[(state >> 16) % 6], 1);
         }
         for (int i = (state >> 12) % 12; i > 0; i--) {
             state = state * 1103515245 + 12345;
-            add(&text, "ab" + (state >> 16) % 2, 1);
+            add(&text, &"ab"[(state >> 16) % 2], 1);
         }
         state = state * 1103515245 + 12345;
         call(0, reached());

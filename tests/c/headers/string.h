@@ -4,6 +4,7 @@
 #include <stddef.h>
 int memcmp(const void *one, const void *other, size_t count);
 void *memcpy(void *restrict to, const void *restrict from, size_t count);
+void *memmove(void *to, const void *from, size_t count);
 void *memset(void *to, int byte, size_t count);
 int strcmp(const char *one, const char *other);
 size_t strlen(const char *text);
