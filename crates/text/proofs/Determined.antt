@@ -10,8 +10,10 @@ use Rattle.text.specs.Bits.{has_bit}
 use Rattle.text.specs.Classes.{in_class, Runs}
 use Rattle.text.specs.Orders.{order_of}
 use Rattle.text.specs.Rows.{is_mark}
+use Rattle.text.specs.Refusals.{refusal_number}
 use Rattle.text.specs.declared.Class.{Class}
 use Rattle.text.specs.declared.Order.{Order}
+use Rattle.text.specs.declared.refusal.Refusal.{Refusal}
 
 -- what equals the same is equal: the shared law
 pub one_answer : {A : Type 0} {x r s : A} → r ≡ x → s ≡ x → r ≡ s
@@ -43,3 +45,6 @@ pub run_end_determined : (text : Text) (at : ℕ) (class : Class) (r s : ℕ) �
 run_end_determined text at class r s p q =
     let e : drop r text ≡ drop s text = ap (λ (x : Text × Text). x.1) (sym p.is ∙ q.is) in
     omega (arith, p.within, q.within, length-drop r text, length-drop s text, ap length e)
+
+pub number_determined : (why : Refusal) (r s : ℕ) → r ≡ refusal_number why → s ≡ refusal_number why → r ≡ s
+number_determined why r s = one_answer

@@ -8,7 +8,7 @@ use mathlib.Core.List.{[], ◌∷◌}
 use lib.Dec.{eqb-zero-suc}
 use lib.ListN.{length, take, drop, get_or, drop_of_length-le, length-drop, take-append-drop}
 use lib.Seq.{drop-cons, drop-drop, take_all}
-use borrow.Author.Tests.{le-leb, lt-leb}
+use borrow.Author.Tests.{le-leb}
 use Rattle.stages.specs.Bytes.{Text, is_in, all, not_zero}
 use Rattle.stages.proofs.Bools.{apart, not_passed, same_tests}
 use Rattle.stages.proofs.Texts.{all_append, all_take, all_drop}

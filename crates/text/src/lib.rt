@@ -9,6 +9,7 @@ ghost use Rattle.text.specs.Orders.{order_of};
 
 pub mod marks;
 pub mod numbers;
+pub mod refusal;
 
 // The classes of bytes that documents 01 and 02 name.
 #[derive(Clone, Copy)]

@@ -1,5 +1,5 @@
 -- `text::no_zero` meets its contract: a text has no zero byte just if none of its blocks has one.
-use Prim.Native.Nat.{◌-◌, ◌+◌}
+use Prim.Native.Nat.{◌-◌}
 use mathlib.Core.Path.{refl, sym, ap, ◌∙◌}
 use mathlib.Core.Bool.{not}
 use lib.ListN.{length}

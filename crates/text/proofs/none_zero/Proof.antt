@@ -1,7 +1,6 @@
 -- `text::none_zero` meets its contract: the text has no zero byte just if none was met and none is among the bytes from `i` on.
 use Prim.Native.Nat.{◌-◌}
 use mathlib.Core.Path.{refl}
-use mathlib.Core.Logic.{inl, inr}
 use lib.ListN.{length}
 use native.Mathlib.Omega.{arith}
 use Rattle.text.proofs.Zeros.{Meeting, meets, meets_none, meeting_says}
