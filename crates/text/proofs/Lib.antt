@@ -9,3 +9,4 @@ pub mod Runs
 pub mod Parts
 pub mod Filling
 pub mod Cases
+pub mod Refusals
