@@ -1,22 +1,17 @@
--- The bytes that end a text. A login ends at a `/`, in a value also at a `:`, and where the text ends.
 use Prim.Native.Nat.{ℕ}
 use Prim.Native.Char.{code}
 use mathlib.Core.Path.{◌≡◌, refl, sym, ap, ◌∙◌, subst}
 use mathlib.Core.Bool.{Bool, true, false, ◌||◌}
-use mathlib.Core.List.{[], ◌∷◌}
 use borrow.Author.Tests.{eqb-true}
-use denote.Enum.Declared.{tag_of}
-use types.Run.{OneOf, miss}
 use lib.Dec.{eqb}
 use Rattle.stages.specs.Bytes.{is_in, text, is_blank, is_operator}
 use Rattle.stages.specs.Outcome.{pick}
 use Rattle.stages.specs.Syntax as syntax
-use Rattle.stages.specs.Items.{is_closer, login_ends, ends_login, sort, word_sort, begins_tilde}
+use Rattle.stages.specs.Items.{is_closer, sort, word_sort, begins_tilde}
 use Rattle.stages.specs.Items as items
 use Rattle.stages.proofs.Bools.{no, either}
 use Rattle.text.specs.Cases.{start_of, lists_of}
 use Rattle.read_mode.specs.Modes.{mode_of, quotes_sort, plain_sort}
-use Rattle.read_mode.specs.contracts.Mode as mode-type
 use Rattle.read_mode.specs.declared.Mode.{Mode}
 use Rattle.read_mode.specs.declared.Mode.TheVariants.{Word, Value, Bare, Single, Double, Operand, Arith}
 
@@ -109,27 +104,3 @@ closer_is (Arith n) b =
 
 pub closer_known : (m : Mode) (b : ℕ) {k : Mode} {r : Bool} → m ≡ k → r ≡ closes k b → r ≡ is_closer (sort (mode_of m) b)
 closer_known m b e h = h ∙ ap (λ (x : Mode). closes x b) (sym e) ∙ closer_is m b
-
--- the bytes that end a login where the mode is no value
-or_nothing : (x : Bool) → x ≡ (x || false)
-or_nothing true = refl
-or_nothing false = refl
-
-pub other_ends : (m : Mode) (b : ℕ) → OneOf (0 ∷ 2 ∷ 3 ∷ 4 ∷ 5 ∷ 6 ∷ []) (tag_of mode-type.the_type m) → eqb b (code "/") ≡ is_in b (login_ends (mode_of m))
-unfolding login_ends
-other_ends (Word s) b k = or_nothing (eqb b (code "/"))
-other_ends (Value s) b k = absurd (miss (0 ∷ 2 ∷ 3 ∷ 4 ∷ 5 ∷ 6 ∷ []) 1 tt k)
-other_ends (Bare s l) b k = or_nothing (eqb b (code "/"))
-other_ends (Single e) b k = or_nothing (eqb b (code "/"))
-other_ends (Double l) b k = or_nothing (eqb b (code "/"))
-other_ends (Operand l) b k = or_nothing (eqb b (code "/"))
-other_ends (Arith n) b k = or_nothing (eqb b (code "/"))
-
-module _ (m : syntax.Mode) (b : ℕ) where
-  pub byte_ends : is_in b (login_ends m) ≡ true → true ≡ ends_login m (b ∷ [])
-  unfolding ends_login
-  byte_ends e = rw e
-
-  pub sort_ends : is_in b (login_ends m) ≡ false → is_closer (sort m b) ≡ ends_login m (b ∷ [])
-  unfolding ends_login
-  sort_ends n = rw n

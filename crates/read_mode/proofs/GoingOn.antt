@@ -3,16 +3,12 @@ use Prim.Native.Nat.{ℕ}
 use Prim.Native.Char.{code}
 use mathlib.Core.Path.{◌≡◌, refl, ap}
 use mathlib.Core.Bool.{Bool, true, false}
-use mathlib.Core.List.{[], ◌∷◌}
 use lib.Dec.{eqb}
-use denote.Enum.Declared.{tag_of}
-use types.Run.{OneOf, miss}
 use Rattle.stages.specs.Outcome.{pick}
 use Rattle.stages.specs.Syntax.{fresh, begun, value}
 use Rattle.stages.specs.Items.{onward, start_behind, behind_byte}
 use Rattle.text.specs.Cases.{escape_of, start_of}
 use Rattle.read_mode.specs.Modes.{mode_of, open_in, mode_onward, opens_tilde, mode_behind}
-use Rattle.read_mode.specs.contracts.Mode as mode-type
 use Rattle.read_mode.specs.declared.Mode.{Mode}
 use Rattle.read_mode.specs.declared.Mode.TheVariants.{Word, Value, Bare, Single, Double, Operand, Arith}
 
@@ -62,13 +58,3 @@ behind_open (Single e) q b = refl
 behind_open (Double l) q b = refl
 behind_open (Operand l) q b = refl
 behind_open (Arith n) q b = refl
-
--- but for a value a byte is as any item
-pub other_behind : (m : Mode) (q : Bool) (b : ℕ) → OneOf (0 ∷ 2 ∷ 3 ∷ 4 ∷ 5 ∷ 6 ∷ []) (tag_of mode-type.the_type m) → mode_onward m ≡ mode_behind m q b
-other_behind (Word s) q b k = refl
-other_behind (Value s) q b k = absurd (miss (0 ∷ 2 ∷ 3 ∷ 4 ∷ 5 ∷ 6 ∷ []) 1 tt k)
-other_behind (Bare s l) q b k = refl
-other_behind (Single e) q b k = refl
-other_behind (Double l) q b k = refl
-other_behind (Operand l) q b k = refl
-other_behind (Arith n) q b k = refl

@@ -1,6 +1,4 @@
 pub mod Determined
 pub mod Closing
 pub mod GoingOn
-pub mod Letting
 pub mod Valued
-pub mod Escaping

@@ -6,7 +6,7 @@ ghost use Rattle.std.specs.Prelude.{◌≡◌, [], ◌∷◌};
 ghost use Rattle.stages.specs.Bytes.{is_in, text};
 ghost use Rattle.stages.specs.Syntax.{word, bare, single, double, quoted_operand, arith};
 ghost use Rattle.text.specs.Cases.{colon_of, start_of, lists_of, escapes_of};
-ghost use Rattle.stages.specs.Items.{quotable, not_served, lists_in, both, let_by, ended, wrong, fault, sign_form, begins_tilde, login_ends, ends_login};
+ghost use Rattle.stages.specs.Items.{quotable, not_served, lists_in, let_by, ended, wrong, fault, sign_form, begins_tilde, login_ends, ends_login};
 ghost use Rattle.stages.specs.Items.{sort, is_closer};
 ghost use Rattle.read_mode.specs.Modes.{mode_of, form_of, mode_onward, opens_tilde, mode_behind, Operands, Sorted, Shared, quotes_sort, plain_sort, ends_line};
 
@@ -73,41 +73,38 @@ pub enum Sort {
 }
 
 // A backslash, a `$`, or a byte that stands for itself.
+#[tactic(auto, unfolding(crate::specs::Modes::plain_sort))]
 fn sort_plain(b: u8) -> Sort
     ensures { Shared (plain_sort b) result }
 {
-    if b == b'\\' {
-        return Sort::Backslash;
+    match b {
+        b'\\' => Sort::Backslash,
+        b'$' => Sort::Dollar,
+        _ => Sort::Literal,
     }
-    if b == b'$' {
-        return Sort::Dollar;
-    }
-    Sort::Literal
 }
 
 // The same where quotes open.
+#[tactic(auto, unfolding(crate::specs::Modes::quotes_sort, crate::specs::Modes::plain_sort))]
 fn sort_quotes(b: u8) -> Sort
     ensures { Shared (quotes_sort b) result }
 {
-    if b == b'\'' {
-        return Sort::Quotes;
+    match b {
+        b'\'' => Sort::Quotes,
+        b'"' => Sort::Quotes2,
+        _ => sort_plain(b),
     }
-    if b == b'"' {
-        return Sort::Quotes2;
-    }
-    sort_plain(b)
 }
 
 // Is the byte a tilde that is looked at?
+#[tactic(auto, unfolding(stages::specs::Items::begins_tilde))]
 fn begins_tilde(fresh: bool, b: u8) -> bool
     ensures { result ≡ begins_tilde (start_of fresh) b }
 {
-    if fresh {
-        return b == b'~';
-    }
-    false
+    fresh && b == b'~'
 }
 
+#[tactic(auto, unfolding(stages::specs::Items::sort, stages::specs::Items::closer_length, crate::specs::Modes::plain_sort, crate::specs::Modes::quotes_sort))]
 fn sort_word(fresh: bool, b: u8) -> Sort
     ensures { Sorted (word (start_of fresh)) b result }
 {
@@ -126,6 +123,7 @@ fn sort_word(fresh: bool, b: u8) -> Sort
     sort_quotes(b)
 }
 
+#[tactic(auto, unfolding(stages::specs::Items::sort, stages::specs::Items::closer_length, crate::specs::Modes::plain_sort, crate::specs::Modes::quotes_sort))]
 fn sort_bare(fresh: bool, lists: bool, b: u8) -> Sort
     ensures { Sorted (bare (start_of fresh) (lists_of lists)) b result }
 {
@@ -141,67 +139,52 @@ fn sort_bare(fresh: bool, lists: bool, b: u8) -> Sort
     sort_quotes(b)
 }
 
+#[tactic(auto, unfolding(stages::specs::Items::sort, stages::specs::Items::closer_length))]
 fn sort_single(escapes: bool, b: u8) -> Sort
     ensures { Sorted (single (escapes_of escapes)) b result }
 {
-    if b == b'\'' {
-        return Sort::Closes(1);
+    match b {
+        b'\'' => Sort::Closes(1),
+        b'\\' if escapes => Sort::Escape,
+        _ => Sort::Literal,
     }
-    if !escapes {
-        return Sort::Literal;
-    }
-    if b == b'\\' {
-        return Sort::Escape;
-    }
-    Sort::Literal
 }
 
+#[tactic(auto, unfolding(stages::specs::Items::sort, stages::specs::Items::closer_length, crate::specs::Modes::plain_sort))]
 fn sort_double(lists: bool, b: u8) -> Sort
     ensures { Sorted (double (lists_of lists)) b result }
 {
-    if b == b'`' {
-        return Sort::Backquote;
+    match b {
+        b'`' => Sort::Backquote,
+        b'"' => Sort::Closes(1),
+        _ => sort_plain(b),
     }
-    if b == b'"' {
-        return Sort::Closes(1);
-    }
-    sort_plain(b)
 }
 
+#[tactic(auto, unfolding(stages::specs::Items::sort, stages::specs::Items::closer_length, crate::specs::Modes::plain_sort))]
 fn sort_operand(lists: bool, b: u8) -> Sort
     ensures { Sorted (quoted_operand (lists_of lists)) b result }
 {
-    if b == b'`' {
-        return Sort::Backquote;
+    match b {
+        b'`' => Sort::Backquote,
+        b'}' => Sort::Closes(1),
+        b'"' => Sort::Bad,
+        _ => sort_plain(b),
     }
-    if b == b'}' {
-        return Sort::Closes(1);
-    }
-    if b == b'"' {
-        return Sort::Bad;
-    }
-    sort_plain(b)
 }
 
+#[tactic(auto, unfolding(stages::specs::Items::sort, stages::specs::Items::closer_length))]
 fn sort_arith(parens: usize, b: u8) -> Sort
     ensures { Sorted (arith parens) b result }
 {
-    if b == b'`' {
-        return Sort::Backquote;
+    match b {
+        b'`' => Sort::Backquote,
+        b'\'' | b'"' | b'\\' => Sort::Bad,
+        b'(' => Sort::Opening(parens),
+        b')' => Sort::Closing(parens),
+        b'$' => Sort::Dollar,
+        _ => Sort::Literal,
     }
-    if text::is_in(b, b"'\"\\") {
-        return Sort::Bad;
-    }
-    if b == b'(' {
-        return Sort::Opening(parens);
-    }
-    if b == b')' {
-        return Sort::Closing(parens);
-    }
-    if b == b'$' {
-        return Sort::Dollar;
-    }
-    Sort::Literal
 }
 
 // What is the byte in this mode?
@@ -209,8 +192,7 @@ pub fn sort_at(mode: Mode, b: u8) -> Sort
     ensures { Sorted (mode_of mode) b result }
 {
     match mode {
-        Mode::Word(fresh) => sort_word(fresh, b),
-        Mode::Value(fresh) => sort_word(fresh, b),
+        Mode::Word(fresh) | Mode::Value(fresh) => sort_word(fresh, b),
         Mode::Bare { fresh, lists } => sort_bare(fresh, lists, b),
         Mode::Single(escapes) => sort_single(escapes, b),
         Mode::Double(lists) => sort_double(lists, b),
@@ -220,21 +202,20 @@ pub fn sort_at(mode: Mode, b: u8) -> Sort
 }
 
 // Does a backslash quote the byte?
+#[tactic(auto, unfolding(stages::specs::Items::quotable))]
 pub fn is_quotable(mode: Mode, b: u8) -> bool
     ensures { result ≡ quotable (mode_of mode) b }
 {
     match mode {
-        Mode::Word(_) => true,
-        Mode::Value(_) => true,
-        Mode::Bare { fresh: _, lists: _ } => true,
-        Mode::Single(_) => false,
+        Mode::Word(_) | Mode::Value(_) | Mode::Bare { .. } => true,
         Mode::Double(_) => text::is_in(b, b"$`\"\\"),
         Mode::Operand(_) => text::is_in(b, b"$`\"\\}"),
-        Mode::Arith(_) => false,
+        Mode::Single(_) | Mode::Arith(_) => false,
     }
 }
 
 // Is a `$` before the byte a parameter that is not served?
+#[tactic(auto, unfolding(stages::specs::Items::not_served))]
 pub fn is_not_served(b: u8) -> bool
     ensures { result ≡ not_served b }
 {
@@ -242,31 +223,19 @@ pub fn is_not_served(b: u8) -> bool
 }
 
 // May `$@` and `$*` stand in a text of this mode?
+#[tactic(auto, unfolding(stages::specs::Items::lists_in))]
 pub fn lists_in(mode: Mode) -> bool
     ensures { lists_of result ≡ lists_in (mode_of mode) }
 {
     match mode {
         Mode::Word(_) => true,
-        Mode::Value(_) => false,
-        Mode::Bare { fresh: _, lists } => lists,
-        Mode::Single(_) => false,
-        Mode::Double(lists) => lists,
-        Mode::Operand(lists) => lists,
-        Mode::Arith(_) => false,
+        Mode::Bare { lists, .. } | Mode::Double(lists) | Mode::Operand(lists) => lists,
+        Mode::Value(_) | Mode::Single(_) | Mode::Arith(_) => false,
     }
-}
-
-// Do both a text and a form in it let `$@` and `$*` stand?
-fn both_let(text: bool, form: bool) -> bool
-    ensures { lists_of result ≡ both (lists_of text) (lists_of form) }
-{
-    if text {
-        return form;
-    }
-    false
 }
 
 // Does the sign, one of `-=?+`, let `$@` and `$*` stand in its operand?
+#[tactic(auto, unfolding(stages::specs::Items::let_by))]
 pub fn let_by(b: u8) -> bool
     ensures { lists_of result ≡ let_by b }
 {
@@ -274,46 +243,25 @@ pub fn let_by(b: u8) -> bool
 }
 
 // How is an operand of `-=?+` read, whose sign lets `$@` and `$*` stand or not?
+#[tactic(auto, unfolding(stages::specs::Items::operand_mode, stages::specs::Items::lists_in, stages::specs::Items::both))]
 pub fn operand_mode(mode: Mode, let_by_sign: bool) -> Mode
     ensures { Operands (mode_of mode) (lists_of let_by_sign) result }
 {
-    let lists = both_let(lists_in(mode), let_by_sign);
+    let lists = lists_in(mode) && let_by_sign;
     match mode {
-        Mode::Word(_) => Mode::Bare {
-            fresh: true,
-            lists: lists,
-        },
-        Mode::Value(_) => Mode::Bare {
-            fresh: true,
-            lists: lists,
-        },
-        Mode::Bare { fresh: _, lists: _ } => Mode::Bare {
-            fresh: true,
-            lists: lists,
-        },
-        Mode::Single(_) => Mode::Bare {
-            fresh: true,
-            lists: lists,
-        },
-        Mode::Double(_) => Mode::Operand(lists),
-        Mode::Operand(_) => Mode::Operand(lists),
-        Mode::Arith(_) => Mode::Operand(lists),
+        Mode::Word(_) | Mode::Value(_) | Mode::Bare { .. } | Mode::Single(_) => {
+            Mode::Bare { fresh: true, lists }
+        }
+        Mode::Double(_) | Mode::Operand(_) | Mode::Arith(_) => Mode::Operand(lists),
     }
 }
 
 // May the line end here? Only in a word, and in a value.
+#[tactic(auto, unfolding(stages::specs::Items::ended))]
 pub fn may_end(mode: Mode) -> bool
     ensures { ended (mode_of mode) ≡ ends_line result }
 {
-    match mode {
-        Mode::Word(_) => true,
-        Mode::Value(_) => true,
-        Mode::Bare { fresh: _, lists: _ } => false,
-        Mode::Single(_) => false,
-        Mode::Double(_) => false,
-        Mode::Operand(_) => false,
-        Mode::Arith(_) => false,
-    }
+    matches!(mode, Mode::Word(_) | Mode::Value(_))
 }
 
 // The mode in which a text goes on after its first item.
@@ -323,14 +271,11 @@ pub fn onward(mode: Mode) -> Mode
     match mode {
         Mode::Word(_) => Mode::Word(false),
         Mode::Value(_) => Mode::Value(false),
-        Mode::Bare { fresh: _, lists } => Mode::Bare {
+        Mode::Bare { lists, .. } => Mode::Bare {
             fresh: false,
-            lists: lists,
+            lists,
         },
-        Mode::Single(escapes) => Mode::Single(escapes),
-        Mode::Double(lists) => Mode::Double(lists),
-        Mode::Operand(lists) => Mode::Operand(lists),
-        Mode::Arith(parens) => Mode::Arith(parens),
+        _ => mode,
     }
 }
 
@@ -338,10 +283,7 @@ pub fn onward(mode: Mode) -> Mode
 fn opens_tilde(quoted: bool, b: u8) -> bool
     ensures { result ≡ opens_tilde quoted b }
 {
-    if quoted {
-        return false;
-    }
-    b == b':'
+    !quoted && b == b':'
 }
 
 // The mode in which a text goes on after a byte that stands for itself.
@@ -359,17 +301,16 @@ pub fn is_closer(mode: Mode, b: u8) -> bool
     ensures { result ≡ is_closer (sort (mode_of mode) b) }
 {
     match mode {
-        Mode::Word(_) => text::in_class(text::Class::Blank, b),
-        Mode::Value(_) => text::in_class(text::Class::Blank, b),
-        Mode::Bare { fresh: _, lists: _ } => b == b'}',
+        Mode::Word(_) | Mode::Value(_) => text::in_class(text::Class::Blank, b),
+        Mode::Bare { .. } | Mode::Operand(_) => b == b'}',
         Mode::Single(_) => b == b'\'',
         Mode::Double(_) => b == b'"',
-        Mode::Operand(_) => b == b'}',
         Mode::Arith(_) => false,
     }
 }
 
 // Is the byte one at which a login ends in this mode?
+#[tactic(auto, unfolding(stages::specs::Items::login_ends))]
 fn is_login_end(mode: Mode, b: u8) -> bool
     ensures { result ≡ is_in b (login_ends (mode_of mode)) }
 {
@@ -380,13 +321,11 @@ fn is_login_end(mode: Mode, b: u8) -> bool
 }
 
 // Does a login end before the byte? At a `/`, in a value also at a `:`, and where the text ends.
+#[tactic(auto, unfolding(stages::specs::Items::ends_login))]
 pub fn ends_login(mode: Mode, b: u8) -> bool
     ensures { result ≡ ends_login (mode_of mode) (b ∷ []) }
 {
-    if is_login_end(mode, b) {
-        return true;
-    }
-    is_closer(mode, b)
+    is_login_end(mode, b) || is_closer(mode, b)
 }
 
 // The number of a byte that does not fit: that of a backquote, else the one given.
@@ -400,17 +339,14 @@ pub fn wrong_byte(number: u8, b: u8) -> u8
 }
 
 // The form of one of `-=?+`.
+#[tactic(auto, unfolding(stages::specs::Items::sign_form))]
 pub fn sign_form(b: u8, colon: bool) -> Form
     ensures { form_of result ≡ sign_form b (colon_of colon) }
 {
-    if b == b'-' {
-        return Form::Minus(colon);
+    match b {
+        b'-' => Form::Minus(colon),
+        b'=' => Form::Equals(colon),
+        b'?' => Form::Query(colon),
+        _ => Form::Plus(colon),
     }
-    if b == b'=' {
-        return Form::Equals(colon);
-    }
-    if b == b'?' {
-        return Form::Query(colon);
-    }
-    Form::Plus(colon)
 }

@@ -1,17 +1,16 @@
 -- A run is read as the parts of its bytes, in front of what is read behind it.
-use Prim.Native.Nat.{ℕ, ◌-◌, ◌≤◌, ◌<◌}
-use Prim.Native.Char.{code}
+use Prim.Native.Nat.{ℕ, ◌-◌, ◌<◌}
 use native.Mathlib.Omega.{arith}
 use mathlib.Core.Path.{◌≡◌, refl, sym, ap, ◌∙◌}
 use mathlib.Core.Bool.{Bool, true, false, not}
 use mathlib.Core.List.{[], ◌∷◌}
 use borrow.Author.Tests.{eqb-true, eqb-false}
 use lib.Dec.{eqb}
-use lib.ListN.{length, take, drop, length-take}
+use lib.ListN.{length, drop}
 use Rattle.stages.specs.Bytes.{Text, part, span}
 use Rattle.stages.specs.Outcome.{refused, demands, done, pick}
-use Rattle.stages.specs.Syntax.{Start, fresh, begun, unescaped, Parts, Mode, lit, word, value, bare, single, double, quoted_operand, arith as sums}
-use Rattle.stages.specs.Items.{Sort, sort, begins_tilde, byte, item, item_of, onward, start_behind, behind_byte}
+use Rattle.stages.specs.Syntax.{unescaped, Parts, Mode, lit, word, value, bare, single, double, quoted_operand, arith as sums}
+use Rattle.stages.specs.Items.{Sort, sort, begins_tilde, item, item_of, onward, start_behind, behind_byte}
 use Rattle.stages.specs.Items.{backquote, closes, operator, quotes, quotes2, backslash, escape, dollar, bad, opening, closing, tilde, literal}
 use Rattle.stages.specs.Read.{Taken, put, read_item, parts}
 use Rattle.stages.proofs.Bools.{no, and_left, and_right}
@@ -22,7 +21,7 @@ use Rattle.read_mode.specs.Modes.{mode_of, open_in, mode_onward}
 use Rattle.read_mode.specs.declared.Cursor.{Cursor}
 use Rattle.read_mode.specs.declared.Mode as code-mode
 use Rattle.read_mode.proofs.GoingOn.{onward_mode, onward_open}
-use Rattle.read_run.specs.Literals.{is_literal, opens_tilde, literal_in, lits, Literals, Passed}
+use Rattle.read_run.specs.Literals.{is_literal, opens_tilde, literal_in, lits, Passed}
 
 pub put_same : (r : Taken) → r ≡ put (λ p. p) r
 put_same (refused e) = refl

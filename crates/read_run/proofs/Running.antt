@@ -1,12 +1,12 @@
 -- What the loop over a run holds: all bytes that were passed are of the run.
-use Prim.Native.Nat.{ℕ, suc, ◌+◌, ◌-◌, ◌≤◌, ◌<◌}
+use Prim.Native.Nat.{ℕ, ◌+◌, ◌-◌, ◌≤◌, ◌<◌}
 use native.Mathlib.Omega.{arith}
 use native.Mathlib.Nat.{sub_self}
-use mathlib.Core.Path.{◌≡◌, refl, sym, ap, ◌∙◌}
-use mathlib.Core.Bool.{Bool, true, false}
+use mathlib.Core.Path.{◌≡◌, refl, sym, ap, ◌∙◌, subst}
+use mathlib.Core.Bool.{true, false}
 use mathlib.Core.List.{[], ◌∷◌, ◌++◌}
 use borrow.Author.Tests.{eq-eqb, ne_eqb}
-use lib.ListN.{length, take, drop, get_or, take-append-drop, drop_of_length-le}
+use lib.ListN.{length, drop, get_or, take-append-drop, drop_of_length-le}
 use lib.Seq.{drop-cons, drop-drop}
 use Rattle.stages.specs.Bytes.{Text, part, span, all}
 use Rattle.stages.specs.Syntax.{Mode}
@@ -45,8 +45,10 @@ module _ (m : Mode) (t : Text) (at : ℕ) where
     pub run_stops : i < length t → literal_in m (get_or t i 0) ≡ false → Literals t at m i
     run_stops h e = ran (rw (drop-cons t i 0) e)
 
-    pub run_ends : length t ≤ i → Literals t at m i
-    run_ends h = ran (rw (drop_of_length-le t h) tt)
+    pub run_ends : length t ≤ i → Literals t at m (length t)
+    run_ends h =
+        let e : i ≡ length t = omega (arith, p.within) in
+        subst (Literals t at m) e (ran (rw (drop_of_length-le t h) tt))
 
     pub run_goes : i < length t → literal_in m (get_or t i 0) ≡ true → Running m t at (i + 1)
     run_goes h e = record {

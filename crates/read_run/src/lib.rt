@@ -3,18 +3,10 @@
 #![tactic(auto)]
 
 ghost use Rattle.std.specs.Prelude.{◌≡◌, ◌≤◌, ◌<◌, length};
-ghost use Rattle.stages.specs.Outcome.{pick};
 ghost use Rattle.read_mode.specs.Modes.{mode_of};
 ghost use Rattle.read_run.specs.Literals.{low_literals, high_literals, literal_words, Literals, Passed};
 
 use read_mode::{Cursor, Mode};
-
-// One of two numbers.
-fn pick_bits(test: bool, yes: u64, no: u64) -> u64
-    ensures { result ≡ pick test yes no }
-{
-    if test { yes } else { no }
-}
 
 // The bytes 0 to 63 that a run has in a mode, a bit for each.
 fn low_literals(mode: Mode) -> u64
@@ -23,10 +15,9 @@ fn low_literals(mode: Mode) -> u64
     match mode {
         Mode::Word(_) => 0xa7ff_fc2a_ffff_f9ff,
         Mode::Value(_) => 0xa3ff_fc2a_ffff_f9ff,
-        Mode::Bare { fresh: _, lists: _ } => 0xffff_ff6b_ffff_ffff,
+        Mode::Bare { .. } => 0xffff_ff6b_ffff_ffff,
         Mode::Single(_) => 0xffff_ff7f_ffff_ffff,
-        Mode::Double(_) => 0xffff_ffeb_ffff_ffff,
-        Mode::Operand(_) => 0xffff_ffeb_ffff_ffff,
+        Mode::Double(_) | Mode::Operand(_) => 0xffff_ffeb_ffff_ffff,
         Mode::Arith(_) => 0xffff_fc6b_ffff_ffff,
     }
 }
@@ -36,15 +27,14 @@ fn high_literals(mode: Mode) -> u64
     ensures { result ≡ high_literals mode }
 {
     match mode {
-        Mode::Word(fresh) => pick_bits(fresh, 0xafff_fffe_efff_ffff, 0xefff_fffe_efff_ffff),
-        Mode::Value(fresh) => pick_bits(fresh, 0xafff_fffe_efff_ffff, 0xefff_fffe_efff_ffff),
-        Mode::Bare { fresh, lists: _ } => {
-            pick_bits(fresh, 0x9fff_fffe_efff_ffff, 0xdfff_fffe_efff_ffff)
-        }
-        Mode::Single(escapes) => pick_bits(escapes, 0xffff_ffff_efff_ffff, 0xffff_ffff_ffff_ffff),
-        Mode::Double(_) => 0xffff_fffe_efff_ffff,
+        Mode::Word(true) | Mode::Value(true) => 0xafff_fffe_efff_ffff,
+        Mode::Word(false) | Mode::Value(false) => 0xefff_fffe_efff_ffff,
+        Mode::Bare { fresh: true, .. } => 0x9fff_fffe_efff_ffff,
+        Mode::Bare { fresh: false, .. } => 0xdfff_fffe_efff_ffff,
+        Mode::Single(true) => 0xffff_ffff_efff_ffff,
+        Mode::Single(false) => 0xffff_ffff_ffff_ffff,
+        Mode::Double(_) | Mode::Arith(_) => 0xffff_fffe_efff_ffff,
         Mode::Operand(_) => 0xdfff_fffe_efff_ffff,
-        Mode::Arith(_) => 0xffff_fffe_efff_ffff,
     }
 }
 
@@ -66,14 +56,12 @@ pub fn literals_end(text: &[u8], at: usize, mode: Mode) -> usize
     ensures { Literals text.now at (mode_of mode) result }
 {
     let words = literal_words(mode);
-    let mut i = at;
-    while i < text.len() {
+    for i in at..text.len() {
         if !text::has_bit(&words, text[i]) {
             return i;
         }
-        i += 1;
     }
-    i
+    text.len()
 }
 
 // Where a text goes on behind that run: behind a byte of it the text has begun.
@@ -81,15 +69,10 @@ pub fn behind_literals(text: &[u8], from: Cursor) -> Cursor
     requires { from.at ≤ length text.now }
     ensures { Passed text.now from result }
 {
-    let at = from.at;
-    let mode = from.mode;
-    let place = literals_end(text, at, mode);
-    if place == at {
+    let at = literals_end(text, from.at, from.mode);
+    if at == from.at {
         return from;
     }
-    Cursor {
-        at: place,
-        mode: read_mode::onward(mode),
-        depth: from.depth,
-    }
+    let mode = read_mode::onward(from.mode);
+    Cursor { at, mode, ..from }
 }
