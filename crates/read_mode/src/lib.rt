@@ -8,9 +8,10 @@ ghost use Rattle.stages.specs.Syntax.{word, bare, single, double, quoted_operand
 ghost use Rattle.text.specs.Cases.{colon_of, start_of, lists_of, escapes_of};
 ghost use Rattle.stages.specs.Items.{quotable, not_served, lists_in, let_by, ended, wrong, fault, sign_form, begins_tilde, login_ends, ends_login};
 ghost use Rattle.stages.specs.Items.{sort, is_closer};
+ghost use Rattle.text.specs.Refusals.{refusal_number};
 ghost use Rattle.read_mode.specs.Modes.{mode_of, form_of, mode_onward, opens_tilde, mode_behind, Operands, Sorted, Shared, quotes_sort, plain_sort, ends_line};
 
-use text::numbers;
+use text::refusal::Refusal;
 
 // Where a text stands.
 #[derive(Clone, Copy)]
@@ -328,14 +329,16 @@ pub fn ends_login(mode: Mode, b: u8) -> bool
     is_login_end(mode, b) || is_closer(mode, b)
 }
 
-// The number of a byte that does not fit: that of a backquote, else the one given.
-pub fn wrong_byte(number: u8, b: u8) -> u8
-    ensures { wrong number (b ∷ []) ≡ fault result }
+// Why a byte is refused that does not fit: as a backquote, else for the reason given.
+#[tactic(auto, unfolding(stages::specs::Items::wrong))]
+pub fn wrong_byte(why: Refusal, b: u8) -> Refusal
+    ensures { wrong (refusal_number why) (b ∷ []) ≡ fault (refusal_number result) }
 {
     if b == b'`' {
-        return numbers::REFUSED_SUBSTITUTION;
+        Refusal::Substitution
+    } else {
+        why
     }
-    number
 }
 
 // The form of one of `-=?+`.
