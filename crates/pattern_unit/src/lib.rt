@@ -44,13 +44,7 @@ pub fn is_live(units: &[u8], at: usize, c: u8, width: Width) -> bool
     requires { at ≤ length units.now }
     ensures { result ≡ begins c (signs_by width (drop at units.now)) }
 {
-    if units.len() < at + unit_size(width) {
-        return false;
-    }
-    if !is_active(units, at, width) {
-        return false;
-    }
-    units[at] == c
+    at + unit_size(width) <= units.len() && is_active(units, at, width) && units[at] == c
 }
 
 // The units from a place on begin with this text, "all its bytes active".
@@ -60,13 +54,11 @@ pub fn begins_with(units: &[u8], at: usize, text: &[u8], width: Width) -> bool
 {
     let size = unit_size(width);
     let mut k = at;
-    let mut i: usize = 0;
-    while i < text.len() {
-        if !is_live(units, k, text[i], width) {
+    for c in text {
+        if !is_live(units, k, *c, width) {
             return false;
         }
         k += size;
-        i += 1;
     }
     true
 }
