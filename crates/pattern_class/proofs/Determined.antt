@@ -3,6 +3,7 @@
 use Prim.Native.Nat.{ℕ, ◌<◌}
 use mathlib.Core.Path.{◌≡◌, refl, sym, ◌∙◌, ap}
 use mathlib.Core.Bool.{Bool, true, not, ◌||◌}
+use Rattle.std.proofs.Common.{Option, Some, None}
 use lib.Dec.{eqb}
 use lib.ListN.{length}
 use borrow.Author.Tests.{eqb-true}
@@ -15,8 +16,6 @@ use Rattle.text.proofs.Every.{every, every_at}
 use Rattle.pattern_unit.specs.declared.Width.{Width}
 use Rattle.pattern_class.specs.Rows.{count, row_class, Finds}
 use Rattle.pattern_class.specs.Table.{Holds}
-use Rattle.pattern_class.specs.declared.Named.{Named}
-use Rattle.pattern_class.specs.declared.Named.TheVariants.{Row, Unknown}
 
 pub written_length_determined : (row : ℕ) {r q : ℕ} → r ≡ length (written (row_class row)) → q ≡ length (written (row_class row)) → r ≡ q
 written_length_determined row = one_answer
@@ -46,9 +45,8 @@ pub one_row : (row other : ℕ) → row < count → other < count → row_class 
 one_row row other h g e =
     named_apart row other h g (ap (λ (c : NamedClass). eq_text (row_class row).name c.name) (sym e) ∙ eq_text_refl (row_class row).name)
 
-pub class_at_determined : (units : Text) (at : ℕ) (w : Width) (r q : Named) → Finds w units at r → Finds w units at q → r ≡ q
-class_at_determined units at w (Row row) (Row other) h g =
-    ap (λ n. Row n) (one_row row other h.listed g.listed (some_same (sym h.is ∙ g.is)))
-class_at_determined units at w (Row row) Unknown h g = absurd (clash (sym g ∙ h.is))
-class_at_determined units at w Unknown (Row other) h g = absurd (clash (sym h ∙ g.is))
-class_at_determined units at w Unknown Unknown h g = refl
+pub class_at_determined : (units : Text) (at : ℕ) (w : Width) (r q : Option ℕ) → Finds w units at r → Finds w units at q → r ≡ q
+class_at_determined units at w (Some row) (Some other) h g = ap Some (one_row row other h.listed g.listed (some_same (sym h.is ∙ g.is)))
+class_at_determined units at w (Some row) None h g = absurd (clash (sym g ∙ h.is))
+class_at_determined units at w None (Some other) h g = absurd (clash (sym h ∙ g.is))
+class_at_determined units at w None None h g = refl

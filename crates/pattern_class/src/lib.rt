@@ -19,6 +19,7 @@ struct Class([u8; 9], usize, [u8; 8]);
 const COUNT: usize = 12;
 
 // The table. It is no constant array, which would be laid out again at each call.
+#[tactic(auto, unfolding(crate::specs::Table::table))]
 fn class_of(row: usize) -> Class
     requires { row < count }
     ensures { result ≡ entry row }
@@ -44,8 +45,7 @@ pub fn written_length(row: usize) -> usize
     requires { row < count }
     ensures { result ≡ length (written (row_class row)) }
 {
-    let class = class_of(row);
-    class.1
+    class_of(row).1
 }
 
 // The bytes of a class as four runs, each by its first byte and its last.
@@ -53,8 +53,7 @@ pub fn runs(row: usize) -> [u8; 8]
     requires { row < count }
     ensures { Holds row result }
 {
-    let class = class_of(row);
-    class.2
+    class_of(row).2
 }
 
 // The class is written from a place on, "all its bytes active".
@@ -64,28 +63,18 @@ fn is_written(units: &[u8], at: usize, row: usize, width: Width) -> bool
 {
     let class = class_of(row);
     let text = class.0;
-    let n = class.1;
-    pattern_unit::begins_with(units, at, &text[..n], width)
+    pattern_unit::begins_with(units, at, &text[..class.1], width)
 }
 
-// What stands behind a `[` that opens a class: that of a row of the table, or none.
-#[derive(Clone, Copy)]
-pub enum Named {
-    Row(usize),
-    Unknown,
-}
-
-// The class that is written from a place on.
-pub fn class_at(units: &[u8], at: usize, width: Width) -> Named
+// The class that is written behind a `[` from a place on, by its row of the table; none if no class of the table is.
+pub fn class_at(units: &[u8], at: usize, width: Width) -> Option<usize>
     requires { at ≤ length units.now }
     ensures { Finds width units.now at result }
 {
-    let mut row: usize = 0;
-    while row < COUNT {
+    for row in 0..COUNT {
         if is_written(units, at, row, width) {
-            return Named::Row(row);
+            return Some(row);
         }
-        row += 1;
     }
-    Named::Unknown
+    None
 }

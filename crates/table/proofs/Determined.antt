@@ -5,9 +5,8 @@ use mathlib.Core.Bool.{Bool}
 use Rattle.stages.specs.Bytes.{Text}
 use Rattle.text.proofs.Determined.{one_answer}
 use Rattle.table.specs.Kinds.{well_formed, key_fits}
-use Rattle.table.specs.Pieces.{size_at, piece_at}
+use Rattle.table.specs.Pieces.{Piece, size_at, piece_at}
 use Rattle.table.specs.declared.Kind.{Kind}
-use Rattle.table.specs.declared.Piece.{Piece}
 
 pub well_formed_determined : (kind : Kind) (image : Text) (r s : Bool) → r ≡ well_formed kind image → s ≡ well_formed kind image → r ≡ s
 well_formed_determined kind image r s = one_answer

@@ -38,11 +38,10 @@ use Rattle.stages.proofs.Stores.{name_fine}
 use Rattle.stages.proofs.Images.{texts_nil}
 use Rattle.stages.proofs.Tables.{sized_fits}
 use Rattle.table.specs.Kinds.{well_formed, limit_of, in_twos, key_fits, key_at, record_end}
-use Rattle.table.specs.Pieces.{piece_at, frame_at}
+use Rattle.std.specs.Prelude.{Some, None, Ok, Err}
+use Rattle.table.specs.Pieces.{Piece, malformed, piece_at, frame_at}
 use Rattle.table.specs.declared.Kind.{Kind}
 use Rattle.table.specs.declared.Kind.TheVariants.{Variables, Homes, Paths, Fields}
-use Rattle.table.specs.declared.Piece.{Piece}
-use Rattle.table.specs.declared.Piece.TheVariants.{End, Bad, At}
 use Rattle.table.proofs.Pieces.{Stands, is_end_lem, is_bad, is_text}
 use Rattle.table.proofs.Pieces.{Framed, is_end_framed, is_bad_framed, is_framed, framed_whole, framed_zero}
 
@@ -223,13 +222,13 @@ unfolding texts
 other_version k [] h e = sym (judged k [] h ∙ judge_none k)
 other_version k (a ∷ t) h e = sym (judged k (a ∷ t) h ∙ rw (ne_eqb a 1 e, texts) (judge_none k))
 
-clash_end : {n : ℕ} → At n ≡ End → ⊥
-clash_end e = let z : ◌≡◌ {A = ℕ} 0 1 = cc in omega arith
+clash_end : {n : ℕ} → ◌≡◌ {A = Piece} (Ok (Some n)) (Ok None) → ⊥
+clash_end e = cc
 
-clash_bad : {n : ℕ} → At n ≡ Bad → ⊥
-clash_bad e = let z : ◌≡◌ {A = ℕ} 0 1 = cc in omega arith
+clash_bad : {n : ℕ} → ◌≡◌ {A = Piece} (Ok (Some n)) (Err malformed) → ⊥
+clash_bad e = cc
 
-same_at : {m n : ℕ} → At m ≡ At n → m ≡ n
+same_at : {m n : ℕ} → ◌≡◌ {A = Piece} (Ok (Some m)) (Ok (Some n)) → m ≡ n
 same_at e = cc
 
 -- the loop's state: the last key stands from `from` to `to`, the next record at `at`
@@ -293,13 +292,13 @@ module _ (k : Kind) (t : Text) (at : ℕ) {r : Piece} (s : r ≡ key_at k t at) 
   one_key : in_twos k ≡ false → r ≡ piece_at t at
   one_key w = s ∙ rw w
 
-  key_end : r ≡ End → drop at t ≡ []
+  key_end : r ≡ Ok None → drop at t ≡ []
   key_end e = either (in_twos k) (λ w. is_end_framed t at (two_key w) e) (λ w. is_end_lem t at (one_key w) e)
 
-  key_bad : r ≡ Bad → texts_in (drop at t) ≡ none
+  key_bad : r ≡ Err malformed → texts_in (drop at t) ≡ none
   key_bad e = either (in_twos k) (λ w. is_bad_framed t at (two_key w) e) (λ w. is_bad t at (one_key w) e)
 
-  pub key_text : {end : ℕ} → r ≡ At end → Key k t at end
+  pub key_text : {end : ℕ} → r ≡ Ok (Some end) → Key k t at end
   key_text {end} e = either (in_twos k) (λ w. framed w (is_framed t at (two_key w) e)) (λ w. whole (is_text t at (one_key w) e))
     where
       framed : in_twos k ≡ true → Framed t at end → Key k t at end
@@ -314,10 +313,10 @@ module _ (k : Kind) (t : Text) (at : ℕ) {r : Piece} (s : r ≡ key_at k t at) 
       whole z = record { low = z.low; high = z.high; fitting = λ p q. z; failing = inl z }
 
 module _ {k : Kind} {t : Text} {at from to : ℕ} (g : Going k t at from to) where
-  pub no_key : {r : Piece} → r ≡ key_at k t at → r ≡ End → true ≡ well_formed k t
+  pub no_key : {r : Piece} → r ≡ key_at k t at → r ≡ Ok None → true ≡ well_formed k t
   no_key s e = at_end g (key_end k t at s e)
 
-  pub broken_key : {r : Piece} → r ≡ key_at k t at → r ≡ Bad → false ≡ well_formed k t
+  pub broken_key : {r : Piece} → r ≡ key_at k t at → r ≡ Err malformed → false ≡ well_formed k t
   broken_key s e = at_bad g (key_bad k t at s e)
 
   pub key_fails : {end : ℕ} → Key k t at end → key_fits k (part t from to) (part t (at + 2) end) ≡ false → false ≡ well_formed k t
@@ -354,23 +353,23 @@ module _ {k : Kind} {t : Text} {at from to end : ℕ} (g : Keyed k t at from to 
 
   -- the record's end: that of its second text, if it has two
   module _ {r : Piece} (p : r ≡ record_end k t end) where
-    one_at : in_twos k ≡ false → r ≡ At end
+    one_at : in_twos k ≡ false → r ≡ Ok (Some end)
     one_at w = p ∙ rw w
 
     two_at : in_twos k ≡ true → r ≡ piece_at t end
     two_at w = p ∙ rw w
 
-    pub no_second : r ≡ End → false ≡ well_formed k t
+    pub no_second : r ≡ Ok None → false ≡ well_formed k t
     no_second q = either (in_twos k) (λ w. half_end w (is_end_lem t end (two_at w) q)) (λ w. absurd (clash_end (sym (one_at w) ∙ q)))
 
-    pub bad_second : r ≡ Bad → false ≡ well_formed k t
+    pub bad_second : r ≡ Err malformed → false ≡ well_formed k t
     bad_second q = either (in_twos k) (λ w. half_bad (is_bad t end (two_at w) q)) (λ w. absurd (clash_bad (sym (one_at w) ∙ q)))
 
-    pub next_record : {next : ℕ} → r ≡ At next → Going k t next (at + 2) end
+    pub next_record : {next : ℕ} → r ≡ Ok (Some next) → Going k t next (at + 2) end
     next_record {next} q = either (in_twos k) (λ w. next_two w (is_text t end (two_at w) q)) (λ w. moved (same_at (sym (one_at w) ∙ q)) (next_one w))
       where
         moved : end ≡ next → Going k t end (at + 2) end → Going k t next (at + 2) end
         moved m g = rw (sym m) g
 
-    pub record_on : {next : ℕ} → r ≡ At next → end ≤ next
+    pub record_on : {next : ℕ} → r ≡ Ok (Some next) → end ≤ next
     record_on {next} q = either (in_twos k) (λ w. omega (arith, (is_text t end (two_at w) q).low)) (λ w. omega (arith, same_at (sym (one_at w) ∙ q)))

@@ -1,14 +1,12 @@
 -- The four kinds of table by the stage: how long an image may be, one text or two to a record, what a key must be, and when an image is well formed.
-use Rattle.std.specs.Prelude.{ℕ, Bool, true, false, ◌&&◌}
+use Rattle.std.specs.Prelude.{ℕ, Bool, true, false, ◌&&◌, Some, Ok}
 use Rattle.stages.specs.Numbers.{image_limit, paths_limit}
 use Rattle.stages.specs.Bytes.{Text, lt_text}
 use Rattle.stages.specs.Outcome.{pick}
 use Rattle.stages.specs.Images.{is_name, is_login, is_some, variables_of, homes_of, paths_of, fields_of}
-use Rattle.table.specs.Pieces.{frame_at, piece_at}
+use Rattle.table.specs.Pieces.{Piece, frame_at, piece_at}
 use Rattle.table.specs.declared.Kind.{Kind}
 use Rattle.table.specs.declared.Kind.TheVariants.{Variables, Homes, Paths, Fields}
-use Rattle.table.specs.declared.Piece.{Piece}
-use Rattle.table.specs.declared.Piece.TheVariants.{At}
 
 -- an image of the kind: numbers 2, 3, 4 and 22 are for one that is not
 abbrev pub well_formed : Kind → Text → Bool
@@ -44,4 +42,4 @@ key_at kind t at = pick (in_twos kind) (frame_at t at) (piece_at t at)
 
 -- where a record ends whose first text ends at a place
 abbrev pub record_end : Kind → Text → ℕ → Piece
-record_end kind t at = pick (in_twos kind) (piece_at t at) (At at)
+record_end kind t at = pick (in_twos kind) (piece_at t at) (Ok (Some at))

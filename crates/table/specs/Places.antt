@@ -1,13 +1,11 @@
 -- Where a key stands in an image of pairs, or where it belongs, by the stage's records and no bytes; and what the bytes there are.
-use Rattle.std.specs.Prelude.{ℕ, ◌+◌, ◌≤◌, ◌≡◌, true, [], ◌∷◌, length, take, drop}
+use Rattle.std.specs.Prelude.{ℕ, ◌+◌, ◌≤◌, ◌≡◌, true, [], ◌∷◌, length, take, drop, Option as Perhaps, Some, None, Result, Ok, Err}
 use Rattle.std.proofs.Math.Option.{Option, none, some}
 use Rattle.stages.specs.Bytes.{Text, part, eq_text, lt_text}
 use Rattle.stages.specs.Outcome.{pick}
 use Rattle.stages.specs.Images.{Pairs, texts, pairs_of, keys, rising, flat, written, image, image_length, lookup, held, held_texts}
-use Rattle.table.specs.declared.Spot.{Spot}
-use Rattle.table.specs.declared.Spot.TheVariants.{Known, Fresh}
-use Rattle.table.specs.declared.Found.{Found}
-use Rattle.table.specs.declared.Found.TheVariants.{At, Missing}
+use Rattle.table.specs.declared.Record.{Record}
+use Rattle.table.specs.declared.Part.{Part}
 
 -- the bytes are an image of texts: those that it holds
 abbrev pub Listed : Text → Type 0
@@ -34,19 +32,19 @@ unfolding before
 place_of key v = image_length (flat (before key v))
 
 -- a key without a value belongs at its place; a record there has its name behind two bytes, and its value behind two more
-unfoldable pub spot_by : Text → ℕ → Option Text → Spot
-spot_by key at none = Fresh at
-spot_by key at (some value) = Known at (at + 2 + length key) (at + 4 + length key + length value)
+unfoldable pub spot_by : Text → ℕ → Option Text → Result Record ℕ
+spot_by key at none = Err at
+spot_by key at (some value) = Ok (record { at = at; mid = at + 2 + length key; end = at + 4 + length key + length value })
 
-unfoldable pub spot_in : Text → Text → Spot
+unfoldable pub spot_in : Text → Text → Result Record ℕ
 unfolding spot_by place_of
 spot_in t key = spot_by key (place_of key (held t)) (lookup key (held t))
 
-unfoldable pub found_by : ℕ → Option Text → Found
-found_by start none = Missing
-found_by start (some value) = At start (start + length value)
+unfoldable pub found_by : ℕ → Option Text → Perhaps Part
+found_by start none = None
+found_by start (some value) = Some (record { from = start; to = start + length value })
 
-unfoldable pub found_in : Text → Text → Found
+unfoldable pub found_in : Text → Text → Perhaps Part
 unfolding found_by place_of
 found_in t key = found_by (place_of key (held t) + 4 + length key) (lookup key (held t))
 
@@ -64,19 +62,19 @@ pub record Holds (t key : Text) (start end : ℕ) : Type 0 where
   pub gets : lookup key (held t) ≡ some (part t start end)
 
 -- what a spot says of the bytes
-pub data Rooms (t key : Text) : Spot → Type 0 where
-  known : {at mid end : ℕ} → Hole t key at end → Holds t key (mid + 2) end → Rooms t key (Known at mid end)
-  fresh : {at : ℕ} → Hole t key at at → lookup key (held t) ≡ none → Rooms t key (Fresh at)
+pub data Rooms (t key : Text) : Result Record ℕ → Type 0 where
+  known : {p : Record} → Hole t key p.at p.end → Holds t key (p.mid + 2) p.end → Rooms t key (Ok p)
+  fresh : {at : ℕ} → Hole t key at at → lookup key (held t) ≡ none → Rooms t key (Err at)
 
-pub record Placed (t key : Text) (r : Spot) : Type 0 where
+pub record Placed (t key : Text) (r : Result Record ℕ) : Type 0 where
   pub is : r ≡ spot_in t key
   pub rooms : Rooms t key r
 
 -- what an answer of the look-up says of the bytes
-pub data Shown (t key : Text) : Found → Type 0 where
-  shown : {start end : ℕ} → Holds t key start end → Shown t key (At start end)
-  absent : lookup key (held t) ≡ none → Shown t key Missing
+pub data Shown (t key : Text) : Perhaps Part → Type 0 where
+  shown : {p : Part} → Holds t key p.from p.to → Shown t key (Some p)
+  absent : lookup key (held t) ≡ none → Shown t key None
 
-pub record Looked (t key : Text) (r : Found) : Type 0 where
+pub record Looked (t key : Text) (r : Perhaps Part) : Type 0 where
   pub is : r ≡ found_in t key
   pub shows : Shown t key r

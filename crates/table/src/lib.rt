@@ -20,26 +20,23 @@ pub enum Kind {
     Fields,
 }
 
-// What stands at a place of an image: nothing more, no text, or a text and where it ends.
+// No text of an image stands at a place, though bytes do: it is cut off, or has a zero byte.
+#[derive(Clone, Copy, PartialEq, Eq)]
+pub struct Malformed;
+
+// The record of a key: it begins at `at`, its name ends at `mid`, and its value behind two more bytes at `end`.
 #[derive(Clone, Copy)]
-pub enum Piece {
-    End,
-    Bad,
-    At(usize),
+pub struct Record {
+    pub at: usize,
+    pub mid: usize,
+    pub end: usize,
 }
 
-// Where a key is or belongs: its record from `at` to `end`, its name up to `mid`; or the place of a new record.
+// The bytes from one place to another.
 #[derive(Clone, Copy)]
-pub enum Spot {
-    Known { at: usize, mid: usize, end: usize },
-    Fresh(usize),
-}
-
-// The value of a key is the bytes from one place to another, or there is none.
-#[derive(Clone, Copy)]
-pub enum Found {
-    At { from: usize, to: usize },
-    Missing,
+pub struct Part {
+    pub from: usize,
+    pub to: usize,
 }
 
 // The length that the two bytes at a place say.
@@ -50,69 +47,53 @@ pub fn size_at(image: &[u8], at: usize) -> usize
     (image[at] as usize) * 256 + (image[at + 1] as usize)
 }
 
-// What stands at a place of an image.
-pub fn text_at(image: &[u8], at: usize) -> Piece
-    ensures { result ≡ piece_at image.now at }
-{
-    if image.len() <= at {
-        return Piece::End;
-    }
-    let left = image.len() - at;
-    if left == 1 {
-        return Piece::Bad;
-    }
-    let n = size_at(image, at);
-    if left - 2 < n {
-        return Piece::Bad;
-    }
-    let start = at + 2;
-    let end = start + n;
-    if text::no_zero(&image[start..end]) {
-        Piece::At(end)
-    } else {
-        Piece::Bad
-    }
-}
-
-// The same of a text that may hold zero bytes: they are not looked for.
-fn frame_at(image: &[u8], at: usize) -> Piece
+// Where the text ends that stands at a place of an image, or that nothing more does. Zero bytes are not looked for.
+fn frame_at(image: &[u8], at: usize) -> Result<Option<usize>, Malformed>
     ensures { result ≡ frame_at image.now at }
 {
     if image.len() <= at {
-        return Piece::End;
+        return Ok(None);
     }
-    let rest = image.len() - at;
-    if rest == 1 {
-        return Piece::Bad;
+    let left = image.len() - at;
+    if left == 1 {
+        return Err(Malformed);
     }
     let n = size_at(image, at);
-    if rest - 2 < n {
-        return Piece::Bad;
+    if left - 2 < n {
+        return Err(Malformed);
     }
-    Piece::At(at + 2 + n)
+    Ok(Some(at + 2 + n))
+}
+
+// The same of a text that may hold no zero byte.
+pub fn text_at(image: &[u8], at: usize) -> Result<Option<usize>, Malformed>
+    ensures { result ≡ piece_at image.now at }
+{
+    let Some(end) = frame_at(image, at)? else {
+        return Ok(None);
+    };
+    let start = at + 2;
+    if text::no_zero(&image[start..end]) {
+        Ok(Some(end))
+    } else {
+        Err(Malformed)
+    }
 }
 
 // Is it "a letter or `_`, then letters, digits, `_`"?
 fn is_name(key: &[u8]) -> bool
     ensures { result ≡ is_name key.now }
 {
-    if key.len() == 0 {
-        return false;
-    }
-    if !text::in_class(Class::NameStart, key[0]) {
-        return false;
-    }
-    text::run_end(key, 1, Class::NameByte) == key.len()
+    key.len() != 0
+        && text::in_class(Class::NameStart, key[0])
+        && text::run_end(key, 1, Class::NameByte) == key.len()
 }
 
 // Is it "one or more letters, digits, `.`, `_`, `-`"?
 fn is_login(key: &[u8]) -> bool
     ensures { result ≡ is_login key.now }
 {
-    if key.len() == 0 {
-        return false;
-    }
-    text::run_end(key, 0, Class::LoginByte) == key.len()
+    key.len() != 0 && text::run_end(key, 0, Class::LoginByte) == key.len()
 }
 
 // The number that eight bytes are, the first weighing most: it stands to another as the texts do.
@@ -169,20 +150,8 @@ pub fn key_fits(kind: Kind, last: &[u8], key: &[u8]) -> bool
     ensures { result ≡ key_fits kind last.now key.now }
 {
     match kind {
-        Kind::Variables => {
-            if is_name(key) {
-                rises(last, key)
-            } else {
-                false
-            }
-        }
-        Kind::Homes => {
-            if is_login(key) {
-                rises(last, key)
-            } else {
-                false
-            }
-        }
+        Kind::Variables => is_name(key) && rises(last, key),
+        Kind::Homes => is_login(key) && rises(last, key),
         Kind::Paths => rises(last, key),
         Kind::Fields => true,
     }
@@ -193,10 +162,8 @@ fn limit(kind: Kind) -> usize
     ensures { result ≡ limit_of kind }
 {
     match kind {
-        Kind::Variables => numbers::IMAGE_LIMIT,
-        Kind::Homes => numbers::IMAGE_LIMIT,
+        Kind::Variables | Kind::Homes | Kind::Fields => numbers::IMAGE_LIMIT,
         Kind::Paths => numbers::PATHS_LIMIT,
-        Kind::Fields => numbers::IMAGE_LIMIT,
     }
 }
 
@@ -204,16 +171,11 @@ fn limit(kind: Kind) -> usize
 fn in_twos(kind: Kind) -> bool
     ensures { result ≡ in_twos kind }
 {
-    match kind {
-        Kind::Variables => true,
-        Kind::Homes => true,
-        Kind::Paths => false,
-        Kind::Fields => false,
-    }
+    matches!(kind, Kind::Variables | Kind::Homes)
 }
 
-// A record's key at a place: one that must be a name or a login is not looked at for zero bytes, which neither has.
-fn key_at(kind: Kind, image: &[u8], at: usize) -> Piece
+// Where a record's key ends that begins at a place: one that must be a name or a login is not looked at for zero bytes, which neither has.
+fn key_at(kind: Kind, image: &[u8], at: usize) -> Result<Option<usize>, Malformed>
     ensures { result ≡ key_at kind image.now at }
 {
     if in_twos(kind) {
@@ -224,13 +186,13 @@ fn key_at(kind: Kind, image: &[u8], at: usize) -> Piece
 }
 
 // The end of a record whose first text ends at a place: that of the text there, or the place itself.
-fn record_end(kind: Kind, image: &[u8], at: usize) -> Piece
+fn record_end(kind: Kind, image: &[u8], at: usize) -> Result<Option<usize>, Malformed>
     ensures { result ≡ record_end kind image.now at }
 {
     if in_twos(kind) {
         text_at(image, at)
     } else {
-        Piece::At(at)
+        Ok(Some(at))
     }
 }
 
@@ -251,26 +213,20 @@ pub fn well_formed(kind: Kind, image: &[u8]) -> bool
     let mut from: usize = 0;
     let mut to: usize = 0;
     loop {
-        let first = key_at(kind, image, at);
-        match first {
-            Piece::End => return true,
-            Piece::Bad => return false,
-            Piece::At(end) => {
-                let start = at + 2;
-                if !key_fits(kind, &image[from..to], &image[start..end]) {
-                    return false;
-                }
-                from = start;
-                to = end;
-                let last = record_end(kind, image, end);
-                match last {
-                    Piece::End => return false,
-                    Piece::Bad => return false,
-                    Piece::At(next) => {
-                        at = next;
-                    }
-                }
-            }
+        let end = match key_at(kind, image, at) {
+            Ok(Some(end)) => end,
+            Ok(None) => return true,
+            Err(Malformed) => return false,
+        };
+        let start = at + 2;
+        if !key_fits(kind, &image[from..to], &image[start..end]) {
+            return false;
         }
+        from = start;
+        to = end;
+        let Ok(Some(next)) = record_end(kind, image, end) else {
+            return false;
+        };
+        at = next;
     }
 }

@@ -1,8 +1,7 @@
 -- `table::rises` meets its contract: up to `i` the two texts are the same, and what stands behind decides.
 use native.Mathlib.Omega.{arith}
-use Prim.Native.Nat.{◌-◌, ◌+◌, ◌≤◌}
-use mathlib.Core.Path.{◌≡◌, sym, ◌∙◌}
-use lib.ListN.{length}
+use Prim.Native.Nat.{◌-◌}
+use mathlib.Core.Path.{sym, ◌∙◌}
 use borrow.Author.Rules.{rules}
 use Rattle.table.proofs.Words.{Pairing, pairing_starts, eight_long, word_less, word_more, word_same, rest_less, rest_same, rest_more}
 use Rattle.table.proofs.rises.Statement.{statement}
