@@ -1,12 +1,13 @@
 -- A run of digits in its place, and what it says: a byte from 1 to 255, or 11.
+use Rattle.std.specs.Prelude.{Result, Ok, Err}
 use Prim.Native.Nat.{ℕ, suc, ◌+◌, ◌-◌, ◌≤◌, ◌<◌}
 use native.Mathlib.Omega.{arith}
 use mathlib.Core.Path.{◌≡◌, refl, sym, ap, ◌∙◌, fun_ext}
 use mathlib.Core.Bool.{Bool, true, false, ◌&&◌}
 use mathlib.Core.Option.{Option, none, some}
 use lib.Dec.{leb}
-use lib.ListN.{length, take, drop, length-drop}
-use lib.Seq.{take-take, take_all}
+use lib.ListN.{length, take, drop}
+use lib.Seq.{take-take}
 use borrow.Author.Tests.{leb-true}
 use Rattle.stages.specs.Numbers.{bad_syntax}
 use Rattle.stages.specs.Bytes.{Text, part, span}
@@ -18,31 +19,11 @@ use Rattle.stages.proofs.Outcomes.{done_same}
 use Rattle.text.specs.Classes.{in_class, Runs}
 use Rattle.text.specs.declared.Class.{Class}
 use Rattle.text.proofs.Parts.{part_length}
-use Rattle.arith_constant.specs.Answers.{counted, within}
-use Rattle.arith_constant.specs.declared.Count.{Count}
-use Rattle.arith_constant.specs.declared.Count.TheVariants as count
+use Rattle.text.specs.declared.refusal.Refusal.{Refusal}
+use Rattle.text.specs.declared.refusal.Refusal.TheVariants.{BadSyntax}
+use Rattle.arith_constant.specs.Answers.{within}
 use Rattle.read_escape.specs.Says.{SaidAt, DigitsOf, AtMost}
-use Rattle.read_escape.specs.declared.Said.{Said}
-use Rattle.read_escape.specs.declared.Said.TheVariants.{Byte, Refused}
-
--- `part_end`
-
-module _ (text : Text) (from most : ℕ) (h : from ≤ length text) where
-  pub whole_rest : length text - from < most → AtMost text from most (length text)
-  whole_rest l = record {
-    is =
-        let n : length (drop from text) ≡ length text - from = length-drop from text in
-        take_all (length text - from) (drop from text) (omega arith) ∙ sym (take_all most (drop from text) (omega arith));
-    onward = h;
-    within = omega arith;
-  }
-
-  pub most_bytes : most ≤ length text - from → AtMost text from most (from + most)
-  most_bytes l = record {
-    is = let e : from + most - from ≡ most = omega arith in ap (λ (k : ℕ). take k (drop from text)) e;
-    onward = omega arith;
-    within = omega arith;
-  }
+use Rattle.read_escape.specs.declared.Escaped.{Escaped}
 
 -- what is counted up to 255 says a byte, or is refused
 
@@ -112,27 +93,26 @@ module _ (text : Text) (at from : ℕ) (class : Class) (base most : ℕ) (end n 
       ∙ ap (λ (k : ℕ). says_number (in_base base 0 (part text from (from + n))) (from - suc at + k)) run_length
       ∙ ap (says_number (in_base base 0 (part text from (from + n)))) e
 
-  module _ (got : Count) (c : counted got ≡ within 255 (in_base base 0 (part text from (from + n)))) where
-    abbrev Ends : Said → Type 0
-    Ends s = SaidAt text at s (says_digits base (from - suc at) (digit_run base most (drop from text)))
+  abbrev Ends : Result Escaped Refusal → Type 0
+  Ends r = SaidAt text at r (says_digits base (from - suc at) (digit_run base most (drop from text)))
 
-    pub digits_refused : {e : ℕ} → got ≡ count.Refused e → Ends (Refused bad_syntax)
-    digits_refused g = says_number_lem ∙ refused_says (in_base base 0 (part text from (from + n))) (from + n - suc at) (sym (ap counted g) ∙ c)
+  pub digits_refused : {e : ℕ} → refused e ≡ within 255 (in_base base 0 (part text from (from + n))) → Ends (Err BadSyntax)
+  digits_refused c = says_number_lem ∙ refused_says (in_base base 0 (part text from (from + n))) (from + n - suc at) c
 
-    module _ {v : ℕ} (g : got ≡ count.Value v) where
-      number : Numbered (in_base base 0 (part text from (from + n))) (from + n - suc at) v
-      number = done_says (in_base base 0 (part text from (from + n))) (from + n - suc at) (sym (ap counted g) ∙ c)
+  module _ {v : ℕ} (c : done v ≡ within 255 (in_base base 0 (part text from (from + n)))) where
+    number : Numbered (in_base base 0 (part text from (from + n))) (from + n - suc at) v
+    number = done_says (in_base base 0 (part text from (from + n))) (from + n - suc at) c
 
-      pub digits_small : v ≤ 255
-      digits_small = number.small
+    pub digits_small : v ≤ 255
+    digits_small = number.small
 
-      pub digits_zero : v ≡ 0 → Ends (Refused bad_syntax)
-      unfolding says_byte
-      digits_zero z = says_number_lem ∙ number.is ∙ ap (λ (x : ℕ). says_byte x (from + n - suc at)) z
+    pub digits_zero : v ≡ 0 → Ends (Err BadSyntax)
+    unfolding says_byte
+    digits_zero z = says_number_lem ∙ number.is ∙ ap (λ (x : ℕ). says_byte x (from + n - suc at)) z
 
-      pub digits_byte : (v ≡ 0 → ⊥) → Ends (Byte v (from + n))
-      unfolding says_byte
-      digits_byte z = (
-        says_number_lem ∙ number.is ∙ rw (between_true 1 v 255 (positive v z) number.small),
-        record { onward = omega arith; within = run_within },
-      )
+    pub digits_byte : (v ≡ 0 → ⊥) → Ends (Ok (record { byte = v; next = from + n }))
+    unfolding says_byte
+    digits_byte z = (
+      says_number_lem ∙ number.is ∙ rw (between_true 1 v 255 (positive v z) number.small),
+      record { onward = omega arith; within = run_within },
+    )

@@ -1,4 +1,3 @@
-pub mod Letters
 pub mod Digits
 pub mod Places
 pub mod Determined
