@@ -35,66 +35,24 @@ pub enum Class {
 // A word with all its bits.
 pub const ALL_BITS: u64 = 0xffff_ffff_ffff_ffff;
 
-// The bytes 0 to 63 that are in a class, a bit for each.
-fn low_bytes(class: Class) -> u64
-    ensures { result ≡ low_bytes class }
-{
-    match class {
-        Class::NotZero => 0xffff_ffff_ffff_fffe,
-        Class::Digit => 0x03ff_0000_0000_0000,
-        Class::NameStart => 0x0000_0000_0000_0000,
-        Class::NameByte => 0x03ff_0000_0000_0000,
-        Class::LoginByte => 0x03ff_6000_0000_0000,
-        Class::BareByte => 0x03ff_e000_0000_0000,
-        Class::Blank => 0x0000_0001_0000_0600,
-        Class::Operator => 0x5800_0340_0000_0000,
-        Class::NotControl => 0xffff_ffff_0000_0000,
-        Class::SameByte => 0xffff_ff7f_0000_0000,
-        Class::OctalDigit => 0x00ff_0000_0000_0000,
-        Class::HexDigit => 0x03ff_0000_0000_0000,
-    }
-}
-
-// The bytes 64 to 127 that are in a class, a bit for each.
-fn high_bytes(class: Class) -> u64
-    ensures { result ≡ high_bytes class }
-{
-    match class {
-        Class::NotZero => 0xffff_ffff_ffff_ffff,
-        Class::Digit => 0x0000_0000_0000_0000,
-        Class::NameStart => 0x07ff_fffe_87ff_fffe,
-        Class::NameByte => 0x07ff_fffe_87ff_fffe,
-        Class::LoginByte => 0x07ff_fffe_87ff_fffe,
-        Class::BareByte => 0x07ff_fffe_87ff_fffe,
-        Class::Blank => 0x0000_0000_0000_0000,
-        Class::Operator => 0x1000_0000_0000_0000,
-        Class::NotControl => 0x7fff_ffff_ffff_ffff,
-        Class::SameByte => 0x7fff_ffff_efff_ffff,
-        Class::OctalDigit => 0x0000_0000_0000_0000,
-        Class::HexDigit => 0x0000_007e_0000_007e,
-    }
-}
-
-// Are the bytes from 128 on in a class?
-fn upper_bytes(class: Class) -> bool
-    ensures { result ≡ upper_bytes class }
-{
-    matches!(class, Class::NotZero | Class::NotControl | Class::SameByte)
-}
-
-// The bytes from 128 on that are in a class, for 64 of them.
-fn upper_word(class: Class) -> u64
-    ensures { result ≡ upper_word (upper_bytes class) }
-{
-    if upper_bytes(class) { ALL_BITS } else { 0 }
-}
-
-// All bytes that are in a class, a bit for each.
+// All bytes that are in a class, a bit for each: those below 64, those from 64 to 127, and twice those from 128 on, which are all in it or none.
 fn words_of(class: Class) -> [u64; 4]
     ensures { result ≡ words_of class }
 {
-    let upper = upper_word(class);
-    [low_bytes(class), high_bytes(class), upper, upper]
+    match class {
+        Class::NotZero => [0xffff_ffff_ffff_fffe, 0xffff_ffff_ffff_ffff, !0, !0],
+        Class::Digit => [0x03ff_0000_0000_0000, 0x0000_0000_0000_0000, 0, 0],
+        Class::NameStart => [0x0000_0000_0000_0000, 0x07ff_fffe_87ff_fffe, 0, 0],
+        Class::NameByte => [0x03ff_0000_0000_0000, 0x07ff_fffe_87ff_fffe, 0, 0],
+        Class::LoginByte => [0x03ff_6000_0000_0000, 0x07ff_fffe_87ff_fffe, 0, 0],
+        Class::BareByte => [0x03ff_e000_0000_0000, 0x07ff_fffe_87ff_fffe, 0, 0],
+        Class::Blank => [0x0000_0001_0000_0600, 0x0000_0000_0000_0000, 0, 0],
+        Class::Operator => [0x5800_0340_0000_0000, 0x1000_0000_0000_0000, 0, 0],
+        Class::NotControl => [0xffff_ffff_0000_0000, 0x7fff_ffff_ffff_ffff, !0, !0],
+        Class::SameByte => [0xffff_ff7f_0000_0000, 0x7fff_ffff_efff_ffff, !0, !0],
+        Class::OctalDigit => [0x00ff_0000_0000_0000, 0x0000_0000_0000_0000, 0, 0],
+        Class::HexDigit => [0x03ff_0000_0000_0000, 0x0000_007e_0000_007e, 0, 0],
+    }
 }
 
 // Is the byte's bit set, among 256 in four words? No branch hangs on the byte: where bytes of many kinds come, it would often be foreseen wrongly.
@@ -109,13 +67,7 @@ pub fn has_bit(words: &[u64; 4], b: u8) -> bool
 pub fn in_class(class: Class, b: u8) -> bool
     ensures { result ≡ in_class class b }
 {
-    if b < 64 {
-        return (low_bytes(class) >> b) & 1 == 1;
-    }
-    if b < 128 {
-        return (high_bytes(class) >> (b - 64)) & 1 == 1;
-    }
-    upper_bytes(class)
+    has_bit(&words_of(class), b)
 }
 
 // Is the byte one of the set's?
