@@ -13,7 +13,7 @@ use Rattle.stages.proofs.Texts.{eq_text_same, lt_text_asym}
 use Rattle.stages.proofs.Images.{Bytes, image_canonical, pairs_of_some, length_image, length_written, written_append, flat_append}
 use Rattle.stages.proofs.Stores.{lookup_here, lookup_later, lookup_under, rising_tail}
 use Rattle.text.specs.Orders.{order_of}
-use Rattle.text.specs.declared.Order.TheVariants.{Less, Same, More}
+use Rattle.std.specs.declared.cmp.Ordering.TheVariants.{Less, Equal, Greater}
 use Rattle.text.proofs.Orders.{order_below, order_equal, order_above, above_not_equal}
 use Rattle.table.specs.Pieces.{size_at}
 use Rattle.table.specs.Places.{Table, before, behind, place_of, spot_by, spot_in, Hole, known, fresh, Placed}
@@ -152,7 +152,7 @@ module _ (t key : Text) (at : ℕ) (s : Walking t key at) where
             (ap (behind key) f.is ∙ behind_fresh key f.front f.more e ∙ sym f.is)
             (ap (lookup key) f.is ∙ lookup_under key (f.front ∷ f.more) e rising_ahead)
 
-        module _ (o : order_of key (part t (at + 2) (at + 2 + n)) ≡ Same) where
+        module _ (o : order_of key (part t (at + 2) (at + 2 + n)) ≡ Equal) where
           equal : eq_text key f.front.0 ≡ true
           equal = order_equal key f.front.0 (rw name_is at o)
 
@@ -198,7 +198,7 @@ module _ (t key : Text) (at : ℕ) (s : Walking t key at) where
             (length_written (flat (f.front ∷ []))))
             ∙ image_more s.passed f.front
 
-        pub place_more : order_of key (part t (at + 2) (at + 2 + n)) ≡ More → Walking t key (at + 2 + n + 2 + m)
+        pub place_more : order_of key (part t (at + 2) (at + 2 + n)) ≡ Greater → Walking t key (at + 2 + n + 2 + m)
         place_more o =
             let e : lt_text f.front.0 key ≡ true = order_above key f.front.0 (rw name_is at o) in
             let q : eq_text key f.front.0 ≡ false = above_not_equal key f.front.0 (rw name_is at o) in

@@ -9,8 +9,8 @@ ghost use Rattle.stages.specs.Params.{numbered};
 ghost use Rattle.table.specs.Places.{Listed, Table, Placed, Looked};
 ghost use Rattle.table_find.specs.Numbered.{Numbers};
 
+use std::cmp::Ordering;
 use table::{Part, Record};
-use text::Order;
 
 // Where the record of a key is, or where it belongs: the walk stops at the first key that is not below it.
 pub fn place_of(image: &[u8], key: &[u8]) -> Result<Record, usize>
@@ -23,9 +23,9 @@ pub fn place_of(image: &[u8], key: &[u8]) -> Result<Record, usize>
         let mid = start + table::size_at(image, at);
         let end = mid + 2 + table::size_at(image, mid);
         match text::compare(key, &image[start..mid]) {
-            Order::Less => return Err(at),
-            Order::Same => return Ok(Record { at, mid, end }),
-            Order::More => at = end,
+            Ordering::Less => return Err(at),
+            Ordering::Equal => return Ok(Record { at, mid, end }),
+            Ordering::Greater => at = end,
         }
     }
     Err(at)

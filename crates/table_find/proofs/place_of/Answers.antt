@@ -20,13 +20,13 @@ pub returns-in-Less : goal.returns-in-Less
 returns-in-Less c =
     place_less _ _ _ c.loop-at.invariant c.loop-at-test.true _ c.size_at.ensures _ c.size_at-in-loop-at.ensures (sym c.compare.ensures ∙ c.in-Less.is)
 
-pub returns-in-Same : goal.returns-in-Same
-returns-in-Same c =
-    place_same _ _ _ c.loop-at.invariant c.loop-at-test.true _ c.size_at.ensures _ c.size_at-in-loop-at.ensures (sym c.compare.ensures ∙ c.in-Same.is)
+pub returns-in-Equal : goal.returns-in-Equal
+returns-in-Equal c =
+    place_same _ _ _ c.loop-at.invariant c.loop-at-test.true _ c.size_at.ensures _ c.size_at-in-loop-at.ensures (sym c.compare.ensures ∙ c.in-Equal.is)
 
 pub loop-at-preserved : goal.loop-at-preserved
 loop-at-preserved c =
-    place_more _ _ _ c.loop-at.invariant c.loop-at-test.true _ c.size_at.ensures _ c.size_at-in-loop-at.ensures (sym c.compare.ensures ∙ c.in-More.is)
+    place_more _ _ _ c.loop-at.invariant c.loop-at-test.true _ c.size_at.ensures _ c.size_at-in-loop-at.ensures (sym c.compare.ensures ∙ c.in-Greater.is)
 
 pub returns : goal.returns
 returns c = place_end _ _ _ c.loop-at.invariant c.loop-at-test.false
