@@ -1,4 +1,3 @@
-pub mod Linear
 pub mod Ranges
 pub mod Bitwise
 pub mod Shifts

@@ -1,26 +1,26 @@
 -- The operations' laws: a result that fits is given, one that does not is refused, and each guard tells the two apart.
 use mathlib.Core.Path.{◌≡◌, refl, sym, ◌∙◌, ap, subst}
 use mathlib.Core.Bool.{Bool, true, false}
-use Prim.Native.Nat.{ℕ, zero, suc, ◌+◌, ◌-◌, ◌*◌, ◌/◌, ◌≤◌, ◌<◌, ◌^◌}
+use Prim.Native.Nat.{ℕ, zero, suc, ◌-◌, ◌*◌, ◌/◌, ◌≤◌, ◌<◌, ◌^◌}
 use native.Mathlib.Omega.{arith}
-use native.Mathlib.Nat.{div-le_self, div-lt_self, div-one, zero-add, mul_comm, le-div_iff_mul-le, div-lt_iff_lt-mul}
-use native.Mathlib.Nat as NatL
-use lib.Dec.{T, eqb, leb, ltb}
-use lib.IntN.{ℤ, pos, negsuc, neg_ℤ, nat_abs, ◌+ℤ◌, ◌-ℤ◌, ◌*ℤ◌}
-use lib.Signed.{mag, lt_z, le_z, quot_z, rem_z, mag_rem, non_neg}
+use native.Mathlib.Nat.{div-le_self, div-lt_self, div-one, zero-add}
+use lib.Dec.{eqb, leb, ltb}
+use lib.IntN.{ℤ, pos, negsuc, neg_ℤ, nat_abs, ◌-ℤ◌, ◌*ℤ◌}
+use lib.Signed.{mag, lt_z, le_z, quot_z, rem_z, mag_rem}
 use mir.Syntax.{w64}
 use mir.Val.{SFits, of_z, to_z}
 use mir.ValLaws.{to_z-of_z, to_z_pos}
 use borrow.Author.Tests.{lt-ltb, le-ltb, ltb-true, le-leb, leb-true, eqb-true, eq-eqb, ne_eqb}
 use Rattle.stages.proofs.Bools.{no, same_tests, and_left, and_right, and_both}
-use Rattle.arith_int.proofs.Linear.{bias, bias_neg, mag_neg, bias_add, mag_add, inside, below, above, bounds, lt_true, lt_false}
 use Rattle.stages.specs.Numbers.{zero_divisor}
 use Rattle.stages.specs.Numbers as numbers
 use Rattle.stages.specs.Outcome.{refused, done}
 use Rattle.stages.specs.Constants.{fits, ranged}
-use Rattle.stages.specs.Arith.{divided, is_zero, eq_z, xor}
-use Rattle.arith_int.specs.Answers.{of_sign, Divides}
-use Rattle.arith_int.specs.declared.Division.{Division}
+use Rattle.stages.specs.Arith.{divided, is_zero, eq_z, xor, truth}
+use Rattle.std.specs.Prelude.{Option, Some, None, SomeIff, Result, ok_or}
+use Rattle.text.specs.declared.refusal.Refusal.{Refusal}
+use Rattle.text.specs.declared.refusal.Refusal.TheVariants.{Overflow}
+use Rattle.arith_int.specs.Answers.{numbered, of_sign, Divides}
 
 antisym : {a b : ℕ} → a ≤ b → b ≤ a → a ≡ b
 antisym h k = omega arith
@@ -44,6 +44,16 @@ value z h = rw (lt-ltb (mag z) (2 ^ 63) h.sfits, ranged)
 pub overflow : (z : ℤ) → 2 ^ 63 ≤ mag z → refused numbers.overflow ≡ ranged z
 unfolding ranged fits
 overflow z h = rw (le-ltb (mag z) (2 ^ 63) h, ranged)
+
+-- what std's checked operations answer
+pub checked : (r : Option ℤ) (z : ℤ) → SomeIff r (SFits w64 z) z → numbered (ok_or r Overflow) ≡ ranged z
+checked (Some x) z h = rw h.1 (value z h.0)
+checked None z h = overflow z (omega (arith, λ (l : mag z < 2 ^ 63). h (record { sfits = l })))
+
+-- an answer of a test
+pub told : (t : ℤ) (b : Bool) → t ≡ truth b → done (to_z w64 (of_z w64 t)) ≡ done (truth b)
+told t true e = rw e
+told t false e = rw e
 
 -- a test for equality speaks of bits
 pub bits_eq : (z y : ℤ) → SFits w64 z → SFits w64 y → of_z w64 z ≡ of_z w64 y → z ≡ y
@@ -93,85 +103,12 @@ unfolding divided fits
 least_divided f a b e h = rw (e, h)
 
 -- what was said of the numbers that the code holds, by a case of the answer
-pub divides_shown : {a b : ℤ} {r s : Division} → SFits w64 a → SFits w64 b → Divides (to_z w64 (of_z w64 a)) (to_z w64 (of_z w64 b)) r → r ≡ s
+pub divides_shown : {a b : ℤ} {r s : Result Unit Refusal} → SFits w64 a → SFits w64 b → Divides (to_z w64 (of_z w64 a)) (to_z w64 (of_z w64 b)) r → r ≡ s
     → Divides a b s
 divides_shown {a} {b} h k d e = subst (Divides a b) e (rw (held a h, held b k) at d)
 
 pub some_bits : (z : ℤ) → SFits w64 z → (of_z w64 z ≡ 0 → ⊥) → 0 < of_z w64 z
 some_bits z h n = omega arith
-
--- a negation fits but for the least number
-pub neg_fits : (z : ℤ) → SFits w64 z → (z ≡ least → ⊥) → SFits w64 (neg_ℤ z)
-neg_fits (pos zero) h n = record { sfits = omega arith }
-neg_fits (pos (suc k)) h n = record { sfits = let f = h.sfits in omega arith }
-neg_fits (negsuc k) h n = record { sfits = let f = h.sfits in omega (arith, top) }
-  where
-    top : k ≡ 9223372036854775807 → ⊥
-    top e = n (ap negsuc e)
-
-pub least_turned : (z : ℤ) → z ≡ least → refused numbers.overflow ≡ ranged (neg_ℤ z)
-unfolding ranged fits
-least_turned z e = rw e
-
--- m - b, as the code's guards compute it, with its bias
-minus : (m b : ℤ) → mag m < 2 ^ 63 → mag b < 2 ^ 63 → (mag (m -ℤ b) < 2 ^ 65) × (bias (m -ℤ b) + bias b ≡ bias m + 2 ^ 66)
-minus m b h k =
-    let n = mag_neg b (2 ^ 63) k in
-    (mag_add m (neg_ℤ b) (omega arith) n, omega (arith, bias_add m (neg_ℤ b) (omega arith) n, bias_neg b (omega arith)))
-
-abbrev pub most : ℤ
-most = pos 9223372036854775807
-
-module _ (a b : ℤ) (ha : SFits w64 a) (hb : SFits w64 b) where
-  -- what is known of the sum
-  sum : (mag (a +ℤ b) < 2 ^ 65) × (bias (a +ℤ b) + 2 ^ 66 ≡ bias a + bias b) × (mag a < 2 ^ 63) × (mag b < 2 ^ 63)
-  sum =
-      let f = ha.sfits in let g = hb.sfits in
-      (mag_add a b (omega arith) (omega arith), bias_add a b (omega arith) (omega arith), f, g)
-
-  module _ (n : lt_z b (pos 0) ≡ true) where
-    pub low_room : SFits w64 (least -ℤ b)
-    low_room = record {
-      sfits =
-          let g = hb.sfits in
-          let d = minus least b (omega arith) g in
-          inside (least -ℤ b) d.0 (omega (arith, lt_true b (pos 0) (omega arith) (omega arith) n)) (omega (arith, bounds b g));
-    }
-
-    pub low_over : lt_z a (least -ℤ b) ≡ true → refused numbers.overflow ≡ ranged (a +ℤ b)
-    low_over t = overflow (a +ℤ b)
-        (let s = sum in let d = minus least b (omega arith) s.3 in
-        below (a +ℤ b) s.0 (omega (arith, lt_true a (least -ℤ b) (omega arith) d.0 t)))
-
-    pub low_fits : lt_z a (least -ℤ b) ≡ false → SFits w64 (a +ℤ b)
-    low_fits t = record {
-      sfits =
-          let s = sum in let d = minus least b (omega arith) s.3 in
-          inside (a +ℤ b) s.0 (omega (arith, lt_false a (least -ℤ b) (omega arith) d.0 t))
-          (omega (arith, bounds a s.2, lt_true b (pos 0) (omega arith) (omega arith) n));
-    }
-
-  module _ (n : lt_z b (pos 0) ≡ false) where
-    pub high_room : SFits w64 (most -ℤ b)
-    high_room = record {
-      sfits =
-          let g = hb.sfits in
-          let d = minus most b (omega arith) g in
-          inside (most -ℤ b) d.0 (omega (arith, bounds b g)) (omega (arith, lt_false b (pos 0) (omega arith) (omega arith) n));
-    }
-
-    pub high_over : lt_z (most -ℤ b) a ≡ true → refused numbers.overflow ≡ ranged (a +ℤ b)
-    high_over t = overflow (a +ℤ b)
-        (let s = sum in let d = minus most b (omega arith) s.3 in
-        above (a +ℤ b) (omega (arith, lt_true (most -ℤ b) a d.0 (omega arith) t)))
-
-    pub high_fits : lt_z (most -ℤ b) a ≡ false → SFits w64 (a +ℤ b)
-    high_fits t = record {
-      sfits =
-          let s = sum in let d = minus most b (omega arith) s.3 in
-          inside (a +ℤ b) s.0 (omega (arith, bounds a s.2, lt_false b (pos 0) (omega arith) (omega arith) n))
-          (omega (arith, lt_false (most -ℤ b) a d.0 (omega arith) t));
-    }
 
 -- below zero, or not
 pub below_zero : (n : ℕ) → ltb n 0 ≡ true → ⊥
@@ -183,14 +120,6 @@ mirror (pos n) e = absurd (below_zero n e)
 mirror (negsuc n) e =
     let z : suc n - 1 ≡ n = omega arith in
     rw (le-ltb (suc n) 1 (omega arith), z)
-
-pub abs_below : (a : ℤ) → lt_z a (pos 0) ≡ true → mag a + 1 ≡ nat_abs a
-abs_below (pos n) e = absurd (below_zero n e)
-abs_below (negsuc n) e = omega arith
-
-pub not_below : (a : ℤ) → lt_z a (pos 0) ≡ false → T (non_neg a)
-not_below (pos n) e = tt
-not_below (negsuc n) e = absurd (no (sym e))
 
 -- -1 - m, the number below zero of magnitude m + 1
 pub mirrored : (m : ℕ) → negsuc 0 -ℤ pos m ≡ negsuc m
@@ -224,27 +153,8 @@ unfolding ranged fits
 zero_signed true = refl
 zero_signed false = refl
 
--- a number less the least
-pub sub_least : (a : ℤ) → SFits w64 a → lt_z a (pos 0) ≡ true → SFits w64 (a -ℤ least)
-sub_least (pos n) h e = absurd (below_zero n e)
-sub_least (negsuc n) h e = record { sfits = let f = h.sfits in rw (le-ltb 9223372036854775808 (suc n) f) (omega arith) }
-
-pub over_least : (a : ℤ) → lt_z a (pos 0) ≡ false → refused numbers.overflow ≡ ranged (a -ℤ least)
-over_least (pos n) e = overflow (pos n -ℤ least) (omega arith)
-over_least (negsuc n) e = absurd (no (sym e))
-
 pub of_zero : (s : Bool) (m : ℕ) → m ≡ 0 → done (pos 0) ≡ ranged (of_sign s m)
 of_zero s m e = rw e (zero_signed s)
-
--- a product by the magnitudes
-pub mul_zero : (s : Bool) (x y : ℕ) → x ≡ 0 → done (pos 0) ≡ ranged (of_sign s (x * y))
-mul_zero s x y e = of_zero s (x * y) (rw (e, NatL.zero-mul))
-
-pub mul_over : (s : Bool) (x y : ℕ) → 0 < x → 9223372036854775808 / x < y → refused numbers.overflow ≡ ranged (of_sign s (x * y))
-mul_over s x y p h = overflow (of_sign s (x * y)) (sign_mag s (x * y) (rw mul_comm at ((div-lt_iff_lt-mul p).0 h)))
-
-pub mul_room : (x y : ℕ) → 0 < x → y ≤ 9223372036854775808 / x → x * y ≤ 9223372036854775808
-mul_room x y p h = rw mul_comm at ((le-div_iff_mul-le p).0 h)
 
 pub held_pos : (n : ℕ) → n ≤ 9223372036854775807 → to_z w64 n ≡ pos n
 held_pos n h = to_z_pos w64 n (omega arith)
@@ -269,3 +179,7 @@ same_bits a b h k =
 pub zero_bits : (z : ℤ) → SFits w64 z → eqb (of_z w64 z) 0 ≡ is_zero z
 zero_bits (pos n) h = refl
 zero_bits (negsuc n) h = let f = h.sfits in ne_eqb (2 ^ 64 - suc n) 0 (λ e. omega arith)
+
+-- a product beyond 64 bits, by its magnitude
+pub far : (s : Bool) (m : ℕ) → (m < 2 ^ 64 → ⊥) → refused numbers.overflow ≡ ranged (of_sign s m)
+far s m h = overflow (of_sign s m) (sign_mag s m (omega (arith, h)))

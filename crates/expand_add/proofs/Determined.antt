@@ -27,13 +27,31 @@ use Rattle.row.proofs.Determined.{expanded_mark_determined}
 use Rattle.table_store.proofs.Holding.{vars_held, vars_used_is}
 use Rattle.expand_add.specs.Answers.{IsRow, IsDemand, Ends, Answers, Says, Finishes}
 use Rattle.expand_add.specs.declared.answers.Onward.{Onward}
-use Rattle.expand_add.specs.declared.answers.Expanded.{Expanded}
-use Rattle.expand_add.specs.declared.answers.Expanded.TheVariants as answer
+use Rattle.std.specs.Prelude.{Ok, Err}
+use Rattle.text.specs.Refusals.{refusal_number}
+use Rattle.expand_add.specs.declared.answers.Stop.TheVariants.{Refused, Demanded}
+use Rattle.expand_add.specs.Expanded.{Expanded, row_on}
+use Rattle.expand_add.specs.declared.answers.Stop.{Stop}
+use Rattle.expand_add.specs.declared.answers.Row as answer
+use Rattle.text.specs.declared.refusal.Refusal.{Refusal}
+use Rattle.expand_add.proofs.Refusals.{refusal_one}
 use Rattle.expand_add.proofs.Standing.{front}
 use Rattle.expand_add.proofs.Holding.{says_known, answers_known}
 use Rattle.expand_add.proofs.Waiting.{waits_length}
 use Rattle.text.proofs.Determined.{one_answer}
 use Rattle.expand_add.specs.Added.{EndsExpanded, Adds, Fitting, left_with, AddsTo, measured}
+
+-- One answer.
+
+one_answer_row : {n n' next next' u u' : ℕ} {g g' : Bool} → n ≡ n' → next ≡ next' → u ≡ u' → g ≡ g' → ◌≡◌ {A = answer.Row}
+    (record { units = n; next = next; vars_used = u; of_none = g }) (record { units = n'; next = next'; vars_used = u'; of_none = g' })
+one_answer_row a b c d = rw (a, b, c, d)
+
+pub row_determined : (on : Onward) (n : ℕ) (r s : answer.Row) → r ≡ row_on on n → s ≡ row_on on n → r ≡ s
+row_determined on n r s = one_answer
+
+pub from_determined : (why : Refusal) (r s : Stop) → r ≡ Refused why → s ≡ Refused why → r ≡ s
+from_determined why r s = one_answer
 
 -- A row that is added.
 
@@ -53,18 +71,16 @@ module _ (units : ℕ) (on : Onward) (o : Outcome Row) (area area' : Text) where
   one_row f f' = let a = f.is in let b = f'.is in cc
 
   pub adds_determined : (r r' : Expanded) → Adds units on o area r → Adds units on o area' r' → r ≡ r'
-  adds_determined (answer.Row n next u g) (answer.Row n' next' u' g') f f' =
-      let a : n ≡ n' = sym f.counts ∙ ap length (one_row f f') ∙ f'.counts in
-      let b : next ≡ next' = one_answer f.onward f'.onward in
-      let c : u ≡ u' = one_answer f.keeps f'.keeps in
-      let d : g ≡ g' = one_answer f.tells f'.tells in
-      cc
-  adds_determined (answer.Row n next u g) (answer.Refused e') f h' = absurd (measured_fits units on o area n next u g f h')
-  adds_determined (answer.Refused e) (answer.Row n' next' u' g') h f' = absurd (measured_fits units on o area' n' next' u' g' f' h)
-  adds_determined (answer.Row n next u g) (answer.Demanded at len) f h' = absurd h'
-  adds_determined (answer.Refused e) (answer.Refused e') h h' = let q : e ≡ e' = cc in ap answer.Refused q
-  adds_determined (answer.Refused e) (answer.Demanded at len) h h' = absurd h'
-  adds_determined (answer.Demanded at len) r' h h' = absurd h
+  adds_determined (Ok r) (Ok r') f f' =
+      ap Ok
+      (one_answer_row (sym f.counts ∙ ap length (one_row f f') ∙ f'.counts) (one_answer f.onward f'.onward) (one_answer f.keeps f'.keeps)
+      (one_answer f.tells f'.tells))
+  adds_determined (Ok r) (Err (Refused e')) f h' = absurd (measured_fits units on o area r.units r.next r.vars_used r.of_none f h')
+  adds_determined (Err (Refused e)) (Ok r') h f' = absurd (measured_fits units on o area' r'.units r'.next r'.vars_used r'.of_none f' h)
+  adds_determined (Ok r) (Err (Demanded at len)) f h' = absurd h'
+  adds_determined (Err (Refused e)) (Err (Refused e')) h h' = ap (λ (x : Refusal). Err (Refused x)) (refusal_one e e' (cc))
+  adds_determined (Err (Refused e)) (Err (Demanded at len)) h h' = absurd h'
+  adds_determined (Err (Demanded at len)) r' h h' = absurd h
 
   pub adds_determined_row : {n next u n' next' u' : ℕ} {g g' : Bool} → Fitting units on o area n next u g → Fitting units on o area' n' next' u' g'
       → take (2 * n) area ≡ take (2 * n') area'
@@ -101,14 +117,14 @@ expanded_end_determined row r s p q =
 
 -- an answer without where its message waits, and the message
 abbrev pub apart : Expanded → Expanded
-apart (answer.Row n next u g) = answer.Row n next u g
-apart (answer.Refused e) = answer.Refused e
-apart (answer.Demanded at len) = answer.Demanded 0 len
+apart (Ok r) = Ok r
+apart (Err (Refused e)) = Err (Refused e)
+apart (Err (Demanded at len)) = Err (Demanded 0 len)
 
 abbrev pub waiting : Text → Expanded → Text
-waiting area (answer.Row n next u g) = []
-waiting area (answer.Refused e) = []
-waiting area (answer.Demanded at len) = take len (drop at area)
+waiting area (Ok r) = []
+waiting area (Err (Refused e)) = []
+waiting area (Err (Demanded at len)) = take len (drop at area)
 
 -- two answers are one, whose message may wait at two places
 pub record OneAnswer (area : Text) (r : Expanded) (area' : Text) (r' : Expanded) : Type 0 where
@@ -158,32 +174,37 @@ module _ (varsRoom units : ℕ) (made : Made) (area vars area' vars' : Text) whe
         table_canonical is_name (take vars_used vars) (vars_held varsRoom vars vars_used i.holds) b ∙ ap (λ (v : Pairs). image (flat v)) same_held
         ∙ sym (table_canonical is_name (take varsUsed' vars') (vars_held varsRoom vars' varsUsed' i'.holds) b')
 
+  one_row_answer : {r r' : answer.Row} → r.units ≡ r'.units → r.next ≡ r'.next → r.vars_used ≡ r'.vars_used → r.of_none ≡ r'.of_none
+      → OneAnswer area (Ok r) area' (Ok r')
+  one_row_answer a b c d = record { answers = ap Ok (one_answer_row a b c d); message = refl }
+
+  one_refusal : {e e' : Refusal} → made ≡ refused (refusal_number e) → made ≡ refused (refusal_number e')
+      → OneAnswer area (Err (Refused e)) area' (Err (Refused e'))
+  one_refusal {e} {e'} h h' =
+      record { answers = ap (λ (x : Refusal). Err (Refused x)) (refusal_one e e' (one_number h h')); message = refl }
+
   one_message : {at len at' len' : ℕ} → IsDemand made area at len → IsDemand made area' at' len'
-      → OneAnswer area (answer.Demanded at len) area' (answer.Demanded at' len')
+      → OneAnswer area (Err (Demanded at len)) area' (Err (Demanded at' len'))
   one_message {at} {len} {at'} {len'} d d' =
       let same : d.message ≡ d'.message = (let a = d.is in let b = d'.is in cc) in
       record {
-        answers = ap (answer.Demanded 0) (sym (waits_length d.waits) ∙ ap length same ∙ waits_length d'.waits);
+        answers = ap (λ (n : ℕ). Err (Demanded 0 n)) (sym (waits_length d.waits) ∙ ap length same ∙ waits_length d'.waits);
         message = sym d.waits.is ∙ same ∙ d'.waits.is;
       }
 
   -- what a leaf hands on; its row and its image are one by `row_same` and `image_same`
   pub finishes_determined : (next : ℕ) (r r' : Expanded) → Finishes varsRoom units made next area vars r → Finishes varsRoom units made next area'
       vars' r' → OneAnswer area r area' r'
-  finishes_determined next (answer.Refused e) (answer.Refused e') h h' = record { answers = ap answer.Refused (one_number h h'); message = refl }
-  finishes_determined next (answer.Refused e) (answer.Row n' next' varsUsed' g') h h' = absurd (clash h h'.1.is)
-  finishes_determined next (answer.Refused e) (answer.Demanded at' len') h h' = absurd (clash_both h'.is h)
-  finishes_determined next (answer.Row n after vars_used g) (answer.Refused e') h h' = absurd (clash h' h.1.is)
-  finishes_determined next (answer.Row n after vars_used g) (answer.Demanded at' len') h h' = absurd (clash_demand h'.is h.1.is)
-  finishes_determined next (answer.Row n after vars_used g) (answer.Row n' after' varsUsed' g') h h' =
-      let a = same_units h.1 h'.1 in
-      let b : after ≡ after' = one_answer h.0 h'.0 in
-      let c = same_vars_used h.1 h'.1 in
-      let d = same_tells h.1 h'.1 in
-      record { answers = cc; message = refl }
-  finishes_determined next (answer.Demanded at len) (answer.Refused e') h h' = absurd (clash_both h.is h')
-  finishes_determined next (answer.Demanded at len) (answer.Row n' after' varsUsed' g') h h' = absurd (clash_demand h.is h'.1.is)
-  finishes_determined next (answer.Demanded at len) (answer.Demanded at' len') h h' = one_message h h'
+  finishes_determined next (Err (Refused e)) (Err (Refused e')) h h' = one_refusal h h'
+  finishes_determined next (Err (Refused e)) (Ok r') h h' = absurd (clash h h'.1.is)
+  finishes_determined next (Err (Refused e)) (Err (Demanded at' len')) h h' = absurd (clash_both h'.is h)
+  finishes_determined next (Ok r) (Err (Refused e')) h h' = absurd (clash h' h.1.is)
+  finishes_determined next (Ok r) (Err (Demanded at' len')) h h' = absurd (clash_demand h'.is h.1.is)
+  finishes_determined next (Ok r) (Ok r') h h' =
+      one_row_answer (same_units h.1 h'.1) (one_answer h.0 h'.0) (same_vars_used h.1 h'.1) (same_tells h.1 h'.1)
+  finishes_determined next (Err (Demanded at len)) (Err (Refused e')) h h' = absurd (clash_both h.is h')
+  finishes_determined next (Err (Demanded at len)) (Ok r') h h' = absurd (clash_demand h.is h'.1.is)
+  finishes_determined next (Err (Demanded at len)) (Err (Demanded at' len')) h h' = one_message h h'
 
   module _ (text : Text) (at : ℕ) (rest : Text) where
     same_next : {next next' : ℕ} → Ends text at next rest → Ends text at next' rest → next ≡ next'
@@ -192,20 +213,16 @@ module _ (varsRoom units : ℕ) (made : Made) (area vars area' vars' : Text) whe
 
     answers_same : (r r' : Expanded) → Answers varsRoom text at units made rest area vars r → Answers varsRoom text at units made rest area' vars'
         r' → OneAnswer area r area' r'
-    answers_same (answer.Refused e) (answer.Refused e') h h' = record { answers = ap answer.Refused (one_number h h'); message = refl }
-    answers_same (answer.Refused e) (answer.Row n' next' varsUsed' g') h h' = absurd (clash h h'.0.is)
-    answers_same (answer.Refused e) (answer.Demanded from' len') h h' = absurd (clash_both h'.is h)
-    answers_same (answer.Row n next vars_used g) (answer.Refused e') h h' = absurd (clash h' h.0.is)
-    answers_same (answer.Row n next vars_used g) (answer.Demanded from' len') h h' = absurd (clash_demand h'.is h.0.is)
-    answers_same (answer.Row n next vars_used g) (answer.Row n' next' varsUsed' g') h h' =
-        let a = same_units h.0 h'.0 in
-        let b = same_next h.1 h'.1 in
-        let c = same_vars_used h.0 h'.0 in
-        let d = same_tells h.0 h'.0 in
-        record { answers = cc; message = refl }
-    answers_same (answer.Demanded from len) (answer.Refused e') h h' = absurd (clash_both h.is h')
-    answers_same (answer.Demanded from len) (answer.Row n' next' varsUsed' g') h h' = absurd (clash_demand h.is h'.0.is)
-    answers_same (answer.Demanded from len) (answer.Demanded from' len') h h' = one_message h h'
+    answers_same (Err (Refused e)) (Err (Refused e')) h h' = one_refusal h h'
+    answers_same (Err (Refused e)) (Ok r') h h' = absurd (clash h h'.0.is)
+    answers_same (Err (Refused e)) (Err (Demanded from' len')) h h' = absurd (clash_both h'.is h)
+    answers_same (Ok r) (Err (Refused e')) h h' = absurd (clash h' h.0.is)
+    answers_same (Ok r) (Err (Demanded from' len')) h h' = absurd (clash_demand h'.is h.0.is)
+    answers_same (Ok r) (Ok r') h h' =
+        one_row_answer (same_units h.0 h'.0) (same_next h.1 h'.1) (same_vars_used h.0 h'.0) (same_tells h.0 h'.0)
+    answers_same (Err (Demanded from len)) (Err (Refused e')) h h' = absurd (clash_both h.is h')
+    answers_same (Err (Demanded from len)) (Ok r') h h' = absurd (clash_demand h.is h'.0.is)
+    answers_same (Err (Demanded from len)) (Err (Demanded from' len')) h h' = one_message h h'
 
 -- every function that answers for a text
 module _ (varsRoom : ℕ) (text : Text) (at units : ℕ) (own : Parts → Made) {o : Taken} {p : Parts × Text} (e : o ≡ done p)
@@ -216,17 +233,15 @@ module _ (varsRoom : ℕ) (text : Text) (at units : ℕ) (own : Parts → Made) 
       answers_same varsRoom units (own p.0) area vars area' vars' text at p.1 r r'
       (says_known varsRoom text at units own area vars r s e) (says_known varsRoom text at units own area' vars' r' s' e)
 
-  pub determined_row : {n next vars_used n' next' varsUsed' : ℕ} {g g' : Bool} → r ≡ answer.Row n next vars_used g → r' ≡ answer.Row n' next' varsUsed' g'
-      → take (2 * n) area ≡ take (2 * n') area'
+  pub determined_row : {a a' : answer.Row} → r ≡ Ok a → r' ≡ Ok a' → take (2 * a.units) area ≡ take (2 * a'.units) area'
   determined_row q q' =
       let h = answers_known varsRoom text at units (own p.0) p.1 area vars (says_known varsRoom text at units own area vars r s e) q in
       let h' = answers_known varsRoom text at units (own p.0) p.1 area' vars'
       (says_known varsRoom text at units own area' vars' r' s' e) q' in
       row_same varsRoom units (own p.0) area vars area' vars' h.0 h'.0
 
-  pub determined_image : {n next vars_used n' next' varsUsed' : ℕ} {g g' : Bool} → r ≡ answer.Row n next vars_used g → r' ≡ answer.Row n' next' varsUsed' g'
-      → Bytes (take vars_used vars) → Bytes (take varsUsed' vars')
-      → take vars_used vars ≡ take varsUsed' vars'
+  pub determined_image : {a a' : answer.Row} → r ≡ Ok a → r' ≡ Ok a' → Bytes (take a.vars_used vars)
+      → Bytes (take a'.vars_used vars') → take a.vars_used vars ≡ take a'.vars_used vars'
   determined_image q q' b b' =
       let h = answers_known varsRoom text at units (own p.0) p.1 area vars (says_known varsRoom text at units own area vars r s e) q in
       let h' = answers_known varsRoom text at units (own p.0) p.1 area' vars'

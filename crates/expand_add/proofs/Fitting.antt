@@ -17,8 +17,10 @@ use Rattle.row.specs.Stands.{fronted}
 use Rattle.row.specs.declared.RowEnd.{RowEnd}
 use Rattle.expand_add.specs.Added.{EndsExpanded, Adds, Fitting, AddsTo, measured, admitted}
 use Rattle.expand_add.specs.declared.answers.Onward.{Onward}
-use Rattle.expand_add.specs.declared.answers.Expanded.{Expanded}
-use Rattle.expand_add.specs.declared.answers.Expanded.TheVariants as answer
+use Rattle.std.specs.Prelude.{Ok, Err}
+use Rattle.text.specs.declared.refusal.Refusal.TheVariants.{TooManyUnits}
+use Rattle.expand_add.specs.declared.answers.Stop.TheVariants.{Refused}
+use Rattle.expand_add.specs.Expanded.{Expanded, row_on}
 
 -- what holds where there is room and where there is none
 pub by_fit : (P : Outcome ℕ → Type 0) (n k : ℕ) → P (done (n + k)) → P (refused too_many_units) → P (fit n k)
@@ -29,11 +31,11 @@ pub measured_full : (units : ℕ) (row : Row) → row_limit < units + length row
 unfolding measured
 measured_full units row h = rw (fit_full units (length row) h)
 
-pub admitted_full : (units : ℕ) (on : Onward) (count : ℕ) → row_limit < units + count → answer.Refused too_many_units ≡ admitted units on count
+pub admitted_full : (units : ℕ) (on : Onward) (count : ℕ) → row_limit < units + count → Err (Refused TooManyUnits) ≡ admitted units on count
 admitted_full units on count h = rw (lt-leb (units + count) row_limit h)
 
 pub admitted_ok : (units : ℕ) (on : Onward) (count : ℕ) → units + count ≤ row_limit
-    → answer.Row count on.next on.vars_used on.of_none ≡ admitted units on count
+    → Ok (row_on on count) ≡ admitted units on count
 admitted_ok units on count h = rw (le-leb (units + count) row_limit h)
 
 pub marked_count : (m : Mark) (t : Text) → length (marked m t) ≡ length t

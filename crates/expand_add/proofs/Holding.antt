@@ -15,8 +15,10 @@ use Rattle.expand_add.specs.Added.{Adds}
 use Rattle.expand_add.specs.Steps.{beside, placed}
 use Rattle.expand_add.specs.Answers.{Ends, Answers, Says, Finishes}
 use Rattle.expand_add.specs.declared.answers.Onward.{Onward}
-use Rattle.expand_add.specs.declared.answers.Expanded.{Expanded}
-use Rattle.expand_add.specs.declared.answers.Expanded.TheVariants as answer
+use Rattle.std.specs.Prelude.{Ok, Err}
+use Rattle.text.specs.Refusals.{refusal_number}
+use Rattle.expand_add.specs.declared.answers.Stop.TheVariants.{Refused, Demanded}
+use Rattle.expand_add.specs.Expanded.{Expanded}
 use Rattle.expand_add.proofs.Steps.{placed_fits, beside_refused, beside_done}
 
 -- the answer of a text, once its parts are known
@@ -32,8 +34,9 @@ answers_known varsRoom text at units made rest area vars h e = subst (λ (x : Ex
 pub adds_finishes : (varsRoom units : ℕ) (on : Onward) (o : Outcome Row) (area vars : Text) (r : Expanded) → Adds units on o area r
     → Holds varsRoom vars on.vars_used
     → Finishes varsRoom units (placed units (beside (held (take on.vars_used vars)) on.of_none o)) on.next area vars r
-adds_finishes varsRoom units on o area vars (answer.Refused e) h w = beside_refused units (held (take on.vars_used vars)) on.of_none o e h
-adds_finishes varsRoom units on o area vars (answer.Row count next vars_used of_none) f w =
+adds_finishes varsRoom units on o area vars (Err (Refused e)) h w =
+    beside_refused units (held (take on.vars_used vars)) on.of_none o (refusal_number e) h
+adds_finishes varsRoom units on o area vars (Ok r) f w =
     let c = f.counts in
     let l = f.fits in
     let v = held (take on.vars_used vars) in
@@ -48,7 +51,7 @@ adds_finishes varsRoom units on o area vars (answer.Row count next vars_used of_
         holds = w;
       }),
     )
-adds_finishes varsRoom units on o area vars (answer.Demanded at len) h w = absurd h
+adds_finishes varsRoom units on o area vars (Err (Demanded at len)) h w = absurd h
 
 -- the same of a row that is made the same
 pub finishes_same : (varsRoom units : ℕ) {made made' : Made} (next : ℕ) (area vars : Text) (r : Expanded) → made ≡ made'
@@ -58,6 +61,6 @@ finishes_same varsRoom units next area vars r e h = subst (λ (m : Made). Finish
 -- what a leaf finishes is the answer of its text, which ends where the leaf was told
 pub finishes_answers : (varsRoom : ℕ) (text : Text) (at units : ℕ) (made : Made) (next : ℕ) (rest area vars : Text) (r : Expanded)
     → Finishes varsRoom units made next area vars r → Ends text at next rest → Answers varsRoom text at units made rest area vars r
-finishes_answers varsRoom text at units made next rest area vars (answer.Refused e) h k = h
-finishes_answers varsRoom text at units made next rest area vars (answer.Row count after vars_used of_none) h k = (h.1, rw h.0 k)
-finishes_answers varsRoom text at units made next rest area vars (answer.Demanded from len) h k = h
+finishes_answers varsRoom text at units made next rest area vars (Err (Refused e)) h k = h
+finishes_answers varsRoom text at units made next rest area vars (Ok r) h k = (h.1, rw h.0 k)
+finishes_answers varsRoom text at units made next rest area vars (Err (Demanded from len)) h k = h

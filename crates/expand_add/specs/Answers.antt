@@ -1,5 +1,5 @@
 -- What the answers of the expander say: by cases on the code's answer, an equation with the stage, and what stands in the lent bytes.
-use Rattle.std.specs.Prelude.{ℕ, ◌+◌, ◌*◌, ◌≤◌, ◌≡◌, Bool, true, length, take, drop}
+use Rattle.std.specs.Prelude.{ℕ, ◌+◌, ◌*◌, ◌≤◌, ◌≡◌, Bool, true, length, take, drop, Ok, Err}
 use Rattle.stages.specs.Numbers.{row_limit}
 use Rattle.stages.specs.Bytes.{Text, all, not_zero}
 use Rattle.stages.specs.Outcome.{refused, demands, done}
@@ -12,8 +12,9 @@ use Rattle.row.specs.Stands.{Stands}
 use Rattle.table_store.specs.Holding.{Holds}
 use Rattle.read_mode.specs.Modes.{mode_of, open_in}
 use Rattle.read_mode.specs.declared.Mode.{Mode}
-use Rattle.expand_add.specs.declared.answers.Expanded.{Expanded}
-use Rattle.expand_add.specs.declared.answers.Expanded.TheVariants as expanded
+use Rattle.text.specs.Refusals.{refusal_number}
+use Rattle.expand_add.specs.declared.answers.Stop.TheVariants.{Refused, Demanded}
+use Rattle.expand_add.specs.Expanded.{Expanded}
 
 -- the text from `at` on is read, no byte of it is zero, and there is room for its row and for those of the expansions that may open in it
 pub record Ready (text : Text) (at : ℕ) (mode : Mode) (depth units size : ℕ) : Type 0 where
@@ -54,10 +55,10 @@ pub record Ends (text : Text) (at next : ℕ) (rest : Text) : Type 0 where
   pub within : next ≤ length text
 
 abbrev pub Answers : ℕ → Text → ℕ → ℕ → Made → Text → Text → Text → Expanded → Type 0
-Answers varsRoom text at units made rest area vars (expanded.Refused e) = made ≡ refused e
-Answers varsRoom text at units made rest area vars (expanded.Row count next vars_used of_none) =
-    IsRow varsRoom units made area vars count vars_used of_none × Ends text at next rest
-Answers varsRoom text at units made rest area vars (expanded.Demanded from len) = IsDemand made area from len
+Answers varsRoom text at units made rest area vars (Err (Refused e)) = made ≡ refused (refusal_number e)
+Answers varsRoom text at units made rest area vars (Ok r) =
+    IsRow varsRoom units made area vars r.units r.vars_used r.of_none × Ends text at r.next rest
+Answers varsRoom text at units made rest area vars (Err (Demanded from len)) = IsDemand made area from len
 
 -- the answer of a text that is read as `o`, of whose parts `own` is made; reading demands nothing
 abbrev pub Says : ℕ → Text → ℕ → ℕ → (Parts → Made) → Taken → Text → Text → Expanded → Type 0
@@ -67,7 +68,7 @@ Says varsRoom text at units own (done p) area vars r = Answers varsRoom text at 
 
 -- the same where a leaf hands the place on
 abbrev pub Finishes : ℕ → ℕ → Made → ℕ → Text → Text → Expanded → Type 0
-Finishes varsRoom units made next area vars (expanded.Refused e) = made ≡ refused e
-Finishes varsRoom units made next area vars (expanded.Row count after vars_used of_none) =
-    (after ≡ next) × IsRow varsRoom units made area vars count vars_used of_none
-Finishes varsRoom units made next area vars (expanded.Demanded at len) = IsDemand made area at len
+Finishes varsRoom units made next area vars (Err (Refused e)) = made ≡ refused (refusal_number e)
+Finishes varsRoom units made next area vars (Ok r) =
+    (r.next ≡ next) × IsRow varsRoom units made area vars r.units r.vars_used r.of_none
+Finishes varsRoom units made next area vars (Err (Demanded at len)) = IsDemand made area at len

@@ -1,3 +1,4 @@
+pub mod Expanded
 pub mod Added
 pub mod Steps
 pub mod Answers

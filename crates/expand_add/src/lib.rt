@@ -9,9 +9,10 @@ ghost use Rattle.arith_decimal.specs.Digits.{most_digits};
 ghost use Rattle.row.specs.Marks.{mark_of};
 ghost use Rattle.expand_add.specs.Added.{AddsTo, EndsExpanded};
 
-use answers::{Expanded, Onward};
+use answers::{Onward, Row, Stop};
 use row::RowEnd;
 use text::numbers;
+use text::refusal::Refusal;
 
 pub mod answers;
 
@@ -27,26 +28,21 @@ pub fn expanded_end(row: RowEnd) -> RowEnd
 }
 
 // Adds the bytes of a text, each with the row's mark.
-pub fn give_text(text: &[u8], row: RowEnd, on: Onward, area: &mut [u8]) -> Expanded
+pub fn give_text(text: &[u8], row: RowEnd, on: Onward, area: &mut [u8]) -> Result<Row, Stop>
     requires { (row.units ≤ row_limit) × (2 * row_limit ≤ length area.old + 2 * row.units) }
     ensures { AddsTo row.units on (marked (mark_of row.mark) text.now) area.old area.new result }
 {
     let room = numbers::ROW_LIMIT - row.units;
     if text.len() > room {
-        return Expanded::Refused(numbers::REFUSED_UNITS);
+        return Err(Stop::Refused(Refusal::TooManyUnits));
     }
     let mark = row.mark;
     row::put_marked(text, mark, area);
-    Expanded::Row {
-        units: text.len(),
-        next: on.next,
-        vars_used: on.vars_used,
-        of_none: on.of_none,
-    }
+    Ok(on.row(text.len()))
 }
 
 // Adds a value, as what is expanded where literal bytes have the row's mark.
-pub fn give_expanded(value: &[u8], row: RowEnd, on: Onward, area: &mut [u8]) -> Expanded
+pub fn give_expanded(value: &[u8], row: RowEnd, on: Onward, area: &mut [u8]) -> Result<Row, Stop>
     requires { (row.units ≤ row_limit) × (2 * row_limit ≤ length area.old + 2 * row.units) }
     ensures { AddsTo row.units on (marked (expanded_mark (mark_of row.mark)) value.now) area.old area.new result }
 {
@@ -54,7 +50,13 @@ pub fn give_expanded(value: &[u8], row: RowEnd, on: Onward, area: &mut [u8]) -> 
 }
 
 // Adds the decimal text of a number, which is worked out in `digits`.
-fn give_signed(z: i64, row: RowEnd, on: Onward, digits: &mut [u8], area: &mut [u8]) -> Expanded
+fn give_signed(
+    z: i64,
+    row: RowEnd,
+    on: Onward,
+    digits: &mut [u8],
+    area: &mut [u8],
+) -> Result<Row, Stop>
     requires { (most_digits ≤ length digits.old) × (row.units ≤ row_limit) × (2 * row_limit ≤ length area.old + 2 * row.units) }
     ensures { AddsTo row.units on (marked (expanded_mark (mark_of row.mark)) (signed z)) area.old area.new result }
 {
@@ -63,7 +65,7 @@ fn give_signed(z: i64, row: RowEnd, on: Onward, digits: &mut [u8], area: &mut [u
 }
 
 // Adds the decimal text of a number.
-pub fn give_number(z: i64, row: RowEnd, on: Onward, area: &mut [u8]) -> Expanded
+pub fn give_number(z: i64, row: RowEnd, on: Onward, area: &mut [u8]) -> Result<Row, Stop>
     requires { (row.units ≤ row_limit) × (2 * row_limit ≤ length area.old + 2 * row.units) }
     ensures { AddsTo row.units on (marked (expanded_mark (mark_of row.mark)) (signed z)) area.old area.new result }
 {

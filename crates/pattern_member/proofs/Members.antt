@@ -4,6 +4,7 @@ use mathlib.Core.Path.{◌≡◌, refl, sym, ◌∙◌, ap}
 use mathlib.Core.Bool.{Bool, true, false, not, ◌&&◌, ◌||◌, or-false, and-false}
 use mathlib.Core.List.{[], ◌∷◌}
 use mathlib.Core.Option.{none}
+use Rattle.std.proofs.Common.{Result, Ok, Err}
 use native.Mathlib.Omega.{arith}
 use native.Mathlib.Decide.{dec_le}
 use lib.Dec.{eqb}
@@ -30,11 +31,12 @@ use Rattle.stages.proofs.Members.{as_class, as_byte, byte_alone, byte_range, byt
 use Rattle.pattern_unit.specs.Widths.{size, signs_by}
 use Rattle.pattern_unit.specs.Heads.{begins}
 use Rattle.pattern_unit.specs.declared.Width.{Width}
-use Rattle.pattern_unit.proofs.Units.{scale_zero, scale_two, scale_more, sign_at, unit_at, none_at, units_behind, live_seen}
+use Rattle.pattern_unit.proofs.Units.{scale_zero, scale_two, scale_more, sign_at, unit_at, none_at, units_behind, live_seen, live_inside}
 use Rattle.pattern_class.specs.Rows.{row_class, FindsRow}
-use Rattle.pattern_member.specs.Members.{opens, first_member, member_of, Says, behind_of}
+use Rattle.pattern_member.specs.Members.{opens, first_member, read_of, Says, behind_read}
+use Rattle.pattern_member.specs.declared.BadClass.{BadClass}
 use Rattle.pattern_member.specs.declared.Member.{Member}
-use Rattle.pattern_member.specs.declared.Member.TheVariants.{Single, Range, Class, Unserved}
+use Rattle.pattern_member.specs.declared.Member.TheVariants.{Single, Range, Class}
 
 -- A CLASS OPENS
 
@@ -63,6 +65,10 @@ module _ (w : Width) (p : Text) (k : ℕ) where
       go : Dec (k + size w ≤ length p) → opens here ≡ (begins 91 here && (begins 58 behind || (begins 46 behind || begins 61 behind)))
       go (yes h) = rw (unit_at w p k h) (opens_both (sign_at w p k) behind)
       go (no f) = let h : length p < k + size w = omega arith in rw (none_at w p k h)
+
+-- the place behind a `[` that stands there is in the pattern
+pub open_inside : (w : Width) (p : Text) (k : ℕ) {n : ℕ} {x : Bool} → n ≡ size w → x ≡ begins 91 (signs_by w (drop k p)) → x ≡ true → k + n ≤ length p
+open_inside w p k e f y = omega (arith, e, live_inside w p k 91 (sym f ∙ y))
 
 -- A RANGE GOES ON
 
@@ -122,10 +128,10 @@ module _ (w : Width) (p : Text) (k : ℕ) (path : Bool) where
 -- THE MEMBER OF A BYTE, r its units from the place k on
 
 module _ (w : Width) (p : Text) (k : ℕ) (fits : k ≤ length p) (path : Bool) (b : ℕ) where
-  abbrev byte_here : Member → Type 0
+  abbrev byte_here : Result Member BadClass → Type 0
   byte_here m = Says w p k (byte_member path b (here w p k)) m
 
-  pub byte_single : ranges path (here w p k) ≡ false → byte_here (Single b)
+  pub byte_single : ranges path (here w p k) ≡ false → byte_here (Ok (Single b))
   unfolding member_length
   byte_single n = record { listed = tt; says = sym (byte_alone path b (here w p k) n); inside = omega (arith, scale_zero w) }
 
@@ -140,7 +146,7 @@ module _ (w : Width) (p : Text) (k : ℕ) (fits : k ≤ length p) (path : Bool) 
     unfolding opens
     opened e = rw (unit_at w p (k + size w) (range_inside w p k path y)) at e
 
-    pub byte_to_class : opens (behind w p k) ≡ true → byte_here Unserved
+    pub byte_to_class : opens (behind w p k) ≡ true → byte_here (Err (record {}))
     unfolding member_length
     byte_to_class o = record {
       listed = tt;
@@ -150,7 +156,7 @@ module _ (w : Width) (p : Text) (k : ℕ) (fits : k ≤ length p) (path : Bool) 
       inside = omega (arith, scale_zero w);
     }
 
-    pub byte_to_byte : opens (behind w p k) ≡ false → byte_here (Range b (get_or p (k + size w) 0))
+    pub byte_to_byte : opens (behind w p k) ≡ false → byte_here (Ok (Range b (get_or p (k + size w) 0)))
     unfolding member_length
     byte_to_byte o = record {
       listed = tt;
@@ -163,10 +169,10 @@ module _ (w : Width) (p : Text) (k : ℕ) (fits : k ≤ length p) (path : Bool) 
 -- THE MEMBER OF A `[` THAT OPENS A CLASS, its class written from the place k on
 
 module _ (w : Width) (p : Text) (k : ℕ) (fits : k ≤ length p) (path : Bool) where
-  abbrev class_here : Member → Type 0
+  abbrev class_here : Result Member BadClass → Type 0
   class_here m = Says w p k (class_member path (class_at classes (here w p k)) (here w p k)) m
 
-  pub class_unknown : class_at classes (here w p k) ≡ none → class_here Unserved
+  pub class_unknown : class_at classes (here w p k) ≡ none → class_here (Err (record {}))
   unfolding class_member member_length
   class_unknown e = record { listed = tt; says = rw e; inside = omega (arith, scale_zero w) }
 
@@ -179,11 +185,11 @@ module _ (w : Width) (p : Text) (k : ℕ) (fits : k ≤ length p) (path : Bool) 
         units_behind w (length (written (row_class row))) (drop k p)
         ∙ ap (signs_by w) (drop-drop (size w * length (written (row_class row))) k p)
 
-    pub class_to_more : ranges path after ≡ true → class_here Unserved
+    pub class_to_more : ranges path after ≡ true → class_here (Err (record {}))
     unfolding class_member member_length
     class_to_more y = record { listed = tt; says = rw (f.is, skipped, y); inside = omega (arith, scale_zero w) }
 
-    pub class_alone : ranges path after ≡ false → class_here (Class row)
+    pub class_alone : ranges path after ≡ false → class_here (Ok (Class row))
     unfolding class_member member_length
     class_alone n = record { listed = f.listed; says = rw (f.is, skipped, n); inside = f.inside }
 
@@ -203,22 +209,22 @@ module _ (w : Width) (p : Text) (k : ℕ) (path : Bool) (h : k + size w ≤ leng
   member_byte o = sym (rw (unit_at w p k h) (as_byte path (sign_at w p k) (behind w p k) (opened_here o)))
 
 -- the member that was read is the stage's ..
-pub member_first : {w : Width} {p : Text} {m : Member} (k : ℕ) (path : Bool) → k + size w ≤ length p →
-    Says w p (k + size w) (first_member path (signs_by w (drop k p))) m → member_of m ≡ member path (sign_at w p k) (behind w p k)
+pub member_first : {w : Width} {p : Text} {r : Result Member BadClass} (k : ℕ) (path : Bool) → k + size w ≤ length p →
+    Says w p (k + size w) (first_member path (signs_by w (drop k p))) r → read_of r ≡ member path (sign_at w p k) (behind w p k)
 unfolding first_member
 member_first {w} {p} k path h s = rw (unit_at w p k h) at s.says
 
 -- .. the units behind it stand behind the place where it ends ..
-pub member_units : (w : Width) (p : Text) (k : ℕ) (m : Member) → drop (member_length (member_of m)) (behind w p k) ≡ signs_by w (drop (behind_of m k w) p)
-member_units w p k m =
-    let n = member_length (member_of m) in
-    let e : k + size w + size w * n ≡ behind_of m k w = omega (arith, scale_more w n) in
+pub member_units : (w : Width) (p : Text) (k : ℕ) (r : Result Member BadClass) → drop (member_length (read_of r)) (behind w p k) ≡ signs_by w (drop (behind_read r k w) p)
+member_units w p k r =
+    let n = member_length (read_of r) in
+    let e : k + size w + size w * n ≡ behind_read r k w = omega (arith, scale_more w n) in
     units_behind w n (drop (k + size w) p) ∙ ap (signs_by w) (drop-drop (size w * n) (k + size w) p) ∙ ap (λ (i : ℕ). signs_by w (drop i p)) e
 
 -- .. and that place is further, and in the pattern
-module _ {w : Width} {p : Text} {is : pattern.Member} {m : Member} (k : ℕ) (s : Says w p (k + size w) is m) where
-  pub behind_inside : behind_of m k w ≤ length p
-  behind_inside = omega (arith, scale_more w (member_length (member_of m)), s.inside)
+module _ {w : Width} {p : Text} {is : pattern.Member} {r : Result Member BadClass} (k : ℕ) (s : Says w p (k + size w) is r) where
+  pub behind_inside : behind_read r k w ≤ length p
+  behind_inside = omega (arith, scale_more w (member_length (read_of r)), s.inside)
 
-  pub behind_further : k + size w ≤ behind_of m k w
-  behind_further = omega (arith, scale_more w (member_length (member_of m)))
+  pub behind_further : k + size w ≤ behind_read r k w
+  behind_further = omega (arith, scale_more w (member_length (read_of r)))

@@ -8,27 +8,26 @@ ghost use Rattle.stages.specs.Pattern.{ranges, class_at, class_member, byte_memb
 ghost use Rattle.pattern_unit.specs.Widths.{size, signs_by};
 ghost use Rattle.pattern_member.specs.Members.{opens, first_member, member_of, is_row, Says, behind_of, Within};
 
-use pattern_class::Named;
 use pattern_unit::Width;
 
-// A member of a bracket: a byte, a range, a class by its row in the table; or what refuses the pattern with 19.
+// A member of a bracket: a byte, a range, or a class by its row in the table.
 #[derive(Clone, Copy)]
 pub enum Member {
     Single(u8),
     Range { lo: u8, hi: u8 },
     Class(usize),
-    Unserved,
 }
+
+// A class that is not served, or that is an end of a range: it refuses the pattern with 19.
+#[derive(Clone, Copy, PartialEq, Eq)]
+pub struct BadClass;
 
 // For paths, "a bracket whose search meets a slash, quoted or not, is not one".
 pub fn bars(units: &[u8], at: usize, path: bool) -> bool
     requires { at < length units.now }
     ensures { result ≡ (path && eqb (get_or units.now at 0) 47) }
 {
-    if path {
-        return units[at] == b'/';
-    }
-    false
+    path && units[at] == b'/'
 }
 
 // "active `[` directly before active `:`, `.` or `=`".
@@ -40,13 +39,9 @@ fn opens_class(units: &[u8], at: usize, width: Width) -> bool
         return false;
     }
     let next = at + pattern_unit::unit_size(width);
-    if pattern_unit::is_live(units, next, b':', width) {
-        return true;
-    }
-    if pattern_unit::is_live(units, next, b'.', width) {
-        return true;
-    }
-    pattern_unit::is_live(units, next, b'=', width)
+    pattern_unit::is_live(units, next, b':', width)
+        || pattern_unit::is_live(units, next, b'.', width)
+        || pattern_unit::is_live(units, next, b'=', width)
 }
 
 // "An active `-` between two members is a range": so go the units behind a member that begins one.
@@ -59,52 +54,46 @@ fn is_range(units: &[u8], at: usize, path: bool, width: Width) -> bool
     }
     let size = pattern_unit::unit_size(width);
     let end = at + size;
-    if units.len() < end + size {
-        return false;
-    }
-    if pattern_unit::is_live(units, end, b']', width) {
-        return false;
-    }
-    !bars(units, end, path)
+    end + size <= units.len()
+        && !pattern_unit::is_live(units, end, b']', width)
+        && !bars(units, end, path)
 }
 
 // The member of a `[` that opens a class, its place the one behind the `[`: "An unknown name, or `[.` or `[=`, stays 19. A class as an end of a range is 19."
-fn class_member(units: &[u8], at: usize, path: bool, width: Width) -> Member
+fn class_member(units: &[u8], at: usize, path: bool, width: Width) -> Result<Member, BadClass>
     requires { at ≤ length units.now }
     ensures { let s = signs_by width (drop at units.now) in Says width units.now at (class_member path (class_at classes s) s) result }
 {
-    match pattern_class::class_at(units, at, width) {
-        Named::Unknown => Member::Unserved,
-        Named::Row(row) => {
-            let n = pattern_unit::unit_size(width) * pattern_class::written_length(row);
-            if is_range(units, at + n, path, width) {
-                return Member::Unserved;
-            }
-            Member::Class(row)
-        }
+    let Some(row) = pattern_class::class_at(units, at, width) else {
+        return Err(BadClass);
+    };
+    let n = pattern_unit::unit_size(width) * pattern_class::written_length(row);
+    if is_range(units, at + n, path, width) {
+        return Err(BadClass);
     }
+    Ok(Member::Class(row))
 }
 
 // The member of any other byte, which may begin a range. The place is the one behind the byte.
-fn byte_member(units: &[u8], at: usize, b: u8, path: bool, width: Width) -> Member
+fn byte_member(units: &[u8], at: usize, b: u8, path: bool, width: Width) -> Result<Member, BadClass>
     requires { at ≤ length units.now }
     ensures { Says width units.now at (byte_member path b (signs_by width (drop at units.now))) result }
 {
     if !is_range(units, at, path, width) {
-        return Member::Single(b);
+        return Ok(Member::Single(b));
     }
     let end = at + pattern_unit::unit_size(width);
     if opens_class(units, end, width) {
-        return Member::Unserved;
+        return Err(BadClass);
     }
-    Member::Range {
+    Ok(Member::Range {
         lo: b,
         hi: units[end],
-    }
+    })
 }
 
 // The member that begins at a place.
-pub fn member_at(units: &[u8], at: usize, path: bool, width: Width) -> Member
+pub fn member_at(units: &[u8], at: usize, path: bool, width: Width) -> Result<Member, BadClass>
     requires { at + size width ≤ length units.now }
     ensures { Says width units.now (at + size width) (first_member path (signs_by width (drop at units.now))) result }
 {
@@ -122,9 +111,8 @@ fn units_of(member: Member) -> usize
 {
     match member {
         Member::Single(_) => 1,
-        Member::Range { lo: _, hi: _ } => 3,
+        Member::Range { .. } => 3,
         Member::Class(row) => pattern_class::written_length(row) + 1,
-        Member::Unserved => 1,
     }
 }
 

@@ -1,10 +1,11 @@
 -- What the place of a key and the finding of it say once their case is known, and how one gives the other.
 use Prim.Native.Nat.{ℕ, ◌+◌}
 use native.Mathlib.Omega.{arith}
-use mathlib.Core.Path.{◌≡◌, sym, ap, ◌∙◌}
+use mathlib.Core.Path.{◌≡◌, refl, sym, ap, ◌∙◌}
 use mathlib.Core.List.{[]}
 use mathlib.Core.Option.{Option, none, some}
 use Rattle.std.specs.Prelude.{Option as Perhaps, Some, None, Result, Ok, Err}
+use Rattle.std.specs.Result.{result_ok}
 use lib.ListN.{length}
 use Rattle.stages.specs.Bytes.{Text, part}
 use Rattle.stages.specs.Images.{lookup, held, or_empty}
@@ -68,3 +69,18 @@ module _ {t key : Text} {r : Result Record ℕ} (s : Placed t key r) where
   pub look_fresh : (at : ℕ) → r ≡ Err at → Looked t key None
   unfolding found_in found_by
   look_fresh at e = record { is = rw ((is_fresh_lem s at e).1, found_by); shows = absent (is_fresh_lem s at e).1 }
+
+  -- by the record, where there is one
+  pub look_some : (p : Record) → result_ok r ≡ Some p → Looked t key (Some (value_part p))
+  look_some p e = look_known p (is_ok r e)
+    where
+      is_ok : (r : Result Record ℕ) → result_ok r ≡ Some p → r ≡ Ok p
+      is_ok (Ok q) e = ap Ok (cc e)
+      is_ok (Err at) e = cc e
+
+  pub look_none : result_ok r ≡ None → Looked t key None
+  look_none e = let k : (at : ℕ) × (r ≡ Err at) = is_err r e in look_fresh k.0 k.1
+    where
+      is_err : (r : Result Record ℕ) → result_ok r ≡ None → (at : ℕ) × (r ≡ Err at)
+      is_err (Ok q) e = cc e
+      is_err (Err at) e = (at, refl)

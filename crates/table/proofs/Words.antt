@@ -1,4 +1,5 @@
 -- Texts compared by the numbers of eight bytes each.
+use Rattle.std.specs.Prelude.{min}
 use Prim.Native.Nat.{ℕ, suc, ◌+◌, ◌-◌, ◌*◌, ◌≤◌, ◌<◌}
 use native.Mathlib.Omega.{arith}
 use mathlib.Core.Path.{◌≡◌, refl, sym, ap, ◌∙◌}
@@ -9,11 +10,7 @@ use lib.ListN.{length, take, drop, get_or, length-drop, take-append-drop}
 use lib.Seq.{drop-drop, take_all, length-take-le}
 use borrow.Author.Tests.{lt-ltb, le-ltb, eq-eqb, ne_eqb, ltb-true, ltb-false, eqb-true, eqb-false}
 use Rattle.stages.specs.Bytes.{Text, part, lt_text}
-use Rattle.stages.specs.Outcome.{pick}
 use Rattle.stages.proofs.Bools.{either}
-use Rattle.text.specs.Orders.{order_of}
-use Rattle.text.specs.declared.Order.TheVariants.{Less, Same, More}
-use Rattle.text.proofs.Orders.{order_below, equal_not_below, above_not_below}
 use Rattle.table.specs.Words.{weigh, Weighs}
 
 -- the number as the code adds it up
@@ -96,15 +93,8 @@ pub record Pairing (last key : Text) (both i : ℕ) : Type 0 where
   pub in_last : both ≤ length last
   pub in_key : both ≤ length key
 
-pub pairing_starts : (last key : Text) (both : ℕ) → both ≡ pick (ltb (length key) (length last)) (length key) (length last) → Pairing last key both 0
-pairing_starts last key both e = either (ltb (length key) (length last)) (λ b. shorter (ltb-true _ _ b) (e ∙ rw b))
-    λ b. longer (ltb-false _ _ b) (e ∙ rw b)
-  where
-    shorter : length key < length last → both ≡ length key → Pairing last key both 0
-    shorter h e = record { rising = rising_starts last key; low = omega arith; in_last = omega arith; in_key = omega arith }
-
-    longer : length last ≤ length key → both ≡ length last → Pairing last key both 0
-    longer h e = record { rising = rising_starts last key; low = omega arith; in_last = omega arith; in_key = omega arith }
+pub pairing_starts : (last key : Text) → Pairing last key (min (length last) (length key)) 0
+pairing_starts last key = record { rising = rising_starts last key; low = omega arith; in_last = omega arith; in_key = omega arith }
 
 part_eight : (t : Text) (i : ℕ) → part t i (i + 8) ≡ take 8 (drop i t)
 part_eight t i = let e : i + 8 - i ≡ 8 = omega arith in rw e
@@ -152,12 +142,3 @@ module _ {last key : Text} {i : ℕ} (p : Rising last key i) where
 
   by_rests : lt_text last key ≡ lt_text (rest last) (rest key)
   by_rests = p.less ∙ ap (λ (t : Text). lt_text t (drop i key)) (sym (rest_all last)) ∙ ap (λ (t : Text). lt_text (rest last) t) (sym (rest_all key))
-
-  pub rest_less : order_of (rest last) (rest key) ≡ Less → true ≡ lt_text last key
-  rest_less e = sym (by_rests ∙ order_below (rest last) (rest key) e)
-
-  pub rest_same : order_of (rest last) (rest key) ≡ Same → false ≡ lt_text last key
-  rest_same e = sym (by_rests ∙ equal_not_below (rest last) (rest key) e)
-
-  pub rest_more : order_of (rest last) (rest key) ≡ More → false ≡ lt_text last key
-  rest_more e = sym (by_rests ∙ above_not_below (rest last) (rest key) e)

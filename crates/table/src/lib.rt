@@ -1,15 +1,14 @@
 // Images of the four kinds of table: is one well formed, and what stands at a place of it.
 #![tactic(auto)]
 
-ghost use Rattle.std.specs.Prelude.{◌≡◌, ◌+◌, ◌<◌, ltb, length};
+ghost use Rattle.std.specs.Prelude.{◌≡◌, ◌+◌, ◌<◌, length};
 ghost use Rattle.stages.specs.Bytes.{lt_text};
-ghost use Rattle.stages.specs.Outcome.{pick};
 ghost use Rattle.stages.specs.Images.{is_name, is_login};
 ghost use Rattle.table.specs.Kinds.{well_formed, limit_of, in_twos, key_fits, key_at, record_end};
 ghost use Rattle.table.specs.Pieces.{size_at, frame_at, piece_at};
 ghost use Rattle.table.specs.Words.{Weighs};
 
-use text::{Class, Order, numbers};
+use text::{Class, numbers};
 
 // The kinds of table: what their records are.
 #[derive(Clone, Copy)]
@@ -112,18 +111,11 @@ fn word(text: &[u8]) -> u64
     high + low
 }
 
-// The lesser of two lengths.
-fn lesser(a: usize, b: usize) -> usize
-    ensures { result ≡ pick (ltb b a) b a }
-{
-    if b < a { b } else { a }
-}
-
 // Is the first text below the second? Eight bytes of each are compared at once while both have so many.
 fn rises(last: &[u8], key: &[u8]) -> bool
     ensures { result ≡ lt_text last.now key.now }
 {
-    let both = lesser(last.len(), key.len());
+    let both = last.len().min(key.len());
     let mut i: usize = 0;
     while 8 <= both - i {
         let end = i + 8;
@@ -137,12 +129,7 @@ fn rises(last: &[u8], key: &[u8]) -> bool
         }
         i = end;
     }
-    let order = text::compare(&last[i..], &key[i..]);
-    match order {
-        Order::Less => true,
-        Order::Same => false,
-        Order::More => false,
-    }
+    text::compare(&last[i..], &key[i..]).is_lt()
 }
 
 // May this key of the kind stand behind the last one?

@@ -10,12 +10,10 @@ use Rattle.stages.specs.Bytes.{Text, part}
 use Rattle.stages.specs.Images.{held_texts, record_bytes, image_length, or_empty}
 use Rattle.stages.specs.Params.{numbered}
 use Rattle.stages.proofs.Images.{record_bytes_append}
-use Rattle.table.specs.Pieces.{piece_at}
+use Rattle.std.specs.Prelude.{Option, Some, None, Ok, Err}
+use Rattle.table.specs.Pieces.{Piece, malformed, piece_at}
 use Rattle.table.specs.Places.{found_by}
-use Rattle.table.specs.declared.Piece.{Piece}
-use Rattle.table.specs.declared.Piece.TheVariants.{End, Bad, At as Until}
-use Rattle.table.specs.declared.Found.{Found}
-use Rattle.table.specs.declared.Found.TheVariants.{At, Missing}
+use Rattle.table.specs.declared.Part.{Part}
 use Rattle.table.proofs.Pieces.{Ahead, ahead_first, Next, ahead_end, ahead_bad, ahead_text}
 use Rattle.table.specs.Places.{Listed}
 use Rattle.table_find.specs.Numbered.{numbered_in, Bears, Shown, shown, absent, Numbers}
@@ -68,13 +66,13 @@ module _ {t : Text} {at count : ℕ} (w : Counting t at count) where
   counting_bound = omega (arith, w.far, w.counts, counted w.passed)
 
   module _ {p : Piece} (s : p ≡ piece_at t at) where
-    pub counting_none : p ≡ End → w.left ≡ []
+    pub counting_none : p ≡ Ok None → w.left ≡ []
     counting_none = ahead_end w.ahead s
 
-    pub counting_bad : p ≡ Bad → ⊥
+    pub counting_bad : p ≡ Err malformed → ⊥
     counting_bad = ahead_bad w.ahead s
 
-    module _ {end : ℕ} (e : p ≡ Until end) where
+    module _ {end : ℕ} (e : p ≡ Ok (Some end)) where
       pub next : Next t at end w.left
       next = ahead_text w.ahead s e
 
@@ -122,17 +120,17 @@ seeking_start t k e =
     record { walk = counting_start t e; gets = ap (λ (i : ℕ). numbered i (held_texts t)) z }
 
 module _ {t : Text} {k at count : ℕ} (w : Seeking t k at count) {p : Piece} (s : p ≡ piece_at t at) where
-  pub seeking_none : p ≡ End → Numbers t k Missing
+  pub seeking_none : p ≡ Ok None → Numbers t k None
   unfolding numbered_in found_by
   seeking_none e =
       let n : numbered k (held_texts t) ≡ none =
       w.gets ∙ ap (numbered (k - count)) (counting_none w.walk s e) ∙ numbered_none (k - count) in
       record { is = rw (n, found_by); shows = absent n }
 
-  pub seeking_bad : p ≡ Bad → Numbers t k Missing
+  pub seeking_bad : p ≡ Err malformed → Numbers t k None
   seeking_bad e = absurd (counting_bad w.walk s e)
 
-  module _ {end : ℕ} (e : p ≡ Until end) where
+  module _ {end : ℕ} (e : p ≡ Ok (Some end)) where
     abbrev n : Next t at end w.walk.left
     n = next w.walk s e
 
@@ -142,7 +140,7 @@ module _ {t : Text} {k at count : ℕ} (w : Seeking t k at count) {p : Piece} (s
     first_left : numbered k (held_texts t) ≡ numbered (k - count) (text ∷ n.more)
     first_left = w.gets ∙ ap (numbered (k - count)) n.is
 
-    pub seeking_found : count + 1 ≡ k → Numbers t k (At (at + 2) end)
+    pub seeking_found : count + 1 ≡ k → Numbers t k (Some (record { from = at + 2; to = end }))
     seeking_found q =
         let g : numbered k (held_texts t) ≡ some text = first_left ∙ numbered_first (k - count) text n.more (omega arith) in
         let before : take (k - 1) (held_texts t) ≡ w.walk.passed =
@@ -155,7 +153,7 @@ module _ {t : Text} {k at count : ℕ} (w : Seeking t k at count) {p : Piece} (s
         }
       where
         found : numbered k (held_texts t) ≡ some text → image_length (take (k - 1) (held_texts t)) ≡ at → at + 2 + length text ≡ end
-            → At (at + 2) end ≡ numbered_in t k
+            → Some (record { from = at + 2; to = end }) ≡ numbered_in t k
         found g a z = unfold numbered_in found_by in rw (g, a, found_by, z)
 
     pub seeking_on : (count + 1 ≡ k → ⊥) → Seeking t k end (count + 1)
@@ -172,21 +170,21 @@ module _ {t : Text} {k at count : ℕ} (w : Seeking t k at count) {p : Piece} (s
 
 -- what an answer says once its case is known
 
-bears_of : {t : Text} {k start end : ℕ} → Shown t k (At start end) → Bears t k start end
+bears_of : {t : Text} {k : ℕ} {p : Part} → Shown t k (Some p) → Bears t k p.from p.to
 bears_of (shown h) = h
 
-absent_of : {t : Text} {k : ℕ} → Shown t k Missing → numbered k (held_texts t) ≡ none
+absent_of : {t : Text} {k : ℕ} → Shown t k None → numbered k (held_texts t) ≡ none
 absent_of (absent h) = h
 
-module _ {t : Text} {k : ℕ} {r : Found} (s : Numbers t k r) where
-  pub number_shown : (start end : ℕ) → r ≡ At start end → Bears t k start end
-  number_shown start end e = bears_of (rw e at s.shows)
+module _ {t : Text} {k : ℕ} {r : Option Part} (s : Numbers t k r) where
+  pub number_shown : (p : Part) → r ≡ Some p → Bears t k p.from p.to
+  number_shown p e = bears_of (rw e at s.shows)
 
-  pub number_absent : r ≡ Missing → numbered k (held_texts t) ≡ none
+  pub number_absent : r ≡ None → numbered k (held_texts t) ≡ none
   number_absent e = absent_of (rw e at s.shows)
 
-  pub number_text : (start end : ℕ) → r ≡ At start end → part t start end ≡ or_empty (numbered k (held_texts t))
-  number_text start end e = sym (ap or_empty (number_shown start end e).gets)
+  pub number_text : (p : Part) → r ≡ Some p → part t p.from p.to ≡ or_empty (numbered k (held_texts t))
+  number_text p e = sym (ap or_empty (number_shown p e).gets)
 
-  pub number_empty : r ≡ Missing → ◌≡◌ {A = Text} [] (or_empty (numbered k (held_texts t)))
+  pub number_empty : r ≡ None → ◌≡◌ {A = Text} [] (or_empty (numbered k (held_texts t)))
   number_empty e = sym (ap or_empty (number_absent e))

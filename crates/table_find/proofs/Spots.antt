@@ -13,11 +13,12 @@ use Rattle.stages.proofs.Texts.{eq_text_same, lt_text_asym}
 use Rattle.stages.proofs.Images.{Bytes, image_canonical, pairs_of_some, length_image, length_written, written_append, flat_append}
 use Rattle.stages.proofs.Stores.{lookup_here, lookup_later, lookup_under, rising_tail}
 use Rattle.text.specs.Orders.{order_of}
-use Rattle.text.specs.declared.Order.TheVariants.{Less, Same, More}
+use Rattle.std.specs.declared.cmp.Ordering.TheVariants.{Less, Equal, Greater}
 use Rattle.text.proofs.Orders.{order_below, order_equal, order_above, above_not_equal}
 use Rattle.table.specs.Pieces.{size_at}
 use Rattle.table.specs.Places.{Table, before, behind, place_of, spot_by, spot_in, Hole, known, fresh, Placed}
-use Rattle.table.specs.declared.Spot.TheVariants.{Known, Fresh}
+use Rattle.std.specs.Prelude.{Ok, Err}
+use Rattle.table.specs.declared.Record.{Record}
 use Rattle.table_find.proofs.Frames.{Frame, frame}
 use Rattle.table.proofs.Splits.{before_more, before_stop, behind_more, behind_known, behind_fresh, equal_not_above}
 
@@ -99,14 +100,14 @@ module _ (t key : Text) (at : ℕ) (s : Walking t key at) where
     back = rw s.above d;
   }
 
-  new : before key s.rest ≡ [] → behind key s.rest ≡ s.rest → lookup key s.rest ≡ none → Placed t key (Fresh at)
+  new : before key s.rest ≡ [] → behind key s.rest ≡ s.rest → lookup key s.rest ≡ none → Placed t key (Err at)
   unfolding spot_by
   new b a n = record {
     is = spot_is t key at none (place b) (s.gets ∙ n);
     rooms = fresh (hole at b (omega arith) s.within (rw a s.ahead)) (s.gets ∙ n);
   }
 
-  pub place_end : length t ≤ at → Placed t key (Fresh at)
+  pub place_end : length t ≤ at → Placed t key (Err at)
   unfolding before behind lookup
   place_end h =
       let e : s.rest ≡ [] = nothing s.rest (sym (ap length s.ahead) ∙ length-drop at t ∙ omega arith) in
@@ -144,14 +145,14 @@ module _ (t key : Text) (at : ℕ) (s : Walking t key at) where
         left = ap (λ (x : ℕ). drop (at + 2 + x + 2 + m) t) name_size ∙ ap (λ (x : ℕ). drop (at + 2 + length f.front.0 + 2 + x) t)
             value_size ∙ f.value.next
 
-        pub place_less : order_of key (part t (at + 2) (at + 2 + n)) ≡ Less → Placed t key (Fresh at)
+        pub place_less : order_of key (part t (at + 2) (at + 2 + n)) ≡ Less → Placed t key (Err at)
         place_less o =
             let e : lt_text key f.front.0 ≡ true = order_below key f.front.0 (rw name_is at o) in
             new (ap (before key) f.is ∙ before_stop key f.front f.more (lt_text_asym key f.front.0 e))
             (ap (behind key) f.is ∙ behind_fresh key f.front f.more e ∙ sym f.is)
             (ap (lookup key) f.is ∙ lookup_under key (f.front ∷ f.more) e rising_ahead)
 
-        module _ (o : order_of key (part t (at + 2) (at + 2 + n)) ≡ Same) where
+        module _ (o : order_of key (part t (at + 2) (at + 2 + n)) ≡ Equal) where
           equal : eq_text key f.front.0 ≡ true
           equal = order_equal key f.front.0 (rw name_is at o)
 
@@ -161,21 +162,24 @@ module _ (t key : Text) (at : ℕ) (s : Walking t key at) where
           there : lookup key (held t) ≡ some f.front.1
           there = s.gets ∙ ap (lookup key) f.is ∙ lookup_here key f.front f.more equal
 
-          spot : Known at (at + 2 + n) (at + 2 + n + 2 + m) ≡ spot_in t key
+          abbrev here : Record
+          here = record { at = at; mid = at + 2 + n; end = at + 2 + n + 2 + m }
+
+          spot : Ok here ≡ spot_in t key
           unfolding spot_by
           spot =
               let k : length key ≡ n = ap length (eq_text_same key f.front.0 equal) ∙ sym name_size in
               let mid : at + 2 + n ≡ at + 2 + length key = omega (arith, k) in
               let end : at + 2 + n + 2 + m ≡ at + 4 + length key + length f.front.1 = omega (arith, value_size, k) in
-              ap (λ (x : ℕ). Known at x (at + 2 + n + 2 + m)) mid
-              ∙ ap (Known at (at + 2 + length key)) end
+              ap (λ (x : ℕ). Ok (record { at = at; mid = x; end = at + 2 + n + 2 + m })) mid
+              ∙ ap (λ (x : ℕ). Ok (record { at = at; mid = at + 2 + length key; end = x })) end
               ∙ spot_is t key at (some f.front.1) (place none_before) there
 
-          pub place_same : Placed t key (Known at (at + 2 + n) (at + 2 + n + 2 + m))
+          pub place_same : Placed t key (Ok here)
           place_same = record {
             is = spot;
             rooms =
-                known {mid = at + 2 + n}
+                known {p = here}
                 (hole (at + 2 + n + 2 + m) none_before (omega arith) record_fits
                 (left ∙ sym (ap (λ (v : Pairs). written (flat v)) (ap (behind key) f.is ∙ behind_known key f.front f.more equal))))
                 (record { low = omega arith; high = record_fits; gets = there ∙ ap some (sym value_is) });
@@ -194,7 +198,7 @@ module _ (t key : Text) (at : ℕ) (s : Walking t key at) where
             (length_written (flat (f.front ∷ []))))
             ∙ image_more s.passed f.front
 
-        pub place_more : order_of key (part t (at + 2) (at + 2 + n)) ≡ More → Walking t key (at + 2 + n + 2 + m)
+        pub place_more : order_of key (part t (at + 2) (at + 2 + n)) ≡ Greater → Walking t key (at + 2 + n + 2 + m)
         place_more o =
             let e : lt_text f.front.0 key ≡ true = order_above key f.front.0 (rw name_is at o) in
             let q : eq_text key f.front.0 ≡ false = above_not_equal key f.front.0 (rw name_is at o) in

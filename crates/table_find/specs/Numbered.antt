@@ -1,15 +1,14 @@
 -- The texts of an image by their numbers, from 1 on, and what the bytes of one are.
-use Rattle.std.specs.Prelude.{ℕ, ◌+◌, ◌-◌, ◌≤◌, ◌≡◌, length, take}
+use Rattle.std.specs.Prelude.{ℕ, ◌+◌, ◌-◌, ◌≤◌, ◌≡◌, length, take, Option, Some, None}
 use Rattle.std.proofs.Math.Option.{none, some}
 use Rattle.stages.specs.Bytes.{Text, part}
 use Rattle.stages.specs.Images.{held_texts, image_length}
 use Rattle.stages.specs.Params.{numbered}
 use Rattle.table.specs.Places.{found_by}
-use Rattle.table.specs.declared.Found.{Found}
-use Rattle.table.specs.declared.Found.TheVariants.{At, Missing}
+use Rattle.table.specs.declared.Part.{Part}
 
 -- the text of a number stands behind the records of those before it and two bytes
-unfoldable pub numbered_in : Text → ℕ → Found
+unfoldable pub numbered_in : Text → ℕ → Option Part
 unfolding found_by numbered
 numbered_in t k = found_by (image_length (take (k - 1) (held_texts t)) + 2) (numbered k (held_texts t))
 
@@ -20,10 +19,10 @@ pub record Bears (t : Text) (k start end : ℕ) : Type 0 where
   pub gets : numbered k (held_texts t) ≡ some (part t start end)
 
 -- what an answer says of the bytes
-pub data Shown (t : Text) (k : ℕ) : Found → Type 0 where
-  shown : {start end : ℕ} → Bears t k start end → Shown t k (At start end)
-  absent : numbered k (held_texts t) ≡ none → Shown t k Missing
+pub data Shown (t : Text) (k : ℕ) : Option Part → Type 0 where
+  shown : {p : Part} → Bears t k p.from p.to → Shown t k (Some p)
+  absent : numbered k (held_texts t) ≡ none → Shown t k None
 
-pub record Numbers (t : Text) (k : ℕ) (r : Found) : Type 0 where
+pub record Numbers (t : Text) (k : ℕ) (r : Option Part) : Type 0 where
   pub is : r ≡ numbered_in t k
   pub shows : Shown t k r

@@ -9,11 +9,11 @@ ghost use Rattle.stages.specs.Params.{numbered};
 ghost use Rattle.table.specs.Places.{Listed, Table, Placed, Looked};
 ghost use Rattle.table_find.specs.Numbered.{Numbers};
 
-use table::{Found, Piece, Spot};
-use text::Order;
+use std::cmp::Ordering;
+use table::{Part, Record};
 
 // Where the record of a key is, or where it belongs: the walk stops at the first key that is not below it.
-pub fn place_of(image: &[u8], key: &[u8]) -> Spot
+pub fn place_of(image: &[u8], key: &[u8]) -> Result<Record, usize>
     requires { Table image.now }
     ensures { Placed image.now key.now result }
 {
@@ -22,37 +22,25 @@ pub fn place_of(image: &[u8], key: &[u8]) -> Spot
         let start = at + 2;
         let mid = start + table::size_at(image, at);
         let end = mid + 2 + table::size_at(image, mid);
-        let order = text::compare(key, &image[start..mid]);
-        match order {
-            Order::Less => return Spot::Fresh(at),
-            Order::Same => {
-                return Spot::Known {
-                    at: at,
-                    mid: mid,
-                    end: end,
-                };
-            }
-            Order::More => {
-                at = end;
-            }
+        match text::compare(key, &image[start..mid]) {
+            Ordering::Less => return Err(at),
+            Ordering::Equal => return Ok(Record { at, mid, end }),
+            Ordering::Greater => at = end,
         }
     }
-    Spot::Fresh(at)
+    Err(at)
 }
 
 // Where the value of a key is.
-pub fn look_up(image: &[u8], key: &[u8]) -> Found
+pub fn look_up(image: &[u8], key: &[u8]) -> Option<Part>
     requires { Table image.now }
     ensures { Looked image.now key.now result }
 {
-    let spot = place_of(image, key);
-    match spot {
-        Spot::Known { at: _, mid, end } => Found::At {
-            from: mid + 2,
-            to: end,
-        },
-        Spot::Fresh(_) => Found::Missing,
-    }
+    let record = place_of(image, key).ok()?;
+    Some(Part {
+        from: record.mid + 2,
+        to: record.end,
+    })
 }
 
 // The value of a key, a part of the image itself; empty if there is none.
@@ -60,15 +48,14 @@ pub fn value_of<'a>(image: &'a [u8], key: &[u8]) -> &'a [u8]
     requires { Table image.now }
     ensures { result.now ≡ or_empty (lookup key.now (held image.now)) }
 {
-    let found = look_up(image, key);
-    match found {
-        Found::At { from, to } => &image[from..to],
-        Found::Missing => &image[0..0],
+    match look_up(image, key) {
+        Some(part) => &image[part.from..part.to],
+        None => &[],
     }
 }
 
 // Where the value of IFS is.
-pub fn look_up_ifs(vars: &[u8]) -> Found
+pub fn look_up_ifs(vars: &[u8]) -> Option<Part>
     requires { Table vars.now }
     ensures { Looked vars.now (text "IFS") result }
 {
@@ -76,7 +63,7 @@ pub fn look_up_ifs(vars: &[u8]) -> Found
 }
 
 // Where the value of HOME is.
-pub fn look_up_home(vars: &[u8]) -> Found
+pub fn look_up_home(vars: &[u8]) -> Option<Part>
     requires { Table vars.now }
     ensures { Looked vars.now (text "HOME") result }
 {
@@ -84,30 +71,23 @@ pub fn look_up_home(vars: &[u8]) -> Found
 }
 
 // Where the text of a number is, the first being 1. There is none of number 0, nor beyond the list.
-pub fn find_text(image: &[u8], number: usize) -> Found
+pub fn find_text(image: &[u8], number: usize) -> Option<Part>
     requires { Listed image.now }
     ensures { Numbers image.now number result }
 {
     let mut at: usize = 1;
     let mut count: usize = 0;
-    loop {
-        let piece = table::text_at(image, at);
-        match piece {
-            Piece::End => return Found::Missing,
-            Piece::Bad => return Found::Missing,
-            Piece::At(end) => {
-                let start = at + 2;
-                count += 1;
-                if count == number {
-                    return Found::At {
-                        from: start,
-                        to: end,
-                    };
-                }
-                at = end;
-            }
+    while let Ok(Some(end)) = table::text_at(image, at) {
+        count += 1;
+        if count == number {
+            return Some(Part {
+                from: at + 2,
+                to: end,
+            });
         }
+        at = end;
     }
+    None
 }
 
 // The text of a number, a part of the image itself; empty if there is none.
@@ -115,10 +95,9 @@ pub fn text_of(image: &[u8], number: usize) -> &[u8]
     requires { Listed image.now }
     ensures { result.now ≡ or_empty (numbered number (held_texts image.now)) }
 {
-    let found = find_text(image, number);
-    match found {
-        Found::At { from, to } => &image[from..to],
-        Found::Missing => &image[0..0],
+    match find_text(image, number) {
+        Some(part) => &image[part.from..part.to],
+        None => &[],
     }
 }
 
@@ -128,16 +107,10 @@ pub fn count_texts(image: &[u8]) -> usize
     ensures { result ≡ length (held_texts image.now) }
 {
     let mut at: usize = 1;
-    let mut count: usize = 0;
-    loop {
-        let piece = table::text_at(image, at);
-        match piece {
-            Piece::End => return count,
-            Piece::Bad => return count,
-            Piece::At(end) => {
-                count += 1;
-                at = end;
-            }
-        }
+    let mut texts: usize = 0;
+    while let Ok(Some(end)) = table::text_at(image, at) {
+        texts += 1;
+        at = end;
     }
+    texts
 }

@@ -13,7 +13,7 @@ use Rattle.stages.proofs.Images.{Bytes, image_canonical, written_append}
 use Rattle.stages.proofs.Stores.{rising_tail, Under}
 use Rattle.stages.proofs.PathLists.{added_later, without_here, without_later, there_here, there_later, under_first, under_none}
 use Rattle.text.specs.Orders.{order_of}
-use Rattle.text.specs.declared.Order.TheVariants.{Less, Same, More}
+use Rattle.std.specs.declared.cmp.Ordering.TheVariants.{Less, Equal, Greater}
 use Rattle.text.proofs.Orders.{order_below, order_equal, above_not_equal, above_not_below}
 use Rattle.table.specs.Pieces.{piece_at}
 use Rattle.table.specs.declared.Piece.{Piece}
@@ -127,7 +127,7 @@ module _ {t x : Text} {at end : ℕ} (f : Facing t x at end) where
   behind : drop end t ≡ written next.more
   behind = ap (λ (n : ℕ). drop n t) end_is ∙ framing.next
 
-  pub place_same : order_of x key ≡ Same → Free t x (Taken at end)
+  pub place_same : order_of x key ≡ Equal → Free t x (Taken at end)
   place_same o =
       let e : eq_text x key ≡ true = order_equal x key o in
       let n : at ≤ end = omega (arith, next.low) in
@@ -143,7 +143,7 @@ module _ {t x : Text} {at end : ℕ} (f : Facing t x at end) where
         there = s.has ∙ ap (is_there x) next.is ∙ there_here x key next.more e;
       })
 
-  pub place_more : order_of x key ≡ More → Walking t x end
+  pub place_more : order_of x key ≡ Greater → Walking t x end
   place_more o = record {
     passed = s.passed ++ (key ∷ []);
     rest = next.more;

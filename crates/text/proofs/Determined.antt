@@ -1,10 +1,11 @@
 -- The contracts determine every answer: two outcomes that a contract allows for one input are equal. No function writes.
-use Prim.Native.Nat.{ℕ, ◌<◌}
+use Prim.Native.Nat.{ℕ, ◌<◌, ◌≤◌}
 use native.Mathlib.Omega.{arith}
 use mathlib.Core.Path.{◌≡◌, sym, ap, ◌∙◌}
 use mathlib.Core.Bool.{Bool}
 use mathlib.Core.List.{List}
 use lib.ListN.{length, drop, length-drop}
+use Rattle.std.specs.List.{prefix_len}
 use Rattle.stages.specs.Bytes.{Text, is_in, all, not_zero, eq_text}
 use Rattle.text.specs.Bits.{has_bit}
 use Rattle.text.specs.Classes.{in_class, Runs}
@@ -12,7 +13,7 @@ use Rattle.text.specs.Orders.{order_of}
 use Rattle.text.specs.Rows.{is_mark}
 use Rattle.text.specs.Refusals.{refusal_number}
 use Rattle.text.specs.declared.Class.{Class}
-use Rattle.text.specs.declared.Order.{Order}
+use Rattle.std.specs.declared.cmp.Ordering.{Ordering}
 use Rattle.text.specs.declared.refusal.Refusal.{Refusal}
 
 -- what equals the same is equal: the shared law
@@ -34,7 +35,7 @@ no_zero_determined text r s = one_answer
 pub same_determined : (a b : Text) (r s : Bool) → r ≡ eq_text a b → s ≡ eq_text a b → r ≡ s
 same_determined a b r s = one_answer
 
-pub compare_determined : (a b : Text) (r s : Order) → r ≡ order_of a b → s ≡ order_of a b → r ≡ s
+pub compare_determined : (a b : Text) (r s : Ordering) → r ≡ order_of a b → s ≡ order_of a b → r ≡ s
 compare_determined a b r s = one_answer
 
 pub is_mark_determined : (b : ℕ) (r s : Bool) → r ≡ is_mark b → s ≡ is_mark b → r ≡ s
@@ -48,3 +49,7 @@ run_end_determined text at class r s p q =
 
 pub number_determined : (why : Refusal) (r s : ℕ) → r ≡ refusal_number why → s ≡ refusal_number why → r ≡ s
 number_determined why r s = one_answer
+
+pub bits_run_determined : (words : List ℕ) (text : Text) (r s : ℕ)
+    → (r ≡ prefix_len (λ b. has_bit words b) text) × (r ≤ length text) → (s ≡ prefix_len (λ b. has_bit words b) text) × (s ≤ length text) → r ≡ s
+bits_run_determined words text r s p q = one_answer p.0 q.0

@@ -10,3 +10,4 @@ pub mod Parts
 pub mod Filling
 pub mod Cases
 pub mod Refusals
+pub mod Library

@@ -1,39 +1,13 @@
--- What the scanning loops hold, on plain lists: a law for each way through a body.
-use Prim.Native.Nat.{ℕ, suc, ◌+◌, ◌-◌, ◌≤◌, ◌<◌}
-use native.Mathlib.Omega.{arith}
-use native.Mathlib.Nat.{sub_self}
-use native.Mathlib.Numerals.{add-one}
-use mathlib.Core.Path.{◌≡◌, refl, sym, ap, ◌∙◌}
-use mathlib.Core.Bool.{Bool, true, false, ◌&&◌}
-use mathlib.Core.List.{[], ◌∷◌, ◌++◌, append_assoc, append-nil}
-use lib.Dec.{eqb}
-use lib.ListN.{length, take, drop, get_or, length-drop, drop_of_length-le}
-use lib.Seq.{drop-cons, take-suc, get_or-drop}
-use borrow.Author.Tests.{lt-ltb, le-ltb, eq-eqb, ne_eqb}
-use Rattle.stages.specs.Bytes.{Text, part, span, longer, is_in, eq_text, lt_text}
-use Rattle.stages.proofs.Texts as stage
-use Rattle.text.specs.Classes.{in_class, Runs}
-use Rattle.text.specs.Orders.{order_of}
-use Rattle.text.specs.declared.Class.{Class}
-use Rattle.text.specs.declared.Order.TheVariants.{Less, Same, More}
-
--- a byte is looked for in a set
-
-pub record Looking (b : ℕ) (set : Text) (i : ℕ) : Type 0 where
-  pub within : i ≤ length set
-  pub same : is_in b set ≡ is_in b (drop i set)
-
-module _ (b : ℕ) (set : Text) (i : ℕ) (p : Looking b set i) where
-  pub in_here : i < length set → b ≡ get_or set i 0 → true ≡ is_in b set
-  in_here h e = sym (p.same ∙ rw (drop-cons set i 0, eq-eqb b (get_or set i 0) e))
-
-  pub in_later : i < length set → (b ≡ get_or set i 0 → ⊥) → Looking b set (i + 1)
-  in_later h e = record { within = omega arith; same = p.same ∙ rw (drop-cons set i 0, ne_eqb b (get_or set i 0) e, add-one) }
-
-  pub in_none : length set ≤ i → false ≡ is_in b set
-  in_none h = sym (p.same ∙ rw (drop_of_length-le set h))
-
--- a run of a class
+-- Longest runs, as the library counts them and as the stages cut them off a text.
+use Rattle.std.proofs.Common.{◌≡◌, ℕ, suc, ◌+◌, ◌-◌, ◌≤◌, ◌<◌, sym, ◌∙◌, ap, Bool, true, false, List, [], ◌∷◌, ◌++◌, length, take, drop, get_or}
+use Rattle.std.proofs.Common.{Fits, w8, arith}
+use Rattle.std.specs.List.{prefix_len}
+use lib.ListN.{length-drop}
+use lib.Seq.{take-suc, take_all, get_or-drop, drop-drop}
+use Rattle.stages.specs.Bytes.{Text, part, span, longer}
+use Rattle.stages.proofs.Bools.{either}
+use Rattle.stages.proofs.Texts.{span_more, span_stop}
+use Rattle.text.specs.Bits.{has_bit}
 
 -- one byte more of a part
 pub part_more : (t : Text) (a e : ℕ) → a ≤ e → e < length t → part t a (e + 1) ≡ part t a e ++ (get_or t e 0 ∷ [])
@@ -44,101 +18,27 @@ part_more t a e h k =
     rw s (take-suc (drop a t) (e - a) 0 l ∙ ap (λ (b : ℕ). take (e - a) (drop a t) ++ (b ∷ []))
     (get_or-drop a t (e - a) 0 ∙ ap (λ (n : ℕ). get_or t n 0) f))
 
--- a run stops at a byte that fails the test, and has one more byte where it passes
-pub record Running (class : Class) (t : Text) (at i : ℕ) : Type 0 where
-  pub onward : at ≤ i
-  pub within : i ≤ length t
-  pub is : span (in_class class) (drop at t) ≡ (part t at i ++ (span (in_class class) (drop i t)).0, (span (in_class class) (drop i t)).1)
-
-module _ (class : Class) (t : Text) (at : ℕ) where
-  pub run_starts : at ≤ length t → Running class t at at
-  run_starts h = record { onward = omega arith; within = h; is = rw (sub_self at) }
-
-  module _ (i : ℕ) (p : Running class t at i) where
-    span_stops : i < length t → in_class class (get_or t i 0) ≡ false → span (in_class class) (drop i t) ≡ ([], drop i t)
-    span_stops h e = rw (drop-cons t i 0) (stage.span_stop (in_class class) (get_or t i 0 ∷ drop (suc i) t) e)
-
-    span_goes : i < length t → in_class class (get_or t i 0) ≡ true → span (in_class class) (drop i t) ≡ longer (get_or t i 0)
-        (span (in_class class) (drop (i + 1) t))
-    span_goes h e = rw (drop-cons t i 0, add-one i) (stage.span_more (in_class class) (get_or t i 0) (drop (suc i) t) e)
-
-    span_ends : length t ≤ i → span (in_class class) (drop i t) ≡ ([], drop i t)
-    unfolding span
-    span_ends h = rw (drop_of_length-le t h)
-
-    ran : span (in_class class) (drop i t) ≡ ([], drop i t) → Runs t at class i
-    ran e = record { onward = p.onward; within = p.within; is = p.is ∙ rw (e, append-nil) }
-
-    pub run_stops : i < length t → in_class class (get_or t i 0) ≡ false → Runs t at class i
-    run_stops h e = ran (span_stops h e)
-
-    pub run_ends : length t ≤ i → Runs t at class i
-    run_ends h = ran (span_ends h)
-
-    pub run_goes : i < length t → in_class class (get_or t i 0) ≡ true → Running class t at (i + 1)
-    run_goes h e = record {
-      onward = omega (arith, p.onward);
-      within = omega arith;
-      is = p.is ∙ rw (span_goes h e, part_more t at i p.onward h, append_assoc);
-    }
-
--- two texts, the same so far
-
-pub record Alike (a b : Text) (i : ℕ) : Type 0 where
-  pub within : i ≤ length a
-  pub less : lt_text a b ≡ lt_text (drop i a) (drop i b)
-  pub same : eq_text a b ≡ eq_text (drop i a) (drop i b)
-
-pub unlike_lengths : (a b : Text) → (length a ≡ length b → ⊥) → eq_text a b ≡ false
-unlike_lengths [] [] h = absurd (h refl)
-unlike_lengths [] (c ∷ u) h = refl
-unlike_lengths (b ∷ t) [] h = refl
-unlike_lengths (b ∷ t) (c ∷ u) h = rw (unlike_lengths t u (λ e. h (ap suc e))) (and-false (eqb b c))
+-- a longest run by another test that says the same of each byte
+pub span_prefix : (f p : ℕ → Bool) (s : Text) → ((k : ℕ) → p (get_or s k 0) ≡ f (get_or s k 0)) → span f s ≡ (take (prefix_len p s) s, drop (prefix_len p s) s)
+span_prefix f p [] h = span_stop f [] tt
+span_prefix f p (b ∷ t) h = either (p b) (passes (span_prefix f p t (λ k. h (suc k)))) fails
   where
-    and-false : (x : Bool) → (x && false) ≡ false
-    and-false true = refl
-    and-false false = refl
+    passes : span f t ≡ (take (prefix_len p t) t, drop (prefix_len p t) t) → p b ≡ true
+        → span f (b ∷ t) ≡ (take (prefix_len p (b ∷ t)) (b ∷ t), drop (prefix_len p (b ∷ t)) (b ∷ t))
+    passes ih e =
+        let n : 1 + prefix_len p t ≡ suc (prefix_len p t) = omega arith in
+        rw (e, n) (span_more f b t (sym (h 0) ∙ e) ∙ ap (longer b) ih)
 
-module _ (a b : Text) (i : ℕ) (p : Alike a b i) where
-  pub order_long : i < length a → length b ≤ i → More ≡ order_of a b
-  order_long h k = rw (p.less, p.same, drop-cons a i 0, drop_of_length-le b k)
+    fails : p b ≡ false → span f (b ∷ t) ≡ (take (prefix_len p (b ∷ t)) (b ∷ t), drop (prefix_len p (b ∷ t)) (b ∷ t))
+    fails e = rw e (span_stop f (b ∷ t) (sym (h 0) ∙ e))
 
-  module _ (h : i < length a) (k : i < length b) where
-    pub order_less : get_or a i 0 < get_or b i 0 → Less ≡ order_of a b
-    order_less l = rw (p.less, drop-cons a i 0, drop-cons b i 0, lt-ltb (get_or a i 0) (get_or b i 0) l)
-
-    pub order_more : get_or b i 0 < get_or a i 0 → More ≡ order_of a b
-    order_more l =
-        rw (
-          p.less,
-          p.same,
-          drop-cons a i 0,
-          drop-cons b i 0,
-          le-ltb (get_or a i 0) (get_or b i 0) (omega arith),
-          ne_eqb (get_or a i 0) (get_or b i 0) (λ e. omega arith),
-        )
-
-    pub same_not : (get_or a i 0 ≡ get_or b i 0 → ⊥) → false ≡ eq_text a b
-    same_not n = sym (p.same ∙ rw (drop-cons a i 0, drop-cons b i 0, ne_eqb (get_or a i 0) (get_or b i 0) n))
-
-    pub order_again : get_or a i 0 ≡ get_or b i 0 → Alike a b (i + 1)
-    order_again e = record {
-      within = omega arith;
-      less = p.less ∙ rw (
-        drop-cons a i 0,
-        drop-cons b i 0,
-        le-ltb (get_or a i 0) (get_or b i 0) (omega arith),
-        eq-eqb (get_or a i 0) (get_or b i 0) e,
-        add-one i,
-      );
-      same = p.same ∙ rw (drop-cons a i 0, drop-cons b i 0, eq-eqb (get_or a i 0) (get_or b i 0) e, add-one i);
-    }
-
-  pub order_short : length a ≤ i → i < length b → Less ≡ order_of a b
-  order_short h k = rw (p.less, drop_of_length-le a h, drop-cons b i 0)
-
-  pub order_same : length a ≤ i → length b ≤ i → Same ≡ order_of a b
-  order_same h k = rw (p.less, p.same, drop_of_length-le a h, drop_of_length-le b k)
-
-  pub same_all : length a ≤ i → length b ≤ i → true ≡ eq_text a b
-  same_all h k = sym (p.same ∙ rw (drop_of_length-le a h, drop_of_length-le b k))
+-- the same from a place of a text on, by the bits of words: `&t[at..]` is looked at
+pub span_bits : (f : ℕ → Bool) (words : List ℕ) (t : Text) (at n : ℕ) → ((b : ℕ) → b < 256 → has_bit words b ≡ f b)
+    → ((k : ℕ) → Fits w8 (get_or t k 0)) → n ≡ prefix_len (λ b. has_bit words b) (take (length t - at) (drop at t))
+    → span f (drop at t) ≡ (part t at (at + n), drop (at + n) t)
+span_bits f words t at n h bytes e =
+    let m : at + n - at ≡ n = omega arith in
+    let l : length (drop at t) ≡ length t - at = length-drop at t in
+    let s : take (length t - at) (drop at t) ≡ drop at t = take_all (length t - at) (drop at t) (omega arith) in
+    rw m (span_prefix f (λ b. has_bit words b) (drop at t) (λ k. rw (get_or-drop at t k 0) (h (get_or t (at + k) 0) (bytes (at + k)).fits))
+    ∙ rw (sym (e ∙ ap (prefix_len (λ b. has_bit words b)) s)) (ap (λ (u : Text). (take n (drop at t), u)) (drop-drop n at t)))

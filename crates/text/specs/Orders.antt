@@ -1,14 +1,14 @@
 -- "Text is bytes, ordered by unsigned value, a prefix first": the three ways in which a text can stand to another.
 use Rattle.std.specs.Prelude.{Bool, true, false}
 use Rattle.stages.specs.Bytes.{Text, eq_text, lt_text}
-use Rattle.text.specs.declared.Order.{Order}
-use Rattle.text.specs.declared.Order.TheVariants.{Less, Same, More}
+use Rattle.std.specs.declared.cmp.Ordering.{Ordering}
+use Rattle.std.specs.declared.cmp.Ordering.TheVariants.{Less, Equal, Greater}
 
 -- by whether it is below the other, and whether it is the same
-abbrev pub pick_order : Bool → Bool → Order
+abbrev pub pick_order : Bool → Bool → Ordering
 pick_order true e = Less
-pick_order false true = Same
-pick_order false false = More
+pick_order false true = Equal
+pick_order false false = Greater
 
-abbrev pub order_of : Text → Text → Order
+abbrev pub order_of : Text → Text → Ordering
 order_of a b = pick_order (lt_text a b) (eq_text a b)

@@ -18,11 +18,5 @@ pub const BREAK: u8 = 4;
 pub fn is_mark(b: u8) -> bool
     ensures { result ≡ is_mark b }
 {
-    if b == LITERAL {
-        return true;
-    }
-    if b == EXPANDED {
-        return true;
-    }
-    b == QUOTED
+    b == LITERAL || b == EXPANDED || b == QUOTED
 }
