@@ -10,13 +10,16 @@ use lib.Dec.{leb}
 use lib.ListN.{length, get_or, drop, drop_of_length-le}
 use lib.Seq.{drop-cons}
 use borrow.Author.Tests.{le-leb, lt-leb, lt-ltb, le-ltb}
-use mathlib.Core.Option.{Option, none, some}
-use Rattle.stages.proofs.Bools.{no, between_true}
+use mathlib.Core.Option.{none, some}
+use mathlib.Core.Option as maybe
+use Rattle.stages.proofs.Bools.{between_true}
 use Rattle.stages.specs.Numbers as numbers
 use Rattle.stages.specs.Bytes.{Text, between}
 use Rattle.stages.specs.Outcome.{refused, done, choose}
 use Rattle.stages.specs.Constants.{digit, in_base}
-use Rattle.arith_constant.specs.Answers.{within}
+use Rattle.std.specs.Prelude.{Option, Some, None, ok_or}
+use Rattle.text.specs.declared.refusal.Refusal.TheVariants.{Overflow}
+use Rattle.arith_constant.specs.Answers.{counted, within}
 
 -- a byte in a range, below it, above it
 module _ (lo b hi : ℕ) where
@@ -72,76 +75,31 @@ module _ (base n b : ℕ) (t : Text) where
 positive : {d base : ℕ} → d < base → 1 ≤ base
 positive h = omega arith
 
--- the state of a reader at place i: its digits so far come to `sum`, which is n unless it passed the limit
-pub record Read (base limit : ℕ) (t : Text) (n : ℕ) (over : Bool) (i : ℕ) : Type 0 where
+-- the number that digits come to, unless it passed the limit
+abbrev pub Counts : ℕ → ℕ → Option ℕ → Type 0
+Counts limit sum (Some n) = (sum ≡ n) × (n ≤ limit)
+Counts limit sum None = limit < sum
+
+-- the state of a reader at place i: what its digits so far come to
+pub record Read (base limit : ℕ) (t : Text) (n : Option ℕ) (i : ℕ) : Type 0 where
   pub sum : ℕ
   pub is : in_base base 0 t ≡ in_base base sum (drop i t)
-  pub exact : over ≡ false → sum ≡ n
-  pub small : n ≤ limit
-  pub passed : over ≡ true → limit < sum
+  pub counts : Counts limit sum n
 
-pub read_start : (base limit : ℕ) (t : Text) → Read base limit t 0 false 0
-read_start base limit t = record { sum = 0; is = refl; exact = λ e. refl; small = omega arith; passed = λ e. absurd (no e) }
+pub read_start : (base limit : ℕ) (t : Text) → Read base limit t (Some 0) 0
+read_start base limit t = record { sum = 0; is = refl; counts = (refl, omega arith) }
 
-within_none : (limit : ℕ) {o : Option ℕ} → o ≡ none → refused numbers.not_number ≡ within limit o
+within_none : (limit : ℕ) {o : maybe.Option ℕ} → o ≡ none → refused numbers.not_number ≡ within limit o
 unfolding within
 within_none limit e = rw e
 
-within_fits : (limit n : ℕ) {o : Option ℕ} → o ≡ some n → n ≤ limit → done n ≡ within limit o
+within_fits : (limit n : ℕ) {o : maybe.Option ℕ} → o ≡ some n → n ≤ limit → done n ≡ within limit o
 unfolding within
 within_fits limit n e h = rw e (rw (le-leb n limit h, within))
 
-within_over : (limit n : ℕ) {o : Option ℕ} → o ≡ some n → limit < n → refused numbers.overflow ≡ within limit o
+within_over : (limit n : ℕ) {o : maybe.Option ℕ} → o ≡ some n → limit < n → refused numbers.overflow ≡ within limit o
 unfolding within
 within_over limit n e h = rw e (rw (lt-leb n limit h, within))
-
-module _ {base limit : ℕ} {t : Text} {n : ℕ} {over : Bool} {i : ℕ} (r : Read base limit t n over i) where
-  pub read_bad : i < length t → base ≤ digit (get_or t i 0) → refused numbers.not_number ≡ within limit (in_base base 0 t)
-  read_bad h k = within_none limit (r.is ∙ ap (in_base base r.sum) (drop-cons t i 0 h) ∙ base_none base r.sum (get_or t i 0) (drop (suc i) t) k)
-
-  module _ (h : i < length t) (k : digit (get_or t i 0) < base) where
-    onward : in_base base 0 t ≡ in_base base (r.sum * base + digit (get_or t i 0)) (drop (i + 1) t)
-    onward =
-        r.is ∙ ap (in_base base r.sum) (drop-cons t i 0 h) ∙ base_more base r.sum (get_or t i 0) (drop (suc i) t) k
-        ∙ ap (λ (j : ℕ). in_base base (r.sum * base + digit (get_or t i 0)) (drop j t)) (sym (add-one i))
-
-    pub read_past : over ≡ true → Read base limit t n over (i + 1)
-    read_past e = record {
-      sum = r.sum * base + digit (get_or t i 0);
-      is = onward;
-      exact = λ f. absurd (no (sym f ∙ e));
-      small = r.small;
-      passed = λ f. let p = r.passed e in omega (arith, mul-one r.sum, mul-le-mul_left r.sum (positive k));
-    }
-
-    pub read_over : over ≡ false → limit < n * base + digit (get_or t i 0) → Read base limit t n true (i + 1)
-    read_over e l = record {
-      sum = r.sum * base + digit (get_or t i 0);
-      is = onward;
-      exact = λ f. absurd (no (sym f));
-      small = r.small;
-      passed = λ f. rw (r.exact e) l;
-    }
-
-    pub read_more : over ≡ false → n * base + digit (get_or t i 0) ≤ limit → Read base limit t (n * base + digit (get_or t i 0)) over (i + 1)
-    read_more e l = record {
-      sum = r.sum * base + digit (get_or t i 0);
-      is = onward;
-      exact = λ f. ap (λ (m : ℕ). m * base + digit (get_or t i 0)) (r.exact e);
-      small = l;
-      passed = λ f. absurd (no (sym e ∙ f));
-    }
-
-  module _ (h : length t ≤ i) where
-    ended : in_base base 0 t ≡ some r.sum
-    unfolding in_base
-    ended = r.is ∙ ap (in_base base r.sum) (drop_of_length-le t h)
-
-    pub read_number : over ≡ false → done n ≡ within limit (in_base base 0 t)
-    read_number e = within_fits limit n (ended ∙ ap some (r.exact e)) r.small
-
-    pub read_large : over ≡ true → refused numbers.overflow ≡ within limit (in_base base 0 t)
-    read_large e = within_over limit r.sum ended (r.passed e)
 
 -- the test before a digit is taken in
 pub too_much : (limit d base acc : ℕ) → d ≤ limit → 0 < base → (limit - d) / base < acc → limit < acc * base + d
@@ -149,3 +107,39 @@ too_much limit d base acc h p l = omega (arith, (div-lt_iff_lt-mul p).0 l)
 
 pub room : (limit d base acc : ℕ) → d ≤ limit → 0 < base → acc ≤ (limit - d) / base → acc * base + d ≤ limit
 room limit d base acc h p l = omega (arith, (le-div_iff_mul-le p).0 l)
+
+-- what is known of the number behind a further digit, which is within the limit itself
+pub counts_more : (base limit sum n d : ℕ) → 0 < base → d ≤ limit → Counts limit sum (Some n) → n ≤ (limit - d) / base
+    → Counts limit (sum * base + d) (Some (n * base + d))
+counts_more base limit sum n d p h c l = (ap (λ (m : ℕ). m * base + d) c.0, room limit d base n h p l)
+
+pub counts_over : (base limit sum n d : ℕ) → 0 < base → d ≤ limit → Counts limit sum (Some n) → (limit - d) / base < n
+    → Counts limit (sum * base + d) None
+counts_over base limit sum n d p h c l = rw c.0 (too_much limit d base n h p l)
+
+pub counts_past : (base limit sum d : ℕ) → 0 < base → Counts limit sum None → Counts limit (sum * base + d) None
+counts_past base limit sum d p c = omega (arith, mul-one sum, mul-le-mul_left sum p)
+
+module _ {base limit : ℕ} {t : Text} {n : Option ℕ} {i : ℕ} (r : Read base limit t n i) where
+  pub read_bad : i < length t → base ≤ digit (get_or t i 0) → refused numbers.not_number ≡ within limit (in_base base 0 t)
+  read_bad h k = within_none limit (r.is ∙ ap (in_base base r.sum) (drop-cons t i 0 h) ∙ base_none base r.sum (get_or t i 0) (drop (suc i) t) k)
+
+  pub read_more : {m : Option ℕ} → i < length t → digit (get_or t i 0) < base → Counts limit (r.sum * base + digit (get_or t i 0)) m
+      → Read base limit t m (i + 1)
+  read_more h k c = record {
+    sum = r.sum * base + digit (get_or t i 0);
+    is =
+        r.is ∙ ap (in_base base r.sum) (drop-cons t i 0 h) ∙ base_more base r.sum (get_or t i 0) (drop (suc i) t) k
+        ∙ ap (λ (j : ℕ). in_base base (r.sum * base + digit (get_or t i 0)) (drop j t)) (sym (add-one i));
+    counts = c;
+  }
+
+read_all : (base limit : ℕ) (t : Text) (n : Option ℕ) (sum : ℕ) → in_base base 0 t ≡ some sum → Counts limit sum n → counted
+    (ok_or n Overflow) ≡ within limit (in_base base 0 t)
+read_all base limit t (Some n) sum e c = within_fits limit n (e ∙ ap some c.0) c.1
+read_all base limit t None sum e c = within_over limit sum e c
+
+pub read_end : {base limit : ℕ} {t : Text} {n : Option ℕ} {i : ℕ} → Read base limit t n i → length t ≤ i → counted
+    (ok_or n Overflow) ≡ within limit (in_base base 0 t)
+unfolding in_base
+read_end {base} {limit} {t} {n} r h = read_all base limit t n r.sum (r.is ∙ ap (in_base base r.sum) (drop_of_length-le t h)) r.counts
