@@ -1,8 +1,9 @@
 -- The contracts determine every answer. For `braced_at`: two items that show the same item of the stage are equal, since each is what the stage's is taken
 -- back to.
+use Rattle.std.specs.Prelude.{Result, Ok, Err}
 use Prim.Native.Nat.{ℕ, suc, ◌+◌, ◌-◌, ◌≤◌, ◌<◌}
 use native.Mathlib.Omega.{arith}
-use mathlib.Core.Path.{◌≡◌, sym, ap, ◌∙◌}
+use mathlib.Core.Path.{◌≡◌, sym, ap, ◌∙◌, subst}
 use mathlib.Core.Bool.{Bool, true, false}
 use Rattle.stages.specs.Bytes.{Text, part}
 use Rattle.stages.specs.Outcome.{pick}
@@ -13,11 +14,14 @@ use Rattle.stages.specs.Items as items
 use Rattle.read_mode.proofs.Determined.{taken_back, mode_back, mode_back_lem, form_back, form_back_lem}
 use Rattle.read_mode.specs.Modes.{mode_of, form_of}
 use Rattle.read_mode.specs.declared.Mode.{Mode}
-use Rattle.read_brace.specs.Shows.{Shows, is_at, called, param_of, is_plain, sign_length}
+use Rattle.read_brace.specs.Shows.{Shows, Finds, is_at, called, param_of, is_plain, sign_length}
 use Rattle.read_brace.specs.declared.Param.{Param}
 use Rattle.read_brace.specs.declared.Item.{Item}
-use Rattle.read_brace.specs.declared.Item.TheVariants.{Fault, Stop, Byte, Paren, Quote, Value, Count, Total, Spread, Inner, Sum, Home}
+use Rattle.read_brace.specs.declared.Item.TheVariants.{Stop, Byte, Paren, Quote, Value, Count, Total, Spread, Inner, Sum, Home}
 use Rattle.text.specs.Cases.{is_escaped, is_apart, spread_of as givenAs}
+use Rattle.text.specs.Refusals.{refusal_number}
+use Rattle.text.specs.declared.refusal.Refusal.{Refusal}
+use Rattle.text.proofs.Refusals.{refusal_same}
 use Rattle.text.proofs.Cases.{escape_back, spread_back}
 use Rattle.text.proofs.Determined.{one_answer}
 
@@ -29,8 +33,9 @@ abbrev param_back : syntax.Param → ℕ → ℕ → Param
 param_back (var x) a e = standing false a e
 param_back (nth n) a e = standing true a e
 
+-- the item again, by the stage's; of a refusal, which is none, any
 abbrev item_back : ℕ → items.Item → Item
-item_back at (fault e) = Fault e
+item_back at (fault e) = Total 0
 item_back at (stop k) = Stop (at + k)
 item_back at (byte q b k) = Byte (is_escaped q) b (at + suc k)
 item_back at (paren b n) = Paren b n
@@ -84,7 +89,6 @@ spread_same : {p q : Bool} {k n : ℕ} → p ≡ q → k ≡ n → Spread p k �
 spread_same p q = cc
 
 item_back_lem : (text : Text) (at d : ℕ) (r : Item) (i : items.Item) → Shows text at d r i → r ≡ item_back at i
-item_back_lem text at d (Fault e) i h = sym (ap (item_back at) h)
 item_back_lem text at d (Stop next) i h = ap Stop (stop_back at next h.1) ∙ sym (ap (item_back at) h.0)
 item_back_lem text at d (Byte q b next) i h = byte_same (escape_back q) (next_back at next h.1.onward) ∙ sym (ap (item_back at) h.0)
 item_back_lem text at d (Paren b n) i h = sym (ap (item_back at) h.0)
@@ -109,8 +113,25 @@ item_back_lem text at d (Inner p f m next) i h =
 item_back_lem text at d (Sum next) i h = ap Sum h.1 ∙ sym (ap (item_back at) h.0)
 item_back_lem text at d (Home to) i h = ap Home (next_back at to h.1.onward) ∙ sym (ap (item_back at) h.0)
 
-pub braced_at_determined : (text : Text) (at d : ℕ) (i : items.Item) (r s : Item) → Shows text at d r i → Shows text at d s i → r ≡ s
-braced_at_determined text at d i r s p q = item_back_lem text at d r i p ∙ sym (item_back_lem text at d s i q)
+-- an item is no refusal
+no_fault : (text : Text) (at d : ℕ) (r : Item) (e : ℕ) → Shows text at d r (fault e) → ⊥
+no_fault text at d (Stop next) e h = let z : ◌≡◌ {A = ℕ} 0 1 = cc (h.0) in omega arith
+no_fault text at d (Byte q b next) e h = let z : ◌≡◌ {A = ℕ} 0 1 = cc (h.0) in omega arith
+no_fault text at d (Paren b n) e h = let z : ◌≡◌ {A = ℕ} 0 1 = cc (h.0) in omega arith
+no_fault text at d (Quote m next) e h = let z : ◌≡◌ {A = ℕ} 0 1 = cc (h.0) in omega arith
+no_fault text at d (Value p next) e h = let z : ◌≡◌ {A = ℕ} 0 1 = cc (h.0) in omega arith
+no_fault text at d (Count p next) e h = let z : ◌≡◌ {A = ℕ} 0 1 = cc (h.0) in omega arith
+no_fault text at d (Total next) e h = let z : ◌≡◌ {A = ℕ} 0 1 = cc (h.0) in omega arith
+no_fault text at d (Spread a next) e h = let z : ◌≡◌ {A = ℕ} 0 1 = cc (h.0) in omega arith
+no_fault text at d (Inner p f m next) e h = let z : ◌≡◌ {A = ℕ} 0 1 = cc (h.0) in omega arith
+no_fault text at d (Sum next) e h = let z : ◌≡◌ {A = ℕ} 0 1 = cc (h.0) in omega arith
+no_fault text at d (Home to) e h = let z : ◌≡◌ {A = ℕ} 0 1 = cc (h.0) in omega arith
+
+pub braced_at_determined : (text : Text) (at d : ℕ) (i : items.Item) (r s : Result Item Refusal) → Finds text at d r i → Finds text at d s i → r ≡ s
+braced_at_determined text at d i (Ok r) (Ok s) p q = ap Ok (item_back_lem text at d r i p ∙ sym (item_back_lem text at d s i q))
+braced_at_determined text at d i (Ok r) (Err f) p q = absurd (no_fault text at d r (refusal_number f) (subst (Shows text at d r) q p))
+braced_at_determined text at d i (Err e) (Ok s) p q = absurd (no_fault text at d s (refusal_number e) (subst (Shows text at d s) p q))
+braced_at_determined text at d i (Err e) (Err f) p q = ap Err (refusal_same e f cc)
 
 pub is_at_determined : (text : Text) (b : ℕ) (r s : Bool) → r ≡ is_at b text → s ≡ is_at b text → r ≡ s
 is_at_determined text b r s = one_answer

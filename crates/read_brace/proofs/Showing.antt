@@ -1,10 +1,11 @@
 -- What the code's item shows of the stage's, and the byte at a place.
+use Rattle.std.specs.Prelude.{Result}
 use Prim.Native.Nat.{ℕ, zero, suc, ◌+◌, ◌-◌, ◌≤◌, ◌<◌}
 use native.Mathlib.Omega.{arith}
 use mathlib.Core.Path.{◌≡◌, refl, sym, ap, ◌∙◌, subst}
 use mathlib.Core.Bool.{Bool, true, false}
 use mathlib.Core.List.{[], ◌∷◌}
-use borrow.Author.Tests.{eq-eqb, ne_eqb}
+use borrow.Author.Tests.{ne_eqb}
 use lib.Dec.{eqb}
 use lib.ListN.{length, drop, get_or, drop_of_length-le}
 use lib.Seq.{drop-cons}
@@ -17,17 +18,18 @@ use Rattle.stages.specs.Items.{wrong, is_numbered, sign_form}
 use Rattle.text.specs.Cases.{escape_of, is_escaped, spread_of as givenAs}
 use Rattle.text.proofs.Cases.{escape_there}
 use Rattle.text.specs.Places.{Behind}
+use Rattle.text.specs.declared.refusal.Refusal.{Refusal}
 use Rattle.read_mode.specs.Modes.{mode_of, open_in, form_of}
 use Rattle.read_mode.specs.declared.Mode as code-mode
 use Rattle.read_mode.specs.declared.Form as code-form
-use Rattle.read_brace.specs.Shows.{Shows, is_at, called, param_of, is_plain, ValueAt, sign_length, colon_length}
+use Rattle.read_brace.specs.Shows.{Shows, Finds, is_at, called, param_of, is_plain, ValueAt, sign_length, colon_length}
 use Rattle.read_brace.specs.declared.Param.{Param}
 use Rattle.text.proofs.Parts.{part_length}
 use Rattle.read_brace.specs.declared.Item as code-item
 use Rattle.read_brace.specs.declared.Item.TheVariants as code
 
-pub same_item : (s : Text) (at d : ℕ) (r : code-item.Item) {i j : Item} → i ≡ j → Shows s at d r j → Shows s at d r i
-same_item s at d r e h = subst (λ (x : Item). Shows s at d r x) (sym e) h
+pub same_item : (s : Text) (at d : ℕ) (r : Result code-item.Item Refusal) {i j : Item} → i ≡ j → Finds s at d r j → Finds s at d r i
+same_item s at d r e h = subst (λ (x : Item). Finds s at d r x) (sym e) h
 
 module _ (s : Text) (at d next k : ℕ) (e : next ≡ at + suc k) (w : next ≤ length s) where
   took : k ≡ next - suc at

@@ -1,5 +1,5 @@
 -- What the code's item says of the stage's, with the bounds that callers need.
-use Rattle.std.specs.Prelude.{ℕ, suc, ◌+◌, ◌-◌, ◌≤◌, ◌<◌, ◌≡◌, Bool, true, false, [], ◌∷◌, eqb, length, drop}
+use Rattle.std.specs.Prelude.{ℕ, suc, ◌+◌, ◌-◌, ◌≤◌, ◌<◌, ◌≡◌, Bool, true, false, [], ◌∷◌, eqb, length, drop, Option, Some, None, Result, Ok, Err}
 use Rattle.stages.specs.Numbers.{unserved}
 use Rattle.stages.specs.Bytes.{Text, part}
 use Rattle.stages.specs.Outcome.{pick}
@@ -9,12 +9,12 @@ use Rattle.stages.specs.Items.{fault, stop, byte, paren, quote, value_of, count,
 use Rattle.stages.specs.Items as items
 use Rattle.text.specs.Cases.{escape_of, spread_of as givenAs}
 use Rattle.text.specs.Places.{Behind}
+use Rattle.text.specs.Refusals.{refusal_number}
+use Rattle.text.specs.declared.refusal.Refusal.{Refusal}
 use Rattle.read_mode.specs.Modes.{mode_of, open_in, form_of}
 use Rattle.read_brace.specs.declared.Param.{Param}
-use Rattle.read_brace.specs.declared.Called.{Called}
-use Rattle.read_brace.specs.declared.Called.TheVariants.{By, Nothing}
 use Rattle.read_brace.specs.declared.Item.{Item}
-use Rattle.read_brace.specs.declared.Item.TheVariants.{Fault, Stop, Byte, Paren, Quote, Value, Count, Total, Spread, Inner, Sum, Home}
+use Rattle.read_brace.specs.declared.Item.TheVariants.{Stop, Byte, Paren, Quote, Value, Count, Total, Spread, Inner, Sum, Home}
 
 -- the text's first byte is b
 abbrev pub is_at : ℕ → Text → Bool
@@ -41,9 +41,9 @@ pub record CalledTo (text : Text) (at : ℕ) (p : Param) : Type 0 where
   pub within : p.to ≤ length text
   pub is : (f : syntax.Param → ℕ → Text → items.Item) → name_then f (drop at text) ≡ f (param_of text p) (p.to - at) (drop p.to text)
 
-abbrev pub CalledAt : Text → ℕ → Called → Type 0
-CalledAt text at (By p) = CalledTo text at p
-CalledAt text at Nothing = (f : syntax.Param → ℕ → Text → items.Item) → name_then f (drop at text) ≡ wrong unserved (drop at text)
+abbrev pub CalledAt : Text → ℕ → Option Param → Type 0
+CalledAt text at (Some p) = CalledTo text at p
+CalledAt text at None = (f : syntax.Param → ℕ → Text → items.Item) → name_then f (drop at text) ≡ wrong unserved (drop at text)
 
 -- how many bytes a form's sign has
 abbrev pub colon_length : Colon → ℕ
@@ -79,7 +79,6 @@ pub record ValueAt (at next : ℕ) (p : Param) (x : syntax.Param) : Type 0 where
 
 -- the code's item at a place is the stage's, and its places lie in the text
 abbrev pub Shows : Text → ℕ → ℕ → Item → items.Item → Type 0
-Shows text at depth (Fault e) i = i ≡ fault e
 Shows text at depth (Stop next) i = (i ≡ stop (next - at)) × (at ≤ next) × (next ≤ length text)
 Shows text at depth (Byte q b next) i = (i ≡ byte (escape_of q) b (next - suc at)) × Behind text at next
 Shows text at depth (Paren b n) i = (i ≡ paren b n) × (at < length text) × (n ≤ at + 1)
@@ -96,3 +95,8 @@ Shows text at depth (Inner p f m next) i =
     (open_in m ≡ 0) × (p.from ≡ at + 2) × (next ≡ p.to + sign_length (form_of f))
 Shows text at depth (Sum next) i = (i ≡ sum) × (next ≡ at + 3) × (next ≤ length text) × (0 < depth)
 Shows text at depth (Home to) i = (i ≡ home_of (part text (at + 1) to) (to - suc at)) × Behind text at to
+
+-- what the code finds at a place is the stage's item, or what it is refused with
+abbrev pub Finds : Text → ℕ → ℕ → Result Item Refusal → items.Item → Type 0
+Finds text at depth (Ok r) i = Shows text at depth r i
+Finds text at depth (Err e) i = i ≡ fault (refusal_number e)
