@@ -9,7 +9,7 @@ ghost use Rattle.pattern_class.specs.Rows.{count, row_class};
 ghost use Rattle.pattern_member.specs.Members.{member_of, is_row};
 ghost use Rattle.pattern_set.specs.Sets.{has, PutsWords};
 
-use pattern_member::Member;
+use pattern_member::{BadClass, Member};
 use pattern_unit::Width;
 
 // A word with all its bits.
@@ -42,11 +42,8 @@ impl ByteSet {
     fn with_range(mut self, lo: u8, hi: u8) -> Self
         ensures { (k : ℕ) → k < 256 → has result.words k ≡ (between lo k hi || has self.words k) }
     {
-        let mut i = lo as usize;
-        let end = hi as usize;
-        while i <= end {
-            self = self.with_byte(i as u8);
-            i += 1;
+        for b in lo..=hi {
+            self = self.with_byte(b);
         }
         self
     }
@@ -72,7 +69,6 @@ impl ByteSet {
             Member::Single(b) => self.with_byte(b),
             Member::Range { lo, hi } => self.with_range(lo, hi),
             Member::Class(row) => self.with_class(row),
-            Member::Unserved => self,
         }
     }
 
@@ -103,9 +99,14 @@ fn members(units: &[u8], width: Width) -> ByteSet
     let mut set = none();
     let mut at: usize = 0;
     while at + size <= units.len() {
-        let member = pattern_member::member_at(units, at, false, width);
-        set = set.with_member(member);
-        at = pattern_member::behind(member, at, width);
+        match pattern_member::member_at(units, at, false, width) {
+            Ok(member) => {
+                set = set.with_member(member);
+                at = pattern_member::behind(member, at, width);
+            }
+            // What refuses a pattern holds no byte, and has one unit.
+            Err(BadClass) => at += size,
+        }
     }
     set
 }
@@ -136,9 +137,5 @@ pub fn put_set(set: ByteSet, sets: &mut [u64], at: usize)
     requires { at + 4 ≤ length sets.old }
     ensures { PutsWords set.words at sets.old sets.new }
 {
-    let w = set.words;
-    sets[at] = w[0];
-    sets[at + 1] = w[1];
-    sets[at + 2] = w[2];
-    sets[at + 3] = w[3];
+    sets[at..at + 4].copy_from_slice(&set.words);
 }
