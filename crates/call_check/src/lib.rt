@@ -39,13 +39,7 @@ pub fn room(job: Job, out: usize) -> usize
 {
     match job {
         Job::Normaliser => numbers::IMAGE_LIMIT,
-        Job::Expander => {
-            if out <= numbers::IMAGE_LIMIT {
-                out
-            } else {
-                numbers::IMAGE_LIMIT
-            }
-        }
+        Job::Expander => out.min(numbers::IMAGE_LIMIT),
     }
 }
 

@@ -1,10 +1,9 @@
 -- What is written, case by case.
-use Prim.Native.Nat.{◌≤◌, ◌<◌}
-use native.Mathlib.Omega.{arith}
-use mathlib.Core.Path.{◌≡◌, refl, sym, ap, ◌∙◌}
+use Prim.Native.Nat.{ℕ, min}
+use mathlib.Core.Path.{◌≡◌, sym, ap, ◌∙◌}
 use mathlib.Core.List.{◌++◌}
 use lib.ListN.{length, take, drop}
-use lib.Seq.{length-take-le, take_all}
+use Rattle.std.proofs.lemmas.List.{length-take, take_min}
 use Rattle.stages.specs.Bytes.{Text}
 use Rattle.stages.specs.Outcome.{done_at}
 use Rattle.stages.specs.Call.{Quoting, over, quoting}
@@ -21,17 +20,11 @@ pub copied_over : (t old left : Text) → left ≡ t ++ drop (length t) old → 
 unfolding quoting over
 copied_over t old left e = rw e
 
--- a message that its buffer holds whole, and one that is cut to it
-module _ (text old : Text) where
-  pub told_whole : (left : Text) → length text ≤ length old → left ≡ text ++ drop (length text) old
-      → (length text ≡ length (take (length old) text)) × (left ≡ over (take (length old) text) old)
+-- a message, cut to its buffer
+module _ (text old left : Text) {n : ℕ} (e : n ≡ min (length old) (length text)) where
+  pub told : left ≡ take n text ++ drop (length (take n text)) old
+      → (n ≡ length (take (length old) text)) × (left ≡ over (take (length old) text) old)
   unfolding over
-  told_whole left h e = rw (take_all (length old) text h) (refl, e)
-
-  pub cut_long : length old < length text → length (take (length old) text) ≡ length old
-  cut_long h = length-take-le (length old) text (omega (arith, h))
-
-  pub told_cut : (left : Text) → length old < length text → left ≡ take (length old) text ++ drop (length (take (length old) text)) old
-      → (length old ≡ length (take (length old) text)) × (left ≡ over (take (length old) text) old)
-  unfolding over
-  told_cut left h e = (sym (cut_long h), e)
+  told c =
+      let k : take n text ≡ take (length old) text = ap (λ i. take i text) e ∙ take_min (length old) text in
+      (e ∙ sym (length-take (length old) text), c ∙ ap (λ t. t ++ drop (length t) old) k)

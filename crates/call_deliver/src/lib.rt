@@ -41,10 +41,10 @@ pub fn refuse(number: u8, place: usize, vars_used: usize) -> Answer
     ensures { result ≡ refused_as number place vars_used }
 {
     Answer {
-        number: number,
-        place: place,
+        number,
+        place,
         out_len: 0,
-        vars_used: vars_used,
+        vars_used,
         message_len: 0,
     }
 }
@@ -53,11 +53,10 @@ pub fn refuse(number: u8, place: usize, vars_used: usize) -> Answer
 pub fn refuse_with(number: u8, place: usize, vars_used: usize, at: usize, len: usize) -> Draft
     ensures { result ≡ refused_with number place vars_used at len }
 {
-    let answer = refuse(number, place, vars_used);
     Draft {
-        answer: answer,
-        at: at,
-        len: len,
+        answer: refuse(number, place, vars_used),
+        at,
+        len,
     }
 }
 
@@ -75,7 +74,7 @@ pub fn accept(out_len: usize, image: &[u8], vars: &mut [u8], vars_used: usize) -
     Answer {
         number: numbers::ACCEPTED,
         place: 0,
-        out_len: out_len,
+        out_len,
         vars_used: len,
         message_len: 0,
     }
@@ -101,13 +100,9 @@ pub fn tell(text: &[u8], message: &mut [u8]) -> usize
     ensures { (result ≡ length (take (length message.old) text.now)) ×
         (message.new ≡ over (take (length message.old) text.now) message.old) }
 {
-    let room = message.len();
-    if text.len() <= room {
-        text_copy::copy_in(text, message);
-        return text.len();
-    }
-    text_copy::copy_in(&text[..room], message);
-    room
+    let len = message.len().min(text.len());
+    text_copy::copy_in(&text[..len], message);
+    len
 }
 
 // The end of a call: the message that waits in the work area is told, and "The work area is zero throughout after every call".
@@ -119,12 +114,8 @@ pub fn hand_over(draft: Draft, work: &mut [u8], message: &mut [u8]) -> Answer
     let end = at + draft.len;
     let told = tell(&work[at..end], message);
     text_copy::fill_zero(work);
-    let answer = draft.answer;
     Answer {
-        number: answer.number,
-        place: answer.place,
-        out_len: answer.out_len,
-        vars_used: answer.vars_used,
         message_len: told,
+        ..draft.answer
     }
 }

@@ -1,16 +1,16 @@
 -- The answers of both jobs, case by case: what adding or removing gives is what the stage says.
-use Prim.Native.Nat.{ℕ, ◌≤◌, ◌<◌}
+use Prim.Native.Nat.{ℕ, ◌≤◌}
 use native.Mathlib.Omega.{arith}
 use mathlib.Core.Path.{◌≡◌, refl, sym, ap, subst, ◌∙◌}
-use mathlib.Core.Bool.{Bool, true, false, ◌&&◌}
+use mathlib.Core.Bool.{true, false, ◌&&◌}
 use mathlib.Core.List.{List, [], ◌∷◌}
-use mathlib.Core.Option.{none, some}
+use mathlib.Core.Option.{some}
 use lib.Dec.{eqb, leb}
 use lib.ListN.{length, take}
 use lib.Seq.{length-take-le}
-use borrow.Author.Tests.{leb-true, leb-false, le-leb, lt-leb}
+use borrow.Author.Tests.{eqb-true, leb-true, leb-false, le-leb}
 use Rattle.stages.specs.Numbers.{accepted, bad_paths, output_room, bad_path, paths_limit}
-use Rattle.stages.specs.Bytes.{Text}
+use Rattle.stages.specs.Bytes.{Text, all, not_zero}
 use Rattle.stages.specs.Outcome.{Placed, refused_at, done_at}
 use Rattle.stages.specs.Images.{image, image_length, is_some, paths_of, held_texts}
 use Rattle.stages.specs.Call.{over, padded}
@@ -21,9 +21,6 @@ use Rattle.stages.proofs.Tables.{none_of, paths_of_lem, paths_are_lem, paths_hel
 use Rattle.stages.proofs.Updates.{Ended, refuses, gives, Ready, Inserted, Deleted, inserter_ends, deleter_ends}
 use Rattle.stages.proofs.UpdateCalls.{beyond_buffer, no_table, no_path, insertion_four, deletion_four}
 use Rattle.stages.proofs.UpdateCalls.{insertion_there, insertion_full, insertion_gives, deletion_missing, deletion_gives}
-use Rattle.text.specs.Classes.{Runs}
-use Rattle.text.specs.declared.Class.TheVariants.{NotZero}
-use Rattle.text.proofs.Runs.{run_all}
 use Rattle.table_insert.specs.Added as added
 use Rattle.table_insert.specs.Removed as removed
 use Rattle.table_insert.specs.declared.Added as code
@@ -35,15 +32,17 @@ use Rattle.call_update.specs.declared.Updated.{Updated}
 
 -- `is_path`
 
-pub no_path_there : (s : Text) → length s ≡ 0 → false ≡ stage.is_path s
+pub no_path_there : (s : Text) → eqb (length s) 0 ≡ true → stage.is_path s ≡ false
 unfolding stage.is_path
 no_path_there [] e = refl
-no_path_there (a ∷ s) e = absurd (omega arith)
+no_path_there (a ∷ s) e = absurd (omega (arith, eqb-true (length (a ∷ s)) 0 e))
 
-pub path_is : (s : Text) (r : ℕ) → (length s ≡ 0 → ⊥) → Runs s 0 NotZero r → eqb r (length s) ≡ stage.is_path s
+pub path_is : (s : Text) → eqb (length s) 0 ≡ false → stage.is_path s ≡ all not_zero s
 unfolding stage.is_path
-path_is [] r h p = absurd (h refl)
-path_is (a ∷ s) r h p = run_all (a ∷ s) 0 NotZero r p
+path_is [] e = absurd (let k : eqb 0 0 ≡ true = refl in cc)
+path_is (a ∷ s) e = refl
+
+pub ruleset path_tests = (no_path_there, path_is)
 
 -- what is given
 
@@ -55,16 +54,6 @@ module _ (g : stage.Updating) where
   there = held_texts bytes
 
   -- `is_ready`
-
-  pub ready_beyond : length g.paths < g.used → false ≡ is_ready g
-  ready_beyond h = rw (lt-leb g.used (length g.paths) h)
-
-  module _ (h : g.used ≤ length g.paths) where
-    pub ready_malformed : is_some (paths_of bytes) ≡ false → false ≡ is_ready g
-    ready_malformed e = rw (le-leb g.used (length g.paths) h, e)
-
-    pub ready_path : {r : Bool} → is_some (paths_of bytes) ≡ true → r ≡ stage.is_path g.path → r ≡ is_ready g
-    ready_path e f = f ∙ sym (rw (le-leb g.used (length g.paths) h, e))
 
   pub ready_of : is_ready g ≡ true → Ready g there
   ready_of e =

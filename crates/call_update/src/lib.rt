@@ -7,7 +7,7 @@ ghost use Rattle.call_update.specs.Hands.{updating, is_ready, room_in, answer_as
 
 use table::Kind;
 use table_insert::{Added, Removed};
-use text::{Class, numbers};
+use text::numbers;
 
 // A number, a place, and the used length of the paths. Laid out as C lays it out.
 #[repr(C)]
@@ -23,44 +23,34 @@ fn answer(number: u8, used: usize) -> Updated
     ensures { result ≡ answer_as number used }
 {
     Updated {
-        number: number,
+        number,
         place: 0,
-        used: used,
+        used,
     }
 }
 
 // "an empty path or one with a zero byte is 4"
+#[tactic(auto, using(crate::proofs::Answering::path_tests))]
 fn is_path(path: &[u8]) -> bool
     ensures { result ≡ is_path path.now }
 {
-    if path.len() == 0 {
-        return false;
-    }
-    text::run_end(path, 0, Class::NotZero) == path.len()
+    !path.is_empty() && text::no_zero(path)
 }
 
 // Is there no 4, neither "for the image or a used length beyond the buffer" nor "for the path"?
 fn is_ready(paths: &[u8], paths_used: usize, path: &[u8]) -> bool
     ensures { result ≡ is_ready (updating paths.now paths_used path.now) }
 {
-    if paths.len() < paths_used {
-        return false;
-    }
-    if !table::well_formed(Kind::Paths, &paths[..paths_used]) {
-        return false;
-    }
-    is_path(path)
+    paths_used <= paths.len()
+        && table::well_formed(Kind::Paths, &paths[..paths_used])
+        && is_path(path)
 }
 
 // What an image may come to: "no room in the buffer or 32,768 is 21".
 fn room(size: usize) -> usize
     ensures { result ≡ room_in size }
 {
-    if size <= numbers::PATHS_LIMIT {
-        size
-    } else {
-        numbers::PATHS_LIMIT
-    }
+    size.min(numbers::PATHS_LIMIT)
 }
 
 // Inserts a path in its order into the image that the first `paths_used` bytes are. Bytes before its place and behind the new image stay; on refusal all do.

@@ -1,8 +1,7 @@
 -- The number that digits go on to, as the code counts it: a number beyond the limit only grows, and the limit is beyond any image's texts.
-use Prim.Native.Nat.{ℕ, zero, suc, ◌+◌, ◌-◌, ◌*◌, ◌/◌, ◌≤◌, ◌<◌}
+use Prim.Native.Nat.{ℕ, zero, suc, ◌+◌, ◌-◌, ◌*◌, ◌≤◌, ◌<◌}
 use native.Mathlib.Omega.{arith}
 use native.Mathlib.Numerals.{add-one}
-use native.Mathlib.Nat.{le-div_iff_mul-le, div-lt_iff_lt-mul}
 use mathlib.Core.Path.{◌≡◌, refl, sym, ap, ◌∙◌}
 use mathlib.Core.Bool.{false}
 use mathlib.Core.List.{List, [], ◌∷◌}
@@ -11,6 +10,7 @@ use borrow.Author.Tests.{le-leb, lt-leb, leb-true, leb-false}
 use lib.Dec.{leb}
 use lib.ListN.{length, get_or, drop, drop_of_length-le}
 use lib.Seq.{drop-cons}
+use Rattle.std.specs.Prelude.{min}
 use Rattle.stages.specs.Bytes.{Text}
 use Rattle.stages.specs.Images.{held_texts, record_bytes, image_length}
 use Rattle.stages.specs.Items.{number_of}
@@ -32,45 +32,38 @@ pub capped_large : (n : ℕ) → number_limit < n → number_limit ≡ capped n
 unfolding capped
 capped_large n l = rw (lt-leb n number_limit l)
 
+capped_min : (n : ℕ) → capped n ≡ min n number_limit
+capped_min n =
+    either (leb n number_limit) (λ e. sym (capped_small n (leb-true n number_limit e)) ∙ omega (arith, leb-true n number_limit e))
+    (λ e. sym (capped_large n (leb-false n number_limit e)) ∙ omega (arith, leb-false n number_limit e))
+
 -- digits
 
-number_grows : (n : ℕ) (t : Text) → n ≤ number_of n t
+-- what is beyond the limit stays so
+number_capped : (n m : ℕ) (t : Text) → min n number_limit ≡ min m number_limit → capped (number_of n t) ≡ capped (number_of m t)
 unfolding number_of
-number_grows n [] = omega arith
-number_grows n (b ∷ t) = omega (arith, number_grows (n * 10 + (b - 48)) t)
+number_capped n m [] e = capped_min n ∙ e ∙ sym (capped_min m)
+number_capped n m (b ∷ t) e = number_capped (n * 10 + (b - 48)) (m * 10 + (b - 48)) t (omega (arith, e))
 
 -- the digits before place i come to n
 pub record Read (t : Text) (n i : ℕ) : Type 0 where
-  pub is : number_of 0 t ≡ number_of n (drop i t)
+  pub is : capped (number_of n (drop i t)) ≡ capped (number_of 0 t)
   pub small : n ≤ number_limit
 
-pub read_start : (t : Text) → Read t 0 0
-read_start t = record { is = refl; small = omega arith }
+pub read_more : {t : Text} {n i m : ℕ} → Read t n i → i < length t
+    → m ≡ min (min (n * 10) number_limit + (get_or t i 0 - 48)) number_limit → Read t m (i + 1)
+unfolding number_of
+read_more {t} {n} {i} {m} r h e =
+    let d : ℕ = get_or t i 0 - 48 in
+    let k : drop i t ≡ get_or t i 0 ∷ drop (i + 1) t = rw (add-one i, drop-cons t i 0 h) in
+    record {
+      is = number_capped m (n * 10 + d) (drop (i + 1) t) (omega (arith, e)) ∙ ap (λ (u : Text). capped (number_of n u)) (sym k) ∙ r.is;
+      small = omega (arith, e);
+    }
 
-module _ {t : Text} {n i : ℕ} (r : Read t n i) where
-  module _ (d : ℕ) (h : i < length t) (e : d ≡ get_or t i 0 - 48) where
-    onward : number_of 0 t ≡ number_of (n * 10 + d) (drop (i + 1) t)
-    unfolding number_of
-    onward =
-        r.is ∙ ap (number_of n) (drop-cons t i 0 h) ∙ ap (λ (k : ℕ). number_of (n * 10 + k) (drop (suc i) t)) (sym e)
-        ∙ ap (λ (j : ℕ). number_of (n * 10 + d) (drop j t)) (sym (add-one i))
-
-    pub read_more : n * 10 + d ≤ number_limit → Read t (n * 10 + d) (i + 1)
-    read_more l = record { is = onward; small = l }
-
-    pub read_over : number_limit < n * 10 + d → number_limit ≡ capped (number_of 0 t)
-    read_over l = capped_large (number_of 0 t) (omega (arith, onward, number_grows (n * 10 + d) (drop (i + 1) t)))
-
-  pub read_number : length t ≤ i → n ≡ capped (number_of 0 t)
-  unfolding number_of
-  read_number h = capped_small n r.small ∙ ap capped (sym (r.is ∙ ap (number_of n) (drop_of_length-le t h)))
-
--- the test before a digit is taken in
-pub too_much : (d n : ℕ) → d ≤ number_limit → (number_limit - d) / 10 < n → number_limit < n * 10 + d
-too_much d n h l = omega (arith, (div-lt_iff_lt-mul {k = 10} (omega arith)).0 l)
-
-pub room : (d n : ℕ) → d ≤ number_limit → n ≤ (number_limit - d) / 10 → n * 10 + d ≤ number_limit
-room d n h l = omega (arith, (le-div_iff_mul-le {k = 10} (omega arith)).0 l)
+pub read_number : {t : Text} {n i : ℕ} → Read t n i → length t ≤ i → n ≡ capped (number_of 0 t)
+unfolding number_of
+read_number {t} {n} {i} r h = capped_small n r.small ∙ ap (λ (u : Text). capped (number_of n u)) (sym (drop_of_length-le t h)) ∙ r.is
 
 -- the texts of an image by numbers as the code counts
 

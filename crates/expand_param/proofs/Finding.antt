@@ -1,13 +1,12 @@
 -- What the look-ups in the two images say of a parameter.
 use Prim.Native.Nat.{ℕ, ◌≤◌}
-use mathlib.Core.Path.{◌≡◌, refl, sym, ap, ◌∙◌, subst}
+use mathlib.Core.Path.{◌≡◌, sym, ap, ◌∙◌}
 use mathlib.Core.Bool.{Bool, true, false}
-use mathlib.Core.Option.{Option}
 use lib.ListN.{length}
 use Rattle.stages.specs.Bytes.{Text}
 use Rattle.stages.specs.Images.{held, held_texts, lookup, or_empty}
 use Rattle.stages.specs.Items.{number_of}
-use Rattle.stages.specs.Syntax.{Param, var, nth}
+use Rattle.stages.specs.Syntax.{var, nth}
 use Rattle.stages.specs.Params.{numbered}
 use Rattle.table.specs.Places as places
 use Rattle.table.specs.Places.{Listed, Looked}

@@ -16,7 +16,9 @@ use Rattle.pattern_cell.specs.Cells.{Shows, none, more, is_star_cell, Trails}
 use Rattle.pattern_cell.proofs.Showing.{shown_drop}
 use Rattle.pattern_match.proofs.Stars.{some_last, some_next}
 use Rattle.pattern_match.proofs.Matching.{is_star_lem, step, none_left}
-use Rattle.pattern_match.specs.Steps.{is_slash, takes_one, behind_star, all_pass, MeetsStar}
+use Rattle.pattern_match.specs.Steps.{is_slash, takes_one, behind_star, all_pass, MeetsStar, RunSays}
+use Rattle.pattern_match.specs.declared.Run.{Run}
+use Rattle.pattern_match.specs.declared.Run.TheVariants.{Whole, Fails, Star}
 
 -- cells without a star
 abbrev Plain : List ℕ → Type 0
@@ -127,6 +129,14 @@ pub none_met : (path : Bool) (sets cells t : List ℕ) (at k : ℕ) (head first 
     → MeetsStar path sets cells t at k head first next j starts → ⊥
 none_met path sets cells t at k head first {next} p m =
     apart (p.plain (next - 1) (omega (arith, m.further)) (omega (arith, m.further, m.inside))) m.there
+
+-- a run over them that did not match all fails
+pub rest_missed : (path : Bool) (sets cells t : List ℕ) (at k : ℕ) (head first : Bool) → Trails cells at → {r : Run}
+    → RunSays path sets cells t at k head first r → (r ≡ Whole → ⊥) → (es : List Element) → Shows sets cells es
+    → matches_from path (drop at es) head first (drop k t) ≡ false
+rest_missed path sets cells t at k head first p {r = Whole} m n es s = absurd (n refl)
+rest_missed path sets cells t at k head first p {r = Fails} m n es s = m es s
+rest_missed path sets cells t at k head first p {r = Star next j starts} m n es s = absurd (none_met path sets cells t at k head first p m)
 
 pub trails_on : {cells : List ℕ} {last at : ℕ} → Trails cells last → last ≤ at → at ≤ length cells → Trails cells at
 trails_on p h l = record { inside = l; plain = λ i m n. p.plain i (omega arith) n }

@@ -14,48 +14,26 @@ use pattern_cell::{FIRST_SET, ONE, STAR};
 use pattern_set::ByteSet;
 
 // What `*`, `?` and brackets may take: in paths no slash, nor a `.` where a part starts.
+#[tactic(auto, unfolding(stages::specs::Pattern::passes))]
 fn passes_byte(b: u8, path: bool, first: bool) -> bool
     ensures { result ≡ passes path first b }
 {
-    if !path {
-        return true;
-    }
-    if b == b'/' {
-        return false;
-    }
-    if !first {
-        return true;
-    }
-    b != b'.'
+    !path || (b != b'/' && (!first || b != b'.'))
 }
 
 // A byte of the pattern takes this byte of the text: in paths a `.` where a part starts only if it is first in its own part.
+#[tactic(auto, unfolding(stages::specs::Pattern::takes))]
 fn takes_byte(cell: u16, b: u8, path: bool, head: bool, first: bool) -> bool
     ensures { result ≡ takes path head first cell b }
 {
-    if cell != b as u16 {
-        return false;
-    }
-    if !path {
-        return true;
-    }
-    if head {
-        return true;
-    }
-    if !first {
-        return true;
-    }
-    b != b'.'
+    cell == b as u16 && (!path || head || !first || b != b'.')
 }
 
 // A bracket's set takes this byte of the text.
 fn takes_member(set: ByteSet, b: u8, path: bool, first: bool) -> bool
     ensures { result ≡ (passes path first b && has set.words b) }
 {
-    if passes_byte(b, path, first) {
-        return set.has(b);
-    }
-    false
+    passes_byte(b, path, first) && set.has(b)
 }
 
 // The element of a cell takes this byte of the text; a star does not, it is looked at elsewhere.
@@ -70,10 +48,7 @@ fn takes_one(cell: u16, sets: &[u64], b: u8, path: bool, head: bool, first: bool
         let set = pattern_cell::set_in(cell, sets);
         return takes_member(set, b, path, first);
     }
-    if cell == STAR {
-        return false;
-    }
-    passes_byte(b, path, first)
+    cell != STAR && passes_byte(b, path, first)
 }
 
 // How a run over the elements ends: all are matched with all of the text, one fails, or a star is met: the places behind it and in the
@@ -104,9 +79,8 @@ fn run_to_star(
 {
     let mut head = starts;
     let mut first = begins;
-    let mut at = start;
     let mut k = since;
-    while at < cells.len() {
+    for at in start..cells.len() {
         let cell = cells[at];
         if cell == STAR {
             return Run::Star {
@@ -123,13 +97,13 @@ fn run_to_star(
         }
         head = cell == b'/' as u16;
         first = head;
-        at += 1;
         k += 1;
     }
     if k < text.len() {
-        return Run::Fails;
+        Run::Fails
+    } else {
+        Run::Whole
     }
-    Run::Whole
 }
 
 // A star may take all these bytes.
@@ -140,13 +114,11 @@ fn gap_passes(gap: &[u8], path: bool, begins: bool) -> bool
         return true;
     }
     let mut first = begins;
-    let mut k = 0;
-    while k < gap.len() {
-        if !passes_byte(gap[k], path, first) {
+    for b in gap {
+        if !passes_byte(*b, path, first) {
             return false;
         }
         first = false;
-        k += 1;
     }
     true
 }
@@ -174,15 +146,10 @@ fn behind_last_star(
     }
     let end = text.len() - left;
     let begins = first && k == end;
-    match run_to_star(cells, sets, text, path, at, end, false, begins) {
-        Run::Whole => gap_passes(&text[k..end], path, first),
-        Run::Fails => false,
-        Run::Star {
-            at: _,
-            k: _,
-            first: _,
-        } => false,
-    }
+    let Run::Whole = run_to_star(cells, sets, text, path, at, end, false, begins) else {
+        return false;
+    };
+    gap_passes(&text[k..end], path, first)
 }
 
 // The next place of the text that is worth a look to a star with this cell behind it: a byte of the pattern takes none but its own. Where a part
@@ -191,24 +158,15 @@ fn skip(cell: u16, text: &[u8], path: bool, first: bool, since: usize) -> usize
     requires { since ≤ length text.now }
     ensures { Skips path first cell text.now since result }
 {
-    if first {
+    if first || ONE <= cell {
         return since;
     }
-    if ONE <= cell {
-        return since;
-    }
-    let mut k = since;
-    while k < text.len() {
-        let b = text[k];
-        if cell == b as u16 {
+    for k in since..text.len() {
+        if cell == text[k] as u16 || !passes_byte(text[k], path, first) {
             return k;
         }
-        if !passes_byte(b, path, first) {
-            return k;
-        }
-        k += 1;
     }
-    k
+    text.len()
 }
 
 // Behind a star that was met where the text is at `since`. Where a run fails, the last star takes one byte more; a star that is met

@@ -1,13 +1,13 @@
 -- The quoter's answers are the stage's: 22 for what is no image of fields, then 21 for a line without room, then the line.
-use Prim.Native.Nat.{ℕ, ◌≤◌, ◌<◌}
+use Prim.Native.Nat.{ℕ, ◌≤◌}
 use mathlib.Core.Path.{◌≡◌, sym, ap, ◌∙◌}
-use mathlib.Core.Bool.{Bool, true, false, ◌&&◌}
+use mathlib.Core.Bool.{true, false}
 use mathlib.Core.List.{List}
 use mathlib.Core.Option.{some}
 use lib.Dec.{leb}
 use lib.ListN.{length}
 use native.Mathlib.Omega.{arith}
-use borrow.Author.Tests.{le-leb, lt-leb, leb-true}
+use borrow.Author.Tests.{le-leb, leb-true}
 use Rattle.stages.specs.Numbers.{line_limit, output_room}
 use Rattle.stages.specs.Bytes.{Text}
 use Rattle.stages.specs.Outcome.{refused_at, done_at}
@@ -30,13 +30,6 @@ module _ (room : ℕ) (l : List Text) where
   pub room_surely : (most : ℕ) → length (quoted_line l) ≤ most → most ≤ line_limit → most ≤ room → true ≡ has_room room l
   room_surely most h k m =
       sym (and_both (le-leb (length (quoted_line l)) line_limit (omega arith)) (le-leb (length (quoted_line l)) room (omega arith)))
-
-  pub room_long : line_limit < length (quoted_line l) → false ≡ has_room room l
-  room_long h = rw (lt-leb (length (quoted_line l)) line_limit h)
-
-  pub room_counted : (n : ℕ) → n ≡ length (quoted_line l) → n ≤ line_limit → leb n room ≡ has_room room l
-  room_counted n e h = ap (λ (k : ℕ). leb k room) e
-      ∙ sym (ap (λ (x : Bool). x && leb (length (quoted_line l)) room) (le-leb (length (quoted_line l)) line_limit (omega arith)))
 
   pub room_within : has_room room l ≡ true → length (quoted_line l) ≤ room
   room_within e = leb-true (length (quoted_line l)) room (and_right (leb (length (quoted_line l)) line_limit) (leb (length (quoted_line l)) room) e)

@@ -4,6 +4,7 @@ use native.Mathlib.Omega.{arith}
 use mathlib.Core.Path.{◌≡◌, refl, sym, ap, ◌∙◌}
 use mathlib.Core.Bool.{true, false}
 use mathlib.Core.List.{[], ◌∷◌}
+use lib.Dec.{eqb}
 use lib.ListN.{length}
 use Rattle.stages.specs.Bytes.{Text, all, is_bare_byte, not_control}
 use Rattle.stages.specs.Quote.{Way, bare, singled, dollared, is_bare, has_control, way_of, quoted_bytes, enclosed, written, quoted_field}
@@ -30,9 +31,9 @@ unfolding quoted_field way_of is_bare written quoted_bytes
 look_empty [] e = record { leaves = λ h. cc; encloses = λ h. refl; keeps = λ h. refl; changes = λ h. cc }
 look_empty (b ∷ t) e = absurd (omega arith)
 
-pub look_bare : (t : Text) (r : ℕ) → (length t ≡ 0 → ⊥) → Runs t 0 BareByte r → r ≡ length t → Looks t Bare
+pub look_bare : (t : Text) (r : ℕ) → eqb (length t) 0 ≡ false → Runs t 0 BareByte r → r ≡ length t → Looks t Bare
 unfolding way_of is_bare written
-look_bare [] r n p e = absurd (n refl)
+look_bare [] r n p e = cc
 look_bare (b ∷ t) r n p e = record {
   leaves = λ h. field_way (b ∷ t) bare (rw (run_passes (b ∷ t) 0 BareByte r p e));
   encloses = λ h. cc;
@@ -73,6 +74,10 @@ module _ (t : Text) (n : is_bare t ≡ false) (s : ℕ) (u : Runs t 0 NotControl
   pub way_dollared : (s ≡ length t → ⊥) → way_is Dollared ≡ way_of t
   unfolding way_of has_control
   way_dollared e = rw (n, run_fails t 0 NotControl s u e)
+
+pub ruleset looks = (look_empty, look_bare, look_plain, look_changed)
+
+pub ruleset ways_of = (way_singled, way_dollared)
 
 -- a field in its quotes
 

@@ -42,6 +42,8 @@ module _ (b : ℕ) where
   unfolding quoted_byte is_sign
   byte_control e h = rw (e, not-false (is_control b) h)
 
+pub ruleset byte_cases = (byte_quote, byte_other, byte_sign, byte_plain, byte_control)
+
 -- the bytes from a place on
 pub bytes_at : (way : Way) (t : Text) (i : ℕ) → i < length t
     → quoted_bytes way (drop i t) ≡ quoted_byte way (get_or t i 0) ++ quoted_bytes way (drop (i + 1) t)

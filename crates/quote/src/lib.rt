@@ -43,10 +43,8 @@ fn bytes_length(way: Way, field: &[u8]) -> usize
     ensures { result ≡ length (quoted_bytes (way_is way) field.now) }
 {
     let mut n: usize = 0;
-    let mut i: usize = 0;
-    while i < field.len() {
-        n += ways::byte_length(way, field[i]);
-        i += 1;
+    for b in field {
+        n += ways::byte_length(way, *b);
     }
     n
 }
@@ -64,12 +62,12 @@ fn changed_length(field: &[u8]) -> usize
 }
 
 // How many bytes a field takes.
+#[tactic(auto, using(crate::proofs::Lengths::enclosed_length))]
 fn field_length(field: &[u8]) -> usize
     requires { length field.now ≤ image_limit }
     ensures { result ≡ length (quoted_field field.now) }
 {
-    let look = ways::look_at(field);
-    match look {
+    match ways::look_at(field) {
         Look::Bare => field.len(),
         Look::Plain => field.len() + 2,
         Look::Changed => changed_length(field),
@@ -177,8 +175,7 @@ fn put_field(field: &[u8], out: &mut [u8]) -> usize
     requires { length (quoted_field field.now) ≤ length out.old }
     ensures { Puts (quoted_field field.now) out.old out.new result }
 {
-    let look = ways::look_at(field);
-    match look {
+    match ways::look_at(field) {
         Look::Bare => {
             text_copy::copy_in(field, out);
             field.len()
@@ -232,21 +229,17 @@ fn put_line(fields: &[u8], out: &mut [u8]) -> usize
 }
 
 // Has the line of an image of fields room, in a line and in a buffer of so many bytes? No byte of the image becomes more than four of the line.
+#[tactic(auto, using(crate::proofs::Walks::image_small, crate::proofs::Walks::line_small, crate::proofs::Answers::room_surely))]
 fn has_room(fields: &[u8], room: usize) -> bool
     requires { fields_of fields.now ≡ some (held_texts fields.now) }
     ensures { result ≡ has_room room (held_texts fields.now) }
 {
     let most = 4 * fields.len();
-    if most <= numbers::LINE_LIMIT {
-        if most <= room {
-            return true;
-        }
+    if most <= numbers::LINE_LIMIT && most <= room {
+        return true;
     }
     let n = line_length(fields);
-    if numbers::LINE_LIMIT < n {
-        return false;
-    }
-    n <= room
+    n <= numbers::LINE_LIMIT && n <= room
 }
 
 // Turns an image that is one of fields into its quoted line at the front of the buffer; the bytes behind the line stay. A line without room leaves every

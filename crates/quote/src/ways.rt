@@ -32,10 +32,11 @@ const BACKSLASH: u8 = b'\\';
 
 // How a field stands in a line: bare if it is not empty and holds only letters, digits, `.`, `_`, `-` and `/`. It is looked at once: what is bare is written as
 // it is in quotes too.
+#[tactic(auto, using(crate::proofs::Fields::looks))]
 pub fn look_at(field: &[u8]) -> Look
     ensures { Looks field.now result }
 {
-    if field.len() == 0 {
+    if field.is_empty() {
         return Look::Plain;
     }
     let bare = text::run_end(field, 0, Class::BareByte);
@@ -50,6 +51,7 @@ pub fn look_at(field: &[u8]) -> Look
 }
 
 // The quotes of a field that is not bare: $'...' if it holds a byte below 32 or byte 127, else single quotes.
+#[tactic(auto, using(crate::proofs::Fields::ways_of))]
 pub fn way_of(field: &[u8]) -> Way
     requires { is_bare field.now ≡ false }
     ensures { way_is result ≡ way_of field.now }
@@ -62,6 +64,7 @@ pub fn way_of(field: &[u8]) -> Way
 }
 
 // How many bytes a byte of a field takes in single quotes.
+#[tactic(auto, using(crate::proofs::Lengths::byte_cases))]
 fn singled_length(b: u8) -> usize
     ensures { result ≡ length (quoted_byte singled b) }
 {
@@ -69,13 +72,13 @@ fn singled_length(b: u8) -> usize
 }
 
 // How many bytes a byte of a field takes in $'...'.
+#[tactic(auto, using(crate::proofs::Lengths::byte_cases))]
 fn dollared_length(b: u8) -> usize
     ensures { result ≡ length (quoted_byte dollared b) }
 {
     if text::is_in(b, b"\\'") {
-        return 2;
-    }
-    if text::in_class(Class::NotControl, b) {
+        2
+    } else if text::in_class(Class::NotControl, b) {
         1
     } else {
         4

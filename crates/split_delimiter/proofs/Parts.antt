@@ -1,12 +1,18 @@
 -- The parts of a row, on plain lists: a part grows unit by unit until a break mark, and its end is one step of `broken`.
-use Prim.Native.Nat.{ℕ, suc, ◌+◌, ◌-◌, ◌*◌, ◌≤◌, ◌<◌}
+use Prim.Native.Nat.{ℕ, zero, suc, ◌/◌, ◌+◌, ◌-◌, ◌*◌, ◌≤◌, ◌<◌}
 use native.Mathlib.Omega.{arith}
 use mathlib.Core.Path.{◌≡◌, refl, sym, ap, ◌∙◌}
-use mathlib.Core.Bool.{Bool, true, false}
+use mathlib.Core.Bool.{Bool, true, false, cond, not}
 use mathlib.Core.List.{List, [], ◌∷◌, ◌++◌, append_assoc, append-nil}
 use lib.Dec.{eqb}
-use lib.ListN.{length, take, drop, get_or, length-append}
-use borrow.Author.Tests.{ne_eqb}
+use lib.ListN.{length, take, drop, get_or, length-append, length-drop}
+use lib.Seq.{drop-cons, drop-drop}
+use borrow.Author.Tests.{ne_eqb, eqb-true, eqb-false, ltb-false}
+use Rattle.std.specs.List.{position, position_or_len}
+use Rattle.std.specs.Option.{unwrap_or}
+use Rattle.std.proofs.Common.{nat_lt, Some, None}
+use Rattle.std.proofs.lemmas.List.Sums.{prefix_len-le-length}
+use Rattle.std.specs.Simd.{first_chunks}
 use Rattle.stages.specs.Bytes.{Text, part}
 use Rattle.stages.specs.Outcome.{pick}
 use Rattle.stages.specs.Units.{L, E, Q, Cell, cell, N, B, Row}
@@ -114,3 +120,58 @@ module _ {row : Text} {at end : ℕ} (s : Parting row at end) where
       let u : ahead row end ≡ B ∷ ahead row (end + 2) =
       unit_ahead row end l ∙ ap (λ (c : Cell). c ∷ ahead row (end + 2)) (break_unit (get_or row end 0) (get_or row (end + 1) 0) m) in
       ends (rw u (unfold broken behind_break in refl))
+
+position_else : {X : Type 0} (p : X → Bool) (xs : List X) → unwrap_or (position p xs) (length xs) ≡ position_or_len p xs
+position_else p xs = go (nat_lt (position_or_len p xs) (length xs)) refl
+  where
+    go : (x : Bool) → nat_lt (position_or_len p xs) (length xs) ≡ x
+        → unwrap_or (cond x (Some (position_or_len p xs)) None) (length xs) ≡ position_or_len p xs
+    go true e = refl
+    go false e =
+        let l : length xs ≤ position_or_len p xs = ltb-false _ _ e in
+        omega (arith, prefix_len-le-length (λ x. not (p x)) xs)
+
+-- the walk over whole units up to the first break mark
+abbrev pub is_break : List ℕ → Bool
+is_break u = eqb (get_or u 1 0) 4
+
+module _ (row : Text) (at : ℕ) where
+  part_walk : (n end : ℕ) → Parting row at end → n ≡ (length row - end) / 2
+      → PartEnds row at (end + 2 * position_or_len is_break (first_chunks 2 n (drop end row)))
+  part_walk zero end s e =
+      let l : length row - end ≤ 1 = omega arith in
+      let z : end + 0 ≡ end = omega arith in
+      rw z (part_none s l)
+  part_walk (suc n) end s e = go (is_break (take 2 (drop end row))) refl (λ t. part_walk n (end + 2) t (omega arith))
+    where
+      more : 1 < length row - end
+      more = omega (arith, e)
+
+      mark : get_or (take 2 (drop end row)) 1 0 ≡ get_or row (end + 1) 0
+      mark =
+          let e : suc end ≡ end + 1 = omega arith in
+          let f : drop (suc end) row ≡ drop (end + 1) row = ap (λ (i : ℕ). drop i row) e in
+          rw (drop-cons row end 0 (omega (arith, more)), f, drop-cons row (end + 1) 0 (omega (arith, more)))
+
+      left : ℕ
+      left = position_or_len is_break (first_chunks 2 n (drop 2 (drop end row)))
+
+      go : (x : Bool) → is_break (take 2 (drop end row)) ≡ x
+          → (Parting row at (end + 2) → PartEnds row at (end + 2 + 2 * position_or_len is_break (first_chunks 2 n (drop (end + 2) row))))
+          → PartEnds row at (end + 2 * cond (not x) (1 + left) 0)
+      go true y f =
+          let z : end + 0 ≡ end = omega arith in
+          rw z (part_break s more (sym mark ∙ eqb-true _ 4 y))
+      go false y f =
+          let z : end + 2 * (1 + left) ≡ end + 2 + 2 * left = omega arith in
+          let d : drop 2 (drop end row) ≡ drop (end + 2) row = drop-drop 2 end row in
+          rw z (rw d (f (part_on s more (λ m. eqb-false _ 4 y (mark ∙ m)))))
+
+  pub part_here : at ≤ length row → {n k : ℕ} {t : Text} {us : List (List ℕ)} → us ≡ first_chunks n (length t / n) t → n ≡ 2 → t ≡ drop at row
+      → k ≡ unwrap_or (position is_break us) (length us) → PartEnds row at (at + 2 * k)
+  part_here l {n} {k} {t} {us} e two d f =
+      let u : us ≡ first_chunks 2 (length (drop at row) / 2) (drop at row) =
+      e ∙ ap (λ (t : Text). first_chunks n (length t / n) t) d ∙ ap (λ (n : ℕ). first_chunks n (length (drop at row) / n) (drop at row)) two in
+      let g : k ≡ position_or_len is_break (first_chunks 2 (length (drop at row) / 2) (drop at row)) =
+      f ∙ position_else is_break us ∙ ap (position_or_len is_break) u in
+      rw g (part_walk (length (drop at row) / 2) at (part_start row at l) (ap (λ (n : ℕ). n / 2) (length-drop at row)))

@@ -2,19 +2,23 @@
 use Prim.Native.Nat.{ℕ, suc, ◌+◌, ◌-◌, ◌*◌, ◌≤◌, ◌<◌}
 use native.Mathlib.Omega.{arith}
 use mathlib.Core.Path.{◌≡◌, refl, sym, ap, ◌∙◌}
-use native.Mathlib.Numerals.{add-one}
-use mathlib.Core.Bool.{Bool, true, false, ◌||◌}
+use mathlib.Core.Logic.{◌⊎◌, inl, inr}
+use mathlib.Core.Bool.{Bool, true, false}
 use mathlib.Core.List.{[], ◌∷◌}
 use lib.Dec.{eqb, ltb}
-use lib.ListN.{length, drop, get_or, length-drop, drop_of_length-le}
+use lib.ListN.{length, drop, get_or, length-drop}
 use lib.Seq.{drop-cons}
-use borrow.Author.Tests.{lt-ltb, le-ltb, ltb-true, ltb-false, ne_eqb, eqb-true, eqb-false}
+use borrow.Author.Tests.{ltb-true, ltb-false, ne_eqb, eqb-true, eqb-false}
+use Rattle.std.specs.List.{fold}
+use Rattle.std.proofs.Common.{max}
 use Rattle.stages.specs.Bytes.{Text, is_in, is_blank}
 use Rattle.stages.specs.Outcome.{pick}
 use Rattle.stages.specs.Units.{L, E, Q, Cell, cell, N, B, Row}
 use Rattle.stages.specs.Split.{Delimiter, white, hard, other, delimiter, drop_white, drop_hard}
 use Rattle.text.specs.Rows.{unit_of, row_of}
-use Rattle.split_delimiter.specs.Places.{ahead, first, is_other, goes_on, highest, Reaches}
+use Rattle.split_delimiter.specs.Places.{delimiter_of, ahead, first, is_other, goes_on, highest, Reaches}
+use Rattle.split_delimiter.specs.declared.Delimiter.{Delimiter as Kind}
+use Rattle.split_delimiter.specs.declared.Delimiter.TheVariants.{White, Hard, Other}
 
 -- a place
 
@@ -93,6 +97,12 @@ module _ (ifs row : Text) (at : ℕ) where
       let f : d ≡ delimiter ifs (unit_of (get_or row at 0) (get_or row (at + 1) 0)) = e ∙ rw (unit_ahead row at l) in
       rw (unit_ahead row at l) (ap is_other f)
 
+  -- the code's other kinds of unit
+  pub other_alone : (d : Kind) → (d ≡ Other → ⊥) → false ≡ is_other (delimiter_of d)
+  other_alone White n = refl
+  other_alone Hard n = refl
+  other_alone Other n = absurd (n refl)
+
   -- whatever its mark is, a unit whose byte is not in IFS is no delimiter
   goes_outside : 1 < length row - at → is_in (get_or row at 0) ifs ≡ false → true ≡ goes_on ifs (ahead row at)
   goes_outside l e = goes_unit other l (go (eqb (get_or row (at + 1) 0) 2) refl)
@@ -103,29 +113,14 @@ module _ (ifs row : Text) (at : ℕ) where
 
 -- `highest_of`
 
--- the bytes before a place are looked at
-pub record Topping (t : Text) (i top : ℕ) : Type 0 where
-  pub within : i ≤ length t
-  pub same : highest 0 t ≡ highest top (drop i t)
-
-pub top_start : (t : Text) → Topping t 0 0
-top_start t = record { within = omega arith; same = refl }
-
-module _ {t : Text} {i top : ℕ} (p : Topping t i top) where
-  pub top_end : length t ≤ i → top ≡ highest 0 t
-  unfolding highest
-  top_end h = sym (p.same ∙ rw (drop_of_length-le t h))
-
-  module _ (h : i < length t) where
-    on : Topping t (i + 1) (pick (ltb top (get_or t i 0)) (get_or t i 0) top)
-    unfolding highest
-    on = record { within = omega arith; same = p.same ∙ rw (drop-cons t i 0, add-one i) }
-
-    pub top_higher : top < get_or t i 0 → Topping t (i + 1) (get_or t i 0)
-    top_higher l = rw (lt-ltb top (get_or t i 0) l) at on
-
-    pub top_stays : get_or t i 0 ≤ top → Topping t (i + 1) top
-    top_stays l = rw (le-ltb top (get_or t i 0) l) at on
+pub fold_highest : (top : ℕ) (t : Text) → fold (λ n b. max n b) top t ≡ highest top t
+unfolding highest
+fold_highest top [] = refl
+fold_highest top (b ∷ t) = ap (λ n. fold (λ n b. max n b) n t) (go (ltb top b) refl) ∙ fold_highest (pick (ltb top b) b top) t
+  where
+    go : (x : Bool) → ltb top b ≡ x → max top b ≡ pick x b top
+    go true e = let l = ltb-true top b e in omega arith
+    go false e = let l = ltb-false top b e in omega arith
 
 -- a byte above the highest is none of them
 above : (k top : ℕ) (t : Text) → highest top t < k → (top < k) × (is_in k t ≡ false)
@@ -203,39 +198,34 @@ module _ (ifs : Text) where
   skip_start row at l = record { passed = 0; far = omega arith; within = l; same = refl }
 
   module _ {row : Text} {at to : ℕ} (s : Skipping row at to) where
-    pub skip_fits : first ifs (ahead row to) ≡ white → to + 2 ≤ length row
-    skip_fits e = (white_more row to e).0
+    pub skip_fits : (d : Kind) → d ≡ White → delimiter_of d ≡ first ifs (ahead row to) → to + 2 ≤ length row
+    skip_fits d f e = (white_more row to (sym e ∙ ap delimiter_of f)).0
 
-    pub skip_on : first ifs (ahead row to) ≡ white → Skipping row at (to + 2)
-    skip_on e = record { passed = suc s.passed; far = omega (arith, s.far); within = (white_more row to e).0; same = s.same ∙ (white_more row to e).1 }
+    pub skip_on : {d : Kind} → d ≡ White → delimiter_of d ≡ first ifs (ahead row to) → Skipping row at (to + 2)
+    skip_on {d} f e =
+        let w = white_more row to (sym e ∙ ap delimiter_of f) in
+        record { passed = suc s.passed; far = omega (arith, s.far); within = w.0; same = s.same ∙ w.1 }
 
     reached : drop_white ifs (ahead row to) ≡ ahead row to → Reaches row at to (drop_white ifs (ahead row at))
     reached e = record { passed = s.passed; far = s.far; within = s.within; units = sym (s.same ∙ e) }
 
-    pub skip_hard : first ifs (ahead row to) ≡ hard → Reaches row at to (drop_white ifs (ahead row at))
-    skip_hard e = reached (white_stops_hard (ahead row to) e)
-
-    pub skip_other : first ifs (ahead row to) ≡ other → Reaches row at to (drop_white ifs (ahead row at))
-    skip_other e = reached (white_stops_other (ahead row to) e)
+    pub skip_stops : {d : Kind} → (d ≡ White → ⊥) → delimiter_of d ≡ first ifs (ahead row to) → Reaches row at to (drop_white ifs (ahead row at))
+    skip_stops {d = White} n e = absurd (n refl)
+    skip_stops {d = Hard} n e = reached (white_stops_hard (ahead row to) (sym e))
+    skip_stops {d = Other} n e = reached (white_stops_other (ahead row to) (sym e))
 
   module _ {row : Text} {at to : ℕ} {r : Row} (h : Reaches row at to r) where
-    pub behind_white : first ifs (ahead row to) ≡ white → Reaches row at to (drop_hard ifs r)
-    behind_white e = record {
+    pub behind_none : (d : Kind) → (d ≡ White) ⊎ (d ≡ Other) → delimiter_of d ≡ first ifs (ahead row to) → Reaches row at to (drop_hard ifs r)
+    behind_none d n e = record {
       passed = h.passed;
       far = h.far;
       within = h.within;
-      units =
-          sym (ap (drop_hard ifs) (sym h.units) ∙ hard_stops_white (ahead row to) e);
+      units = sym (ap (drop_hard ifs) (sym h.units) ∙ stops n);
     }
-
-    pub behind_other : first ifs (ahead row to) ≡ other → Reaches row at to (drop_hard ifs r)
-    behind_other e = record {
-      passed = h.passed;
-      far = h.far;
-      within = h.within;
-      units =
-          sym (ap (drop_hard ifs) (sym h.units) ∙ hard_stops_other (ahead row to) e);
-    }
+      where
+        stops : (d ≡ White) ⊎ (d ≡ Other) → drop_hard ifs (ahead row to) ≡ ahead row to
+        stops (inl f) = hard_stops_white (ahead row to) (sym e ∙ ap delimiter_of f)
+        stops (inr f) = hard_stops_other (ahead row to) (sym e ∙ ap delimiter_of f)
 
     pub behind_fits : first ifs (ahead row to) ≡ hard → to + 2 ≤ length row
     behind_fits e = (hard_more row to e).0

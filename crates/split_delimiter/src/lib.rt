@@ -33,25 +33,17 @@ fn delimiter_at(row: &[u8], at: usize, ifs: &[u8]) -> Delimiter
         return Delimiter::Other;
     }
     if text::in_class(Class::Blank, b) {
-        return Delimiter::White;
+        Delimiter::White
+    } else {
+        Delimiter::Hard
     }
-    Delimiter::Hard
 }
 
 // The highest byte of IFS, 0 if there is none.
 pub fn highest_of(ifs: &[u8]) -> u8
     ensures { result ≡ highest 0 ifs.now }
 {
-    let mut top: u8 = 0;
-    let mut i: usize = 0;
-    while i < ifs.len() {
-        let b = ifs[i];
-        if top < b {
-            top = b;
-        }
-        i += 1;
-    }
-    top
+    ifs.iter().fold(0, |top, b| top.max(*b))
 }
 
 // Does a field go on with the unit at a place? No byte of IFS is above `top`.
@@ -62,14 +54,7 @@ pub fn goes_on(row: &[u8], at: usize, ifs: &[u8], top: u8) -> bool
     if row.len() - at <= 1 {
         return false;
     }
-    if top < row[at] {
-        return true;
-    }
-    match delimiter_at(row, at, ifs) {
-        Delimiter::White => false,
-        Delimiter::Hard => false,
-        Delimiter::Other => true,
-    }
+    top < row[at] || matches!(delimiter_at(row, at, ifs), Delimiter::Other)
 }
 
 // The place behind the white units at a place.
@@ -78,13 +63,10 @@ pub fn skip_white(row: &[u8], at: usize, ifs: &[u8]) -> usize
     ensures { Reaches row.now at result (drop_white ifs.now (ahead row.now at)) }
 {
     let mut to = at;
-    loop {
-        match delimiter_at(row, to, ifs) {
-            Delimiter::White => to += 2,
-            Delimiter::Hard => return to,
-            Delimiter::Other => return to,
-        }
+    while let Delimiter::White = delimiter_at(row, to, ifs) {
+        to += 2;
     }
+    to
 }
 
 // The place of the next field behind the end of one: "then drop white ones, at most one hard one, and, if there was one, white ones after it".
@@ -94,9 +76,8 @@ pub fn behind_field(row: &[u8], at: usize, ifs: &[u8]) -> usize
 {
     let hard = skip_white(row, at, ifs);
     match delimiter_at(row, hard, ifs) {
-        Delimiter::White => hard,
         Delimiter::Hard => skip_white(row, hard + 2, ifs),
-        Delimiter::Other => hard,
+        Delimiter::White | Delimiter::Other => hard,
     }
 }
 
@@ -105,12 +86,7 @@ pub fn part_end(row: &[u8], at: usize) -> usize
     requires { at ≤ length row.now }
     ensures { PartEnds row.now at result }
 {
-    let mut end = at;
-    while row.len() - end > 1 {
-        if row[end + 1] == marks::BREAK {
-            return end;
-        }
-        end += 2;
-    }
-    end
+    let (units, _) = row[at..].as_chunks::<2>();
+    let passed = units.iter().position(|[_, mark]| *mark == marks::BREAK);
+    at + 2 * passed.unwrap_or(units.len())
 }
