@@ -62,6 +62,8 @@ module _ (b : ℕ) where
   unfolding digit choose
   gap4 h = rw (over_it 48 b 57 (omega arith), over_it 97 b 102 h, over_it 65 b 70 (omega arith))
 
+pub ruleset digits = (dec, lower, upper, gap1, gap2, gap3, gap4)
+
 -- a text's first byte is a digit of the base, or not
 module _ (base n b : ℕ) (t : Text) where
   base_more : digit b < base → in_base base n (b ∷ t) ≡ in_base base (n * base + digit b) t

@@ -11,7 +11,7 @@ use arith_int::BELOW;
 use text::refusal::Refusal;
 
 // The value of a digit, and 99 of any other byte: no Option, since the stages say 99 too, which no base has, so that one test serves for both.
-#[tactic(auto, using(crate::proofs::Digits::dec, crate::proofs::Digits::lower, crate::proofs::Digits::upper, crate::proofs::Digits::gap1, crate::proofs::Digits::gap2, crate::proofs::Digits::gap3, crate::proofs::Digits::gap4))]
+#[tactic(auto, using(crate::proofs::Digits::digits))]
 fn digit(b: u8) -> u64
     ensures { result ≡ digit_of b }
 {

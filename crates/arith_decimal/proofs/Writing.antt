@@ -30,6 +30,14 @@ pub digits_more : (k n : ℕ) → (k ≡ 0 → ⊥) → 10 ≤ n → digits k n 
 digits_more zero n h l = absurd (h refl)
 digits_more (suc k) n h l = let e : suc k - 1 ≡ k = omega arith in rw e (laws.digits_more k n l)
 
+-- the room of a number of one digit, and of more
+pub short_room : (k n : ℕ) (out : List ℕ) → (k ≡ 0 → ⊥) → n < 10 → length (digits k n) ≤ length out → 0 < length out
+short_room k n out h l r = let p = rw (digits_one k n h l) at r in omega arith
+
+pub long_room : (k n : ℕ) (out : List ℕ) → (k ≡ 0 → ⊥) → 10 ≤ n → length (digits k n) ≤ length out
+    → length (digits (k - 1) (n / 10)) < length out
+long_room k n out h l r = let p = simp (digits_more k n h l, length-append) at r in omega arith
+
 pub put_last : (D out : List ℕ) (x k : ℕ) → length D ≡ k → k < length out → set (over D out) k x ≡ over (D ++ (x ∷ [])) out
 unfolding over
 put_last D out x k e h =

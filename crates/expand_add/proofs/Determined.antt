@@ -34,7 +34,7 @@ use Rattle.expand_add.specs.Expanded.{Expanded, row_on}
 use Rattle.expand_add.specs.declared.answers.Stop.{Stop}
 use Rattle.expand_add.specs.declared.answers.Row as answer
 use Rattle.text.specs.declared.refusal.Refusal.{Refusal}
-use Rattle.expand_add.proofs.Refusals.{refusal_one}
+use Rattle.text.proofs.Refusals.{refusal_same}
 use Rattle.expand_add.proofs.Standing.{front}
 use Rattle.expand_add.proofs.Holding.{says_known, answers_known}
 use Rattle.expand_add.proofs.Waiting.{waits_length}
@@ -78,7 +78,7 @@ module _ (units : ℕ) (on : Onward) (o : Outcome Row) (area area' : Text) where
   adds_determined (Ok r) (Err (Refused e')) f h' = absurd (measured_fits units on o area r.units r.next r.vars_used r.of_none f h')
   adds_determined (Err (Refused e)) (Ok r') h f' = absurd (measured_fits units on o area' r'.units r'.next r'.vars_used r'.of_none f' h)
   adds_determined (Ok r) (Err (Demanded at len)) f h' = absurd h'
-  adds_determined (Err (Refused e)) (Err (Refused e')) h h' = ap (λ (x : Refusal). Err (Refused x)) (refusal_one e e' (cc))
+  adds_determined (Err (Refused e)) (Err (Refused e')) h h' = ap (λ (x : Refusal). Err (Refused x)) (refusal_same e e' (cc))
   adds_determined (Err (Refused e)) (Err (Demanded at len)) h h' = absurd h'
   adds_determined (Err (Demanded at len)) r' h h' = absurd h
 
@@ -181,7 +181,7 @@ module _ (varsRoom units : ℕ) (made : Made) (area vars area' vars' : Text) whe
   one_refusal : {e e' : Refusal} → made ≡ refused (refusal_number e) → made ≡ refused (refusal_number e')
       → OneAnswer area (Err (Refused e)) area' (Err (Refused e'))
   one_refusal {e} {e'} h h' =
-      record { answers = ap (λ (x : Refusal). Err (Refused x)) (refusal_one e e' (one_number h h')); message = refl }
+      record { answers = ap (λ (x : Refusal). Err (Refused x)) (refusal_same e e' (one_number h h')); message = refl }
 
   one_message : {at len at' len' : ℕ} → IsDemand made area at len → IsDemand made area' at' len'
       → OneAnswer area (Err (Demanded at len)) area' (Err (Demanded at' len'))

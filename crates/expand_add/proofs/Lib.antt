@@ -1,4 +1,3 @@
-pub mod Refusals
 pub mod Fitting
 pub mod Steps
 pub mod Standing

@@ -9,9 +9,8 @@ use Rattle.stages.specs.Bytes.{Text, part}
 use Rattle.stages.specs.Images.{held_texts}
 use Rattle.stages.specs.Units.{Mark, Row, marked}
 use Rattle.stages.specs.Expand.{between}
-use Rattle.table.specs.Pieces.{piece_at}
-use Rattle.table.specs.declared.Piece.{Piece}
-use Rattle.table.specs.declared.Piece.TheVariants.{End, Bad, At}
+use Rattle.std.specs.Prelude.{Some, None, Ok, Err}
+use Rattle.table.specs.Pieces.{Piece, malformed, piece_at}
 use Rattle.table.proofs.Pieces.{Ahead, ahead_first, Next, ahead_end, ahead_bad, ahead_text}
 use Rattle.table.specs.Places.{Listed}
 use Rattle.expand_add.proofs.Fitting.{marked_count}
@@ -51,15 +50,15 @@ module _ {t : Text} {gap n before at : ℕ} (w : Summing t gap n before at) {p :
   unfolding led
   all_counted e = let z : led before gap w.left ≡ 0 = rw e in omega (arith, w.sum)
 
-  pub summing_end : p ≡ End → Counts t gap n
+  pub summing_end : p ≡ Ok None → Counts t gap n
   summing_end e = record {
     is = λ g m q. all_counted (ahead_end w.ahead s e) ∙ ap (λ (k : ℕ). led 0 k (held_texts t)) (sym q) ∙ sym (led_between g m (held_texts t));
   }
 
-  pub summing_bad : p ≡ Bad → Counts t gap n
+  pub summing_bad : p ≡ Err malformed → Counts t gap n
   summing_bad e = absurd (ahead_bad w.ahead s e)
 
-  module _ {end : ℕ} (e : p ≡ At end) where
+  module _ {end : ℕ} (e : p ≡ Ok (Some end)) where
     pub next : Next t at end w.left
     next = ahead_text w.ahead s e
 

@@ -14,7 +14,7 @@ use Rattle.stages.specs.Expand.{list_row, of_none}
 use Rattle.text.proofs.Determined.{one_answer}
 use Rattle.expand_add.specs.Added.{Adds, Fitting}
 use Rattle.expand_add.specs.declared.answers.Onward.{Onward}
-use Rattle.expand_add.specs.declared.answers.Expanded.{Expanded}
+use Rattle.expand_add.specs.Expanded.{Expanded}
 use Rattle.expand_add.proofs.Determined.{adds_determined, adds_determined_row}
 
 module _ (units : ℕ) (on : Onward) (s : Spread) (m : Mark) (l : List Text) (v : Pairs) (area area' : Text) where

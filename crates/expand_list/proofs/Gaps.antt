@@ -18,8 +18,8 @@ use Rattle.stages.specs.Expand.{gap, between, list_row, of_none}
 use Rattle.text.specs.Cases.{spread_of}
 use Rattle.text.specs.Rows.{row_bytes}
 use Rattle.table.specs.Places.{Looked}
-use Rattle.table.specs.declared.Found.{Found}
-use Rattle.table.specs.declared.Found.TheVariants.{At, Missing}
+use Rattle.std.specs.Prelude.{Option, Some, None}
+use Rattle.table.specs.declared.Part.{Part}
 use Rattle.table.proofs.Finds.{is_shown, is_absent}
 use Rattle.row.specs.Marks.{mark_of}
 use Rattle.row.specs.Stands.{fronted}
@@ -32,32 +32,32 @@ use Rattle.expand_list.proofs.Putting.{fronts_on}
 
 -- the first byte of IFS
 
-module _ {vars : Text} {r : Found} (s : Looked vars (text "IFS") r) where
-  pub joint_space : r ≡ Missing → gap_row (Byte (code " ")) ≡ marked units.Q (take 1 (ifs_now (held vars)))
+module _ {vars : Text} {r : Option Part} (s : Looked vars (text "IFS") r) where
+  pub joint_space : r ≡ None → gap_row (Byte (code " ")) ≡ marked units.Q (take 1 (ifs_now (held vars)))
   unfolding marked ifs_now ifs_or
   joint_space e = sym (ap (λ t. marked units.Q (take 1 (ifs_or t))) (is_absent s e))
 
-  module _ {from to : ℕ} (e : r ≡ At from to) where
-    is_part : ifs_now (held vars) ≡ part vars from to
+  module _ {p : Part} (e : r ≡ Some p) where
+    is_part : ifs_now (held vars) ≡ part vars p.from p.to
     unfolding ifs_now ifs_or
-    is_part = ap ifs_or (is_shown s from to e).gets
+    is_part = ap ifs_or (is_shown s p e).gets
 
-    pub joint_inside : from < to → from < length vars
-    joint_inside h = omega (arith, (is_shown s from to e).high)
+    pub joint_inside : p.from < p.to → p.from < length vars
+    joint_inside h = omega (arith, (is_shown s p e).high)
 
-    pub joint_byte : from < to → gap_row (Byte (get_or vars from 0)) ≡ marked units.Q (take 1 (ifs_now (held vars)))
+    pub joint_byte : p.from < p.to → gap_row (Byte (get_or vars p.from 0)) ≡ marked units.Q (take 1 (ifs_now (held vars)))
     unfolding marked
     joint_byte h =
-        let n : to - from ≡ suc (to - from - 1) = omega arith in
-        let p : part vars from to ≡ get_or vars from 0 ∷ take (to - from - 1) (drop (suc from) vars) =
-        ap (λ (k : ℕ). take k (drop from vars)) n ∙ ap (take (suc (to - from - 1))) (drop-cons vars from 0 (joint_inside h)) in
-        sym (ap (λ (t : Text). marked units.Q (take 1 t)) (is_part ∙ p))
+        let n : p.to - p.from ≡ suc (p.to - p.from - 1) = omega arith in
+        let q : part vars p.from p.to ≡ get_or vars p.from 0 ∷ take (p.to - p.from - 1) (drop (suc p.from) vars) =
+        ap (λ (k : ℕ). take k (drop p.from vars)) n ∙ ap (take (suc (p.to - p.from - 1))) (drop-cons vars p.from 0 (joint_inside h)) in
+        sym (ap (λ (t : Text). marked units.Q (take 1 t)) (is_part ∙ q))
 
-    pub joint_nothing : to ≤ from → gap_row Nothing ≡ marked units.Q (take 1 (ifs_now (held vars)))
+    pub joint_nothing : p.to ≤ p.from → gap_row Nothing ≡ marked units.Q (take 1 (ifs_now (held vars)))
     unfolding marked
     joint_nothing h =
-        let n : to - from ≡ 0 = omega arith in
-        sym (ap (λ (t : Text). marked units.Q (take 1 t)) (is_part ∙ ap (λ (k : ℕ). take k (drop from vars)) n))
+        let n : p.to - p.from ≡ 0 = omega arith in
+        sym (ap (λ (t : Text). marked units.Q (take 1 t)) (is_part ∙ ap (λ (k : ℕ). take k (drop p.from vars)) n))
 
 -- the gap by the mark
 

@@ -14,9 +14,8 @@ use Rattle.text.specs.Rows.{row_bytes}
 use Rattle.text.proofs.Parts.{part_length, rest_is, rest_back}
 use Rattle.text.proofs.Rows.{length_row_bytes, row_bytes_append}
 use Rattle.table.specs.Places.{Listed}
-use Rattle.table.specs.Pieces.{piece_at}
-use Rattle.table.specs.declared.Piece.{Piece}
-use Rattle.table.specs.declared.Piece.TheVariants.{End, Bad, At}
+use Rattle.std.specs.Prelude.{Some, None, Ok, Err}
+use Rattle.table.specs.Pieces.{Piece, malformed, piece_at}
 use Rattle.table.proofs.Pieces.{Ahead, ahead_first, Next, ahead_end, ahead_bad, ahead_text}
 use Rattle.row.specs.Stands.{fronted}
 use Rattle.expand_add.proofs.Fitting.{marked_count}
@@ -103,17 +102,17 @@ putting_start params g m old e h = record {
 
 module _ {params : Text} {g b : Row} {m : Mark} {at to : ℕ} {old area : Text} (w : Putting params g b m at to old area) {p : Piece}
     (s : p ≡ piece_at params at) where
-  pub putting_end : p ≡ End → area ≡ fronted (row_bytes (between g m (held_texts params))) old
+  pub putting_end : p ≡ Ok None → area ≡ fronted (row_bytes (between g m (held_texts params))) old
   unfolding led_row
   putting_end e =
       let k : led_row b g m w.left ≡ [] = rw (ahead_end w.ahead s e) in
       w.fronts.stands
       ∙ ap (λ (r : Row). fronted (row_bytes r) old) (sym (append-nil w.passed) ∙ ap (λ (r : Row). w.passed ++ r) (sym k) ∙ w.whole)
 
-  pub putting_bad : p ≡ Bad → area ≡ fronted (row_bytes (between g m (held_texts params))) old
+  pub putting_bad : p ≡ Err malformed → area ≡ fronted (row_bytes (between g m (held_texts params))) old
   putting_bad e = absurd (ahead_bad w.ahead s e)
 
-  module _ {end : ℕ} (e : p ≡ At end) where
+  module _ {end : ℕ} (e : p ≡ Ok (Some end)) where
     pub next : Next params at end w.left
     next = ahead_text w.ahead s e
 

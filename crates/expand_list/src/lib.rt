@@ -17,10 +17,10 @@ ghost use Rattle.row.specs.Stands.{fronted};
 ghost use Rattle.expand_add.specs.Added.{Adds};
 ghost use Rattle.expand_list.specs.Lists.{gap_row, Counts};
 
-use expand_add::answers::{Expanded, Onward};
+use expand_add::answers::{Onward, Row, Stop};
 use row::{Mark, RowEnd};
-use table::{Found, Piece};
 use text::numbers;
+use text::refusal::Refusal;
 
 // What stands between two texts: a break mark, one with an empty mark behind it, a quoted byte, or nothing.
 #[derive(Clone, Copy)]
@@ -36,16 +36,10 @@ fn joint_gap(vars: &[u8]) -> Gap
     requires { Table vars.now }
     ensures { gap_row result ≡ marked Q (take 1 (ifs_now (held vars.now))) }
 {
-    let found = table_find::look_up_ifs(vars);
-    match found {
-        Found::Missing => Gap::Byte(b' '),
-        Found::At { from, to } => {
-            if from < to {
-                Gap::Byte(vars[from])
-            } else {
-                Gap::Nothing
-            }
-        }
+    match table_find::look_up_ifs(vars) {
+        None => Gap::Byte(b' '),
+        Some(part) if part.from < part.to => Gap::Byte(vars[part.from]),
+        Some(_) => Gap::Nothing,
     }
 }
 
@@ -55,15 +49,9 @@ fn gap_of(apart: bool, mark: Mark, vars: &[u8]) -> Gap
     ensures { gap_row result ≡ gap (spread_of apart) (mark_of mark) (held vars.now) }
 {
     match mark {
-        Mark::L => Gap::Break,
-        Mark::E => Gap::Break,
-        Mark::Q => {
-            if apart {
-                Gap::BreakEmpty
-            } else {
-                joint_gap(vars)
-            }
-        }
+        Mark::L | Mark::E => Gap::Break,
+        Mark::Q if apart => Gap::BreakEmpty,
+        Mark::Q => joint_gap(vars),
     }
 }
 
@@ -100,21 +88,15 @@ fn list_units(params: &[u8], gap: usize) -> usize
     requires { Listed params.now × (gap ≤ 2) }
     ensures { Counts params.now gap result }
 {
-    let mut n: usize = 0;
+    let mut units: usize = 0;
     let mut before: usize = 0;
     let mut at: usize = 1;
-    loop {
-        let piece = table::text_at(params, at);
-        match piece {
-            Piece::End => return n,
-            Piece::Bad => return n,
-            Piece::At(end) => {
-                n += before + (end - at - 2);
-                before = gap;
-                at = end;
-            }
-        }
+    while let Ok(Some(end)) = table::text_at(params, at) {
+        units += before + (end - at - 2);
+        before = gap;
+        at = end;
     }
+    units
 }
 
 // Puts the texts of an image at the front, each byte with the mark and a gap between them.
@@ -125,20 +107,13 @@ fn put_list(params: &[u8], gap: Gap, mark: Mark, area: &mut [u8])
     let mut before = Gap::Nothing;
     let mut at: usize = 1;
     let mut to: usize = 0;
-    loop {
-        let piece = table::text_at(params, at);
-        match piece {
-            Piece::End => return,
-            Piece::Bad => return,
-            Piece::At(end) => {
-                put_gap(before, &mut area[to..]);
-                let text = to + 2 * gap_units(before);
-                row::put_marked(&params[at + 2..end], mark, &mut area[text..]);
-                to = text + 2 * (end - at - 2);
-                before = gap;
-                at = end;
-            }
-        }
+    while let Ok(Some(end)) = table::text_at(params, at) {
+        put_gap(before, &mut area[to..]);
+        let text = to + 2 * gap_units(before);
+        row::put_marked(&params[at + 2..end], mark, &mut area[text..]);
+        to = text + 2 * (end - at - 2);
+        before = gap;
+        at = end;
     }
 }
 
@@ -150,28 +125,22 @@ pub fn give_list(
     vars: &[u8],
     params: &[u8],
     area: &mut [u8],
-) -> Expanded
+) -> Result<Row, Stop>
     requires table { Table vars.now × Listed params.now }
     requires units_le_row_limit { (row.units ≤ row_limit) × (2 * row_limit ≤ length area.old + 2 * row.units) }
     ensures { Adds row.units on
         (done (list_row (spread_of apart) (mark_of row.mark) (held_texts params.now) (held vars.now)))
         area.new result }
 {
-    let bare = row.mark;
-    let mark = row::expanded_mark(bare);
+    let mark = row::expanded_mark(row.mark);
     let gap = gap_of(apart, mark, vars);
     let units = list_units(params, gap_units(gap));
     let room = numbers::ROW_LIMIT - row.units;
     if units > room {
-        return Expanded::Refused(numbers::REFUSED_UNITS);
+        return Err(Stop::Refused(Refusal::TooManyUnits));
     }
     put_list(params, gap, mark, area);
-    Expanded::Row {
-        units: units,
-        next: on.next,
-        vars_used: on.vars_used,
-        of_none: on.of_none,
-    }
+    Ok(on.row(units))
 }
 
 // Does `$@` of no parameters come here? In quotes with nothing else it leaves no field.
@@ -179,13 +148,5 @@ pub fn is_of_none(apart: bool, params: &[u8]) -> bool
     requires { Listed params.now }
     ensures { result ≡ of_none (spread_of apart) (held_texts params.now) }
 {
-    if !apart {
-        return false;
-    }
-    let piece = table::text_at(params, 1);
-    match piece {
-        Piece::End => true,
-        Piece::Bad => true,
-        Piece::At(_) => false,
-    }
+    apart && !matches!(table::text_at(params, 1), Ok(Some(_)))
 }

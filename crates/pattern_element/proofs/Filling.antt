@@ -1,19 +1,20 @@
 -- The table of ends: what it tells of the place behind a member, and how the walk from the last unit to the first fills it.
 use Prim.Native.Nat.{ℕ, ◌+◌, ◌*◌, ◌≤◌, ◌<◌}
 use mathlib.Core.Path.{◌≡◌, refl, sym, ◌∙◌, ap, subst}
-use mathlib.Core.Bool.{Bool, false}
+use mathlib.Core.Bool.{Bool, true, false}
 use mathlib.Core.List.{List}
 use native.Mathlib.Omega.{arith}
 use native.Mathlib.Decide.{dec_lt}
 use lib.ListN.{length, drop, get_or, set, length-set}
 use lib.Seq.{get_or-set_same, get_or-set_other}
 use Rattle.stages.specs.Bytes.{Text}
-use Rattle.stages.specs.Pattern.{find}
+use Rattle.stages.specs.Pattern.{closed_after, find}
 use Rattle.pattern_unit.specs.Widths.{size, signs_by}
 use Rattle.pattern_unit.specs.declared.Width.{Width}
 use Rattle.pattern_unit.specs.declared.Width.TheVariants.{Plain, Marked}
 use Rattle.pattern_unit.proofs.Units.{scale_zero, scale_suc}
-use Rattle.pattern_element.specs.Ends.{entry_of, unit_of, end_by, Roomy, Ended, Served, Fills}
+use Rattle.pattern_element.proofs.Searches.{end_inside}
+use Rattle.pattern_element.specs.Ends.{refusing_entry, entry_of, unit_of, end_by, Roomy, Ended, Served, Fills}
 
 -- A PLACE AND ITS UNIT
 
@@ -75,6 +76,11 @@ module _ {w : Width} {path : Bool} {p : Text} {ends : List ℕ} {at : ℕ} (e : 
 
 pub served_behind : {w : Width} {path : Bool} {p : Text} {ends : List ℕ} {at : ℕ} → Served w path p ends at → Served w path p ends (at + size w)
 served_behind s h = ended_behind (s h)
+
+-- an end that is found is a place, and so below the entries that are no place
+pub served_small : {w : Width} {path : Bool} {p : Text} {ends : List ℕ} {at : ℕ} → Served w path p ends at → 0 < length ends → at ≤ length p
+    → (n : ℕ) → find path true 0 (signs_by w (drop at p)) ≡ closed_after n → at + size w * n < refusing_entry
+served_small {w} {path} {p} {ends} {at} s l h n e = omega (arith, roomy_small (s l).roomy, end_inside w path true p at n h e)
 
 -- FILLING IT
 

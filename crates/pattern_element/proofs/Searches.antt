@@ -5,6 +5,7 @@ use mathlib.Core.Bool.{Bool, true, false, not, ◌&&◌}
 use mathlib.Core.List.{[], ◌∷◌}
 use native.Mathlib.Omega.{arith}
 use lib.Dec.{eqb}
+use Rattle.std.proofs.Common.{Some, None, Ok, Err}
 use lib.ListN.{length, drop, get_or, length-drop}
 use Rattle.stages.specs.Bytes.{Text}
 use Rattle.stages.specs.Pattern.{Sign, Signs, Found, refusing, unclosed, closed_after, one_more, member, member_length, find, bracket, others}
@@ -15,13 +16,12 @@ use Rattle.pattern_unit.specs.Widths.{size, signs_by}
 use Rattle.pattern_unit.specs.Heads.{begins}
 use Rattle.pattern_unit.specs.declared.Width.{Width}
 use Rattle.pattern_unit.proofs.Units.{scale_zero, scale_suc, sign_at, unit_at, none_at, units_there, live_seen}
-use Rattle.pattern_member.specs.Members.{first_member, member_of, is_unserved, Says, behind_of}
+use Rattle.pattern_member.specs.Members.{first_member, member_of, Says, behind_of}
+use Rattle.pattern_member.specs.declared.BadClass.{BadClass}
 use Rattle.pattern_member.specs.declared.Member.{Member}
-use Rattle.pattern_member.specs.declared.Member.TheVariants.{Single, Range, Class, Unserved}
+use Rattle.pattern_member.specs.declared.Member.TheVariants.{Single, Range, Class}
 use Rattle.pattern_member.proofs.Members.{member_first, member_units}
-use Rattle.pattern_element.specs.Ends.{refusing_entry, unclosed_entry, end_of, sought_from, entry_of}
-use Rattle.pattern_element.specs.declared.End.{End}
-use Rattle.pattern_element.specs.declared.End.TheVariants.{Unserved, Nowhere, At}
+use Rattle.pattern_element.specs.Ends.{refusing_entry, unclosed_entry, End, end_of, sought_from, entry_of}
 use Rattle.pattern_element.specs.declared.Piece.{Piece}
 use Rattle.pattern_element.specs.Pieces.{set_from, bracket_at, piece_at}
 use Rattle.pattern_element.specs.declared.Piece.TheVariants.{Star, One, Byte, Refusing, Set}
@@ -52,12 +52,11 @@ passed w k (suc n) f =
 
 -- ONE STEP OF THE SEARCH
 
--- a member of the code is unserved just if the stage's is
-served : (m : Member) → is_unserved m ≡ search.is_unserved (member_of m)
+-- a member of the code is served
+served : (m : Member) → search.is_unserved (member_of m) ≡ false
 served (Single b) = refl
 served (Range lo hi) = refl
 served (Class row) = refl
-served Unserved = refl
 
 -- the search from a place on, in each way that the walk goes there
 module _ (w : Width) (p : Text) (path first : Bool) (k : ℕ) where
@@ -70,7 +69,7 @@ module _ (w : Width) (p : Text) (path first : Bool) (k : ℕ) where
   abbrev barring : Bool
   barring = path && eqb (get_or p k 0) 47
 
-  pub sought_over : length p < k + size w → sought ≡ Nowhere
+  pub sought_over : length p < k + size w → sought ≡ Ok None
   unfolding find
   sought_over h = rw (none_at w p k h)
 
@@ -91,31 +90,29 @@ module _ (w : Width) (p : Text) (path first : Bool) (k : ℕ) where
     ended : {x : Bool} → closing ≡ x → ends_here first here ≡ x
     ended e = ap (λ (b : Bool). not first && b) (sym (live_seen w p k 93 h)) ∙ e
 
-    pub sought_close : closing ≡ true → sought ≡ At k
+    pub sought_close : closing ≡ true → sought ≡ Ok (Some k)
     sought_close y = let e : k + size w * 0 ≡ k = omega (arith, scale_zero w) in seen ∙ rw (ended y, e)
 
     module _ (n : closing ≡ false) where
-      pub sought_bar : barring ≡ true → sought ≡ Nowhere
+      pub sought_bar : barring ≡ true → sought ≡ Ok None
       sought_bar y = seen ∙ rw (ended n, y)
 
-      module _ (b : barring ≡ false) {m : Member} (s : Says w p (k + size w) (first_member path (signs_by w (drop k p))) m) where
-        told : {x : Bool} → is_unserved m ≡ x → search.is_unserved (member path here behind) ≡ x
-        told e = sym (served m ∙ ap search.is_unserved (member_first k path h s)) ∙ e
+      module _ (b : barring ≡ false) where
+        pub sought_unserved : {e : BadClass} → Says w p (k + size w) (first_member path (signs_by w (drop k p))) (Err e) → sought ≡ Err e
+        sought_unserved s = seen ∙ rw (ended n, b, sym (ap search.is_unserved (member_first k path h s)))
 
-        pub sought_unserved : is_unserved m ≡ true → sought ≡ Unserved
-        sought_unserved y = seen ∙ rw (ended n, b, told y)
-
-        pub sought_on : is_unserved m ≡ false → sought ≡ sought_from w path false p (behind_of m k w)
-        sought_on y =
+        pub sought_on : {m : Member} → Says w p (k + size w) (first_member path (signs_by w (drop k p))) (Ok m)
+            → sought ≡ sought_from w path false p (behind_of m k w)
+        sought_on {m} s =
             let u = member_length (member_of m) in
             let e : k + size w * suc u ≡ behind_of m k w = let f : suc u ≡ u + 1 = omega arith in rw f in
             seen
-            ∙ rw (ended n, b, told y)
+            ∙ rw (ended n, b, sym (ap search.is_unserved (member_first k path h s)) ∙ served m)
             (ap (λ q. end_of w k (one_more (find path false (member_length q) behind))) (sym (member_first k path h s))
             ∙ ap (λ (f : Found). end_of w k (one_more f)) (find_past path u behind)
             ∙ passed w k (suc u) (find path false 0 (drop u behind))
             ∙ ap (λ (i : ℕ). end_of w i (find path false 0 (drop u behind))) e
-            ∙ ap (λ (r : Signs). end_of w (behind_of m k w) (find path false 0 r)) (member_units w p k m))
+            ∙ ap (λ (r : Signs). end_of w (behind_of m k w) (find path false 0 r)) (member_units w p k (Ok m)))
 
 -- A BRACKET
 
@@ -184,28 +181,28 @@ end_inside w path first p k n h e =
 -- what is found, by its entry: the places of a pattern are below the other entries
 module _ (w : Width) (from : ℕ) {e : ℕ} where
   pub met_refusing : (f : Found) → ((n : ℕ) → f ≡ closed_after n → from + size w * n < refusing_entry) → e ≡ entry_of w from f → e ≡ refusing_entry →
-      Unserved ≡ end_of w from f
+      Err record {} ≡ end_of w from f
   met_refusing refusing b i h = refl
   met_refusing unclosed b i h = absurd (omega (arith, i, h))
   met_refusing (closed_after n) b i h = absurd (omega (arith, i, h, b n refl))
 
   pub met_none : (f : Found) → ((n : ℕ) → f ≡ closed_after n → from + size w * n < refusing_entry) → e ≡ entry_of w from f → e ≡ unclosed_entry →
-      Nowhere ≡ end_of w from f
+      Ok None ≡ end_of w from f
   met_none refusing b i h = absurd (omega (arith, i, h))
   met_none unclosed b i h = refl
   met_none (closed_after n) b i h = absurd (omega (arith, i, h, b n refl))
 
-  pub met_end : (f : Found) → e ≡ entry_of w from f → (e ≡ refusing_entry → ⊥) → (e ≡ unclosed_entry → ⊥) → At e ≡ end_of w from f
+  pub met_end : (f : Found) → e ≡ entry_of w from f → (e ≡ refusing_entry → ⊥) → (e ≡ unclosed_entry → ⊥) → Ok (Some e) ≡ end_of w from f
   met_end refusing i r u = absurd (r i)
   met_end unclosed i r u = absurd (u i)
-  met_end (closed_after n) i r u = ap At i
+  met_end (closed_after n) i r u = ap (λ (n : ℕ). Ok (Some n)) i
 
 -- and as the answer for the bracket
 module _ (w : Width) (negative : Bool) (from : ℕ) where
   abbrev pub set_of : End → Piece
-  set_of Unserved = Refusing
-  set_of Nowhere = Byte 91
-  set_of (At to) = Set negative from to
+  set_of (Err e) = Refusing
+  set_of (Ok None) = Byte 91
+  set_of (Ok (Some to)) = Set negative from to
 
   pub set_found : (f : Found) {e : End} → e ≡ end_of w from f → set_of e ≡ set_from w negative from f
   set_found refusing h = ap set_of h

@@ -1,15 +1,14 @@
 -- The search for the end of a bracket: what one step of it meets, and the ends of a pattern's brackets in a table with an entry for each unit, what the
 -- search finds that is at this unit and behind its first member.
-use Rattle.std.specs.Prelude.{ℕ, ◌+◌, ◌*◌, ◌/◌, ◌≤◌, ◌<◌, ◌≡◌, Bool, false, List, length, drop, get_or}
+use Rattle.std.specs.Prelude.{ℕ, ◌+◌, ◌*◌, ◌/◌, ◌≤◌, ◌<◌, ◌≡◌, Bool, false, List, length, drop, get_or, Option, Some, None, Result, Ok, Err}
 use Rattle.stages.specs.Bytes.{Text}
 use Rattle.stages.specs.Pattern.{Found, refusing, unclosed, closed_after, find}
 use Rattle.pattern_unit.specs.Widths.{size, signs_by}
 use Rattle.pattern_unit.specs.declared.Width.{Width}
 use Rattle.pattern_unit.specs.declared.Width.TheVariants.{Plain, Marked}
-use Rattle.pattern_element.specs.declared.End.{End}
-use Rattle.pattern_element.specs.declared.End.TheVariants.{Unserved, Nowhere, At}
+use Rattle.pattern_member.specs.declared.BadClass.{BadClass}
 use Rattle.pattern_element.specs.declared.Step.{Step}
-use Rattle.pattern_element.specs.declared.Step.TheVariants.{Refuses, Fails, Closes, On}
+use Rattle.pattern_element.specs.declared.Step.TheVariants.{Fails, Closes, On}
 
 -- the entries where a member is met that is 19, and where no end is; below them each entry is the place of the `]`
 abbrev pub refusing_entry : ℕ
@@ -22,11 +21,15 @@ unclosed_entry = 65535
 abbrev pub units_limit : ℕ
 units_limit = 2048
 
--- what the search finds, behind k bytes that it has passed
+-- what a search finds: the place of the `]`, or no end; or it met a member that is 19
+abbrev pub End : Type 0
+End = Result (Option ℕ) BadClass
+
+-- what it finds behind k bytes that it has passed
 abbrev pub end_of : Width → ℕ → Found → End
-end_of w k refusing = Unserved
-end_of w k unclosed = Nowhere
-end_of w k (closed_after n) = At (k + size w * n)
+end_of w k refusing = Err record {}
+end_of w k unclosed = Ok None
+end_of w k (closed_after n) = Ok (Some (k + size w * n))
 
 -- what the search from a place on finds
 abbrev pub sought_from : Width → Bool → Bool → Text → ℕ → End
@@ -41,17 +44,17 @@ pub record Goes (w : Width) (path first : Bool) (p : Text) (at next : ℕ) : Typ
   pub same : sought_from w path first p at ≡ sought_from w path false p next
 
 -- what one step of it says
-abbrev pub StepSays : Width → Bool → Bool → Text → ℕ → Step → Type 0
-StepSays w path first p at Refuses = sought_from w path first p at ≡ Unserved
-StepSays w path first p at Fails = sought_from w path first p at ≡ Nowhere
-StepSays w path first p at Closes = sought_from w path first p at ≡ At at
-StepSays w path first p at (On next) = Goes w path first p at next
+abbrev pub StepSays : Width → Bool → Bool → Text → ℕ → Result Step BadClass → Type 0
+StepSays w path first p at (Err e) = sought_from w path first p at ≡ Err e
+StepSays w path first p at (Ok Fails) = sought_from w path first p at ≡ Ok None
+StepSays w path first p at (Ok Closes) = sought_from w path first p at ≡ Ok (Some at)
+StepSays w path first p at (Ok (On next)) = Goes w path first p at next
 
 -- the entry for what it finds
 abbrev pub entry : End → ℕ
-entry Unserved = refusing_entry
-entry Nowhere = unclosed_entry
-entry (At n) = n
+entry (Err e) = refusing_entry
+entry (Ok None) = unclosed_entry
+entry (Ok (Some n)) = n
 
 abbrev pub entry_of : Width → ℕ → Found → ℕ
 entry_of w k f = entry (end_of w k f)

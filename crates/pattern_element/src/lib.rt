@@ -6,11 +6,10 @@ ghost use Rattle.std.specs.Prelude.{◌≡◌, true, false, not, ◌&&◌, ◌+�
 ghost use Rattle.stages.specs.Pattern.{find};
 ghost use Rattle.pattern_unit.specs.Widths.{size, signs_by};
 ghost use Rattle.pattern_unit.specs.Heads.{begins};
-ghost use Rattle.pattern_member.specs.Members.{is_unserved};
 ghost use Rattle.pattern_element.specs.Ends.{sought_from, StepSays, entry_of, unit_of, Roomy, Ended, Served, Fills};
 ghost use Rattle.pattern_element.specs.Pieces.{set_from, bracket_at, piece_at, behind_of, Within};
 
-use pattern_member::Member;
+use pattern_member::BadClass;
 use pattern_unit::Width;
 
 // "members up to an active `]` that is not the first member": this unit ends them.
@@ -18,25 +17,11 @@ fn closes(units: &[u8], at: usize, first: bool, width: Width) -> bool
     requires { at ≤ length units.now }
     ensures { result ≡ (not first && begins 93 (signs_by width (drop at units.now))) }
 {
-    if first {
-        return false;
-    }
-    pattern_unit::is_live(units, at, b']', width)
+    !first && pattern_unit::is_live(units, at, b']', width)
 }
 
-// A member that is 19.
-fn is_unserved(member: Member) -> bool
-    ensures { result ≡ is_unserved member }
-{
-    match member {
-        Member::Single(_) => false,
-        Member::Range { lo: _, hi: _ } => false,
-        Member::Class(_) => false,
-        Member::Unserved => true,
-    }
-}
-
-// The entry in the table of ends where the search meets a member that is 19. Each entry below it is the place of the `]`.
+// The entry in the table of ends where the search meets a member that is 19. Each entry below it is the place of the `]`. The table is lent, with two bytes for
+// each unit, so an entry is a number.
 const REFUSING: u16 = 65534;
 
 // The entry where the search finds no end.
@@ -52,35 +37,36 @@ fn unit_of(at: usize, width: Width) -> usize
     }
 }
 
-// One step of the search for a bracket's end: it meets a member that is 19, there is no end, the end is here, or the search goes on behind a member.
+// One step of the search for a bracket's end: there is no end, the end is here, or the search goes on behind a member.
 #[derive(Clone, Copy)]
 enum Step {
-    Refuses,
     Fails,
     Closes,
     On(usize),
 }
 
 // The step at a place.
-fn step_at(pattern: &[u8], at: usize, first: bool, path: bool, width: Width) -> Step
+fn step_at(
+    pattern: &[u8],
+    at: usize,
+    first: bool,
+    path: bool,
+    width: Width,
+) -> Result<Step, BadClass>
     requires { at ≤ length pattern.now }
     ensures { StepSays width path first pattern.now at result }
 {
     if pattern.len() < at + pattern_unit::unit_size(width) {
-        return Step::Fails;
+        return Ok(Step::Fails);
     }
     if closes(pattern, at, first, width) {
-        return Step::Closes;
+        return Ok(Step::Closes);
     }
     if pattern_member::bars(pattern, at, path) {
-        return Step::Fails;
+        return Ok(Step::Fails);
     }
-    let member = pattern_member::member_at(pattern, at, path, width);
-    if is_unserved(member) {
-        return Step::Refuses;
-    }
-    let next = pattern_member::behind(member, at, width);
-    Step::On(next)
+    let member = pattern_member::member_at(pattern, at, path, width)?;
+    Ok(Step::On(pattern_member::behind(member, at, width)))
 }
 
 // What the search for a bracket's end finds that is at this place. Behind the member there the table tells it.
@@ -90,10 +76,10 @@ fn end_at(pattern: &[u8], at: usize, first: bool, path: bool, width: Width, ends
     ensures { result ≡ entry_of width at (find path first 0 (signs_by width (drop at pattern.now))) }
 {
     match step_at(pattern, at, first, path, width) {
-        Step::Refuses => REFUSING,
-        Step::Fails => UNCLOSED,
-        Step::Closes => at as u16,
-        Step::On(next) => {
+        Err(BadClass) => REFUSING,
+        Ok(Step::Fails) => UNCLOSED,
+        Ok(Step::Closes) => at as u16,
+        Ok(Step::On(next)) => {
             if pattern.len() < next + pattern_unit::unit_size(width) {
                 return UNCLOSED;
             }
@@ -109,9 +95,7 @@ pub fn fill_ends(pattern: &[u8], path: bool, width: Width, ends: &mut [u16])
     ensures { Fills width path pattern.now ends.old ends.new }
 {
     let size = pattern_unit::unit_size(width);
-    let mut unit = unit_of(pattern.len(), width);
-    while 0 < unit {
-        unit -= 1;
+    for unit in (0..unit_of(pattern.len(), width)).rev() {
         let end = end_at(pattern, size * unit, false, path, width, ends);
         ends[unit] = end;
     }
@@ -132,52 +116,54 @@ pub enum Piece {
     },
 }
 
-// What the search for a bracket's end finds: a member that is 19, nothing, or the place of the `]`.
-#[derive(Clone, Copy)]
-enum End {
-    Unserved,
-    Nowhere,
-    At(usize),
-}
-
-// The end of the bracket whose members begin at a place, by a walk over them.
-fn search_end(pattern: &[u8], from: usize, path: bool, width: Width) -> End
+// The end of the bracket whose members begin at a place, by a walk over them: the place of its `]`, if it has one.
+fn search_end(
+    pattern: &[u8],
+    from: usize,
+    path: bool,
+    width: Width,
+) -> Result<Option<usize>, BadClass>
     requires { from ≤ length pattern.now }
     ensures { result ≡ sought_from width path true pattern.now from }
 {
     let mut first = true;
     let mut at = from;
     while at < pattern.len() {
-        match step_at(pattern, at, first, path, width) {
-            Step::Refuses => return End::Unserved,
-            Step::Fails => return End::Nowhere,
-            Step::Closes => return End::At(at),
+        match step_at(pattern, at, first, path, width)? {
+            Step::Fails => return Ok(None),
+            Step::Closes => return Ok(Some(at)),
             Step::On(next) => {
                 first = false;
                 at = next;
             }
         }
     }
-    End::Nowhere
+    Ok(None)
 }
 
 // The same, by the table of ends if there is one.
-fn end_from(pattern: &[u8], from: usize, path: bool, width: Width, ends: &[u16]) -> End
+fn end_from(
+    pattern: &[u8],
+    from: usize,
+    path: bool,
+    width: Width,
+    ends: &[u16],
+) -> Result<Option<usize>, BadClass>
     requires from_in_bounds { from ≤ length pattern.now }
     requires served { Served width path pattern.now ends.now from }
     ensures { result ≡ sought_from width path true pattern.now from }
 {
-    if ends.len() == 0 {
+    if ends.is_empty() {
         return search_end(pattern, from, path, width);
     }
     let end = end_at(pattern, from, true, path, width, ends);
     if end == REFUSING {
-        return End::Unserved;
+        return Err(BadClass);
     }
     if end == UNCLOSED {
-        return End::Nowhere;
+        return Ok(None);
     }
-    End::At(end as usize)
+    Ok(Some(end as usize))
 }
 
 // The bracket whose members begin at a place.
@@ -194,9 +180,9 @@ fn set_from(
     ensures { result ≡ set_from width negative from (find path true 0 (signs_by width (drop from pattern.now))) }
 {
     match end_from(pattern, from, path, width, ends) {
-        End::Unserved => Piece::Refusing,
-        End::Nowhere => Piece::Byte(b'['),
-        End::At(to) => Piece::Set { negative, from, to },
+        Err(BadClass) => Piece::Refusing,
+        Ok(None) => Piece::Byte(b'['),
+        Ok(Some(to)) => Piece::Set { negative, from, to },
     }
 }
 
@@ -259,14 +245,7 @@ pub fn behind(piece: Piece, at: usize, width: Width) -> usize
 {
     let size = pattern_unit::unit_size(width);
     match piece {
-        Piece::Star => at + size,
-        Piece::One => at + size,
-        Piece::Byte(_) => at + size,
-        Piece::Refusing => at + size,
-        Piece::Set {
-            negative: _,
-            from: _,
-            to,
-        } => to + size,
+        Piece::Set { to, .. } => to + size,
+        Piece::Star | Piece::One | Piece::Byte(_) | Piece::Refusing => at + size,
     }
 }

@@ -15,8 +15,7 @@ use Rattle.text.specs.Cases.{side_of}
 use Rattle.pattern_cell.specs.Cells.{Shows, Shown, Trails}
 use Rattle.pattern_remove.specs.Cuts.{matched_at}
 use Rattle.pattern_remove.specs.Bounds.{stands_at, ShortestAt, NoneMatches, Shortest, starred, StarsAt, Bounds}
-use Rattle.pattern_remove.specs.declared.Place.{Place}
-use Rattle.pattern_remove.specs.declared.Place.TheVariants.{Nowhere, At}
+use Rattle.std.specs.Prelude.{Option, Some, None}
 use Rattle.pattern_remove.specs.declared.Bound.{Bound}
 use Rattle.pattern_remove.specs.declared.Bound.TheVariants.{Free, Nothing, Within}
 use Rattle.pattern_remove.proofs.Bounding.{suffix_beyond, suffix_none, prefix_beyond, prefix_bounded, prefix_none}
@@ -123,11 +122,11 @@ whole_none suffix p v first last n =
 whole_none prefix p v first last n =
     subst (λ (l : List Element). NoneMatches prefix l v) (take-append-drop last p) (prefix_none (drop last p) n)
 
-module _ {sets cells : List ℕ} (v : Text) (z : Bool) (first last : ℕ) {r : Place}
+module _ {sets cells : List ℕ} (v : Text) (z : Bool) (first last : ℕ) {r : Option ℕ}
     (f : (p : List Element) → Shows sets cells p → Shortest (side_of z) (starred (side_of z) first last p) v r) where
-  pub nothing_left : r ≡ Nowhere → (p : List Element) → Shows sets cells p → Bounds (side_of z) cells p v Nothing
-  nothing_left e p s = let n : Shortest (side_of z) (starred (side_of z) first last p) v Nowhere = rw e at (f p s) in whole_none (side_of z) p v first last n
+  pub nothing_left : r ≡ None → (p : List Element) → Shows sets cells p → Bounds (side_of z) cells p v Nothing
+  nothing_left e p s = let n : Shortest (side_of z) (starred (side_of z) first last p) v None = rw e at (f p s) in whole_none (side_of z) p v first last n
 
-  pub some_left : StarsAt cells first last → {place : ℕ} → r ≡ At place → (p : List Element) → Shows sets cells p
+  pub some_left : StarsAt cells first last → {place : ℕ} → r ≡ Some place → (p : List Element) → Shows sets cells p
       → Bounds (side_of z) cells p v (Within first last place)
-  some_left w {place} e p s = let t : Shortest (side_of z) (starred (side_of z) first last p) v (At place) = rw e at (f p s) in (w, t)
+  some_left w {place} e p s = let t : Shortest (side_of z) (starred (side_of z) first last p) v (Some place) = rw e at (f p s) in (w, t)

@@ -6,18 +6,13 @@ use mathlib.Core.List.{List}
 use native.Mathlib.Omega.{arith}
 use lib.Dec.{leb}
 use lib.ListN.{length}
-use borrow.Author.Tests.{leb-true, leb-false, le-leb}
+use borrow.Author.Tests.{leb-true, leb-false}
 use Rattle.stages.specs.Bytes.{Text}
 use Rattle.stages.specs.Pattern.{Element}
-use Rattle.stages.proofs.Bools.{either, same_tests}
+use Rattle.stages.proofs.Bools.{either}
 use Rattle.pattern_cell.specs.Cells.{Shows}
 use Rattle.pattern_cell.proofs.Showing.{shown_length}
 use Rattle.pattern_remove.specs.Bounds.{stands_at, LastAt, NoneBefore, FirstAt, NoneFrom}
-
-pub room_is : (from to count : ℕ) → from ≤ to → leb count (to - from) ≡ leb (from + count) to
-room_is from to count h =
-    same_tests (leb count (to - from)) (leb (from + count) to) (λ y. le-leb (from + count) to (omega (arith, leb-true count (to - from) y)))
-    λ y. le-leb count (to - from) (omega (arith, leb-true (from + count) to y))
 
 -- the place at hand does not pass, so none from there on
 also_here : (f : ℕ → Bool) (i j : ℕ) → i ≤ j → f i ≡ false → (i < j → f j ≡ false) → f j ≡ false
@@ -60,6 +55,9 @@ module _ {sets segment : List ℕ} {v : Text} {top left : ℕ} (w : Falling sets
 pub record Rising (sets segment : List ℕ) (v : Text) (low at : ℕ) : Type 0 where
   pub order : low ≤ at
   pub none : (x : List Element) → Shows sets segment x → (j : ℕ) → low ≤ j → j < at → stands_at x v j ≡ false
+
+pub rise_short : {sets segment : List ℕ} (v : Text) (low : ℕ) → length v < length segment → (x : List Element) → Shows sets segment x → NoneFrom x v low
+rise_short v low h x s = record { none = λ j k e. absurd (omega (arith, shown_length s, e)) }
 
 pub rise_start : (sets segment : List ℕ) (v : Text) (low : ℕ) → Rising sets segment v low low
 rise_start sets segment v low = record { order = omega arith; none = λ x s j h k. absurd (omega arith) }

@@ -17,8 +17,7 @@ use Rattle.pattern_cell.specs.Cells.{Shows, Shown, is_star_cell, Trails, FirstSt
 use Rattle.pattern_cell.proofs.Showing.{shown_length, shown_take, shown_drop}
 use Rattle.pattern_remove.specs.Shapes.{Plain}
 use Rattle.pattern_remove.specs.Bounds.{stands_at, FirstAt, NoneFrom, First, ShortestAt, NoneMatches, StarsAt}
-use Rattle.pattern_remove.specs.declared.Place.{Place}
-use Rattle.pattern_remove.specs.declared.Place.TheVariants.{Nowhere, At}
+use Rattle.std.specs.Prelude.{Option, Some, None}
 use Rattle.pattern_remove.proofs.Bounding.{prefix_first, prefix_first_none, prefix_more, prefix_more_none, prefix_none}
 use Rattle.pattern_remove.proofs.Stars.{
   star_shown,
@@ -33,10 +32,10 @@ use Rattle.pattern_remove.proofs.Stars.{
 }
 
 -- what a case of an answer says
-first_at : (x : List Element) (v : Text) (low : ℕ) {r : Place} {i : ℕ} → First x v low r → r ≡ At i → FirstAt x v low i
+first_at : (x : List Element) (v : Text) (low : ℕ) {r : Option ℕ} {i : ℕ} → First x v low r → r ≡ Some i → FirstAt x v low i
 first_at x v low f e = rw e at f
 
-first_none : (x : List Element) (v : Text) (low : ℕ) {r : Place} → First x v low r → r ≡ Nowhere → NoneFrom x v low
+first_none : (x : List Element) (v : Text) (low : ℕ) {r : Option ℕ} → First x v low r → r ≡ None → NoneFrom x v low
 first_none x v low f e = rw e at f
 
 -- up to the star before a place
@@ -82,6 +81,11 @@ pub record LowTurn (sets cells : List ℕ) (v : Text) (first last from low count
   pub lowered : Lowered sets cells v from last low
   pub more : from < last
   pub behind : FirstStar (take (length cells - from) (drop from cells)) count
+
+pub turn : {sets cells : List ℕ} {v : Text} {first last from low count : ℕ} → Shown sets cells → StarsAt cells first last
+    → Lowered sets cells v from last low → from < last → FirstStar (take (length cells - from) (drop from cells)) count
+    → LowTurn sets cells v first last from low count
+turn k w t m b = record { shown = k; stars = w; lowered = t; more = m; behind = b }
 
 module _ {sets cells : List ℕ} {v : Text} {first last from low count : ℕ} (t : LowTurn sets cells v first last from low count) where
   next : FirstStar (drop from cells) count
@@ -131,21 +135,21 @@ module _ {sets cells : List ℕ} {v : Text} {first last from low count : ℕ} (t
     before : ShortestAt prefix (take (from - 1) p ++ (star ∷ [])) v low
     before = subst (λ (l : List Element). ShortestAt prefix l v low) up_to_lem (t.lowered.shortest p s)
 
-  module _ {r : Place} (g : (x : List Element) → Shows sets (take (from + count - from) (drop from cells)) x → First x v low r) where
-    found : {i : ℕ} → r ≡ At i → {p : List Element} → Shows sets cells p → FirstAt (take count (drop from p)) v low i
+  module _ {r : Option ℕ} (g : (x : List Element) → Shows sets (take (from + count - from) (drop from cells)) x → First x v low r) where
+    found : {i : ℕ} → r ≡ Some i → {p : List Element} → Shows sets cells p → FirstAt (take count (drop from p)) v low i
     found e {p} s = first_at (take count (drop from p)) v low (g (take count (drop from p)) (part_shows s)) e
 
-    more_lowered : {i : ℕ} → r ≡ At i → (p : List Element) → Shows sets cells p → ShortestAt prefix (take (from + (count + 1)) p) v (i + count)
+    more_lowered : {i : ℕ} → r ≡ Some i → (p : List Element) → Shows sets cells p → ShortestAt prefix (take (from + (count + 1)) p) v (i + count)
     more_lowered {i} e p s =
         subst (λ (l : List Element). ShortestAt prefix l v (i + count)) (sym (longer s))
         (subst (λ (n : ℕ). ShortestAt prefix ((take (from - 1) p ++ (star ∷ [])) ++ (take count (drop from p) ++ (star ∷ []))) v (i + n)) (part_counts s)
         (prefix_more (part_plain s) (take (from - 1) p) (before s) (found e s)))
 
     -- the segment's end is inside the value
-    pub low_room : {i : ℕ} → r ≡ At i → i + count ≤ length v
+    pub low_room : {i : ℕ} → r ≡ Some i → i + count ≤ length v
     low_room e = (more_lowered e t.shown.es t.shown.shows).inside
 
-    pub low_on : {i : ℕ} → r ≡ At i → Lowered sets cells v (from + (count + 1)) last (i + count)
+    pub low_on : {i : ℕ} → r ≡ Some i → Lowered sets cells v (from + (count + 1)) last (i + count)
     low_on e =
         let z : from + (count + 1) - 1 ≡ from + count = omega arith in
         record {
@@ -156,7 +160,7 @@ module _ {sets cells : List ℕ} {v : Text} {first last from low count : ℕ} (t
           shortest = more_lowered e;
         }
 
-    pub low_on_none : r ≡ Nowhere → (p : List Element) → Shows sets cells p → NoneMatches prefix (take last p) v
+    pub low_on_none : r ≡ None → (p : List Element) → Shows sets cells p → NoneMatches prefix (take last p) v
     low_on_none e p s =
         none_lowered p v (from + (count + 1)) last (omega (arith, star_next))
         (subst (λ (l : List Element). NoneMatches prefix l v) (sym (longer s))

@@ -15,8 +15,7 @@ use Rattle.stages.proofs.Bools.{apart, either}
 use Rattle.pattern_cell.specs.Cells.{Shows, Shown, is_star_cell, Trails, LastStar}
 use Rattle.pattern_cell.proofs.Showing.{shown_take, shown_drop}
 use Rattle.pattern_remove.specs.Bounds.{stands_at, LastAt, NoneBefore, Last, ShortestAt, NoneMatches, StarsAt}
-use Rattle.pattern_remove.specs.declared.Place.{Place}
-use Rattle.pattern_remove.specs.declared.Place.TheVariants.{Nowhere, At}
+use Rattle.std.specs.Prelude.{Option, Some, None}
 use Rattle.pattern_remove.proofs.Bounding.{suffix_first, suffix_first_none, suffix_more, suffix_more_none, suffix_none}
 use Rattle.pattern_remove.proofs.Stars.{
   star_shown,
@@ -31,10 +30,10 @@ use Rattle.pattern_remove.proofs.Stars.{
 }
 
 -- what a case of an answer says
-last_at : (x : List Element) (v : Text) (top : ℕ) {r : Place} {i : ℕ} → Last x v top r → r ≡ At i → LastAt x v top i
+last_at : (x : List Element) (v : Text) (top : ℕ) {r : Option ℕ} {i : ℕ} → Last x v top r → r ≡ Some i → LastAt x v top i
 last_at x v top l e = rw e at l
 
-last_none : (x : List Element) (v : Text) (top : ℕ) {r : Place} → Last x v top r → r ≡ Nowhere → NoneBefore x v top
+last_none : (x : List Element) (v : Text) (top : ℕ) {r : Option ℕ} → Last x v top r → r ≡ None → NoneBefore x v top
 last_none x v top l e = rw e at l
 
 -- from the star at a place on
@@ -86,6 +85,10 @@ pub record TopTurn (sets cells : List ℕ) (v : Text) (first last at top from : 
   pub more : first < at
   pub before : LastStar (take at cells) from
 
+pub turn : {sets cells : List ℕ} {v : Text} {first last at top from : ℕ} → Shown sets cells → StarsAt cells first last
+    → Topped sets cells v first at top → first < at → LastStar (take at cells) from → TopTurn sets cells v first last at top from
+turn k w t m b = record { shown = k; stars = w; topped = t; more = m; before = b }
+
 module _ {sets cells : List ℕ} {v : Text} {first last at top from : ℕ} (t : TopTurn sets cells v first last at top from) where
   taken_length : length (take at cells) ≡ at
   taken_length = length-take-le at cells (omega (arith, t.topped.within))
@@ -128,14 +131,14 @@ module _ {sets cells : List ℕ} {v : Text} {first last at top from : ℕ} (t : 
     shows : Shows sets (take (at - from) (drop from cells)) (take (at - from) (drop from p))
     shows = shown_take (shown_drop s from) (at - from)
 
-  module _ {r : Place} (f : (x : List Element) → Shows sets (take (at - from) (drop from cells)) x → Last x v top r) where
-    more_topped : {i : ℕ} → r ≡ At i → (p : List Element) → Shows sets cells p → ShortestAt suffix (drop (from - 1) p) v i
+  module _ {r : Option ℕ} (f : (x : List Element) → Shows sets (take (at - from) (drop from cells)) x → Last x v top r) where
+    more_topped : {i : ℕ} → r ≡ Some i → (p : List Element) → Shows sets cells p → ShortestAt suffix (drop (from - 1) p) v i
     more_topped {i} e p s =
         subst (λ (z : List Element). ShortestAt suffix z v i) (sym (whole s))
         (suffix_more (trails_shown (shows s) segment_plain) (drop (suc at) p) (behind s)
         (last_at (take (at - from) (drop from p)) v top (f (take (at - from) (drop from p)) (shows s)) e))
 
-    pub top_on : {i : ℕ} → r ≡ At i → Topped sets cells v first (from - 1) i
+    pub top_on : {i : ℕ} → r ≡ Some i → Topped sets cells v first (from - 1) i
     top_on e =
         let a = segment_start in
         let b = segment_end in
@@ -147,7 +150,7 @@ module _ {sets cells : List ℕ} {v : Text} {first last at top from : ℕ} (t : 
           shortest = more_topped e;
         }
 
-    pub top_on_none : r ≡ Nowhere → (p : List Element) → Shows sets cells p → NoneMatches suffix (drop first p) v
+    pub top_on_none : r ≡ None → (p : List Element) → Shows sets cells p → NoneMatches suffix (drop first p) v
     top_on_none e p s =
         none_topped p v first (from - 1) (omega (arith, segment_start))
         (subst (λ (z : List Element). NoneMatches suffix z v) (sym (whole s))

@@ -6,8 +6,7 @@ use Rattle.stages.specs.Syntax.{Side, suffix, prefix}
 use Rattle.stages.specs.Pattern.{Element, for_removal, matches}
 use Rattle.pattern_cell.specs.Cells.{Trails, FirstStar, LastStar}
 use Rattle.pattern_remove.specs.Cuts.{matched_at}
-use Rattle.pattern_remove.specs.declared.Place.{Place}
-use Rattle.pattern_remove.specs.declared.Place.TheVariants.{Nowhere, At}
+use Rattle.std.specs.Prelude.{Option, Some, None}
 use Rattle.pattern_remove.specs.declared.Bound.{Bound}
 use Rattle.pattern_remove.specs.declared.Bound.TheVariants.{Free, Nothing, Within}
 
@@ -24,9 +23,9 @@ pub record LastAt (x : List Element) (v : Text) (top i : ℕ) : Type 0 where
 pub record NoneBefore (x : List Element) (v : Text) (top : ℕ) : Type 0 where
   pub none : (j : ℕ) → j + length x ≤ top → stands_at x v j ≡ false
 
-abbrev pub Last : List Element → Text → ℕ → Place → Type 0
-Last x v top Nowhere = NoneBefore x v top
-Last x v top (At i) = LastAt x v top i
+abbrev pub Last : List Element → Text → ℕ → Option ℕ → Type 0
+Last x v top None = NoneBefore x v top
+Last x v top (Some i) = LastAt x v top i
 
 -- the first place from `low` on where a segment stands
 pub record FirstAt (x : List Element) (v : Text) (low i : ℕ) : Type 0 where
@@ -38,9 +37,9 @@ pub record FirstAt (x : List Element) (v : Text) (low i : ℕ) : Type 0 where
 pub record NoneFrom (x : List Element) (v : Text) (low : ℕ) : Type 0 where
   pub none : (j : ℕ) → low ≤ j → j + length x ≤ length v → stands_at x v j ≡ false
 
-abbrev pub First : List Element → Text → ℕ → Place → Type 0
-First x v low Nowhere = NoneFrom x v low
-First x v low (At i) = FirstAt x v low i
+abbrev pub First : List Element → Text → ℕ → Option ℕ → Type 0
+First x v low None = NoneFrom x v low
+First x v low (Some i) = FirstAt x v low i
 
 -- a cut at k drops less than one at a place
 abbrev pub Shorter : Side → ℕ → ℕ → Type 0
@@ -56,9 +55,9 @@ pub record ShortestAt (side : Side) (p : List Element) (v : Text) (place : ℕ) 
 pub record NoneMatches (side : Side) (p : List Element) (v : Text) : Type 0 where
   pub none : (k : ℕ) → k ≤ length v → matched_at side p v k ≡ false
 
-abbrev pub Shortest : Side → List Element → Text → Place → Type 0
-Shortest side p v Nowhere = NoneMatches side p v
-Shortest side p v (At place) = ShortestAt side p v place
+abbrev pub Shortest : Side → List Element → Text → Option ℕ → Type 0
+Shortest side p v None = NoneMatches side p v
+Shortest side p v (Some place) = ShortestAt side p v place
 
 -- the pattern from its first star on, or up to its last
 abbrev pub starred : Side → ℕ → ℕ → List Element → List Element

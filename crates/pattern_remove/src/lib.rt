@@ -12,13 +12,6 @@ ghost use Rattle.pattern_cell.specs.Cells.{Shows, Shown, Trails};
 ghost use Rattle.pattern_remove.specs.Cuts.{CutsAt, matched_at};
 ghost use Rattle.pattern_remove.specs.Bounds.{stands_at, Last, First, Shortest, starred, StarsAt, Bounds};
 
-// A place of the value that is looked for.
-#[derive(Clone, Copy)]
-enum Place {
-    Nowhere,
-    At(usize),
-}
-
 // What the pattern's stars leave of the cuts: all, if it has none; nothing; or those within the cut of the shortest part that it matches from its first star
 // on, for suffixes, or up to its last, for prefixes. `first` is the place of the first star, `last` the one behind the last.
 #[derive(Clone, Copy)]
@@ -36,10 +29,7 @@ enum Bound {
 fn has_room(from: usize, to: usize, count: usize) -> bool
     ensures { result ≡ leb (from + count) to }
 {
-    if to < from {
-        return false;
-    }
-    count <= to - from
+    from <= to && count <= to - from
 }
 
 // Whether a segment matches the bytes from a place on.
@@ -53,96 +43,97 @@ fn stands_at(segment: &[u16], sets: &[u64], value: &[u8], at: usize) -> bool
 }
 
 // The last place where a segment stands and ends at `top` or before.
-fn last_place(segment: &[u16], sets: &[u64], value: &[u8], top: usize) -> Place
+fn last_place(segment: &[u16], sets: &[u64], value: &[u8], top: usize) -> Option<usize>
     requires shown { Shown sets.now segment.now }
     requires trails { Trails segment.now 0 }
     requires top_in_bounds { top ≤ length value.now }
     ensures { (x : List Element) → Shows sets.now segment.now x → Last x value.now top result }
 {
     if top < segment.len() {
-        return Place::Nowhere;
+        return None;
     }
-    let mut left = top - segment.len() + 1;
-    while 0 < left {
-        left -= 1;
-        if stands_at(segment, sets, value, left) {
-            return Place::At(left);
+    for place in (0..top - segment.len() + 1).rev() {
+        if stands_at(segment, sets, value, place) {
+            return Some(place);
         }
     }
-    Place::Nowhere
+    None
 }
 
 // The first place from `low` on where a segment stands.
-fn first_place(segment: &[u16], sets: &[u64], value: &[u8], low: usize) -> Place
+fn first_place(segment: &[u16], sets: &[u64], value: &[u8], low: usize) -> Option<usize>
     requires shown { Shown sets.now segment.now }
     requires trails { Trails segment.now 0 }
     ensures { (x : List Element) → Shows sets.now segment.now x → First x value.now low result }
 {
-    let mut at = low;
-    while has_room(at, value.len(), segment.len()) {
-        if stands_at(segment, sets, value, at) {
-            return Place::At(at);
-        }
-        at += 1;
+    if value.len() < segment.len() {
+        return None;
     }
-    Place::Nowhere
+    for at in low..value.len() - segment.len() + 1 {
+        if stands_at(segment, sets, value, at) {
+            return Some(at);
+        }
+    }
+    None
 }
 
 // Where the shortest suffix begins that the pattern matches from its first star on: its segments from right to left, the last one at the
 // value's end, each other at its last place before the one behind it.
-fn shortest_suffix(value: &[u8], cells: &[u16], sets: &[u64], first: usize, last: usize) -> Place
+fn shortest_suffix(
+    value: &[u8],
+    cells: &[u16],
+    sets: &[u64],
+    first: usize,
+    last: usize,
+) -> Option<usize>
     requires shown { Shown sets.now cells.now }
     requires stars_at { StarsAt cells.now first last }
     ensures { (p : List Element) → Shows sets.now cells.now p → Shortest suffix (drop first p) value.now result }
 {
     let count = cells.len() - last;
     if value.len() < count {
-        return Place::Nowhere;
+        return None;
     }
     let mut top = value.len() - count;
     if !stands_at(&cells[last..], sets, value, top) {
-        return Place::Nowhere;
+        return None;
     }
     let mut star = last - 1;
     while first < star {
         let from = pattern_cell::last_star(&cells[..star]);
-        match last_place(&cells[from..star], sets, value, top) {
-            Place::Nowhere => return Place::Nowhere,
-            Place::At(at) => {
-                top = at;
-                star = from - 1;
-            }
-        }
+        top = last_place(&cells[from..star], sets, value, top)?;
+        star = from - 1;
     }
-    Place::At(top)
+    Some(top)
 }
 
 // Where the shortest prefix ends that the pattern matches up to its last star: its segments from left to right, the first one at the value's
 // start, each other at its first place behind the one before it.
-fn shortest_prefix(value: &[u8], cells: &[u16], sets: &[u64], first: usize, last: usize) -> Place
+fn shortest_prefix(
+    value: &[u8],
+    cells: &[u16],
+    sets: &[u64],
+    first: usize,
+    last: usize,
+) -> Option<usize>
     requires shown { Shown sets.now cells.now }
     requires stars_at { StarsAt cells.now first last }
     ensures { (p : List Element) → Shows sets.now cells.now p → Shortest prefix (take last p) value.now result }
 {
     if value.len() < first {
-        return Place::Nowhere;
+        return None;
     }
     if !stands_at(&cells[..first], sets, value, 0) {
-        return Place::Nowhere;
+        return None;
     }
     let mut low = first;
     let mut from = first + 1;
     while from < last {
         let count = pattern_cell::first_star(&cells[from..]);
-        match first_place(&cells[from..from + count], sets, value, low) {
-            Place::Nowhere => return Place::Nowhere,
-            Place::At(at) => {
-                low = at + count;
-                from += count + 1;
-            }
-        }
+        low = first_place(&cells[from..from + count], sets, value, low)? + count;
+        from += count + 1;
     }
-    Place::At(low)
+    Some(low)
 }
 
 // The one of the two that a removal asks for.
@@ -153,16 +144,17 @@ fn shortest(
     suffix: bool,
     first: usize,
     last: usize,
-) -> Place
+) -> Option<usize>
     requires shown { Shown sets.now cells.now }
     requires stars_at { StarsAt cells.now first last }
     ensures { (p : List Element) → Shows sets.now cells.now p →
         Shortest (side_of suffix) (starred (side_of suffix) first last p) value.now result }
 {
     if suffix {
-        return shortest_suffix(value, cells, sets, first, last);
+        shortest_suffix(value, cells, sets, first, last)
+    } else {
+        shortest_prefix(value, cells, sets, first, last)
     }
-    shortest_prefix(value, cells, sets, first, last)
 }
 
 // What the pattern's stars leave of the cuts.
@@ -177,8 +169,8 @@ fn bound_of(value: &[u8], cells: &[u16], sets: &[u64], suffix: bool) -> Bound
     }
     let first = pattern_cell::first_star(cells);
     match shortest(value, cells, sets, suffix, first, last) {
-        Place::Nowhere => Bound::Nothing,
-        Place::At(place) => Bound::Within { first, last, place },
+        None => Bound::Nothing,
+        Some(place) => Bound::Within { first, last, place },
     }
 }
 
@@ -215,16 +207,11 @@ fn drops_match(
         Bound::Nothing => false,
         Bound::Within { first, last, place } => {
             if suffix {
-                if !has_room(k, place, first) {
-                    return false;
-                }
-                return pattern_match::matches(cells, sets, &value[k..], false, last);
+                return has_room(k, place, first)
+                    && pattern_match::matches(cells, sets, &value[k..], false, last);
             }
             let count = cells.len() - last;
-            if !has_room(place, k, count) {
-                return false;
-            }
-            stands_at(&cells[last..], sets, value, k - count)
+            has_room(place, k, count) && stands_at(&cells[last..], sets, value, k - count)
         }
     }
 }
@@ -234,20 +221,14 @@ fn cut_at(down: bool, n: usize, i: usize) -> usize
     requires { i ≤ n }
     ensures { result ≡ cut_at down n i }
 {
-    if down {
-        return n - i;
-    }
-    i
+    if down { n - i } else { i }
 }
 
 // The shortest suffix and the longest prefix are tried from the value's end.
 fn from_end(suffix: bool, long: bool) -> bool
     ensures { result ≡ from_end (side_of suffix) (reach_of long) }
 {
-    if suffix {
-        return !long;
-    }
-    long
+    suffix != long
 }
 
 // Where the value is cut: the first cut tried whose dropped part matches, else the one that drops nothing.
@@ -264,18 +245,13 @@ fn cut_place(
     ensures { (p : List Element) → Shows sets.now cells.now p → CutsAt (side_of suffix) down p value.now result }
 {
     let n = value.len();
-    let mut i: usize = 0;
-    while i <= n {
+    for i in 0..n + 1 {
         let k = cut_at(down, n, i);
         if drops_match(value, cells, sets, suffix, k, bound) {
             return k;
         }
-        i += 1;
     }
-    if suffix {
-        return n;
-    }
-    0
+    if suffix { n } else { 0 }
 }
 
 // What a removal leaves: "a part of the stored value itself".
@@ -293,8 +269,5 @@ pub fn removed<'a>(
     let down = from_end(suffix, long);
     let bound = bound_of(value, cells, sets, suffix);
     let k = cut_place(value, cells, sets, suffix, down, bound);
-    if suffix {
-        return &value[..k];
-    }
-    &value[k..]
+    if suffix { &value[..k] } else { &value[k..] }
 }

@@ -6,7 +6,6 @@ ghost use Rattle.std.specs.Prelude.{◌≡◌, ◌+◌, ◌-◌, ◌≤◌, ◌<
 ghost use Rattle.stages.specs.Escapes.{digit_run, says_digits, behind_x, escape_at};
 ghost use Rattle.read_escape.specs.Says.{SaidAt, LetterAt, DigitsOf, AtMost};
 
-use arith_constant::Count;
 use text::Class;
 use text::refusal::Refusal;
 
@@ -61,7 +60,7 @@ fn digits_at(
 {
     let end = part_end(text, from, most);
     let to = from + text::run_end(&text[from..end], 0, class);
-    let Count::Value(n) = arith_constant::in_base(&text[from..to], base, BYTE_LIMIT) else {
+    let Ok(n) = arith_constant::in_base(&text[from..to], base, BYTE_LIMIT) else {
         return Err(Refusal::BadSyntax);
     };
     if n == 0 {

@@ -1,4 +1,5 @@
 -- The contracts determine every answer, that of `item_at` as that of `braced_at` does.
+use Rattle.std.specs.Prelude.{Result}
 use Prim.Native.Nat.{ℕ}
 use mathlib.Core.Path.{◌≡◌}
 use mathlib.Core.Bool.{Bool}
@@ -7,14 +8,15 @@ use Rattle.stages.specs.Bytes.{Text}
 use Rattle.stages.specs.Items.{closer_length}
 use Rattle.stages.specs.Items as items
 use Rattle.text.proofs.Determined.{one_answer}
+use Rattle.text.specs.declared.refusal.Refusal.{Refusal}
 use Rattle.read_mode.specs.Modes.{mode_of}
 use Rattle.read_mode.specs.declared.Mode.{Mode}
-use Rattle.read_brace.specs.Shows.{Shows}
+use Rattle.read_brace.specs.Shows.{Finds}
 use Rattle.read_brace.specs.declared.Item.{Item}
 use Rattle.read_brace.proofs.Determined.{braced_at_determined}
 use Rattle.read_item.specs.After.{mode_after, is_stop, is_end}
 
-pub item_at_determined : (text : Text) (at d : ℕ) (i : items.Item) (r s : Item) → Shows text at d r i → Shows text at d s i → r ≡ s
+pub item_at_determined : (text : Text) (at d : ℕ) (i : items.Item) (r s : Result Item Refusal) → Finds text at d r i → Finds text at d s i → r ≡ s
 item_at_determined = braced_at_determined
 
 pub mode_after_determined : (i : Item) (m r s : Mode) → r ≡ mode_after i m → s ≡ mode_after i m → r ≡ s

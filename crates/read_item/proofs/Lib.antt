@@ -1,4 +1,3 @@
-pub mod After
 pub mod Tildes
 pub mod Class
 pub mod Determined

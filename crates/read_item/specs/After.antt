@@ -1,5 +1,5 @@
 -- The item where a text is read, and what comes after it.
-use Rattle.std.specs.Prelude.{ℕ, ◌-◌, Bool, true, false, ◌&&◌, [], ◌∷◌, eqb, drop}
+use Rattle.std.specs.Prelude.{ℕ, ◌-◌, Bool, true, false, ◌&&◌, [], ◌∷◌, eqb, drop, Result}
 use Prim.Native.Char.{code}
 use Rattle.stages.specs.Numbers.{unserved}
 use Rattle.stages.specs.Bytes.{Text, text, is_in}
@@ -8,17 +8,22 @@ use Rattle.stages.specs.Syntax.{unescaped, nth, parameters, single, with_escapes
 use Rattle.stages.specs.Syntax as syntax
 use Rattle.stages.specs.Items.{item, sort, is_closer, fault, byte, quote, value_of, count, is_first_digit, lists_in, spread_at, not_served, is_bare_text}
 use Rattle.stages.specs.Items as items
+use Rattle.text.specs.declared.refusal.Refusal.{Refusal}
 use Rattle.read_mode.specs.Modes.{mode_of, mode_onward, mode_behind}
 use Rattle.read_mode.specs.declared.Cursor.{Cursor}
 use Rattle.read_mode.specs.declared.Mode.{Mode}
 use Rattle.read_mode.specs.declared.Mode.TheVariants.{Word, Value, Bare, Single, Double, Operand, Arith}
-use Rattle.read_brace.specs.Shows.{Shows}
+use Rattle.read_brace.specs.Shows.{Shows, Finds}
 use Rattle.read_brace.specs.declared.Item.{Item}
-use Rattle.read_brace.specs.declared.Item.TheVariants.{Fault, Stop, Byte, Paren, Quote, Value, Count, Total, Spread, Inner, Sum, Home}
+use Rattle.read_brace.specs.declared.Item.TheVariants.{Stop, Byte, Paren, Quote, Value, Count, Total, Spread, Inner, Sum, Home}
 
 -- the item is what stands where the text is read
 abbrev pub ItemAt : Text → Cursor → Item → Type 0
 ItemAt text from i = Shows text from.at from.depth i (item (mode_of from.mode) from.depth (drop from.at text))
+
+-- or it is what is refused there
+abbrev pub FoundAt : Text → Cursor → Result Item Refusal → Type 0
+FoundAt text from r = Finds text from.at from.depth r (item (mode_of from.mode) from.depth (drop from.at text))
 
 -- what `$'` is
 unfoldable pub dollar_quote : syntax.Mode → items.Item
@@ -37,7 +42,6 @@ special m b =
 
 -- the mode in which the text goes on: a parenthesis changes it, a byte may let a tilde begin, and behind its first item a text has begun
 abbrev pub mode_after : Item → Mode → Mode
-mode_after (Fault e) m = mode_onward m
 mode_after (Stop next) m = mode_onward m
 mode_after (Byte q b next) m = mode_behind m q b
 mode_after (Paren b n) m = Arith n
@@ -52,7 +56,6 @@ mode_after (Home to) m = mode_onward m
 
 -- the text ends with the item
 abbrev pub is_stop : Item → Bool
-is_stop (Fault e) = false
 is_stop (Stop next) = true
 is_stop (Byte q b next) = false
 is_stop (Paren b n) = false

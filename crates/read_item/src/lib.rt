@@ -8,105 +8,94 @@ ghost use Rattle.stages.specs.Escapes.{escape_at};
 ghost use Rattle.stages.specs.Items.{item, is_bare_text, behind_backslash, said_item, expansion, parenthesis, spread_at, lists_in, closed, behind_tilde};
 ghost use Rattle.stages.specs.Items.{closer_length};
 ghost use Rattle.read_mode.specs.Modes.{mode_of, open_in};
-ghost use Rattle.read_brace.specs.Shows.{Shows};
+ghost use Rattle.read_brace.specs.Shows.{Shows, Finds};
 ghost use Rattle.read_item.specs.After.{mode_after, is_stop, is_end, dollar_quote, special};
 
 use read_brace::{Item, Param};
-use read_escape::Said;
 use read_mode::{Cursor, Mode, Sort};
-use text::{Class, numbers};
+use text::Class;
+use text::refusal::Refusal;
 
 // What a backslash is.
-fn escaped_at(text: &[u8], from: Cursor) -> Item
+fn escaped_at(text: &[u8], from: Cursor) -> Result<Item, Refusal>
     requires { from.at < length text.now }
-    ensures { Shows text.now from.at from.depth result
+    ensures { Finds text.now from.at from.depth result
         (behind_backslash (mode_of from.mode) (drop (from.at + 1) text.now)) }
 {
     let at = from.at;
-    let mode = from.mode;
     if at + 1 >= text.len() {
-        return Item::Fault(numbers::REFUSED_UNENDED);
+        return Err(Refusal::Unended);
     }
     let b = text[at + 1];
     if b == b'\n' {
-        return Item::Fault(numbers::REFUSED_SYNTAX);
+        return Err(Refusal::BadSyntax);
     }
-    if read_mode::is_quotable(mode, b) {
-        return Item::Byte {
+    if read_mode::is_quotable(from.mode, b) {
+        return Ok(Item::Byte {
             quoted: true,
             byte: b,
             next: at + 2,
-        };
+        });
     }
-    Item::Byte {
+    Ok(Item::Byte {
         quoted: false,
         byte: b'\\',
         next: at + 1,
-    }
+    })
 }
 
 // What a backslash is that begins an escape.
-fn said_at(text: &[u8], from: Cursor) -> Item
+#[tactic(auto, unfolding(stages::specs::Items::said_item))]
+fn said_at(text: &[u8], from: Cursor) -> Result<Item, Refusal>
     requires { from.at < length text.now }
-    ensures { Shows text.now from.at from.depth result (said_item (escape_at (drop (from.at + 1) text.now))) }
+    ensures { Finds text.now from.at from.depth result (said_item (escape_at (drop (from.at + 1) text.now))) }
 {
-    let said = read_escape::escape_at(text, from.at);
-    match said {
-        Said::Byte { byte, next } => Item::Byte {
-            quoted: true,
-            byte: byte,
-            next: next,
-        },
-        Said::Refused(number) => Item::Fault(number),
-    }
+    let said = read_escape::escape_at(text, from.at)?;
+    Ok(Item::Byte {
+        quoted: true,
+        byte: said.byte,
+        next: said.next,
+    })
 }
 
 // What `$(` is.
-fn parenthesis_at(text: &[u8], from: Cursor) -> Item
+fn parenthesis_at(text: &[u8], from: Cursor) -> Result<Item, Refusal>
     requires { from.at + 1 < length text.now }
-    ensures { Shows text.now from.at from.depth result
+    ensures { Finds text.now from.at from.depth result
         (parenthesis from.depth (drop (from.at + 2) text.now)) }
 {
     let at = from.at;
     if read_brace::is_at(text, at + 2, b'(') {
         if from.depth == 0 {
-            return Item::Fault(numbers::REFUSED_DEPTH);
+            return Err(Refusal::TooDeep);
         }
-        return Item::Sum { next: at + 3 };
+        return Ok(Item::Sum { next: at + 3 });
     }
-    Item::Fault(numbers::REFUSED_SUBSTITUTION)
+    Err(Refusal::Substitution)
 }
 
 // What `$@` or `$*` is.
-fn spread_at(text: &[u8], from: Cursor) -> Item
+fn spread_at(text: &[u8], from: Cursor) -> Result<Item, Refusal>
     requires { from.at + 1 < length text.now }
-    ensures { Shows text.now from.at from.depth result
+    ensures { Finds text.now from.at from.depth result
         (spread_at (lists_in (mode_of from.mode)) (get_or text.now (from.at + 1) 0) 1) }
 {
     let at = from.at;
-    let mode = from.mode;
-    if read_mode::lists_in(mode) {
-        return Item::Spread {
+    if read_mode::lists_in(from.mode) {
+        return Ok(Item::Spread {
             apart: read_brace::is_apart(text[at + 1]),
             next: at + 2,
-        };
+        });
     }
-    Item::Fault(numbers::REFUSED_UNSERVED)
+    Err(Refusal::Unserved)
 }
 
 // Is a text of this mode bare, so that `$'` opens a quote in it?
+#[tactic(auto, unfolding(stages::specs::Items::is_bare_text))]
 fn is_bare_text(mode: Mode) -> bool
     ensures { result ≡ is_bare_text (mode_of mode) }
 {
-    match mode {
-        Mode::Word(_) => true,
-        Mode::Value(_) => true,
-        Mode::Bare { fresh: _, lists: _ } => true,
-        Mode::Single(_) => false,
-        Mode::Double(_) => false,
-        Mode::Operand(_) => false,
-        Mode::Arith(_) => false,
-    }
+    matches!(mode, Mode::Word(_) | Mode::Value(_) | Mode::Bare { .. })
 }
 
 // What `$'` is: in bare text a quote opens.
@@ -115,8 +104,7 @@ fn quote_at(text: &[u8], from: Cursor) -> Item
     ensures { Shows text.now from.at from.depth result (dollar_quote (mode_of from.mode)) }
 {
     let at = from.at;
-    let mode = from.mode;
-    if is_bare_text(mode) {
+    if is_bare_text(from.mode) {
         return Item::Quote {
             mode: Mode::Single(true),
             next: at + 2,
@@ -130,67 +118,67 @@ fn quote_at(text: &[u8], from: Cursor) -> Item
 }
 
 // What `$` is before a byte that begins no name, no parenthesis and no brace.
-fn special_at(text: &[u8], from: Cursor) -> Item
+fn special_at(text: &[u8], from: Cursor) -> Result<Item, Refusal>
     requires { from.at + 1 < length text.now }
-    ensures { Shows text.now from.at from.depth result
+    ensures { Finds text.now from.at from.depth result
         (special (mode_of from.mode) (get_or text.now (from.at + 1) 0)) }
 {
     let at = from.at;
     let b = text[at + 1];
     if read_brace::is_first_digit(b) {
-        return Item::Value {
+        return Ok(Item::Value {
             param: Param {
                 numbered: true,
                 from: at + 1,
                 to: at + 2,
             },
             next: at + 2,
-        };
+        });
     }
     if b == b'#' {
-        return Item::Total { next: at + 2 };
+        return Ok(Item::Total { next: at + 2 });
     }
     if text::is_in(b, b"@*") {
         return spread_at(text, from);
     }
     if read_mode::is_not_served(b) {
-        return Item::Fault(numbers::REFUSED_UNSERVED);
+        return Err(Refusal::Unserved);
     }
     if b == b'\'' {
-        return quote_at(text, from);
+        return Ok(quote_at(text, from));
     }
-    Item::Byte {
+    Ok(Item::Byte {
         quoted: false,
         byte: b'$',
         next: at + 1,
-    }
+    })
 }
 
 // What `$` is.
-fn expansion_at(text: &[u8], from: Cursor) -> Item
+fn expansion_at(text: &[u8], from: Cursor) -> Result<Item, Refusal>
     requires { from.at < length text.now }
-    ensures { Shows text.now from.at from.depth result
+    ensures { Finds text.now from.at from.depth result
         (expansion (mode_of from.mode) from.depth (drop (from.at + 1) text.now)) }
 {
     let at = from.at;
     if at + 1 >= text.len() {
-        return Item::Byte {
+        return Ok(Item::Byte {
             quoted: false,
             byte: b'$',
             next: at + 1,
-        };
+        });
     }
     let b = text[at + 1];
     if text::in_class(Class::NameStart, b) {
         let to = text::run_end(text, at + 1, Class::NameByte);
-        return Item::Value {
+        return Ok(Item::Value {
             param: Param {
                 numbered: false,
                 from: at + 1,
-                to: to,
+                to,
             },
             next: to,
-        };
+        });
     }
     if b == b'(' {
         return parenthesis_at(text, from);
@@ -202,26 +190,26 @@ fn expansion_at(text: &[u8], from: Cursor) -> Item
 }
 
 // What a `)` of an arithmetic text is, with so many open parentheses before it.
-fn closed_at(text: &[u8], from: Cursor, parens: usize) -> Item
+fn closed_at(text: &[u8], from: Cursor, parens: usize) -> Result<Item, Refusal>
     requires { (from.at < length text.now) × (parens ≤ from.at) }
-    ensures { Shows text.now from.at from.depth result
+    ensures { Finds text.now from.at from.depth result
         (closed (arith parens) (get_or text.now from.at 0) (drop (from.at + 1) text.now)) }
 {
     let at = from.at;
     if parens > 0 {
-        return Item::Paren {
+        return Ok(Item::Paren {
             byte: text[at],
             parens: parens - 1,
-        };
+        });
     }
     if at + 1 >= text.len() {
-        return Item::Fault(numbers::REFUSED_SYNTAX);
+        return Err(Refusal::BadSyntax);
     }
     let b = text[at + 1];
     if b == b')' {
-        return Item::Stop(at + 2);
+        return Ok(Item::Stop(at + 2));
     }
-    Item::Fault(read_mode::wrong_byte(numbers::REFUSED_SYNTAX, b))
+    Err(read_mode::wrong_byte(Refusal::BadSyntax, b))
 }
 
 // What a tilde is that begins a word or an operand: the longest run of login bytes behind it is its login, if that ends there.
@@ -231,12 +219,11 @@ fn tilde_at(text: &[u8], from: Cursor) -> Item
         (behind_tilde (mode_of from.mode) (get_or text.now from.at 0) (drop (from.at + 1) text.now)) }
 {
     let at = from.at;
-    let mode = from.mode;
     let to = text::run_end(text, at + 1, Class::LoginByte);
     if to >= text.len() {
         return Item::Home(to);
     }
-    if read_mode::ends_login(mode, text[to]) {
+    if read_mode::ends_login(from.mode, text[to]) {
         return Item::Home(to);
     }
     Item::Byte {
@@ -247,48 +234,48 @@ fn tilde_at(text: &[u8], from: Cursor) -> Item
 }
 
 // What stands where a text is read.
-pub fn item_at(text: &[u8], from: Cursor) -> Item
+pub fn item_at(text: &[u8], from: Cursor) -> Result<Item, Refusal>
     requires { (from.at ≤ length text.now) × (open_in from.mode ≤ from.at) }
-    ensures { Shows text.now from.at from.depth result
+    ensures { Finds text.now from.at from.depth result
         (item (mode_of from.mode) from.depth (drop from.at text.now)) }
 {
     let at = from.at;
     let mode = from.mode;
     if at >= text.len() {
         if read_mode::may_end(mode) {
-            return Item::Stop(at);
+            return Ok(Item::Stop(at));
         }
-        return Item::Fault(numbers::REFUSED_UNENDED);
+        return Err(Refusal::Unended);
     }
     let b = text[at];
     let sort = read_mode::sort_at(mode, b);
     match sort {
-        Sort::Backquote => Item::Fault(numbers::REFUSED_SUBSTITUTION),
-        Sort::Closes(taken) => Item::Stop(at + taken),
-        Sort::Operator => Item::Fault(numbers::REFUSED_OPERATOR),
-        Sort::Quotes => Item::Quote {
+        Sort::Backquote => Err(Refusal::Substitution),
+        Sort::Closes(taken) => Ok(Item::Stop(at + taken)),
+        Sort::Operator => Err(Refusal::BareOperator),
+        Sort::Quotes => Ok(Item::Quote {
             mode: Mode::Single(false),
             next: at + 1,
-        },
-        Sort::Quotes2 => Item::Quote {
+        }),
+        Sort::Quotes2 => Ok(Item::Quote {
             mode: Mode::Double(read_mode::lists_in(mode)),
             next: at + 1,
-        },
+        }),
         Sort::Backslash => escaped_at(text, from),
         Sort::Escape => said_at(text, from),
         Sort::Dollar => expansion_at(text, from),
-        Sort::Bad => Item::Fault(numbers::REFUSED_SYNTAX),
-        Sort::Opening(parens) => Item::Paren {
+        Sort::Bad => Err(Refusal::BadSyntax),
+        Sort::Opening(parens) => Ok(Item::Paren {
             byte: b,
             parens: parens + 1,
-        },
+        }),
         Sort::Closing(parens) => closed_at(text, from, parens),
-        Sort::Tilde => tilde_at(text, from),
-        Sort::Literal => Item::Byte {
+        Sort::Tilde => Ok(tilde_at(text, from)),
+        Sort::Literal => Ok(Item::Byte {
             quoted: false,
             byte: b,
             next: at + 1,
-        },
+        }),
     }
 }
 
@@ -303,12 +290,12 @@ pub fn is_end(text: &[u8], at: usize, mode: Mode) -> bool
 }
 
 // How many bytes the end of a text takes in this mode: a word's blank is not part of it.
+#[tactic(auto, unfolding(stages::specs::Items::closer_length))]
 pub fn end_length(mode: Mode) -> usize
     ensures { result ≡ closer_length (mode_of mode) }
 {
     match mode {
-        Mode::Word(_) => 0,
-        Mode::Value(_) => 0,
+        Mode::Word(_) | Mode::Value(_) => 0,
         _ => 1,
     }
 }
@@ -318,12 +305,8 @@ pub fn mode_after(item: Item, mode: Mode) -> Mode
     ensures { result ≡ mode_after item mode }
 {
     match item {
-        Item::Byte {
-            quoted,
-            byte,
-            next: _,
-        } => read_mode::behind_byte(mode, quoted, byte),
-        Item::Paren { byte: _, parens } => Mode::Arith(parens),
+        Item::Byte { quoted, byte, .. } => read_mode::behind_byte(mode, quoted, byte),
+        Item::Paren { parens, .. } => Mode::Arith(parens),
         _ => read_mode::onward(mode),
     }
 }
@@ -332,8 +315,5 @@ pub fn mode_after(item: Item, mode: Mode) -> Mode
 pub fn is_stop(item: Item) -> bool
     ensures { result ≡ is_stop item }
 {
-    match item {
-        Item::Stop(_) => true,
-        _ => false,
-    }
+    matches!(item, Item::Stop(_))
 }

@@ -22,10 +22,8 @@ use Rattle.stages.proofs.Tables.{Vars}
 use Rattle.stages.proofs.Stores.{held_stored, vars_stored, lookup_stored, lookup_other}
 use Rattle.stages.proofs.Outcomes.{done_same, never}
 use Rattle.table_store.specs.Answers.{put_outcome, stored_outcome, text_limit, record_in, image_in, Writes}
-use Rattle.table_store.specs.declared.Put.{Put}
-use Rattle.table_store.specs.declared.Put.TheVariants.{Len, NoRoom}
-use Rattle.table_store.specs.declared.Stored.{Stored}
-use Rattle.table_store.specs.declared.Stored.TheVariants.{Used, Full}
+use Rattle.std.specs.Prelude.{Result, Ok, Err}
+use Rattle.table_store.specs.declared.NoRoom.{NoRoom}
 use Rattle.table_store.proofs.StoredImages.{store_by, image_by}
 
 -- bytes that were written, where the answer is a length: they are the stage's
@@ -79,15 +77,15 @@ module _ (room : ℕ) (t : Text) where
       go true q = absurd (never (rw (le-leb (length t) text_limit h, q) at e))
       go false q = large q
 
-module _ (t out left : Text) (r : Put) (w : Writes (record_in (length out) t) out left (put_outcome r)) where
-  pub put_len : (n : ℕ) → r ≡ Len n → (n ≡ length t + 2) × (left ≡ over (framed t) out) × (length t + 2 ≤ length out)
+module _ (t out left : Text) (r : Result ℕ NoRoom) (w : Writes (record_in (length out) t) out left (put_outcome r)) where
+  pub put_len : (n : ℕ) → r ≡ Ok n → (n ≡ length t + 2) × (left ≡ over (framed t) out) × (length t + 2 ≤ length out)
   put_len n e =
       let d : Wrote (record_in (length out) t) out left n = wrote (record_in (length out) t) out left n (rw e at w) in
       let g : (framed t ≡ d.new) × (length t ≤ text_limit) × (length t + 2 ≤ length out) = record_given (length out) t d.new d.gives in
       let k : length (framed t) ≡ length d.new = ap length g.0 in
       (omega (arith, d.long, k), d.leaves ∙ ap (λ (x : Text). over x out) (sym g.0), g.2)
 
-  pub put_none : r ≡ NoRoom → (left ≡ out) × (length t ≤ text_limit → length out < length t + 2)
+  pub put_none : {e : NoRoom} → r ≡ Err e → (left ≡ out) × (length t ≤ text_limit → length out < length t + 2)
   put_none e =
       let d : (record_in (length out) t ≡ refused output_room) × (left ≡ out) = unwritten (record_in (length out) t) out left output_room (rw e at w) in
       (d.1, record_refused (length out) t output_room d.0)
@@ -108,14 +106,14 @@ pub record Grown (limit : ℕ) (x t : Text) (v : Pairs) (old left : Text) (n : �
   pub smaller : n ≤ image_limit
   pub leaves : left ≡ over (image (flat (stored x t v))) old
 
-module _ (limit : ℕ) (x t : Text) (v : Pairs) (old left : Text) (r : Stored) (w : Writes (image_in limit x t v) old left (stored_outcome r)) where
+module _ (limit : ℕ) (x t : Text) (v : Pairs) (old left : Text) (r : Result ℕ NoRoom) (w : Writes (image_in limit x t v) old left (stored_outcome r)) where
   abbrev bytes : ℕ
   bytes = image_length (flat (stored x t v))
 
   abbrev new : Text
   new = image (flat (stored x t v))
 
-  pub store_used : (n : ℕ) → r ≡ Used n → Grown limit x t v old left n
+  pub store_used : (n : ℕ) → r ≡ Ok n → Grown limit x t v old left n
   store_used n e = go (leb bytes limit && leb bytes image_limit) refl
     where
       told : Wrote (image_in limit x t v) old left n
@@ -139,7 +137,7 @@ module _ (limit : ℕ) (x t : Text) (v : Pairs) (old left : Text) (r : Stored) (
       go true d = grown d (same (sym (image_by x t v limit true d) ∙ told.gives))
       go false d = absurd (never (sym told.gives ∙ image_by x t v limit false d))
 
-  pub store_full : r ≡ Full → (store limit x t v ≡ refused variable_room) × (left ≡ old)
+  pub store_full : {e : NoRoom} → r ≡ Err e → (store limit x t v ≡ refused variable_room) × (left ≡ old)
   store_full e = go (leb bytes limit && leb bytes image_limit) refl
     where
       told : (image_in limit x t v ≡ refused variable_room) × (left ≡ old)

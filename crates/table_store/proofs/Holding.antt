@@ -1,9 +1,9 @@
 -- Variables that stand in their bytes, and a store there: the value goes into the image as the stage stores it, within the lesser of the room and 8,192.
-use Prim.Native.Nat.{ℕ, ◌≤◌, ◌<◌}
+use Prim.Native.Nat.{ℕ, ◌≤◌}
 use native.Mathlib.Omega.{arith}
 use mathlib.Core.Path.{◌≡◌, refl, sym, ap, ◌∙◌, subst}
 use mathlib.Core.Bool.{Bool, ◌&&◌}
-use borrow.Author.Tests.{leb-true, leb-false, le-leb, lt-leb}
+use borrow.Author.Tests.{leb-true, leb-false, le-leb}
 use lib.Dec.{leb}
 use lib.ListN.{length, take}
 use lib.Seq.{length-take-le}
@@ -17,8 +17,8 @@ use Rattle.stages.proofs.Tables.{Vars, vars_of, variables_are, is_some_lem, tabl
 use Rattle.table.specs.Places as places
 use Rattle.table_store.specs.Answers.{image_in, stored_outcome, Writes}
 use Rattle.table_store.specs.Holding.{Holds, Settable, limit_of, StoresIn}
-use Rattle.table_store.specs.declared.Stored.{Stored}
-use Rattle.table_store.specs.declared.Stored.TheVariants as stored
+use Rattle.std.specs.Prelude.{min, Result, Ok, Err}
+use Rattle.table_store.specs.declared.NoRoom.{NoRoom}
 use Rattle.table_store.proofs.StoredImages.{store_by}
 use Rattle.table_store.proofs.Callers.{store_used, store_full, store_held, store_vars}
 
@@ -46,11 +46,9 @@ limit_image varsRoom = either (leb varsRoom image_limit) (λ e. rw e (leb-true v
 limit_least : (varsRoom n : ℕ) → n ≤ varsRoom → n ≤ image_limit → n ≤ limit_of varsRoom
 limit_least varsRoom n a b = either (leb varsRoom image_limit) (λ e. rw e a) (λ e. rw e b)
 
-pub limit_above : (varsRoom : ℕ) → image_limit < varsRoom → image_limit ≡ limit_of varsRoom
-limit_above varsRoom l = rw (lt-leb varsRoom image_limit l)
-
-pub limit_below : (varsRoom : ℕ) → varsRoom ≤ image_limit → varsRoom ≡ limit_of varsRoom
-limit_below varsRoom l = rw (le-leb varsRoom image_limit l)
+pub limit_min : (varsRoom : ℕ) → min varsRoom image_limit ≡ limit_of varsRoom
+limit_min varsRoom = either (leb varsRoom image_limit) (λ e. rw e (omega (arith, leb-true varsRoom image_limit e)))
+    (λ e. rw e (omega (arith, leb-false varsRoom image_limit e)))
 
 store_limit : (varsRoom : ℕ) (x t : Text) (v : Pairs) → store (limit_of varsRoom) x t v ≡ store varsRoom x t v
 store_limit varsRoom x t v = go (leb n varsRoom && leb n image_limit) refl
@@ -90,15 +88,15 @@ limited {varsRoom} {vars} {vars_used} w {limit} e =
     record { holds = omega (arith, limit_least varsRoom vars_used w.fits few); inside = omega arith; least = omega arith }
 
 module _ (varsRoom vars_used : ℕ) (x t : Text) (vars left : Text) (w : Holds varsRoom vars vars_used) (n : Settable x t)
-    (r : Stored) (s : Writes (image_in (limit_of varsRoom) x t (held (take vars_used vars))) vars left (stored_outcome r)) where
+    (r : Result ℕ NoRoom) (s : Writes (image_in (limit_of varsRoom) x t (held (take vars_used vars))) vars left (stored_outcome r)) where
   stores_in : length left ≡ length vars → StoresIn varsRoom x t (held (take vars_used vars)) left r
   unfolding store
   stores_in len = go r refl
     where
-      go : (k : Stored) → r ≡ k → StoresIn varsRoom x t (held (take vars_used vars)) left k
-      go stored.Full e =
+      go : (k : Result ℕ NoRoom) → r ≡ k → StoresIn varsRoom x t (held (take vars_used vars)) left k
+      go (Err z) e =
           sym (store_limit varsRoom x t (held (take vars_used vars))) ∙ (store_full (limit_of varsRoom) x t (held (take vars_used vars)) vars left r s e).0
-      go (stored.Used k) e =
+      go (Ok k) e =
           let g = store_used (limit_of varsRoom) x t (held (take vars_used vars)) vars left r s k e in
           let u = vars_held varsRoom vars vars_used w in
           let a = g.small in
@@ -115,13 +113,13 @@ module _ (varsRoom vars_used : ℕ) (x t : Text) (vars left : Text) (w : Holds v
 
 -- within the limit as the code has it
 pub stores_within : (varsRoom vars_used : ℕ) (x t vars left : Text) → Holds varsRoom vars vars_used → Settable x t → {limit : ℕ} → limit ≡ limit_of varsRoom
-    → (r : Stored) → Writes (image_in limit x t (held (take vars_used vars))) vars left (stored_outcome r) → length left ≡ length vars
+    → (r : Result ℕ NoRoom) → Writes (image_in limit x t (held (take vars_used vars))) vars left (stored_outcome r) → length left ≡ length vars
     → StoresIn varsRoom x t (held (take vars_used vars)) left r
 stores_within varsRoom vars_used x t vars left w n e r s len =
     stores_in varsRoom vars_used x t vars left w n r
     (subst (λ (k : ℕ). Writes (image_in k x t (held (take vars_used vars))) vars left (stored_outcome r)) e s) len
 
 -- what a store answers, once its case is known
-pub stored_known : (varsRoom : ℕ) (x t : Text) (v : Pairs) (vars : Text) {r k : Stored} → StoresIn varsRoom x t v vars r → r ≡ k
+pub stored_known : (varsRoom : ℕ) (x t : Text) (v : Pairs) (vars : Text) {r k : Result ℕ NoRoom} → StoresIn varsRoom x t v vars r → r ≡ k
     → StoresIn varsRoom x t v vars k
-stored_known varsRoom x t v vars h e = subst (λ (k : Stored). StoresIn varsRoom x t v vars k) e h
+stored_known varsRoom x t v vars h e = subst (λ (k : Result ℕ NoRoom). StoresIn varsRoom x t v vars k) e h

@@ -3,19 +3,17 @@
 use Prim.Native.Nat.{ℕ, ◌+◌, ◌-◌, ◌≤◌, ◌<◌}
 use native.Mathlib.Omega.{arith}
 use mathlib.Core.Path.{◌≡◌, sym, ap, ◌∙◌}
-use mathlib.Core.Bool.{Bool, true, false, not}
+use mathlib.Core.Bool.{Bool, true, false}
 use mathlib.Core.List.{[], ◌++◌, append_assoc, append-nil}
-use lib.Dec.{leb}
 use lib.ListN.{length, take, drop, length-append, length-drop}
 use lib.Seq.{paste, take_at, drop_at, take_all, drop-drop, drop-length, length-take-le, take-append-le, take-take}
 use borrow.Rule.Slice.PartMut.{put_mid, mid_of}
-use borrow.Author.Tests.{leb-true, leb-false, le-leb, lt-leb, not-true, not-false}
+use borrow.Author.Tests.{leb-true, leb-false, le-leb, lt-leb}
 use Rattle.stages.specs.Numbers.{variable_room, image_limit}
 use Rattle.stages.specs.Bytes.{Text, part}
 use Rattle.stages.specs.Outcome.{Outcome, refused, done}
 use Rattle.stages.specs.Images.{framed}
 use Rattle.stages.specs.Call.{over}
-use Rattle.stages.proofs.Bools.{same_tests}
 use Rattle.table_store.specs.Answers.{text_limit, record_in, left_by, Writes}
 use Rattle.table_store.specs.Splice.{spliced, placed, within, room_for}
 use Rattle.table_store.proofs.Placed.{placed_length}
@@ -29,26 +27,22 @@ pub within_full : (limit : ℕ) (t : Text) → limit < length t → within limit
 unfolding within
 within_full limit t h = rw (lt-leb (length t) limit h)
 
--- what `fits` answers, and what its answer tells
+-- what the answer of `fits` tells
 
-pub fits_not : (n v room : ℕ) → room < n + v → false ≡ room_for n v room
+pub has_room : {r : Bool} (n v room : ℕ) → r ≡ room_for n v room → r ≡ true → n + v + 4 ≤ room
 unfolding room_for
-fits_not n v room h = sym (lt-leb (n + v + 4) room (omega arith))
+has_room n v room e k = leb-true (n + v + 4) room (sym e ∙ k)
 
-pub fits_left : (n v room : ℕ) → n ≤ room → v ≤ room - n → leb 4 (room - n - v) ≡ room_for n v room
+pub lacks_room : {r : Bool} (n v room : ℕ) → r ≡ room_for n v room → r ≡ false → room < n + v + 4
 unfolding room_for
-fits_left n v room h k =
-    same_tests (leb 4 (room - n - v)) (leb (n + v + 4) room)
-    (λ e. le-leb (n + v + 4) room (omega (arith, leb-true 4 (room - n - v) e)))
-    (λ e. le-leb 4 (room - n - v) (omega (arith, leb-true (n + v + 4) room e)))
+lacks_room n v room e k = leb-false (n + v + 4) room (sym e ∙ k)
 
-pub has_room : (r : Bool) (n v room : ℕ) → r ≡ room_for n v room → not r ≡ false → n + v + 4 ≤ room
-unfolding room_for
-has_room r n v room e k = leb-true (n + v + 4) room (sym e ∙ not-false r k)
-
-pub lacks_room : (r : Bool) (n v room : ℕ) → r ≡ room_for n v room → not r ≡ true → room < n + v + 4
-unfolding room_for
-lacks_room r n v room e k = leb-false (n + v + 4) room (sym e ∙ not-true r k)
+-- so many bytes have room in the part behind p
+pub part_room : (p n : ℕ) (x : Text) → p + n ≤ length x → n ≤ length (mid_of p (length x - p) x)
+part_room p n x h =
+    let d : length (drop p x) ≡ length x - p = length-drop p x in
+    let e : take (length x - p) (drop p x) ≡ drop p x = take_all (length x - p) (drop p x) (omega arith) in
+    rw e (omega arith)
 
 -- a record that is put into the part behind p, which is then given back
 pub put_placed : (p : ℕ) (t x ys : Text) {r : Outcome ℕ} → length t ≤ text_limit → p + (length t + 2) ≤ length x

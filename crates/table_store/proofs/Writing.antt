@@ -15,7 +15,11 @@ use Rattle.stages.specs.Outcome.{Outcome, refused, done}
 use Rattle.stages.specs.Images.{framed}
 use Rattle.stages.specs.Call.{over}
 use Rattle.stages.proofs.Bools.{and_both}
-use Rattle.table_store.specs.Answers.{text_limit, record_in, length_of, left_by, Writes}
+use Rattle.stages.proofs.Outcomes.{never}
+use Rattle.std.specs.Prelude.{Result, Ok, Err}
+use Rattle.std.specs.Result.{is_ok}
+use Rattle.table_store.specs.declared.NoRoom.{NoRoom}
+use Rattle.table_store.specs.Answers.{put_outcome, text_limit, record_in, length_of, left_by, Writes}
 
 -- what is written where a stage gives bytes, and where it refuses
 pub writes_done : {o : Outcome Text} (t old : Text) {left : Text} {n : ℕ} → o ≡ done t → n ≡ length t → left ≡ over t old → Writes o
@@ -41,6 +45,12 @@ record_full room t h = rw (lt-leb (length (framed t)) room (omega arith)) (go (l
     go : (x : Bool) → Rattle.stages.specs.Outcome.pick (x && false) (done (framed t)) (refused output_room) ≡ refused output_room
     go true = refl
     go false = refl
+
+-- where there is room the record writer answers a length
+pub put_fits : (room : ℕ) (t : Text) {old left : Text} (r : Result ℕ NoRoom) → length t ≤ text_limit → length t + 2 ≤ room
+    → Writes (record_in room t) old left (put_outcome r) → is_ok r ≡ true
+put_fits room t (Ok n) h k w = refl
+put_fits room t (Err e) h k w = absurd (never (sym (ap length_of (record_fits room t h k)) ∙ sym w.answers))
 
 -- `put_record`: the length's two bytes stand, and the text is copied behind them
 module _ (t : Text) where

@@ -1,26 +1,26 @@
 -- What the record writer and the store answer, and every byte that they leave: the bytes that a stage gives stand at the front of the old ones, or
 -- the old ones stand as they were.
-use Rattle.std.specs.Prelude.{ℕ, ◌≡◌, ◌&&◌, leb, length}
+use Rattle.std.specs.Prelude.{ℕ, ◌≡◌, ◌&&◌, leb, length, Result, Ok, Err}
 use Rattle.stages.specs.Numbers.{variable_room, output_room}
 use Rattle.stages.specs.Bytes.{Text}
 use Rattle.stages.specs.Outcome.{Outcome, refused, demands, done, ◌>>=◌, pick}
 use Rattle.stages.specs.Images.{Pairs, framed, image, flat}
 use Rattle.stages.specs.Params.{store}
 use Rattle.stages.specs.Call.{over}
-use Rattle.table_store.specs.declared.Put.{Put}
-use Rattle.table_store.specs.declared.Put.TheVariants.{Len, NoRoom}
-use Rattle.table_store.specs.declared.Stored.{Stored}
-use Rattle.table_store.specs.declared.Stored.TheVariants.{Used, Full}
+use Rattle.table_store.specs.declared.NoRoom.{NoRoom}
 
--- the answers in document 01's numbers: the bytes written, or 21, "no room for output"
-abbrev pub put_outcome : Put → Outcome ℕ
-put_outcome (Len n) = done n
-put_outcome NoRoom = refused output_room
+-- the answers in document 01's numbers
+abbrev pub outcome_by : ℕ → Result ℕ NoRoom → Outcome ℕ
+outcome_by number (Ok n) = done n
+outcome_by number (Err e) = refused number
+
+-- the bytes written, or 21, "no room for output"
+abbrev pub put_outcome : Result ℕ NoRoom → Outcome ℕ
+put_outcome = outcome_by output_room
 
 -- the new used length, or 20, "no room for a variable"
-abbrev pub stored_outcome : Stored → Outcome ℕ
-stored_outcome (Used n) = done n
-stored_outcome Full = refused variable_room
+abbrev pub stored_outcome : Result ℕ NoRoom → Outcome ℕ
+stored_outcome = outcome_by variable_room
 
 -- the greatest length that "a 2-byte big-endian length" says
 abbrev pub text_limit : ℕ

@@ -1,0 +1,5 @@
+-- The code and `digits` go in step.
+use Rattle.arith_decimal.proofs.+put_digits.Given as goal
+
+abbrev pub decreases-put_digits : goal.decreases-put_digits
+decreases-put_digits l = l.k
