@@ -18,7 +18,8 @@ use Rattle.stages.proofs.Bools.{and_both, and_right}
 use Rattle.stages.proofs.Tables.{none_of, fields_of_lem, fields_are}
 use Rattle.text.specs.Putting.{Puts}
 use Rattle.quote.specs.Answers.{has_room, quoting_of}
-use Rattle.quote.specs.declared.Quoted.TheVariants.{Len, Malformed, NoRoom}
+use Rattle.std.specs.Prelude.{Ok, Err}
+use Rattle.quote.specs.declared.QuoteError.TheVariants.{Malformed, NoRoom}
 
 pub fields_here : (t : Text) → is_some (fields_of t) ≡ true → fields_of t ≡ some (held_texts t)
 fields_here t e = fields_are t (fields_of_lem t e)
@@ -44,7 +45,7 @@ unfolding quoted_in
 line_full out l e = rw e
 
 module _ (t out : Text) where
-  pub malformed : is_some (fields_of t) ≡ false → quoting_of Malformed out ≡ quoter t out
+  pub malformed : is_some (fields_of t) ≡ false → quoting_of (Err Malformed) out ≡ quoter t out
   unfolding quoter or_refused quoting
   malformed e = rw (none_of (fields_of t) e)
 
@@ -53,11 +54,11 @@ module _ (t out : Text) where
     unfolding quoter or_refused
     by_line = rw h
 
-    pub no_room : has_room (length out) (held_texts t) ≡ false → quoting_of NoRoom out ≡ quoter t out
+    pub no_room : has_room (length out) (held_texts t) ≡ false → quoting_of (Err NoRoom) out ≡ quoter t out
     unfolding quoting
     no_room e = sym (by_line ∙ ap (quoting out) (line_full (length out) (held_texts t) e))
 
     pub wrote : (left : Text) (n : ℕ) → has_room (length out) (held_texts t) ≡ true → Puts (quoted_line (held_texts t)) out left n
-        → quoting_of (Len n) left ≡ quoter t out
+        → quoting_of (Ok n) left ≡ quoter t out
     unfolding quoting
     wrote left n e p = sym (by_line ∙ ap (quoting out) (line_fits (length out) (held_texts t) e) ∙ rw (p.counts, p.leaves))

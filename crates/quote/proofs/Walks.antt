@@ -12,9 +12,8 @@ use Rattle.stages.specs.Images.{fields_of, held_texts}
 use Rattle.stages.specs.Quote.{quoted_field, blanked, quoted_line}
 use Rattle.stages.specs.Call.{over}
 use Rattle.stages.proofs.Tables.{fields_held}
-use Rattle.table.specs.Pieces.{piece_at, texts_from}
-use Rattle.table.specs.declared.Piece.{Piece}
-use Rattle.table.specs.declared.Piece.TheVariants.{End, Bad, At}
+use Rattle.std.specs.Prelude.{Some, None, Ok, Err}
+use Rattle.table.specs.Pieces.{Piece, malformed, piece_at, texts_from}
 use Rattle.table.proofs.Pieces.{Ahead, Next, ahead_from, ahead_first, ahead_end, ahead_bad, ahead_text}
 use Rattle.table.proofs.Writing.{Writing, Facing}
 use Rattle.text.specs.Putting.{Puts}
@@ -53,19 +52,19 @@ pub counts_starts : {t : Text} {from : ℕ} → Rest t from → Counts t from fr
 counts_starts {t} {from} r = record { left = texts_from t from; ahead = rest_ahead r; small = r.small; sum = omega arith; bound = omega arith }
 
 module _ {t : Text} {from at n : ℕ} (c : Counts t from at n) {r : Piece} (s : r ≡ piece_at t at) where
-  pub counts_end : r ≡ End → n ≡ length (blanked (texts_from t from))
+  pub counts_end : r ≡ Ok None → n ≡ length (blanked (texts_from t from))
   unfolding blanked
   counts_end e = let z : length (blanked c.left) ≡ 0 = rw (ahead_end c.ahead s e) in omega (arith, c.sum)
 
-  pub counts_bad : r ≡ Bad → n ≡ length (blanked (texts_from t from))
+  pub counts_bad : r ≡ Err malformed → n ≡ length (blanked (texts_from t from))
   counts_bad e = absurd (ahead_bad c.ahead s e)
 
-  pub counts_text : {end : ℕ} → r ≡ At end → Field t (at + 2) end
+  pub counts_text : {end : ℕ} → r ≡ Ok (Some end) → Field t (at + 2) end
   counts_text {end} e =
       let k : Next t at end c.left = ahead_text c.ahead s e in
       field_of t (at + 2) end c.small k.low k.ahead.within
 
-  pub counts_more : {end : ℕ} (k : ℕ) → r ≡ At end → k ≡ length (quoted_field (part t (at + 2) end)) → Rest t from → Counts t from end
+  pub counts_more : {end : ℕ} (k : ℕ) → r ≡ Ok (Some end) → k ≡ length (quoted_field (part t (at + 2) end)) → Rest t from → Counts t from end
       (n + (1 + k))
   counts_more {end} k e q h =
       let x : Next t at end c.left = ahead_text c.ahead s e in
@@ -137,14 +136,14 @@ module _ (t : Text) (h : fields_of t ≡ some (held_texts t)) where
   line_small = omega (arith, line_blanked (held_texts t), blanked_small ahead)
 
 module _ (t : Text) (h : fields_of t ≡ some (held_texts t)) {r : Piece} (s : r ≡ piece_at t 1) where
-  pub line_end : r ≡ End → quoted_line (held_texts t) ≡ []
+  pub line_end : r ≡ Ok None → quoted_line (held_texts t) ≡ []
   unfolding quoted_line
   line_end e = ap quoted_line (ahead_end (ahead t h) s e)
 
-  pub line_bad : r ≡ Bad → quoted_line (held_texts t) ≡ []
+  pub line_bad : r ≡ Err malformed → quoted_line (held_texts t) ≡ []
   line_bad e = absurd (ahead_bad (ahead t h) s e)
 
-  pub line_first : {end : ℕ} → r ≡ At end → First t end
+  pub line_first : {end : ℕ} → r ≡ Ok (Some end) → First t end
   unfolding quoted_line
   line_first {end} e =
       let small : length t ≤ image_limit = image_small t h in

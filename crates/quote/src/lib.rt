@@ -16,17 +16,15 @@ ghost use Rattle.quote.specs.Answers.{has_room, quoting_of};
 ghost use Rattle.quote.specs.Ways.{way_is};
 ghost use Rattle.quote.specs.Rests.{Rest};
 
-use table::{Kind, Piece};
+use table::Kind;
 use text::{Class, numbers};
 use ways::{Look, QUOTE, Way};
 
 mod ways;
 
-// What the quoter answers.
-#[derive(Clone, Copy)]
-pub enum Quoted {
-    // The bytes of the line that was written.
-    Len(usize),
+// Why a fields image has no quoted line.
+#[derive(Clone, Copy, PartialEq, Eq)]
+pub enum QuoteError {
     // No image of fields, or one that is too long.
     Malformed,
     // The line is longer than a line may be, or than the buffer.
@@ -81,18 +79,11 @@ fn blanked_length(fields: &[u8], from: usize) -> usize
 {
     let mut n: usize = 0;
     let mut at = from;
-    loop {
-        let piece = table::text_at(fields, at);
-        match piece {
-            Piece::End => return n,
-            Piece::Bad => return n,
-            Piece::At(end) => {
-                let start = at + 2;
-                n += 1 + field_length(&fields[start..end]);
-                at = end;
-            }
-        }
+    while let Ok(Some(end)) = table::text_at(fields, at) {
+        n += 1 + field_length(&fields[at + 2..end]);
+        at = end;
     }
+    n
 }
 
 // How many bytes the line of an image of fields takes.
@@ -100,11 +91,9 @@ fn line_length(fields: &[u8]) -> usize
     requires { fields_of fields.now ≡ some (held_texts fields.now) }
     ensures { result ≡ length (quoted_line (held_texts fields.now)) }
 {
-    let first = table::text_at(fields, 1);
-    match first {
-        Piece::End => 0,
-        Piece::Bad => 0,
-        Piece::At(end) => field_length(&fields[3..end]) + blanked_length(fields, end),
+    match table::text_at(fields, 1) {
+        Ok(Some(end)) => field_length(&fields[3..end]) + blanked_length(fields, end),
+        _ => 0,
     }
 }
 
@@ -193,21 +182,14 @@ fn put_blanked(fields: &[u8], from: usize, out: &mut [u8]) -> usize
 {
     let mut used: usize = 0;
     let mut at = from;
-    loop {
-        let piece = table::text_at(fields, at);
-        match piece {
-            Piece::End => return used,
-            Piece::Bad => return used,
-            Piece::At(end) => {
-                out[used] = BLANK;
-                let next = used + 1;
-                let start = at + 2;
-                let n = put_field(&fields[start..end], &mut out[next..]);
-                used = next + n;
-                at = end;
-            }
-        }
+    while let Ok(Some(end)) = table::text_at(fields, at) {
+        out[used] = BLANK;
+        let next = used + 1;
+        let n = put_field(&fields[at + 2..end], &mut out[next..]);
+        used = next + n;
+        at = end;
     }
+    used
 }
 
 // Writes the line of an image of fields.
@@ -216,16 +198,12 @@ fn put_line(fields: &[u8], out: &mut [u8]) -> usize
     requires fields_in_bounds { length (quoted_line (held_texts fields.now)) ≤ length out.old }
     ensures { Puts (quoted_line (held_texts fields.now)) out.old out.new result }
 {
-    let first = table::text_at(fields, 1);
-    match first {
-        Piece::End => 0,
-        Piece::Bad => 0,
-        Piece::At(end) => {
-            let used = put_field(&fields[3..end], out);
-            let n = put_blanked(fields, end, &mut out[used..]);
-            used + n
-        }
-    }
+    let Ok(Some(end)) = table::text_at(fields, 1) else {
+        return 0;
+    };
+    let used = put_field(&fields[3..end], out);
+    let n = put_blanked(fields, end, &mut out[used..]);
+    used + n
 }
 
 // Has the line of an image of fields room, in a line and in a buffer of so many bytes? No byte of the image becomes more than four of the line.
@@ -244,22 +222,24 @@ fn has_room(fields: &[u8], room: usize) -> bool
 
 // Turns an image that is one of fields into its quoted line at the front of the buffer; the bytes behind the line stay. A line without room leaves every
 // byte of the buffer as it was.
-pub fn quote_known(fields: &[u8], out: &mut [u8]) -> Quoted
+#[tactic(auto, using(crate::proofs::Answers::no_room))]
+pub fn quote_known(fields: &[u8], out: &mut [u8]) -> Result<usize, QuoteError>
     requires { fields_of fields.now ≡ some (held_texts fields.now) }
     ensures { quoting_of result out.new ≡ quoter fields.now out.old }
 {
     if !has_room(fields, out.len()) {
-        return Quoted::NoRoom;
+        return Err(QuoteError::NoRoom);
     }
-    Quoted::Len(put_line(fields, out))
+    Ok(put_line(fields, out))
 }
 
 // The same for any image: what is none of fields is told first, and leaves every byte of the buffer as it was.
-pub fn quote_fields(fields: &[u8], out: &mut [u8]) -> Quoted
+#[tactic(auto, using(crate::proofs::Answers::malformed, crate::proofs::Answers::fields_here))]
+pub fn quote_fields(fields: &[u8], out: &mut [u8]) -> Result<usize, QuoteError>
     ensures { quoting_of result out.new ≡ quoter fields.now out.old }
 {
     if !table::well_formed(Kind::Fields, fields) {
-        return Quoted::Malformed;
+        return Err(QuoteError::Malformed);
     }
     quote_known(fields, out)
 }
