@@ -1,4 +1,5 @@
 -- What an item says of reading, and what the reader's loop holds: what is read so far stands in front of what is read from here on.
+use Rattle.std.specs.Prelude.{Result, Ok, Err}
 use Prim.Native.Nat.{ℕ, ◌+◌, ◌-◌, ◌≤◌, ◌<◌}
 use native.Mathlib.Omega.{arith}
 use mathlib.Core.Path.{◌≡◌, refl, sym, ap, ◌∙◌, subst}
@@ -12,6 +13,8 @@ use Rattle.stages.specs.Items.{onward, behind_byte, closer_length}
 use Rattle.stages.specs.Read.{Taken, put, nest, parts}
 use Rattle.text.specs.Cases.{escape_of, spread_of}
 use Rattle.stages.proofs.Read.{at_fault, at_stop, at_byte, at_paren, at_value, at_count, at_spread, at_quote, at_inner, at_sum, at_home}
+use Rattle.text.specs.Refusals.{refusal_number}
+use Rattle.text.specs.declared.refusal.Refusal.{Refusal}
 use Rattle.text.specs.Places.{Behind}
 use Rattle.read_mode.specs.Modes.{mode_of, open_in, mode_onward, mode_behind, form_of}
 use Rattle.read_mode.specs.declared.Cursor.{Cursor}
@@ -21,22 +24,21 @@ use Rattle.read_mode.proofs.GoingOn.{onward_mode, onward_open, behind_mode, behi
 use Rattle.read_brace.specs.Shows.{param_of}
 use Rattle.read_brace.specs.declared.Param.{Param}
 use Rattle.read_brace.specs.declared.Item.{Item}
-use Rattle.read_brace.specs.declared.Item.TheVariants.{Fault, Stop, Byte, Paren, Quote, Value, Count, Total, Spread, Inner, Sum, Home}
-use Rattle.read_item.specs.After.{ItemAt, mode_after, is_stop, is_end}
+use Rattle.read_brace.specs.declared.Item.TheVariants.{Stop, Byte, Paren, Quote, Value, Count, Total, Spread, Inner, Sum, Home}
+use Rattle.read_item.specs.After.{ItemAt, FoundAt, mode_after, is_stop, is_end}
 use Rattle.read_item.proofs.Ending.{end_item}
 use Rattle.read_run.specs.Literals.{lits, Passed}
 use Rattle.read_run.proofs.Parts.{put_same, put_put, run_parts, run_open}
 use Rattle.read_line.specs.Says.{ReadTo, ReadSays, read_from, Here, ReadMore, ItemSays}
-use Rattle.read_line.specs.declared.Reading.{Reading}
-use Rattle.read_line.specs.declared.Reading.TheVariants as reading
 
--- An item or an answer whose case is known.
+-- An item whose case is known.
 
 pub item_shown : (text : Text) (from : Cursor) {i s : Item} → ItemAt text from i → i ≡ s → ItemAt text from s
 item_shown text from h e = subst (λ (x : Item). ItemAt text from x) e h
 
-pub read_shown : (i : Item) (text : Text) (from : Cursor) {r s : Reading} → ItemSays i text from r → r ≡ s → ItemSays i text from s
-read_shown i text from h e = subst (λ (x : Reading). ItemSays i text from x) e h
+-- Where no item stands, the text is refused.
+pub fault_read : (text : Text) (from : Cursor) (e : Refusal) → FoundAt text from (Err e) → read_from text from ≡ refused (refusal_number e)
+fault_read text from e h = at_fault text from.at (mode_of from.mode) from.depth (refusal_number e) h
 
 -- An item, by its case.
 
@@ -60,10 +62,10 @@ module _ (text : Text) (from : Cursor) (few : open_in from.mode ≤ from.at) whe
 
   -- after an inner text, which is read from `start` on
   inside : (s : Item) → is_stop s ≡ false → mode_after s from.mode ≡ mode_onward from.mode → (f : Parts → Parts → Parts) (start : ℕ) (r : Taken)
-      → from.at < start → read_from text from ≡ nest f r (parts (onward (mode_of from.mode)) from.depth) → (got : Reading) → ReadSays text start r got
+      → from.at < start → read_from text from ≡ nest f r (parts (onward (mode_of from.mode)) from.depth) → (got : Result ℕ Refusal) → ReadSays text start r got
       → ItemSays s text from got
-  inside s stays same f start r k e (reading.Fault n) q = e ∙ ap (λ (x : Taken). nest f x (parts (onward (mode_of from.mode)) from.depth)) q
-  inside s stays same f start r k e (reading.End next) q =
+  inside s stays same f start r k e (Err n) q = e ∙ ap (λ (x : Taken). nest f x (parts (onward (mode_of from.mode)) from.depth)) q
+  inside s stays same f start r k e (Ok next) q =
       let a = q.onward in
       rw (stays, same)
       (on (f q.tree) next (e ∙ ap (λ (x : Taken). nest f x (parts (onward (mode_of from.mode)) from.depth)) q.is)
@@ -73,30 +75,27 @@ module _ {text : Text} {from : Cursor} {i : Item} (h : Here text from i) where
   known : {s : Item} → i ≡ s → ItemAt text from s
   known e = item_shown text from h.is e
 
-  told : {s : Item} → i ≡ s → (r : Reading) → ItemSays s text from r → ItemSays i text from r
+  told : {s : Item} → i ≡ s → (r : Result ℕ Refusal) → ItemSays s text from r → ItemSays i text from r
   told e r q = subst (λ (x : Item). ItemSays x text from r) (sym e) q
 
-  pub item_fault : {n : ℕ} → i ≡ Fault n → ItemSays i text from (reading.Fault n)
-  item_fault {n = n} e = at_fault text from.at (mode_of from.mode) from.depth n (known e)
-
-  pub item_stop : {next : ℕ} → i ≡ Stop next → ItemSays i text from (reading.End next)
+  pub item_stop : {next : ℕ} → i ≡ Stop next → ItemSays i text from (Ok next)
   item_stop {next = next} e =
       let s = known e in
-      told e (reading.End next)
+      told e (Ok next)
       (record { tree = end; is = at_stop text from.at (mode_of from.mode) from.depth next s.0 s.1; onward = s.1; within = s.2 })
 
-  pub item_byte : {q : Bool} {b next : ℕ} → i ≡ Byte q b next → ItemSays i text from (reading.End next)
+  pub item_byte : {q : Bool} {b next : ℕ} → i ≡ Byte q b next → ItemSays i text from (Ok next)
   item_byte {q = q} {b = b} {next = next} e =
       let s = known e in
-      told e (reading.End next)
+      told e (Ok next)
       (going text from h.few (lit (escape_of q) b) next (behind_byte (mode_of from.mode) (escape_of q) b) (mode_behind from.mode q b)
       (at_byte text from.at (mode_of from.mode) from.depth (escape_of q) b next s.0 s.1.onward) (behind_mode from.mode q b)
       (behind_open from.mode q b) s.1)
 
-  pub item_paren : {b n : ℕ} → i ≡ Paren b n → ItemSays i text from (reading.End (from.at + 1))
+  pub item_paren : {b n : ℕ} → i ≡ Paren b n → ItemSays i text from (Ok (from.at + 1))
   item_paren {b = b} {n = n} e =
       let s = known e in
-      told e (reading.End (from.at + 1))
+      told e (Ok (from.at + 1))
       (record {
         before = lit unescaped b;
         is = at_paren text from.at (mode_of from.mode) from.depth b n s.0;
@@ -104,42 +103,42 @@ module _ {text : Text} {from : Cursor} {i : Item} (h : Here text from i) where
         few = s.2;
       })
 
-  pub item_value : {x : Param} {next : ℕ} → i ≡ Value x next → ItemSays i text from (reading.End next)
+  pub item_value : {x : Param} {next : ℕ} → i ≡ Value x next → ItemSays i text from (Ok next)
   item_value {x = x} {next = next} e =
       let s = known e in
-      told e (reading.End next)
+      told e (Ok next)
       (on text from h.few (par (param_of text x) plain end) next
       (at_value text from.at (mode_of from.mode) from.depth (param_of text x) next s.0 s.1.onward) s.1)
 
-  pub item_count : {x : Param} {next : ℕ} → i ≡ Count x next → ItemSays i text from (reading.End next)
+  pub item_count : {x : Param} {next : ℕ} → i ≡ Count x next → ItemSays i text from (Ok next)
   item_count {x = x} {next = next} e =
       let s = known e in
-      told e (reading.End next)
+      told e (Ok next)
       (on text from h.few (len (bytes_of (param_of text x))) next
       (at_count text from.at (mode_of from.mode) from.depth (bytes_of (param_of text x)) next s.0 s.1.onward) s.1)
 
-  pub item_total : {next : ℕ} → i ≡ Total next → ItemSays i text from (reading.End next)
+  pub item_total : {next : ℕ} → i ≡ Total next → ItemSays i text from (Ok next)
   item_total {next = next} e =
       let s = known e in
-      told e (reading.End next)
+      told e (Ok next)
       (on text from h.few (len parameters) next
       (at_count text from.at (mode_of from.mode) from.depth parameters next s.0 s.1.onward) s.1)
 
-  pub item_spread : {a : Bool} {next : ℕ} → i ≡ Spread a next → ItemSays i text from (reading.End next)
+  pub item_spread : {a : Bool} {next : ℕ} → i ≡ Spread a next → ItemSays i text from (Ok next)
   item_spread {a = a} {next = next} e =
       let s = known e in
-      told e (reading.End next)
+      told e (Ok next)
       (on text from h.few (lst (spread_of a)) next
       (at_spread text from.at (mode_of from.mode) from.depth (spread_of a) next s.0 s.1.onward) s.1)
 
-  pub item_home : {to : ℕ} → i ≡ Home to → ItemSays i text from (reading.End to)
+  pub item_home : {to : ℕ} → i ≡ Home to → ItemSays i text from (Ok to)
   item_home {to = to} e =
       let s = known e in
-      told e (reading.End to)
+      told e (Ok to)
       (on text from h.few (til (part text (from.at + 1) to)) to
       (at_home text from.at (mode_of from.mode) from.depth (part text (from.at + 1) to) to s.0 s.1.onward) s.1)
 
-  pub item_quote : {n : Mode} {start : ℕ} → i ≡ Quote n start → (got : Reading)
+  pub item_quote : {n : Mode} {start : ℕ} → i ≡ Quote n start → (got : Result ℕ Refusal)
       → ReadSays text start (parts (mode_of n) from.depth (drop start text)) got → ItemSays i text from got
   item_quote {n = n} {start = start} e got g =
       let s = known e in
@@ -147,7 +146,7 @@ module _ {text : Text} {from : Cursor} {i : Item} (h : Here text from i) where
       (inside text from h.few (Quote n start) refl refl quo start _ s.1.onward
       (at_quote text from.at (mode_of from.mode) from.depth (mode_of n) start s.0 s.1.onward) got g)
 
-  pub item_inner : {x : Param} {p : Form} {n : Mode} {start : ℕ} → i ≡ Inner x p n start → (got : Reading)
+  pub item_inner : {x : Param} {p : Form} {n : Mode} {start : ℕ} → i ≡ Inner x p n start → (got : Result ℕ Refusal)
       → ReadSays text start (parts (mode_of n) (from.depth - 1) (drop start text)) got → ItemSays i text from got
   item_inner {x = x} {p = p} {n = n} {start = start} e got g =
       let s = known e in
@@ -155,7 +154,7 @@ module _ {text : Text} {from : Cursor} {i : Item} (h : Here text from i) where
       (inside text from h.few (Inner x p n start) refl refl (par (param_of text x) (form_of p)) start _ s.1.onward
       (at_inner text from.at (mode_of from.mode) from.depth (param_of text x) (form_of p) (mode_of n) start s.0 s.1.onward) got g)
 
-  pub item_sum : {start : ℕ} → i ≡ Sum start → (got : Reading) → ReadSays text start (parts (sums 0) (from.depth - 1) (drop start text)) got
+  pub item_sum : {start : ℕ} → i ≡ Sum start → (got : Result ℕ Refusal) → ReadSays text start (parts (sums 0) (from.depth - 1) (drop start text)) got
       → ItemSays i text from got
   item_sum {start = start} e got g =
       let s = known e in
@@ -167,7 +166,7 @@ module _ {text : Text} {from : Cursor} {i : Item} (h : Here text from i) where
 
 -- After an item: the text ends with it, or goes on.
 
-module _ (i : Item) (text : Text) (from : Cursor) {next : ℕ} (q : ItemSays i text from (reading.End next)) where
+module _ (i : Item) (text : Text) (from : Cursor) {next : ℕ} (q : ItemSays i text from (Ok next)) where
   pub ends : is_stop i ≡ true → ReadTo text from.at (read_from text from) next
   ends e = rw e at q
 

@@ -1,4 +1,5 @@
 -- The pieces of a line, words or assignments, as the code walks it: over the blanks, then over a piece.
+use Rattle.std.specs.Prelude.{Result, Ok, Err}
 use Prim.Native.Nat.{ℕ, suc, ◌+◌, ◌-◌, ◌≤◌, ◌<◌}
 use native.Mathlib.Omega.{arith}
 use mathlib.Core.Path.{◌≡◌, refl, sym, ap, ◌∙◌, subst}
@@ -18,23 +19,14 @@ use Rattle.stages.proofs.Texts.{Stops, span_more, span_stop, span_join, span_sto
 use Rattle.stages.proofs.Pieces.{Takes, FirstPiece, pieces_none, pieces_blank, pieces_operator, pieces_piece, first_piece}
 use Rattle.stages.proofs.Words.{word_takes, FirstWord}
 use Rattle.stages.proofs.Assignments.{assignment_takes}
+use Rattle.text.specs.Refusals.{refusal_number}
+use Rattle.text.specs.declared.refusal.Refusal.{Refusal}
 use Rattle.text.specs.Classes.{Runs}
 use Rattle.text.specs.declared.Class.TheVariants.{Blank}
 use Rattle.text.proofs.Parts.{part_length}
-use Rattle.read_line.specs.Says.{ReadTo, ReadSays, blanks_end, NextAt, NextNone, NextSays, PieceTo, PieceSays, verdict, verdict_from}
-use Rattle.read_line.specs.declared.Reading.{Reading}
-use Rattle.read_line.specs.declared.Reading.TheVariants as reading
-use Rattle.read_line.specs.declared.NextWord.{NextWord}
+use Rattle.read_line.specs.Says.{ReadTo, ReadSays, blanks_end, NextAt, NextNone, PieceTo, PieceSays, verdict, verdict_from}
 use Rattle.read_line.specs.declared.Pieces.{Pieces}
 use Rattle.read_line.specs.declared.Pieces.TheVariants.{Words, Assignments}
-
--- An enum's answer, once its case is known.
-
-pub next_shown : (line : Text) (from : ℕ) {r s : NextWord} → NextSays line from r → r ≡ s → NextSays line from s
-next_shown line from h e = subst (λ (x : NextWord). NextSays line from x) e h
-
-pub piece_shown : (kind : Pieces) (line : Text) (place : ℕ) {r s : Reading} → PieceSays kind line place r → r ≡ s → PieceSays kind line place s
-piece_shown kind line place h e = subst (λ (x : Reading). PieceSays kind line place x) e h
 
 -- Over the blanks.
 
@@ -173,16 +165,16 @@ module _ (line : Text) (place : ℕ) (l : place < length line) (e : is_blank (ge
     kind_hash Assignments h = ap verdict (piece_hash an_assignment assignment_of assignment_takes line place l e f h)
 
     module _ (h : get_or line place 0 ≡ 35 → ⊥) where
-      pub word_read : {kind : Pieces} → kind ≡ Words → (got : Reading) → ReadSays line place (a_word (drop place line)) got → PieceSays kind line place got
-      word_read k (reading.Fault n) q = rw k (ap verdict (piece_fault a_word word_of word_takes line place l e f h n q))
-      word_read k (reading.End next) q =
+      pub word_read : {kind : Pieces} → kind ≡ Words → (got : Result ℕ Refusal) → ReadSays line place (a_word (drop place line)) got → PieceSays kind line place got
+      word_read k (Err n) q = rw k (ap verdict (piece_fault a_word word_of word_takes line place l e f h (refusal_number n) q))
+      word_read k (Ok next) q =
           let o = piece_onward a_word word_of word_takes line place l e f h next q in
           rw k (record { is = o.is; onward = o.onward; within = o.within })
 
-      pub assignment_read : {kind : Pieces} → kind ≡ Assignments → (got : Reading) → ReadSays line place (an_assignment (drop place line)) got
+      pub assignment_read : {kind : Pieces} → kind ≡ Assignments → (got : Result ℕ Refusal) → ReadSays line place (an_assignment (drop place line)) got
           → PieceSays kind line place got
-      assignment_read k (reading.Fault n) q = rw k (ap verdict (piece_fault an_assignment assignment_of assignment_takes line place l e f h n q))
-      assignment_read k (reading.End next) q =
+      assignment_read k (Err n) q = rw k (ap verdict (piece_fault an_assignment assignment_of assignment_takes line place l e f h (refusal_number n) q))
+      assignment_read k (Ok next) q =
           let o = piece_onward an_assignment assignment_of assignment_takes line place l e f h next q in
           rw k (record { is = o.is; onward = o.onward; within = o.within })
 

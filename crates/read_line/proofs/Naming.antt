@@ -1,8 +1,9 @@
 -- A word is an assignment or not, as the code finds it: by its first byte, the longest run of name bytes, and the byte behind that.
+use Rattle.std.specs.Prelude.{Result, Ok, Err}
 use Prim.Native.Nat.{ℕ, suc, ◌+◌, ◌≤◌, ◌<◌}
 use Prim.Native.Char.{code}
 use native.Mathlib.Omega.{arith}
-use mathlib.Core.Path.{◌≡◌, refl, sym, ap, ◌∙◌, subst}
+use mathlib.Core.Path.{◌≡◌, refl, sym, ap, ◌∙◌}
 use mathlib.Core.Bool.{Bool, true, false, ◌&&◌}
 use mathlib.Core.List.{[], ◌∷◌}
 use borrow.Author.Tests.{eq-eqb, ne_eqb}
@@ -18,16 +19,11 @@ use Rattle.stages.specs.Assign.{name_at, behind_name_at, begins_equals, is_assig
 use Rattle.stages.proofs.Bools.{no, and_both}
 use Rattle.stages.proofs.Texts.{start_name_byte, span_more, span_stop, span_all}
 use Rattle.stages.proofs.Assignments.{not_assignment, an_assignment_lem}
+use Rattle.text.specs.declared.refusal.Refusal.{Refusal}
 use Rattle.text.specs.Classes.{Runs}
 use Rattle.text.specs.declared.Class.TheVariants.{NameByte}
 use Rattle.text.proofs.Parts.{part_length}
-use Rattle.read_line.specs.Says.{ReadSays, AssignmentTo, AssignmentSays}
-use Rattle.read_line.specs.declared.Assignment.{Assignment}
-use Rattle.read_line.specs.declared.Reading.{Reading}
-use Rattle.read_line.specs.declared.Reading.TheVariants as reading
-
-pub assignment_shown : (line : Text) (place : ℕ) {r s : Assignment} → AssignmentSays line place r → r ≡ s → AssignmentSays line place s
-assignment_shown line place h e = subst (λ (x : Assignment). AssignmentSays line place x) e h
+use Rattle.read_line.specs.Says.{ReadSays, AssignmentTo}
 
 -- THE NAME
 
@@ -121,10 +117,10 @@ module _ (line : Text) (place equals : ℕ) (h : AssignmentTo line place equals)
   pub reads_value : an_assignment (drop place line) ≡ named_as (parts (value fresh) depth_limit (drop (equals + 1) line))
   reads_value = an_assignment_lem (drop place line) h.is ∙ ap (λ (t : Text). named_as (parts (value fresh) depth_limit t)) value_is
 
-  pub value_read : (got : Reading) → ReadSays line (equals + 1) (parts (value fresh) depth_limit (drop (equals + 1) line)) got
+  pub value_read : (got : Result ℕ Refusal) → ReadSays line (equals + 1) (parts (value fresh) depth_limit (drop (equals + 1) line)) got
       → ReadSays line place (an_assignment (drop place line)) got
-  value_read (reading.Fault n) q = reads_value ∙ ap named_as q
-  value_read (reading.End next) q =
+  value_read (Err n) q = reads_value ∙ ap named_as q
+  value_read (Ok next) q =
       record {
         tree = (name_at (drop place line), q.tree);
         is = reads_value ∙ ap named_as q.is;

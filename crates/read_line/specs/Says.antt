@@ -1,26 +1,21 @@
 -- What the reader's answers say of the stages'.
-use Rattle.std.specs.Prelude.{ℕ, ◌+◌, ◌≤◌, ◌<◌, ◌≡◌, Bool, true, false, List, length, drop, get_or}
+use Rattle.std.specs.Prelude.{ℕ, ◌+◌, ◌≤◌, ◌<◌, ◌≡◌, Bool, true, false, List, length, drop, get_or, Option, Some, None, Result, Ok, Err}
 use Rattle.stages.specs.Bytes.{Text, part, span, is_blank}
 use Rattle.stages.specs.Outcome.{Outcome, refused, done, Placed, refused_at, demands_at, done_at}
 use Rattle.stages.specs.Syntax.{Parts}
 use Rattle.stages.specs.Read.{Taken, put, parts, words}
 use Rattle.stages.specs.Assign.{name_at, behind_name_at, is_assignment, assignments}
 use Rattle.text.specs.Places.{Behind}
+use Rattle.text.specs.Refusals.{refusal_number}
+use Rattle.text.specs.declared.refusal.Refusal.{Refusal}
+use Rattle.text.specs.declared.refusal.Refused.{Refused}
 use Rattle.read_mode.specs.Modes.{mode_of, open_in}
 use Rattle.read_mode.specs.declared.Mode.{Mode}
 use Rattle.read_mode.specs.declared.Cursor.{Cursor}
 use Rattle.read_brace.specs.declared.Item.{Item}
 use Rattle.read_item.specs.After.{ItemAt, mode_after, is_stop}
-use Rattle.read_line.specs.declared.Reading.{Reading}
-use Rattle.read_line.specs.declared.Reading.TheVariants as reading
-use Rattle.read_line.specs.declared.NextWord.{NextWord}
-use Rattle.read_line.specs.declared.NextWord.TheVariants as next_word
-use Rattle.read_line.specs.declared.Assignment.{Assignment}
-use Rattle.read_line.specs.declared.Assignment.TheVariants as assignment
 use Rattle.read_line.specs.declared.Pieces.{Pieces}
 use Rattle.read_line.specs.declared.Pieces.TheVariants as pieces
-use Rattle.read_line.specs.declared.LineRead.{LineRead}
-use Rattle.read_line.specs.declared.LineRead.TheVariants as Line-read
 
 -- a text is read from `at` on: what it is read as, and the place behind it
 pub record ReadTo {A : Type 0} (text : Text) (at : ℕ) (o : Outcome (A × Text)) (next : ℕ) : Type 0 where
@@ -29,9 +24,9 @@ pub record ReadTo {A : Type 0} (text : Text) (at : ℕ) (o : Outcome (A × Text)
   pub onward : at ≤ next
   pub within : next ≤ length text
 
-abbrev pub ReadSays : {A : Type 0} → Text → ℕ → Outcome (A × Text) → Reading → Type 0
-ReadSays text at o (reading.Fault e) = o ≡ refused e
-ReadSays text at o (reading.End next) = ReadTo text at o next
+abbrev pub ReadSays : {A : Type 0} → Text → ℕ → Outcome (A × Text) → Result ℕ Refusal → Type 0
+ReadSays text at o (Err e) = o ≡ refused (refusal_number e)
+ReadSays text at o (Ok next) = ReadTo text at o next
 
 -- what is read from a place on
 abbrev pub read_from : Text → Cursor → Taken
@@ -54,9 +49,9 @@ abbrev pub ReadsOn : Bool → Text → Cursor → ℕ → Mode → Type 0
 ReadsOn true text from next m = ReadTo text from.at (read_from text from) next
 ReadsOn false text from next m = ReadMore text from next m
 
-abbrev pub ItemSays : Item → Text → Cursor → Reading → Type 0
-ItemSays i text from (reading.Fault e) = read_from text from ≡ refused e
-ItemSays i text from (reading.End next) = ReadsOn (is_stop i) text from next (mode_after i from.mode)
+abbrev pub ItemSays : Item → Text → Cursor → Result ℕ Refusal → Type 0
+ItemSays i text from (Err e) = read_from text from ≡ refused (refusal_number e)
+ItemSays i text from (Ok next) = ReadsOn (is_stop i) text from next (mode_after i from.mode)
 
 -- the place behind the blanks from `at` on
 unfoldable pub blanks_end : Text → ℕ → ℕ
@@ -74,9 +69,9 @@ pub record NextAt (line : Text) (at place : ℕ) : Type 0 where
 pub record NextNone (line : Text) (at : ℕ) : Type 0 where
   pub is : blanks_end line at ≡ length line
 
-abbrev pub NextSays : Text → ℕ → NextWord → Type 0
-NextSays line at (next_word.At place) = NextAt line at place
-NextSays line at next_word.Nothing = NextNone line at
+abbrev pub NextSays : Text → ℕ → Option ℕ → Type 0
+NextSays line at (Some place) = NextAt line at place
+NextSays line at None = NextNone line at
 
 -- the word at `place` is an assignment: a name, and a `=` at `equals`
 pub record AssignmentTo (line : Text) (place equals : ℕ) : Type 0 where
@@ -86,9 +81,9 @@ pub record AssignmentTo (line : Text) (place equals : ℕ) : Type 0 where
   pub onward : place < equals
   pub within : equals < length line
 
-abbrev pub AssignmentSays : Text → ℕ → Assignment → Type 0
-AssignmentSays line place (assignment.Named equals) = AssignmentTo line place equals
-AssignmentSays line place assignment.Bad = is_assignment (drop place line) ≡ false
+abbrev pub AssignmentSays : Text → ℕ → Option ℕ → Type 0
+AssignmentSays line place (Some equals) = AssignmentTo line place equals
+AssignmentSays line place None = is_assignment (drop place line) ≡ false
 
 -- whether a line is accepted, or its first fault's number and place
 abbrev pub verdict : {B : Type 0} → Placed (List B) → Placed (Unit {0})
@@ -101,9 +96,9 @@ abbrev pub verdict_from : Pieces → Text → ℕ → Placed (Unit {0})
 verdict_from pieces.Words line from = verdict (words (from, drop from line))
 verdict_from pieces.Assignments line from = verdict (assignments (from, drop from line))
 
-abbrev pub verdict_of : LineRead → Placed (Unit {0})
-verdict_of Line-read.Read = done_at tt
-verdict_of (Line-read.Refused n place) = refused_at n place
+abbrev pub verdict_of : Result (Unit {0}) Refused → Placed (Unit {0})
+verdict_of (Ok u) = done_at tt
+verdict_of (Err r) = refused_at (refusal_number r.why) r.place
 
 -- the piece at `place` is read, and those behind it begin at `next`
 pub record PieceTo (kind : Pieces) (line : Text) (place next : ℕ) : Type 0 where
@@ -111,6 +106,6 @@ pub record PieceTo (kind : Pieces) (line : Text) (place next : ℕ) : Type 0 whe
   pub onward : place < next
   pub within : next ≤ length line
 
-abbrev pub PieceSays : Pieces → Text → ℕ → Reading → Type 0
-PieceSays kind line place (reading.Fault e) = verdict_from kind line place ≡ refused_at e place
-PieceSays kind line place (reading.End next) = PieceTo kind line place next
+abbrev pub PieceSays : Pieces → Text → ℕ → Result ℕ Refusal → Type 0
+PieceSays kind line place (Err e) = verdict_from kind line place ≡ refused_at (refusal_number e) place
+PieceSays kind line place (Ok next) = PieceTo kind line place next
