@@ -2,10 +2,10 @@
 use Prim.Native.Nat.{ℕ, ◌-◌, ◌≤◌}
 use native.Mathlib.Omega.{arith}
 use mathlib.Core.Path.{◌≡◌, refl, sym, ap, ◌∙◌}
-use mathlib.Core.Option.{Option, none, some}
+use mathlib.Core.Option as maybe
+use Rattle.std.specs.Prelude.{Option, Some, None, Result, Ok, Err}
 use lib.ListN.{length, drop, length-drop}
 use Rattle.stages.specs.Bytes.{Text, part}
-use Rattle.stages.specs.Numbers.{demanded}
 use Rattle.stages.specs.Outcome.{refused, demands, done}
 use Rattle.stages.specs.Arith.{Lexed, stop, shuts, colon, ends, num, name, op, opens, query, gets}
 use Rattle.stages.specs.Arith as arith-stage
@@ -14,9 +14,11 @@ use Rattle.arith_int.specs.Answers.{op_of}
 use Rattle.arith_int.specs.declared.Op.{Op}
 use Rattle.arith_int.specs.declared.Op.TheVariants.{Mul, Div, Rem, Add, Sub, Shl, Shr, Lt, Le, Gt, Ge, Eq, Ne, BitAnd, BitXor, BitOr}
 use Rattle.arith_int.specs.declared.Op.TheVariants.{LogAnd, LogOr, LogNot, BitNot}
-use Rattle.arith_token.specs.Tokens.{level_of, setting_of, lexed, Ends, TokenAt}
-use Rattle.arith_token.specs.declared.Setting.{Setting}
-use Rattle.arith_token.specs.declared.Setting.TheVariants.{Plain, With}
+use Rattle.arith_token.specs.Tokens.{level_of, setting_of, lexed, Ends, Lexes}
+use Rattle.text.specs.Refusals.{refusal_number}
+use Rattle.text.specs.declared.refusal.Refusal.{Refusal}
+use Rattle.stages.proofs.Outcomes.{never}
+use Rattle.text.proofs.Refusals.{refusal_same}
 use Rattle.arith_token.specs.declared.Token.{Token}
 use Rattle.arith_token.specs.declared.Token.TheVariants as code
 
@@ -68,18 +70,18 @@ op_back_lem LogOr = refl
 op_back_lem LogNot = refl
 op_back_lem BitNot = refl
 
-abbrev setting_back : Option arith-stage.Op → Setting
-setting_back none = Plain
-setting_back (some o) = With (op_back o)
+abbrev setting_back : maybe.Option arith-stage.Op → Option Op
+setting_back maybe.none = None
+setting_back (maybe.some o) = Some (op_back o)
 
-setting_back_lem : (s : Setting) → setting_back (setting_of s) ≡ s
-setting_back_lem Plain = refl
-setting_back_lem (With o) = ap With (op_back_lem o)
+setting_back_lem : (s : Option Op) → setting_back (setting_of s) ≡ s
+setting_back_lem None = refl
+setting_back_lem (Some o) = ap Some (op_back_lem o)
 
 -- the code's token of the stage's: a place is where what is behind it begins
 abbrev back : Text → Lexed → Token
-back text (refused e) = code.Refused e
-back text (demands t) = code.Refused demanded
+back text (refused e) = code.Stop
+back text (demands t) = code.Stop
 back text (done (ends stop, u)) = code.Stop
 back text (done (ends shuts, u)) = code.Shuts (length text - length u)
 back text (done (ends colon, u)) = code.Colon (length text - length u)
@@ -98,7 +100,6 @@ module _ (text : Text) where
   begins from to h k = omega (arith, length-drop to text, part_length text from to h k)
 
   token_back : (at : ℕ) (r : Token) → Ends text at r → back text (lexed text r) ≡ r
-  token_back at (code.Refused e) w = refl
   token_back at code.Stop w = refl
   token_back at (code.Number z next) w = ap (code.Number z) (place next w.within)
   token_back at (code.Name from to) w = rw (begins from to w.rising w.behind.within, place to w.behind.within)
@@ -109,5 +110,21 @@ module _ (text : Text) where
   token_back at (code.Colon next) w = ap code.Colon (place next w.within)
   token_back at (code.Gets s next) w = rw (setting_back_lem s, place next w.within)
 
-  pub token_at_determined : (at : ℕ) (r s : Token) → TokenAt text at r → TokenAt text at s → r ≡ s
-  token_at_determined at r s h k = sym (token_back at r h.ends) ∙ ap (back text) (sym h.is ∙ k.is) ∙ token_back at s k.ends
+  not_refused : (r : Token) (e : ℕ) → lexed text r ≡ refused e → ⊥
+  not_refused code.Stop e q = never q
+  not_refused (code.Number z next) e q = never q
+  not_refused (code.Name from to) e q = never q
+  not_refused (code.Op o next) e q = never q
+  not_refused (code.Opens next) e q = never q
+  not_refused (code.Shuts next) e q = never q
+  not_refused (code.Query next) e q = never q
+  not_refused (code.Colon next) e q = never q
+  not_refused (code.Gets s next) e q = never q
+
+  pub token_at_determined : (at : ℕ) (r s : Result Token Refusal) → Lexes text at r → Lexes text at s → r ≡ s
+  token_at_determined at (Ok r) (Ok s) h k = ap Ok (sym (token_back at r h.ends) ∙ ap (back text) (sym h.is ∙ k.is) ∙ token_back at s k.ends)
+  token_at_determined at (Ok r) (Err e) h k = absurd (not_refused r (refusal_number e) (sym h.is ∙ k))
+  token_at_determined at (Err e) (Ok s) h k = absurd (not_refused s (refusal_number e) (sym k.is ∙ h))
+  token_at_determined at (Err e) (Err f) h k =
+      let q : ◌≡◌ {A = Lexed} (refused (refusal_number e)) (refused (refusal_number f)) = sym h ∙ k in
+      ap Err (refusal_same e f (let n : refusal_number e ≡ refusal_number f = cc in n))

@@ -30,7 +30,9 @@ use Rattle.arith_int.specs.declared.Op.{Op}
 use Rattle.arith_int.specs.declared.Op.TheVariants.{Mul, Div, Rem, Add, Sub, Shl, Shr, Lt, Le, Gt, Ge, Eq, Ne, BitAnd, BitXor, BitOr}
 use Rattle.arith_int.specs.declared.Op.TheVariants.{LogAnd, LogOr, LogNot, BitNot}
 use Rattle.text.specs.Places.{Behind}
-use Rattle.arith_token.specs.Tokens.{level_of, lexed, Ends, TokenAt, paired_by, Pairable, Pairs, Symbol}
+use Rattle.std.specs.Prelude.{Result, Ok, Err}
+use Rattle.text.specs.declared.refusal.Refusal.{Refusal}
+use Rattle.arith_token.specs.Tokens.{level_of, lexed, Ends, TokenAt, Lexes, paired_by, Pairable, Pairs, Symbol}
 use Rattle.arith_token.specs.declared.Token.{Token}
 use Rattle.arith_token.specs.declared.Token.TheVariants as code
 
@@ -218,11 +220,8 @@ pub single : (text : Text) (at b : ℕ) (r : Token) → Symbol text at → get_o
 single text at b r s e t w = record { is = ap token (here text at s.within ∙ ap (λ (x : ℕ). x ∷ drop (at + 1) text) e) ∙ t; ends = w }
 
 -- a byte that begins no token
-pub no_token : (text : Text) (at : ℕ) → Symbol text at → Others (get_or text at 0) → TokenAt text at (code.Refused arithmetic_syntax)
-no_token text at s e = record {
-  is = ap token (here text at s.within) ∙ none_fits (get_or text at 0) (drop (at + 1) text) s.bare s.digit s.start e;
-  ends = tt;
-}
+pub no_token : (text : Text) (at : ℕ) → Symbol text at → Others (get_or text at 0) → token (drop at text) ≡ refused arithmetic_syntax
+no_token text at s e = ap token (here text at s.within) ∙ none_fits (get_or text at 0) (drop (at + 1) text) s.bare s.digit s.start e
 
 -- with a byte behind it, or alone
 
@@ -282,7 +281,6 @@ module _ (text : Text) (at i : ℕ) (r : Runs text at Blank i) where
       further_on next b = let a = b.onward in let o = r.onward in record { onward = omega arith; within = b.within }
 
       wider : (k : Token) → Ends text i k → Ends text at k
-      wider (code.Refused e) w = tt
       wider code.Stop w = tt
       wider (code.Number z next) w = further_on next w
       wider (code.Name from to) w = record { named = w.named; behind = further_on to w.behind; rising = w.rising }
@@ -292,6 +290,11 @@ module _ (text : Text) (at i : ℕ) (r : Runs text at Blank i) where
       wider (code.Query next) w = further_on next w
       wider (code.Colon next) w = further_on next w
       wider (code.Gets s next) w = further_on next w
+
+  -- .. or its refusal the refusal
+  pub lexes_behind : (r : Result Token Refusal) → Lexes text i r → Lexes text at r
+  lexes_behind (Ok k) t = behind_blanks k t
+  lexes_behind (Err e) t = past_blanks ∙ t
 
   pub nothing_left : i ≡ length text → TokenAt text at code.Stop
   unfolding token
@@ -341,9 +344,8 @@ module _ (text : Text) (at to : ℕ) (h : at < length text) (r : Runs text at Na
       ends = record { named = run_name f; behind = run_behind (start_name_byte (get_or text at 0) f); rising = r.onward };
     }
 
-    pub bad_constant : is_digit (get_or text at 0) ≡ true → (e : ℕ) → refused e ≡ number pos (constant (part text at to)) → TokenAt text at
-        (code.Refused e)
-    bad_constant d e q = record { is = constant_token d ∙ ap (λ (o : Outcome ℤ). o >>= λ z. done (num z, drop to text)) (sym q); ends = tt }
+    pub bad_constant : is_digit (get_or text at 0) ≡ true → (e : ℕ) → refused e ≡ number pos (constant (part text at to)) → token (drop at text) ≡ refused e
+    bad_constant d e q = constant_token d ∙ ap (λ (o : Outcome ℤ). o >>= λ z. done (num z, drop to text)) (sym q)
 
     pub good_constant : is_digit (get_or text at 0) ≡ true → (z : ℤ) → done z ≡ number pos (constant (part text at to)) → TokenAt text at
         (code.Number z to)

@@ -1,6 +1,9 @@
 -- What the code's tokens say of the stage's: the token, and with places what is behind it.
 use Rattle.std.specs.Prelude.{ℕ, ◌+◌, ◌≤◌, ◌<◌, ◌≡◌, true, false, [], ◌∷◌, length, get_or, drop}
-use Rattle.std.proofs.Math.Option.{Option, none, some}
+use Rattle.std.specs.Prelude.{Option, Some, None, Result, Ok, Err}
+use Rattle.std.proofs.Math.Option as maybe
+use Rattle.text.specs.Refusals.{refusal_number}
+use Rattle.text.specs.declared.refusal.Refusal.{Refusal}
 use Rattle.stages.specs.Bytes.{Text, part, is_blank, is_digit, is_name_start}
 use Rattle.stages.specs.Outcome.{refused, done}
 use Rattle.stages.specs.Images.{is_name}
@@ -11,8 +14,6 @@ use Rattle.arith_int.specs.Answers.{op_of}
 use Rattle.arith_int.specs.declared.Op.{Op}
 use Rattle.arith_int.specs.declared.Op.TheVariants.{Mul, Div, Rem, Add, Sub, Shl, Shr, Lt, Le, Gt, Ge, Eq, Ne, BitAnd, BitXor, BitOr}
 use Rattle.arith_int.specs.declared.Op.TheVariants.{LogAnd, LogOr, LogNot, BitNot}
-use Rattle.arith_token.specs.declared.Setting.{Setting}
-use Rattle.arith_token.specs.declared.Setting.TheVariants.{Plain, With}
 use Rattle.arith_token.specs.declared.Token.{Token}
 use Rattle.arith_token.specs.declared.Token.TheVariants as code
 
@@ -40,13 +41,12 @@ level_of LogNot = 0
 level_of BitNot = 0
 
 -- E10: the operator before the `=` of an assignment
-abbrev pub setting_of : Setting → Option stage.Op
-setting_of Plain = none
-setting_of (With o) = some (op_of o)
+abbrev pub setting_of : Option Op → maybe.Option stage.Op
+setting_of None = maybe.none
+setting_of (Some o) = maybe.some (op_of o)
 
 -- the stage's token, with what is behind it
 abbrev pub lexed : Text → Token → Lexed
-lexed text (code.Refused e) = refused e
 lexed text code.Stop = done (ends stop, [])
 lexed text (code.Number z next) = done (num z, drop next text)
 lexed text (code.Name from to) = done (name (part text from to), drop to text)
@@ -64,7 +64,6 @@ pub record Named (text : Text) (at from to : ℕ) : Type 0 where
   pub rising : from ≤ to
 
 abbrev pub Ends : Text → ℕ → Token → Type 0
-Ends text at (code.Refused e) = Unit {0}
 Ends text at code.Stop = Unit {0}
 Ends text at (code.Number z next) = Behind text at next
 Ends text at (code.Name from to) = Named text at from to
@@ -80,10 +79,15 @@ pub record TokenAt (text : Text) (at : ℕ) (r : Token) : Type 0 where
   pub is : token (drop at text) ≡ lexed text r
   pub ends : Ends text at r
 
+-- .. or it is refused as the stage refuses it
+abbrev pub Lexes : Text → ℕ → Result Token Refusal → Type 0
+Lexes text at (Ok r) = TokenAt text at r
+Lexes text at (Err e) = token (drop at text) ≡ refused (refusal_number e)
+
 -- one token with the byte c behind its first, another without, before the text behind the first
 unfoldable pub paired_by : ℕ → Lexed → stage.Token → Text → Lexed
 unfolding behind
-paired_by c alone both t = elim (behind (c ∷ []) t) [ some u ↦ done (both, u) | none ↦ alone ]
+paired_by c alone both t = elim (behind (c ∷ []) t) [ maybe.some u ↦ done (both, u) | maybe.none ↦ alone ]
 
 -- a token of one byte, which stands there, and one of two, if there are two
 pub record Pairable (text : Text) (at : ℕ) (alone both : Token) : Type 0 where

@@ -6,13 +6,15 @@ use Rattle.text.proofs.Determined.{one_answer}
 use Rattle.row.specs.Marks.{mark_of}
 use Rattle.row.specs.declared.Mark.{Mark}
 use Rattle.row.proofs.Determined.{literal_mark_determined}
-use Rattle.table.specs.declared.Found.{Found}
+use Rattle.std.specs.Prelude.{Option, Result}
+use Rattle.text.specs.declared.refusal.Refusal.{Refusal}
+use Rattle.table.specs.declared.Part.{Part}
 use Rattle.expand_param.specs.Holding.{missing_in}
 use Rattle.expand_form.specs.Plans.{plan_of, operand_mark}
 use Rattle.expand_form.specs.declared.Plan.{Plan}
 use Rattle.expand_form.specs.declared.Used.{Used}
 
-pub plan_of_determined : (f : Form) (found : Found) (shouts : Bool) (r s : Plan) → r ≡ plan_of f (missing_in found) shouts →
+pub plan_of_determined : (f : Form) (found : Option Part) (shouts : Bool) (r s : Result Plan Refusal) → r ≡ plan_of f (missing_in found) shouts →
     s ≡ plan_of f (missing_in found) shouts
     → r ≡ s
 plan_of_determined f found shouts r s = one_answer

@@ -13,7 +13,11 @@ use Rattle.stages.specs.Params.{Lent, holding, value, or_shout, sought, absent, 
 use Rattle.stages.specs.Expand.{Made, plainly, cut_by, parameter}
 use Rattle.stages.proofs.Bools.{either}
 use Rattle.text.specs.Cases.{is_suffix, is_longest}
-use Rattle.table.specs.declared.Found.{Found}
+use Rattle.std.specs.Prelude.{Option as Perhaps, Result, Ok, Err}
+use Rattle.text.specs.Refusals.{refusal_number}
+use Rattle.text.specs.declared.refusal.Refusal.{Refusal}
+use Rattle.text.specs.declared.refusal.Refusal.TheVariants.{UnsetName}
+use Rattle.table.specs.declared.Part.{Part}
 use Rattle.expand_param.specs.Holding.{Shown, missing_in}
 use Rattle.expand_param.proofs.Holding.{holding_held, missing_found}
 use Rattle.table.specs.Around.{lent_of}
@@ -27,13 +31,13 @@ use Rattle.expand_form.specs.declared.Used.{Used}
 use Rattle.expand_form.specs.declared.Used.TheVariants.{Given, Stored, Removed, Demanded}
 
 plan_same : (f : Form) (g h : Colon → Bool) → ((c : Colon) → g c ≡ h c) → (s : Bool) → plan_of f g s ≡ plan_of f h s
-plan_same plain g h e s = ap (λ (b : Bool). pick (s && b) plan.Shout (plan.Unused Value)) (e no_colon)
-plan_same (minus c) g h e s = ap (λ (b : Bool). pick b (plan.Used Given) (plan.Unused Value)) (e c)
-plan_same (equals c) g h e s = ap (λ (b : Bool). pick b (plan.Used Stored) (plan.Unused Value)) (e c)
-plan_same (query c) g h e s = ap (λ (b : Bool). pick b (plan.Used Demanded) (plan.Unused Value)) (e c)
-plan_same (plus c) g h e s = ap (λ (b : Bool). pick b (plan.Unused Nothing) (plan.Used Given)) (e c)
+plan_same plain g h e s = ap (λ (b : Bool). pick (s && b) (Err UnsetName) (Ok (plan.Unused Value))) (e no_colon)
+plan_same (minus c) g h e s = ap (λ (b : Bool). Ok (pick b (plan.Used Given) (plan.Unused Value))) (e c)
+plan_same (equals c) g h e s = ap (λ (b : Bool). Ok (pick b (plan.Used Stored) (plan.Unused Value))) (e c)
+plan_same (query c) g h e s = ap (λ (b : Bool). Ok (pick b (plan.Used Demanded) (plan.Unused Value))) (e c)
+plan_same (plus c) g h e s = ap (λ (b : Bool). Ok (pick b (plan.Unused Nothing) (plan.Used Given))) (e c)
 plan_same (removal side reach) g h e s =
-    ap (λ (b : Bool). pick (s && b) plan.Shout (plan.Used (Removed (is_suffix side) (is_longest reach)))) (e no_colon)
+    ap (λ (b : Bool). pick (s && b) (Err UnsetName) (Ok (plan.Used (Removed (is_suffix side) (is_longest reach))))) (e no_colon)
 
 -- the law of plans
 
@@ -51,10 +55,10 @@ shout_plan true (some []) = refl
 shout_plan true (some (b ∷ t)) = refl
 
 module _ (a : Lent) (operand : Mark → Pairs → Made) (x : Param) (m : Mark) (v : Pairs) where
-  abbrev by_plan : Plan → Made
-  by_plan (plan.Unused unused) = beside v false (settled unused a x m v)
-  by_plan (plan.Used used) = operand (operand_mark used m) v >>= λ p. finished used a x m p
-  by_plan plan.Shout = refused unset_name
+  abbrev by_plan : Result Plan Refusal → Made
+  by_plan (Ok (plan.Unused unused)) = beside v false (settled unused a x m v)
+  by_plan (Ok (plan.Used used)) = operand (operand_mark used m) v >>= λ p. finished used a x m p
+  by_plan (Err e) = refused (refusal_number e)
 
   abbrev shout : Bool
   unfolding missing
@@ -64,14 +68,14 @@ module _ (a : Lent) (operand : Mark → Pairs → Made) (x : Param) (m : Mark) (
   unfolding sought missing value
   sought_plan = shout_plan a.shouts (holding a v x)
 
-  plain_plan : (b : Bool) → (pick b (refused unset_name) (done (value a v x)) >>= λ t. plainly t m v) ≡ by_plan (pick b plan.Shout (plan.Unused Value))
+  plain_plan : (b : Bool) → (pick b (refused unset_name) (done (value a v x)) >>= λ t. plainly t m v) ≡ by_plan (pick b (Err UnsetName) (Ok (plan.Unused Value)))
   unfolding settled
   plain_plan true = refl
   plain_plan false = refl
 
   removal_plan : (side : Side) (reach : Reach) (b : Bool)
       → (pick b (refused unset_name) (done (value a v x)) >>= λ _. operand L v >>= λ p. cut_by a side reach x m p)
-      ≡ by_plan (pick b plan.Shout (plan.Used (Removed (is_suffix side) (is_longest reach))))
+      ≡ by_plan (pick b (Err UnsetName) (Ok (plan.Used (Removed (is_suffix side) (is_longest reach)))))
   unfolding finished
   removal_plan side reach true = refl
   removal_plan suffix shortest false = refl
@@ -97,7 +101,7 @@ missing_held_lem a c x vars params e = ap (absent c) (holding_held a (held_texts
 
 -- a plan by where the value was found, and that of a removal by nothing, the switch being off
 module _ (f : Form) (x : Param) (vars params : Text) (s : Bool) where
-  pub found_plan : {found : Found} {own : Plan} → Shown vars params x found → own ≡ plan_of f (missing_in found) s →
+  pub found_plan : {found : Perhaps Part} {own : Result Plan Refusal} → Shown vars params x found → own ≡ plan_of f (missing_in found) s →
       own ≡ plan_of f (missing_held vars params x) s
   found_plan {found} h e =
       let a = lent_of 0 s [] params in
@@ -108,21 +112,21 @@ removal_plans side reach g h = refl
 
 -- the same by what the images hold
 module _ (a : Lent) (operand : Mark → Pairs → Made) (x : Param) (m : Mark) (vars params : Text) (lent : a.params ≡ held_texts params) (f : Form)
-    {own : Plan} (e : own ≡ plan_of f (missing_held vars params x) a.shouts) where
-  by_held : {known : Plan} → own ≡ known → parameter a operand x f m (held vars) ≡ by_plan a operand x m (held vars) known
+    {own : Result Plan Refusal} (e : own ≡ plan_of f (missing_held vars params x) a.shouts) where
+  by_held : {known : Result Plan Refusal} → own ≡ known → parameter a operand x f m (held vars) ≡ by_plan a operand x m (held vars) known
   by_held k =
       parameter_plan a operand x m (held vars) f
       ∙ ap (by_plan a operand x m (held vars))
       (sym (sym k ∙ e ∙ plan_same f (missing_held vars params x) (λ c. missing a c x (held vars))
       (λ c. sym (missing_held_lem a c x vars params lent)) a.shouts))
 
-  pub unused_operand : {unused : Unused} → own ≡ plan.Unused unused
+  pub unused_operand : {unused : Unused} → own ≡ Ok (plan.Unused unused)
       → parameter a operand x f m (held vars) ≡ beside (held vars) false (settled unused a x m (held vars))
   unused_operand = by_held
 
-  pub used_operand : {used : Used} → own ≡ plan.Used used
+  pub used_operand : {used : Used} → own ≡ Ok (plan.Used used)
       → parameter a operand x f m (held vars) ≡ (operand (operand_mark used m) (held vars) >>= λ p. finished used a x m p)
   used_operand = by_held
 
-  pub shouted_operand : own ≡ plan.Shout → parameter a operand x f m (held vars) ≡ refused unset_name
-  shouted_operand = by_held
+  pub refused_operand : {e : Refusal} → own ≡ Err e → parameter a operand x f m (held vars) ≡ refused (refusal_number e)
+  refused_operand = by_held

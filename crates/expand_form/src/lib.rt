@@ -2,6 +2,7 @@
 #![tactic(auto)]
 
 ghost use Rattle.std.specs.Prelude.{◌≡◌, ◌&&◌};
+ghost use Rattle.stages.specs.Outcome.{pick};
 ghost use Rattle.stages.specs.Syntax.{no_colon, removal};
 ghost use Rattle.text.specs.Cases.{colon_of, side_of, reach_of};
 ghost use Rattle.read_mode.specs.Modes.{form_of};
@@ -11,15 +12,14 @@ ghost use Rattle.expand_form.specs.Plans.{plan_of, operand_mark};
 
 use read_mode::Form;
 use row::Mark;
-use table::Found;
+use table::Part;
+use text::refusal::Refusal;
 
 // What is to be done for a parameter: "An unused operand is not expanded."
 #[derive(Clone, Copy)]
 pub enum Plan {
     Unused(Unused),
     Used(Used),
-    // it is refused, the value being unset
-    Shout,
 }
 
 // What is given where the operand is not used.
@@ -43,71 +43,60 @@ pub enum Used {
 }
 
 // "Missing": unset, or with the colon also empty.
-fn is_missing(colon: bool, found: Found) -> bool
+fn is_missing(colon: bool, found: Option<Part>) -> bool
     ensures { result ≡ missing_in found (colon_of colon) }
 {
     match found {
-        Found::Missing => true,
-        Found::At { from, to } => {
-            if colon {
-                return from == to;
-            }
-            false
-        }
+        None => true,
+        Some(part) => colon && part.from == part.to,
     }
 }
 
 // "A removal is refused before its operand is expanded.": of a value that is unset, the switch being on.
-fn is_refused(found: Found, shouts: bool) -> bool
+fn is_refused(found: Option<Part>, shouts: bool) -> bool
     ensures { result ≡ (shouts && missing_in found no_colon) }
 {
-    if !shouts {
-        return false;
-    }
-    is_missing(false, found)
+    shouts && is_missing(false, found)
 }
 
-// What a removal asks for: it is refused, or its operand is used.
-fn removal_plan(suffix: bool, long: bool, found: Found, shouts: bool) -> Plan
+// What a removal asks for: its operand is used, or it is refused.
+fn removal_plan(
+    suffix: bool,
+    long: bool,
+    found: Option<Part>,
+    shouts: bool,
+) -> Result<Plan, Refusal>
     ensures { result ≡ plan_of (removal (side_of suffix) (reach_of long)) (missing_in found) shouts }
 {
     if is_refused(found, shouts) {
-        return Plan::Shout;
+        return Err(Refusal::UnsetName);
     }
-    Plan::Used(Used::Removed {
-        suffix: suffix,
-        long: long,
-    })
+    Ok(Plan::Used(Used::Removed { suffix, long }))
 }
 
-// What a form asks for, where the value was found or not, and the switch is on or off.
-pub fn plan_of(form: Form, found: Found, shouts: bool) -> Plan
+// What a form asks for whose operand is used so where the value is missing, and else the value is given.
+fn when_missing(missing: bool, used: Used) -> Plan
+    ensures { result ≡ pick missing (Plan.Used used) (Plan.Unused Unused.Value) }
+{
+    if missing {
+        return Plan::Used(used);
+    }
+    Plan::Unused(Unused::Value)
+}
+
+// What a form asks for, where the value was found or not, and the switch is on or off; or it is refused, the value being unset.
+pub fn plan_of(form: Form, found: Option<Part>, shouts: bool) -> Result<Plan, Refusal>
     ensures { result ≡ plan_of (form_of form) (missing_in found) shouts }
 {
     match form {
-        Form::Minus(colon) => {
-            if is_missing(colon, found) {
-                return Plan::Used(Used::Given);
-            }
-            Plan::Unused(Unused::Value)
-        }
-        Form::Equals(colon) => {
-            if is_missing(colon, found) {
-                return Plan::Used(Used::Stored);
-            }
-            Plan::Unused(Unused::Value)
-        }
-        Form::Query(colon) => {
-            if is_missing(colon, found) {
-                return Plan::Used(Used::Demanded);
-            }
-            Plan::Unused(Unused::Value)
-        }
+        Form::Minus(colon) => Ok(when_missing(is_missing(colon, found), Used::Given)),
+        Form::Equals(colon) => Ok(when_missing(is_missing(colon, found), Used::Stored)),
+        Form::Query(colon) => Ok(when_missing(is_missing(colon, found), Used::Demanded)),
         Form::Plus(colon) => {
             if is_missing(colon, found) {
-                return Plan::Unused(Unused::Nothing);
+                return Ok(Plan::Unused(Unused::Nothing));
             }
-            Plan::Used(Used::Given)
+            Ok(Plan::Used(Used::Given))
         }
         Form::Suffix(long) => removal_plan(true, long, found, shouts),
         Form::Prefix(long) => removal_plan(false, long, found, shouts),
@@ -120,8 +109,7 @@ pub fn operand_mark(used: Used, mark: Mark) -> Mark
 {
     match used {
         Used::Given => row::expanded_mark(mark),
-        Used::Stored => mark,
-        Used::Removed { suffix: _, long: _ } => Mark::L,
-        Used::Demanded => mark,
+        Used::Stored | Used::Demanded => mark,
+        Used::Removed { .. } => Mark::L,
     }
 }

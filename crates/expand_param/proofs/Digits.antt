@@ -18,7 +18,7 @@ use Rattle.stages.specs.Params.{numbered}
 use Rattle.stages.proofs.Bools.{either}
 use Rattle.stages.proofs.Images.{texts_image_length}
 use Rattle.table.specs.Places.{Listed, found_by}
-use Rattle.table.specs.declared.Found.TheVariants.{Missing}
+use Rattle.std.specs.Prelude.{None}
 use Rattle.table_find.specs.Numbered.{numbered_in}
 use Rattle.expand_param.specs.Holding.{number_limit, capped}
 
@@ -98,5 +98,5 @@ module _ (t : Text) (k : ℕ) (w : Listed t) (fits : length t ≤ number_limit) 
       beyond : leb k number_limit ≡ false → numbered k (held_texts t) ≡ none
       beyond e = numbered_beyond k (held_texts t) (omega (arith, few, leb-false k number_limit e))
 
-      none_there : (i : ℕ) → numbered i (held_texts t) ≡ none → numbered_in t i ≡ Missing
+      none_there : (i : ℕ) → numbered i (held_texts t) ≡ none → numbered_in t i ≡ None
       none_there i e = unfold numbered_in found_by in rw (e, found_by)

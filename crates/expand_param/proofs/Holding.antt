@@ -17,9 +17,9 @@ use Rattle.stages.specs.Params as stage
 use Rattle.stages.specs.Expand.{amount}
 use Rattle.stages.proofs.Bools.{no}
 use Rattle.text.proofs.Parts.{part_length}
-use Rattle.table.specs.declared.Found.{Found}
-use Rattle.table.specs.declared.Found.TheVariants.{At, Missing}
-use Rattle.expand_param.specs.Holding.{holding_in, sought_in, is_shout, image_of, Bears, Shown, shown, absent, Finds, missing_in}
+use Rattle.table.specs.declared.Part.{Part}
+use Rattle.std.specs.Prelude.{Option as Perhaps, Some}
+use Rattle.expand_param.specs.Holding.{holding_in, sought_in, is_shout, image_of, Shown, shown, absent, missing_in}
 
 -- the stage's words, by the positional parameters that are lent
 
@@ -61,7 +61,7 @@ shout_given true (some t) e = refl
 
 -- "missing", by where the value was found
 
-missing_part : (u : Text) (c : Colon) (from to : ℕ) → length u ≡ to - from → from ≤ to → missing_in (At from to) c ≡ stage.absent c (some u)
+missing_part : (u : Text) (c : Colon) (from to : ℕ) → length u ≡ to - from → from ≤ to → missing_in (Some (record { from = from; to = to })) c ≡ stage.absent c (some u)
 unfolding stage.absent
 missing_part [] with_colon from to e l = eq-eqb from to (omega arith)
 missing_part [] no_colon from to e l = refl
@@ -69,24 +69,9 @@ missing_part (b ∷ u) with_colon from to e l = ne_eqb from to (λ h. absurd (om
 missing_part (b ∷ u) no_colon from to e l = refl
 
 module _ {vars params : Text} {x : Param} (a : Lent) (e : a.params ≡ held_texts params) where
-  pub missing_found : {found : Found} → Shown vars params x found → (c : Colon) → missing_in found c ≡ missing a c x (held vars)
+  pub missing_found : {found : Perhaps Part} → Shown vars params x found → (c : Colon) → missing_in found c ≡ missing a c x (held vars)
   unfolding missing stage.absent
   missing_found (absent h) c = ap (stage.absent c) (sym (holding_held a (held_texts params) e (held vars) x ∙ h))
-  missing_found (shown {start = from} {end = to} h) c =
-      missing_part (part (image_of vars params x) from to) c from to (part_length (image_of vars params x) from to h.low h.high) h.low
+  missing_found (shown {p = p} h) c =
+      missing_part (part (image_of vars params x) p.from p.to) c p.from p.to (part_length (image_of vars params x) p.from p.to h.low h.high) h.low
       ∙ ap (stage.absent c) (sym (holding_held a (held_texts params) e (held vars) x ∙ h.gets))
-
--- E14, by where the value was found
-
-absent_of : {vars params : Text} {x : Param} → Shown vars params x Missing → holding_in (held_texts params) (held vars) x ≡ none
-absent_of (absent h) = h
-
-bears_of : {vars params : Text} {x : Param} {from to : ℕ} → Shown vars params x (At from to) → Bears vars params x from to
-bears_of (shown h) = h
-
-module _ {vars params : Text} {x : Param} {found : Found} (f : Finds vars params x found) where
-  pub unset_shouts : found ≡ Missing → is_shout true (holding_in (held_texts params) (held vars) x) ≡ true
-  unset_shouts e = ap (is_shout true) (absent_of (rw e at f.shows))
-
-  pub set_is_quiet : {from to : ℕ} → found ≡ At from to → is_shout true (holding_in (held_texts params) (held vars) x) ≡ false
-  set_is_quiet e = ap (is_shout true) (bears_of (rw e at f.shows)).gets

@@ -1,5 +1,5 @@
 -- What a parameter holds, by the images of the variables and of the positional parameters; where its value was found, and whether it is missing by that.
-use Rattle.std.specs.Prelude.{ℕ, ◌≤◌, ◌≡◌, Bool, true, false, List, eqb, leb, length}
+use Rattle.std.specs.Prelude.{ℕ, ◌≤◌, ◌≡◌, Bool, true, false, List, eqb, leb, length, Option as Perhaps, Some, None}
 use Rattle.std.proofs.Math.Option.{Option, none, some}
 use Rattle.stages.specs.Bytes.{Text, part}
 use Rattle.stages.specs.Outcome.{Outcome, pick}
@@ -7,8 +7,7 @@ use Rattle.stages.specs.Images.{Pairs, lookup, held, held_texts}
 use Rattle.stages.specs.Syntax.{Colon, with_colon, no_colon, Param, var, nth}
 use Rattle.stages.specs.Params.{numbered, or_shout}
 use Rattle.table.specs.Places.{found_in}
-use Rattle.table.specs.declared.Found.{Found}
-use Rattle.table.specs.declared.Found.TheVariants.{At, Missing}
+use Rattle.table.specs.declared.Part.{Part}
 use Rattle.table_find.specs.Numbered.{numbered_in}
 
 -- a number as the code counts: the greatest one stands for all beyond it
@@ -41,7 +40,7 @@ image_of vars params (var x) = vars
 image_of vars params (nth k) = params
 
 -- where its value is in that
-unfoldable pub place_in : Text → Text → Param → Found
+unfoldable pub place_in : Text → Text → Param → Perhaps Part
 unfolding found_in numbered_in
 place_in vars params (var x) = found_in vars x
 place_in vars params (nth k) = numbered_in params k
@@ -53,16 +52,16 @@ pub record Bears (vars params : Text) (x : Param) (start end : ℕ) : Type 0 whe
   pub gets : holding_in (held_texts params) (held vars) x ≡ some (part (image_of vars params x) start end)
 
 -- what an answer says of the bytes
-pub data Shown (vars params : Text) (x : Param) : Found → Type 0 where
-  shown : {start end : ℕ} → Bears vars params x start end → Shown vars params x (At start end)
-  absent : holding_in (held_texts params) (held vars) x ≡ none → Shown vars params x Missing
+pub data Shown (vars params : Text) (x : Param) : Perhaps Part → Type 0 where
+  shown : {p : Part} → Bears vars params x p.from p.to → Shown vars params x (Some p)
+  absent : holding_in (held_texts params) (held vars) x ≡ none → Shown vars params x None
 
-pub record Finds (vars params : Text) (x : Param) (r : Found) : Type 0 where
+pub record Finds (vars params : Text) (x : Param) (r : Perhaps Part) : Type 0 where
   pub is : r ≡ place_in vars params x
   pub shows : Shown vars params x r
 
 -- "missing", by where the value was found
-abbrev pub missing_in : Found → Colon → Bool
-missing_in Missing c = true
-missing_in (At from to) with_colon = eqb from to
-missing_in (At from to) no_colon = false
+abbrev pub missing_in : Perhaps Part → Colon → Bool
+missing_in None c = true
+missing_in (Some p) with_colon = eqb p.from p.to
+missing_in (Some p) no_colon = false

@@ -9,7 +9,7 @@ ghost use Rattle.read_brace.specs.Shows.{Name, param_of};
 ghost use Rattle.expand_param.specs.Holding.{capped, holding_in, is_shout, Finds};
 
 use read_brace::Param;
-use table::Found;
+use table::Part;
 
 // The number of decimal digits. Those beyond the greatest are it: no image has so many texts.
 pub fn number_of(digits: &[u8]) -> usize
@@ -24,7 +24,7 @@ pub fn number_of(digits: &[u8]) -> usize
 }
 
 // Where the value of a parameter is: a name's in `vars`, a number's in `params`.
-pub fn look_up(text: &[u8], param: Param, vars: &[u8], params: &[u8]) -> Found
+pub fn look_up(text: &[u8], param: Param, vars: &[u8], params: &[u8]) -> Option<Part>
     requires { Name text.now param.from param.to × Table vars.now × Listed params.now }
     ensures { Finds vars.now params.now (param_of text.now param) result }
 {
@@ -41,7 +41,7 @@ pub fn must_shout(text: &[u8], param: Param, vars: &[u8], params: &[u8], shouts:
     requires { Name text.now param.from param.to × Table vars.now × Listed params.now }
     ensures { result ≡ is_shout shouts (holding_in (held_texts params.now) (held vars.now) (param_of text.now param)) }
 {
-    shouts && matches!(look_up(text, param, vars, params), Found::Missing)
+    shouts && look_up(text, param, vars, params).is_none()
 }
 
 // The value of a parameter, a part of the image itself; empty if it is unset.

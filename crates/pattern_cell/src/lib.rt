@@ -29,26 +29,18 @@ pub fn set_in(cell: u16, sets: &[u64]) -> ByteSet
 pub fn first_star(cells: &[u16]) -> usize
     ensures { FirstStar cells.now result }
 {
-    let mut i: usize = 0;
-    while i < cells.len() {
-        if cells[i] == STAR {
-            return i;
-        }
-        i += 1;
-    }
-    i
+    cells
+        .iter()
+        .position(|cell| *cell == STAR)
+        .unwrap_or(cells.len())
 }
 
 // The place behind the last star, 0 where there is none.
 pub fn last_star(cells: &[u16]) -> usize
     ensures { LastStar cells.now result }
 {
-    let mut last = cells.len();
-    while last > 0 {
-        if cells[last - 1] == STAR {
-            return last;
-        }
-        last -= 1;
-    }
-    last
+    cells
+        .iter()
+        .rposition(|cell| *cell == STAR)
+        .map_or(0, |i| i + 1)
 }

@@ -8,8 +8,9 @@ use Rattle.stages.specs.Pattern.{Element}
 use Rattle.text.proofs.Determined.{one_answer}
 use Rattle.pattern_cell.specs.Cells.{Shows, Shown}
 use Rattle.pattern_paths.specs.Chosen.{NextSays}
-use Rattle.pattern_paths.specs.declared.Next.{Next}
+use Rattle.std.specs.Prelude.{Option}
+use Rattle.table.specs.declared.Part.{Part}
 
-pub next_path_determined : (paths : Text) (at : ℕ) (sets cells : List ℕ) {r q : Next} → Shown sets cells
+pub next_path_determined : (paths : Text) (at : ℕ) (sets cells : List ℕ) {r q : Option Part} → Shown sets cells
     → ((es : List Element) → Shows sets cells es → NextSays es paths at r) → ((es : List Element) → Shows sets cells es → NextSays es paths at q) → r ≡ q
 next_path_determined paths at sets cells s d e = one_answer (d s.es s.shows).is (e s.es s.shows).is

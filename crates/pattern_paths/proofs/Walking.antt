@@ -13,12 +13,10 @@ use Rattle.stages.specs.Images.{texts, held_texts}
 use Rattle.stages.specs.Pattern.{Element, for_paths, matches}
 use Rattle.stages.specs.Paths.{chosen}
 use Rattle.stages.proofs.Tables.{Paths}
-use Rattle.table.specs.Pieces.{piece_at, texts_from}
-use Rattle.table.specs.declared.Piece.{Piece}
-use Rattle.table.specs.declared.Piece.TheVariants.{End, Bad, At}
+use Rattle.table.specs.Pieces.{Piece, malformed, piece_at, texts_from}
+use Rattle.std.specs.Prelude.{Some, None, Ok, Err}
 use Rattle.table.proofs.Pieces.{Ahead, ahead_from, ahead_first, Next, ahead_end, ahead_bad, ahead_text}
 use Rattle.pattern_paths.specs.Chosen.{Walks, next_in, nothing, path, NextSays}
-use Rattle.pattern_paths.specs.declared.Next.TheVariants.{Path, Nothing}
 
 walks_ahead : (t : Text) (at : ℕ) (l : List Text) → Ahead t at l → Walks t at
 walks_ahead t at l h = record { within = h.within; reads = h.is ∙ ap (λ (k : List Text). some k) (sym (ahead_from h)) }
@@ -54,7 +52,7 @@ module _ {p : List Element} {t : Text} {at i : ℕ} (g : Passing p t at i) {r : 
   ahead : Ahead t i (texts_from t i)
   ahead = record { within = g.walks.within; is = g.walks.reads }
 
-  pub passing_end : r ≡ End → NextSays p t at Nothing
+  pub passing_end : r ≡ Ok None → NextSays p t at None
   unfolding next_in chosen
   passing_end e =
       let none : texts_from t i ≡ [] = ahead_end ahead s e in
@@ -63,10 +61,10 @@ module _ {p : List Element} {t : Text} {at i : ℕ} (g : Passing p t at i) {r : 
         tells = nothing (g.chooses ∙ ap (λ (l : List Text). chosen p l) none);
       }
 
-  pub passing_bad : r ≡ Bad → NextSays p t at Nothing
+  pub passing_bad : r ≡ Err malformed → NextSays p t at None
   passing_bad e = absurd (ahead_bad ahead s e)
 
-  module _ {end : ℕ} (e : r ≡ At end) where
+  module _ {end : ℕ} (e : r ≡ Ok (Some end)) where
     step : Next t i end (texts_from t i)
     step = ahead_text ahead s e
 
@@ -89,20 +87,20 @@ module _ {p : List Element} {t : Text} {at i : ℕ} (g : Passing p t at i) {r : 
     here : texts_from t i ≡ found ∷ texts_from t end
     here = step.is ∙ ap (λ (l : List Text). found ∷ l) (sym (ahead_from step.ahead))
 
-    next_here : next_in p i (texts_from t i) ≡ pick (matches for_paths p found) (Path (i + 2) end)
+    next_here : next_in p i (texts_from t i) ≡ pick (matches for_paths p found) (Some (record { from = i + 2; to = end }))
         (next_in p end (texts_from t end))
     unfolding next_in
     next_here = ap (λ (l : List Text). next_in p i l) here
-        ∙ ap (λ (n : ℕ). pick (matches for_paths p found) (Path (i + 2) n) (next_in p n (texts_from t end))) ends
+        ∙ ap (λ (n : ℕ). pick (matches for_paths p found) (Some (record { from = i + 2; to = n })) (next_in p n (texts_from t end))) ends
 
     chosen_here : chosen p (texts_from t i)
         ≡ pick (matches for_paths p found) (found ∷ chosen p (texts_from t end)) (chosen p (texts_from t end))
     chosen_here = ap (λ (l : List Text). chosen p l) here ∙ chosen_first p found (texts_from t end)
 
-    pub passing_found : matches for_paths p found ≡ true → NextSays p t at (Path (i + 2) end)
+    pub passing_found : matches for_paths p found ≡ true → NextSays p t at (Some (record { from = i + 2; to = end }))
     passing_found y = record {
-      is = sym (g.next ∙ next_here ∙ ap (λ (b : Bool). pick b (Path (i + 2) end) (next_in p end (texts_from t end))) y);
-      tells = path {from = i + 2} {to = end} (omega (arith, g.order)) step.low step.ahead.within (walks_ahead t end step.more step.ahead)
+      is = sym (g.next ∙ next_here ∙ ap (λ (b : Bool). pick b (Some (record { from = i + 2; to = end })) (next_in p end (texts_from t end))) y);
+      tells = path {r = record { from = i + 2; to = end }} (omega (arith, g.order)) step.low step.ahead.within (walks_ahead t end step.more step.ahead)
           (g.chooses ∙ chosen_here ∙ ap
           (λ (b : Bool). pick b (found ∷ chosen p (texts_from t end)) (chosen p (texts_from t end))) y);
     }
@@ -111,7 +109,7 @@ module _ {p : List Element} {t : Text} {at i : ℕ} (g : Passing p t at i) {r : 
     passing_on n = record {
       order = omega (arith, g.order, step.low);
       walks = walks_ahead t end step.more step.ahead;
-      next = g.next ∙ next_here ∙ ap (λ (b : Bool). pick b (Path (i + 2) end) (next_in p end (texts_from t end))) n;
+      next = g.next ∙ next_here ∙ ap (λ (b : Bool). pick b (Some (record { from = i + 2; to = end })) (next_in p end (texts_from t end))) n;
       chooses = g.chooses ∙ chosen_here ∙ ap
           (λ (b : Bool). pick b (found ∷ chosen p (texts_from t end)) (chosen p (texts_from t end))) n;
     }

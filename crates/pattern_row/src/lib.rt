@@ -11,18 +11,15 @@ use text::marks;
 pub fn drop_empty(row: &mut [u8]) -> usize
     ensures { Dropped row.old row.new result }
 {
-    let mut at: usize = 0;
-    let mut to: usize = 0;
-    while at + 1 < row.len() {
-        let b = row[at];
-        let m = row[at + 1];
-        at += 2;
-        if !marks::is_mark(m) {
-            continue;
+    let mut to = 0;
+    for unit in 0..row.len() / 2 {
+        let b = row[2 * unit];
+        let m = row[2 * unit + 1];
+        if marks::is_mark(m) {
+            row[to] = b;
+            row[to + 1] = m;
+            to += 2;
         }
-        row[to] = b;
-        row[to + 1] = m;
-        to += 2;
     }
     to
 }
@@ -31,13 +28,11 @@ pub fn drop_empty(row: &mut [u8]) -> usize
 pub fn is_plain(row: &[u8]) -> bool
     ensures { result ≡ plain row.now }
 {
-    let mut at: usize = 0;
-    while row.len() - at > 1 {
-        let b = row[at];
+    for k in 0..row.len() / 2 {
+        let b = row[2 * k];
         if b == b'*' || b == b'?' || b == b'[' {
             return false;
         }
-        at += 2;
     }
     true
 }

@@ -10,7 +10,6 @@ use lib.Seq.{drop-drop, take_at, drop_at}
 use borrow.Rule.Slice.PartMut.{put_mid, mid_of}
 use Rattle.stages.specs.Bytes.{Text, part, is_blank}
 use Rattle.stages.specs.Call.{over}
-use Rattle.stages.proofs.Rooms.{over_length}
 use Rattle.text.specs.Classes.{Runs}
 use Rattle.text.specs.declared.Class.TheVariants.{BareByte}
 use Rattle.text.proofs.Parts.{part_length, rest_is, rest_back}
@@ -64,15 +63,6 @@ module _ {line : Text} {at : ℕ} {old : Text} where
   copy_starts h l = record { said = []; walked = walk_starts line at h; counts = refl; is = refl; lent = l }
 
   module _ {i n : ℕ} {area : Text} (c : Copied line at old i area n) {run : ℕ} (r : Runs line i BareByte run) where
-    size : length (part line i run) ≡ run - i
-    size = part_length line i run r.onward r.within
-
-    lent_length : length area ≡ length old
-    lent_length = ap length c.is ∙ over_length c.said old (omega (arith, c.walked.few, c.walked.within, c.lent))
-
-    pub run_fits : n + length (part line i run) ≤ length area
-    run_fits = omega (arith, size, lent_length, c.counts, c.walked.few, c.lent, r.onward, r.within)
-
     pub copy_runs : {left : Text} {m : ℕ} → PutsBehind n (part line i run) area left m → Ran line at old i run left m
     copy_runs p = record {
       said = c.said;
@@ -91,9 +81,6 @@ module _ {line : Text} {at : ℕ} {old : Text} where
     long =
         let k = part_length line i run c.runs.onward c.runs.within in
         simp length-append (omega (arith, k, c.walked.few, c.runs.onward))
-
-    pub ran_length : length area ≡ length old
-    ran_length = ap length c.is ∙ over_length all old (omega (arith, long, c.runs.within, c.lent))
 
     leaves : Walk (drop at line) (some (all, drop run line)) → Leaves line at old area n run
     leaves w = record {
@@ -118,12 +105,6 @@ module _ {line : Text} {at : ℕ} {old : Text} where
         leaves_none q = walk_fails c.walked c.runs l e' q
 
         module _ {from to next : ℕ} (q : EnclosedAs line (run + 1) (quoted_in (drop run line)) from to next) where
-          enclosed_size : length (part line from to) ≡ to - from
-          enclosed_size = part_length line from to q.order (omega (arith, q.closes, q.within))
-
-          pub enclosed_fits : n + length (part line from to) ≤ length area
-          enclosed_fits = omega (arith, enclosed_size, ran_length, long, c.counts, c.lent, q.onward, q.order, q.closes, q.within)
-
           pub copy_goes : {left : Text} {m : ℕ} → PutsBehind n (part line from to) area left m → Copied line at old next left m
           copy_goes p =
               let z = part line from to in

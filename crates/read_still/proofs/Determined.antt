@@ -1,18 +1,18 @@
 -- The contracts determine every answer: two outcomes that a contract allows for one input are equal. Where a word is none of these,
 -- what the area holds is scratch.
+use Rattle.std.specs.Prelude.{Option, Some, None}
 use Prim.Native.Nat.{ℕ, ◌≤◌}
 use native.Mathlib.Omega.{arith}
 use mathlib.Core.Path.{◌≡◌, refl, sym, ap, ◌∙◌, subst}
 use mathlib.Core.Bool.{Bool, true, false}
 use mathlib.Core.List.{[], ◌∷◌, ◌++◌}
-use mathlib.Core.Option.{none, some}
+use mathlib.Core.Option.{some}
 use lib.ListN.{length, drop, length-drop}
 use Rattle.stages.specs.Bytes.{Text, is_blank}
 use Rattle.stages.specs.Call.{over}
 use Rattle.stages.proofs.Bools.{no, apart, clash, some_same}
-use Rattle.read_still.specs.declared.Still.{Still}
-use Rattle.read_still.specs.declared.Still.TheVariants as still
-use Rattle.read_still.specs.Walks.{Said, quoted_in, behind, Walk, ends, stops, fails, goes, EndsBy, EndsAt, PutsStill}
+use Rattle.read_still.specs.declared.StillWord.{StillWord}
+use Rattle.read_still.specs.Walks.{Said, quoted_in, behind, Walk, ends, stops, fails, goes, EndsAt, PutsStill}
 
 abbrev Cut : Type 0
 Cut = Text × Text
@@ -63,23 +63,24 @@ walk_determined (goes {s = s} {q = q} {w = x} {o = o} e i k v) (goes {s = y} {q 
 same_place : (line : Text) (r s : ℕ) → r ≤ length line → s ≤ length line → drop r line ≡ drop s line → r ≡ s
 same_place line r s h k e = omega (arith, length-drop r line, length-drop s line, ap length e)
 
-ends_same : (line : Text) (at r s : ℕ) (o : Said) → EndsBy line at r o → EndsBy line at s o → r ≡ s
-ends_same line at r s none e f = e ∙ sym f
-ends_same line at r s (some p) e f = same_place line r s e.2 f.2 (sym e.0 ∙ f.0)
-
-pub still_end_determined : (line : Text) (at r s : ℕ) → EndsAt line at r → EndsAt line at s → r ≡ s
-still_end_determined line at r s p q =
-    ends_same line at r s q.said (subst (λ (o : Said). EndsBy line at r o) (walk_determined p.walk q.walk) p.ends) q.ends
+pub still_end_determined : (line : Text) (at : ℕ) (r s : Option ℕ) → EndsAt line at r → EndsAt line at s → r ≡ s
+still_end_determined line at (Some r) (Some s) p q =
+    ap Some (same_place line r s p.within q.within (ap (λ (z : Cut). z.1) (some_same (walk_determined p.walk q.walk))))
+still_end_determined line at (Some r) None p q = absurd (clash (walk_determined q p.walk))
+still_end_determined line at None (Some s) p q = absurd (clash (walk_determined p q.walk))
+still_end_determined line at None None p q = refl
 
 -- the same word is answered, and the same bytes stand at the front
-pub put_still_determined : (line : Text) (at : ℕ) (old l m : Text) (r s : Still) → PutsStill line at old l r → PutsStill line at old m s
-    → (r ≡ s) × ((r ≡ still.Nothing → ⊥) → l ≡ m)
-put_still_determined line at old l m still.Nothing still.Nothing p q = (refl, λ e. absurd (e refl))
-put_still_determined line at old l m still.Nothing (still.Word n next) p q = absurd (clash (walk_determined p q.walk))
-put_still_determined line at old l m (still.Word n next) still.Nothing p q = absurd (clash (walk_determined q p.walk))
-put_still_determined line at old l m (still.Word n next) (still.Word k then) p q =
+pub put_still_determined : (line : Text) (at : ℕ) (old l m : Text) (r s : Option StillWord) → PutsStill line at old l r → PutsStill line at old m s
+    → (r ≡ s) × ((r ≡ None → ⊥) → l ≡ m)
+put_still_determined line at old l m None None p q = (refl, λ e. absurd (e refl))
+put_still_determined line at old l m None (Some w) p q = absurd (clash (walk_determined p q.walk))
+put_still_determined line at old l m (Some w) None p q = absurd (clash (walk_determined q p.walk))
+put_still_determined line at old l m (Some w) (Some v) p q =
     let e = some_same (walk_determined p.walk q.walk) in
     let t : p.text ≡ q.text = ap (λ (z : Cut). z.0) e in
-    let a : n ≡ k = p.counts ∙ ap length t ∙ sym q.counts in
-    let b : next ≡ then = same_place line next then p.within q.within (ap (λ (z : Cut). z.1) e) in
-    (ap (λ (i : ℕ). still.Word i next) a ∙ ap (λ (i : ℕ). still.Word k i) b, λ _. p.is ∙ ap (λ (x : Text). over x old) t ∙ sym q.is)
+    let a : w.len ≡ v.len = p.counts ∙ ap length t ∙ sym q.counts in
+    let b : w.next ≡ v.next = same_place line w.next v.next p.within q.within (ap (λ (z : Cut). z.1) e) in (
+      ap (λ (i : ℕ). Some (record { len = i; next = w.next })) a ∙ ap (λ (i : ℕ). Some (record { len = v.len; next = i })) b,
+      λ _. p.is ∙ ap (λ (x : Text). over x old) t ∙ sym q.is,
+    )

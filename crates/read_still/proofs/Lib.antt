@@ -1,6 +1,5 @@
 pub mod Determined
 pub mod Walking
 pub mod Copying
-pub mod Quoting
 pub mod Reading
 pub mod Fields

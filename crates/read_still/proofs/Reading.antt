@@ -22,7 +22,7 @@ use Rattle.read_mode.proofs.Closing.{blank_is}
 use Rattle.read_run.specs.Literals.{literal_in, lits}
 use Rattle.read_run.proofs.Parts.{begun_parts}
 use Rattle.read_still.proofs.Walking.{behind_behind}
-use Rattle.read_still.specs.Walks.{Said, closed_by, escaped_in, quoted_in, behind, Walk, ends, stops, fails, goes, EndsBy, EndsAt}
+use Rattle.read_still.specs.Walks.{Said, closed_by, escaped_in, quoted_in, behind, Walk, ends, stops, fails, goes, EndsTo}
 
 -- parts in which nothing is expanded, the bytes that they say, and how many units they give
 pub data Stills : Parts → Text → ℕ → Type 0 where
@@ -236,13 +236,5 @@ pub record ReadsTo (d : ℕ) (line : Text) (at r : ℕ) : Type 0 where
   pub reads : Reads fresh d (drop at line) said (drop r line)
   pub within : r ≤ length line
 
-pub end_reads : (d : ℕ) (line : Text) (at r : ℕ) → EndsAt line at r → at < r → ReadsTo d line at r
-end_reads d line at r p h = go p.said p.walk p.ends
-  where
-    go : (o : Said) → Walk (drop at line) o → EndsBy line at r o → ReadsTo d line at r
-    go none w e = absurd (omega arith)
-    go (some q) w e = record {
-      said = q.0;
-      reads = subst (λ (u : Text). Reads fresh d (drop at line) q.0 u) e.0 (walk_reads d w fresh);
-      within = e.2;
-    }
+pub end_reads : (d : ℕ) (line : Text) (at r : ℕ) → EndsTo line at r → ReadsTo d line at r
+end_reads d line at r p = record { said = p.text; reads = walk_reads d p.walk fresh; within = p.within }

@@ -11,7 +11,7 @@ use Rattle.stages.specs.Bytes.{Text, part, span, is_bare_byte, is_blank}
 use Rattle.text.specs.Classes.{Runs}
 use Rattle.text.specs.declared.Class.TheVariants.{BareByte}
 use Rattle.text.proofs.Parts.{part_length}
-use Rattle.read_still.specs.Walks.{Said, quoted_in, behind, Walk, ends, stops, fails, goes, EnclosedAs, EndsAt}
+use Rattle.read_still.specs.Walks.{Said, quoted_in, behind, Walk, ends, stops, fails, goes, EnclosedAs, EndsTo}
 
 pub behind_behind : (y z : Text) (o : Said) → behind y (behind z o) ≡ behind (y ++ z) o
 behind_behind y z none = refl
@@ -80,11 +80,13 @@ module _ {line : Text} {at i : ℕ} {y : Text} (w : Walked line at i y) {run : �
   reaches : at ≤ run
   reaches = omega (arith, w.few, r.onward)
 
-  pub end_line : length line ≤ run → EndsAt line at run
-  end_line h = record { said = some (y ++ part line i run, drop run line); walk = walk_ends w r h; ends = (refl, reaches, r.within) }
+  pub end_line : length line ≤ run → EndsTo line at run
+  end_line h = record { text = y ++ part line i run; walk = walk_ends w r h; onward = reaches; within = r.within }
 
-  pub end_blank : run < length line → is_blank (get_or line run 0) ≡ true → EndsAt line at run
-  end_blank l e = record { said = some (y ++ part line i run, drop run line); walk = walk_stops w r l e; ends = (refl, reaches, r.within) }
+  pub end_blank : run < length line → is_blank (get_or line run 0) ≡ true → EndsTo line at run
+  end_blank l e = record { text = y ++ part line i run; walk = walk_stops w r l e; onward = reaches; within = r.within }
 
-  pub end_none : run < length line → is_blank (get_or line run 0) ≡ false → quoted_in (drop run line) ≡ none → EndsAt line at at
-  end_none l e q = record { said = none; walk = walk_fails w r l e q; ends = refl }
+-- what the loop that seeks the end holds
+pub record Passing (line : Text) (at i : ℕ) : Type 0 where
+  pub said : Text
+  pub walked : Walked line at i said

@@ -1,20 +1,19 @@
 -- Words in which nothing is expanded, by their bytes: bare ones, those in quotes of which each stands for itself, and those behind a backslash.
-use Rattle.std.specs.Prelude.{ℕ, ◌+◌, ◌≤◌, ◌≡◌, true, false, [], ◌∷◌, ◌++◌, eqb, length, take, drop}
+use Rattle.std.specs.Prelude.{ℕ, ◌+◌, ◌≤◌, ◌≡◌, true, false, [], ◌∷◌, ◌++◌, eqb, length, take, drop, Option, Some, None}
 use Prim.Native.Char.{code}
-use Rattle.std.proofs.Math.Option.{Option, none, some}
+use Rattle.std.proofs.Math.Option.{none, some}
+use Rattle.std.proofs.Math.Option as math
 use Rattle.stages.specs.Bytes.{Text, part, span, is_bare_byte, is_blank}
 use Rattle.stages.specs.Outcome.{pick}
 use Rattle.stages.specs.Syntax.{single, double, no_escapes, served}
 use Rattle.stages.specs.Call.{over}
 use Rattle.read_run.specs.Literals.{literal_in}
 use Rattle.read_still.specs.declared.Enclosed.{Enclosed}
-use Rattle.read_still.specs.declared.Enclosed.TheVariants as enclosed
-use Rattle.read_still.specs.declared.Still.{Still}
-use Rattle.read_still.specs.declared.Still.TheVariants as still
+use Rattle.read_still.specs.declared.StillWord.{StillWord}
 
 -- what is said at the head of a text, and what is behind it
 abbrev pub Said : Type 0
-Said = Option (Text × Text)
+Said = math.Option (Text × Text)
 
 -- a run that the quote ends which opened it
 abbrev pub closed_by : ℕ → Text × Text → Said
@@ -55,19 +54,20 @@ pub record EnclosedAs (line : Text) (at : ℕ) (o : Said) (from to next : ℕ) :
   pub closes : to ≤ next
   pub within : next ≤ length line
 
-abbrev pub Encloses : Text → ℕ → Said → Enclosed → Type 0
-Encloses line at o enclosed.Nothing = o ≡ none
-Encloses line at o (enclosed.Bytes from to next) = EnclosedAs line at o from to next
+abbrev pub Encloses : Text → ℕ → Said → Option Enclosed → Type 0
+Encloses line at o None = o ≡ none
+Encloses line at o (Some e) = EnclosedAs line at o e.from e.to e.next
 
--- the place behind the word that begins at `at`, or that place itself
-abbrev pub EndsBy : Text → ℕ → ℕ → Said → Type 0
-EndsBy line at r none = r ≡ at
-EndsBy line at r (some p) = (p.1 ≡ drop r line) × (at ≤ r) × (r ≤ length line)
+-- the place behind the word that begins at `at`
+pub record EndsTo (line : Text) (at r : ℕ) : Type 0 where
+  pub text : Text
+  pub walk : Walk (drop at line) (some (text, drop r line))
+  pub onward : at ≤ r
+  pub within : r ≤ length line
 
-pub record EndsAt (line : Text) (at r : ℕ) : Type 0 where
-  pub said : Said
-  pub walk : Walk (drop at line) said
-  pub ends : EndsBy line at r said
+abbrev pub EndsAt : Text → ℕ → Option ℕ → Type 0
+EndsAt line at (Some r) = EndsTo line at r
+EndsAt line at None = Walk (drop at line) none
 
 -- a text is put behind the first bytes of an area
 pub record PutsBehind (used : ℕ) (t old left : Text) (r : ℕ) : Type 0 where
@@ -84,6 +84,6 @@ pub record Leaves (line : Text) (at : ℕ) (old left : Text) (len next : ℕ) : 
   pub within : next ≤ length line
   pub few : len ≤ length old
 
-abbrev pub PutsStill : Text → ℕ → Text → Text → Still → Type 0
-PutsStill line at old left still.Nothing = Walk (drop at line) none
-PutsStill line at old left (still.Word len next) = Leaves line at old left len next
+abbrev pub PutsStill : Text → ℕ → Text → Text → Option StillWord → Type 0
+PutsStill line at old left None = Walk (drop at line) none
+PutsStill line at old left (Some w) = Leaves line at old left w.len w.next

@@ -11,102 +11,78 @@ ghost use Rattle.read_still.specs.Walks.{closed_by, escaped_in, quoted_in, Enclo
 use read_mode::Mode;
 use text::Class;
 
-// What is quoted at a place: the line's bytes from `from` to `to`, and it goes on at `next`; or nothing, or not only bytes that stand for themselves.
+// What is quoted at a place: the line's bytes from `from` to `to`, and it goes on at `next`.
 #[derive(Clone, Copy)]
-enum Enclosed {
-    Nothing,
-    Bytes { from: usize, to: usize, next: usize },
+struct Enclosed {
+    from: usize,
+    to: usize,
+    next: usize,
 }
 
-// A word in which nothing is expanded: its bytes are the area's first `len`, and the line goes on at `next`; or it is none.
+// A word in which nothing is expanded: its bytes are the area's first `len`, and the line goes on at `next`.
 #[derive(Clone, Copy)]
-pub enum Still {
-    Nothing,
-    Word { len: usize, next: usize },
+pub struct StillWord {
+    pub len: usize,
+    pub next: usize,
 }
 
-// What quotes enclose that open before a place: bytes that stand for themselves in the mode, up to the next quote.
-fn closed_at(line: &[u8], at: usize, mode: Mode, mark: u8) -> Enclosed
+// What quotes enclose that open before a place, if only bytes that stand for themselves in the mode do up to the next quote.
+fn closed_at(line: &[u8], at: usize, mode: Mode, mark: u8) -> Option<Enclosed>
     requires { at ≤ length line.now }
     ensures { Encloses line.now at (closed_by mark (span (literal_in (mode_of mode)) (drop at line.now))) result }
 {
     let to = read_run::literals_end(line, at, mode);
-    if to >= line.len() {
-        return Enclosed::Nothing;
+    if to >= line.len() || line[to] != mark {
+        return None;
     }
-    if line[to] != mark {
-        return Enclosed::Nothing;
-    }
-    Enclosed::Bytes {
+    Some(Enclosed {
         from: at,
-        to: to,
+        to,
         next: to + 1,
-    }
+    })
 }
 
-// What the backslash before a place quotes.
-fn escaped_at(line: &[u8], at: usize) -> Enclosed
+// What the backslash before a place quotes, if it quotes a byte.
+fn escaped_at(line: &[u8], at: usize) -> Option<Enclosed>
     requires { at ≤ length line.now }
     ensures { Encloses line.now at (escaped_in (drop at line.now)) result }
 {
-    if at >= line.len() {
-        return Enclosed::Nothing;
+    if at >= line.len() || line[at] == b'\n' {
+        return None;
     }
-    if line[at] == b'\n' {
-        return Enclosed::Nothing;
-    }
-    Enclosed::Bytes {
+    Some(Enclosed {
         from: at,
         to: at + 1,
         next: at + 1,
-    }
+    })
 }
 
-// What is quoted at a place.
-fn quoted_at(line: &[u8], at: usize) -> Enclosed
+// What is quoted at a place, if something is, and only bytes that stand for themselves.
+fn quoted_at(line: &[u8], at: usize) -> Option<Enclosed>
     requires { at < length line.now }
     ensures { Encloses line.now (at + 1) (quoted_in (drop at line.now)) result }
 {
-    let b = line[at];
-    if b == b'\'' {
-        return closed_at(line, at + 1, Mode::Single(false), b);
+    match line[at] {
+        b'\'' => closed_at(line, at + 1, Mode::Single(false), b'\''),
+        b'"' => closed_at(line, at + 1, Mode::Double(true), b'"'),
+        b'\\' => escaped_at(line, at + 1),
+        _ => None,
     }
-    if b == b'"' {
-        return closed_at(line, at + 1, Mode::Double(true), b);
-    }
-    if b == b'\\' {
-        return escaped_at(line, at + 1);
-    }
-    Enclosed::Nothing
 }
 
-// The place behind the word that begins at a place, if nothing is expanded in it; else the place itself.
-pub fn still_end(line: &[u8], at: usize) -> usize
+// The place behind the word that begins at a place, if nothing is expanded in it.
+pub fn still_end(line: &[u8], at: usize) -> Option<usize>
     requires { at ≤ length line.now }
     ensures { EndsAt line.now at result }
 {
     let mut i = at;
     loop {
         let run = text::run_end(line, i, Class::BareByte);
-        if run >= line.len() {
-            return run;
+        if run >= line.len() || text::in_class(Class::Blank, line[run]) {
+            return Some(run);
         }
-        if text::in_class(Class::Blank, line[run]) {
-            return run;
-        }
-        let found = quoted_at(line, run);
-        match found {
-            Enclosed::Nothing => {
-                return at;
-            }
-            Enclosed::Bytes {
-                from: _,
-                to: _,
-                next,
-            } => {
-                i = next;
-            }
-        }
+        let quoted = quoted_at(line, run)?;
+        i = quoted.next;
     }
 }
 
@@ -121,7 +97,7 @@ fn put_behind(text: &[u8], area: &mut [u8], used: usize) -> usize
 
 // The bytes of the word that begins at a place come to the front of an area, if nothing is expanded in it. If it is no such word, some of its bytes may have
 // come there.
-pub fn put_still(line: &[u8], at: usize, area: &mut [u8]) -> Still
+pub fn put_still(line: &[u8], at: usize, area: &mut [u8]) -> Option<StillWord>
     requires { (at ≤ length line.now) × (length line.now ≤ at + length area.old) }
     ensures { PutsStill line.now at area.old area.new result }
 {
@@ -130,21 +106,11 @@ pub fn put_still(line: &[u8], at: usize, area: &mut [u8]) -> Still
     loop {
         let run = text::run_end(line, i, Class::BareByte);
         n = put_behind(&line[i..run], area, n);
-        if run >= line.len() {
-            return Still::Word { len: n, next: run };
+        if run >= line.len() || text::in_class(Class::Blank, line[run]) {
+            return Some(StillWord { len: n, next: run });
         }
-        if text::in_class(Class::Blank, line[run]) {
-            return Still::Word { len: n, next: run };
-        }
-        let found = quoted_at(line, run);
-        match found {
-            Enclosed::Nothing => {
-                return Still::Nothing;
-            }
-            Enclosed::Bytes { from, to, next } => {
-                n = put_behind(&line[from..to], area, n);
-                i = next;
-            }
-        }
+        let found = quoted_at(line, run)?;
+        n = put_behind(&line[found.from..found.to], area, n);
+        i = found.next;
     }
 }

@@ -1,13 +1,14 @@
 -- Laws of rows at the front of an area, and of the walks that write them.
 use Prim.Native.Nat.{ℕ, zero, suc, ◌+◌, ◌-◌, ◌*◌, ◌≤◌, ◌<◌}
 use native.Mathlib.Omega.{arith}
+use native.Mathlib.Numerals.{add-one}
 use native.Mathlib.Nat.{not-suc-le-zero}
 use mathlib.Core.Path.{◌≡◌, refl, sym, ap, ◌∙◌}
 use mathlib.Core.Bool.{Bool, true, false, ◌||◌}
 use mathlib.Core.List.{[], ◌∷◌, ◌++◌, append_assoc, append-nil}
 use lib.Dec.{eqb}
 use lib.ListN.{length, take, drop, get_or, set, length-append, length-drop}
-use lib.Seq.{drop-cons}
+use lib.Seq.{drop-cons, take-length}
 use Rattle.stages.specs.Bytes.{Text}
 use Rattle.stages.specs.Outcome.{pick}
 use Rattle.stages.specs.Units.{Mark, L, E, Q, cell, N, B, Row, marked, bytes}
@@ -70,6 +71,19 @@ units_more (suc i) m (x ∷ v) (a ∷ b ∷ w) l k =
     rw (g, f, e)
     (ap (λ (s : Text). x ∷ m ∷ s) (units_more i m v w (omega arith) (omega arith) ∙ ap (λ (j : ℕ). units m (take (suc i) v) ++ drop j w) e))
 
+pub units_next : (i m : ℕ) (v w : Text) {area : Text} → i < length v → 2 * i + 1 < length w → area ≡ units m (take i v) ++ drop (2 * i) w
+    → set (set area (2 * i) (get_or v i 0)) (2 * i + 1) m ≡ units m (take (i + 1) v) ++ drop (2 * (i + 1)) w
+units_next i m v w l h q = rw (add-one i, q) (units_more i m v w l h)
+
+pub units_all : (i m : ℕ) (k : Mark) (v w : Text) {area : Text} → i ≡ length v → m ≡ mark_byte k → area ≡ units m (take i v) ++ drop (2 * i) w
+    → area ≡ fronted (row_bytes (marked k v)) w
+units_all i m k v w e f q =
+    q ∙ ap (λ (j : ℕ). units m (take j v) ++ drop (2 * j) w) e
+    ∙ ap (λ (t : Text). units m t ++ drop (2 * length v) w) (take-length v)
+    ∙ ap (λ (n : ℕ). units n v ++ drop (2 * length v) w) f
+    ∙ ap (λ (t : Text). t ++ drop (2 * length v) w) (units_marked k v)
+    ∙ ap (λ (j : ℕ). row_bytes (marked k v) ++ drop j w) (sym (marked_length k v))
+
 -- Stripping. A text that stands at the front of what was there: one byte more, and what is behind it.
 
 set_front : (t s : Text) (b : ℕ) → length t < length s → set (fronted t s) (length t) b ≡ fronted (t ++ (b ∷ [])) s
@@ -83,9 +97,6 @@ get_front [] s i k l = refl
 get_front (a ∷ t) [] i k l = absurd (not-suc-le-zero l)
 get_front (a ∷ t) (x ∷ s) zero k l = absurd (not-suc-le-zero k)
 get_front (a ∷ t) (x ∷ s) (suc i) k l = get_front t s i (omega arith) (omega arith)
-
-front_length : (t s : Text) → length t ≤ length s → length (fronted t s) ≡ length s
-front_length t s l = simp (length-append, length-drop) (omega arith)
 
 -- what a unit adds to the bytes of its row
 unit_bytes : (b m : ℕ) (r : Row) → is_mark m ≡ true → bytes (unit_of b m ∷ r) ≡ b ∷ bytes r
@@ -122,9 +133,6 @@ pub strip_start : (row : Text) → Stripping row row 0 0
 strip_start row = record { done = []; counts = refl; leaves = refl; whole = refl; behind = omega arith; within = omega arith }
 
 module _ {row₀ row : Text} {kept i : ℕ} (s : Stripping row₀ row kept i) where
-  pub strip_length : length row ≡ length row₀
-  strip_length = ap length s.leaves ∙ front_length s.done row₀ (omega (arith, s.counts, s.behind, s.within))
-
   module _ (l : 1 < length row₀ - i) where
     here : (b : ℕ) → i ≤ b → b < length row₀ → get_or row b 0 ≡ get_or row₀ b 0
     here b k h = ap (λ (t : Text). get_or t b 0) s.leaves ∙ get_front s.done row₀ b (omega (arith, s.counts, s.behind)) h
@@ -187,3 +195,6 @@ module _ {row₀ row : Text} {kept i : ℕ} (s : Stripping row₀ row kept i) wh
       let w : bytes (row_of row₀) ≡ s.done =
       s.whole ∙ ap (λ (t : Text). s.done ++ t) (short (drop i row₀) (simp length-drop l)) ∙ append-nil s.done in
       record { counts = sym s.counts ∙ ap length (sym w); leaves = s.leaves ∙ ap (λ (t : Text). fronted t row₀) (sym w) }
+
+pub stripped_to : {row₀ row left : Text} {kept count i j : ℕ} → Stripping row₀ row kept i → left ≡ row → count ≡ kept → i ≡ j → Stripping row₀ left count j
+stripped_to s p q e = rw (p, q, ← e) s

@@ -56,6 +56,7 @@ pub fn literal_mark(quoted: bool, mark: Mark) -> Mark
 }
 
 // Puts one unit at the front.
+#[tactic(auto, using(crate::proofs::Laws::two), unfolding(text::specs::Rows::row_bytes))]
 pub fn put_unit(area: &mut [u8], b: u8, mark: Mark)
     requires { 2 ≤ length area.old }
     ensures { area.new ≡ fronted (row_bytes (cell (mark_of mark) b ∷ [])) area.old }
@@ -65,6 +66,7 @@ pub fn put_unit(area: &mut [u8], b: u8, mark: Mark)
 }
 
 // Puts the empty mark at the front.
+#[tactic(auto, using(crate::proofs::Laws::two), unfolding(text::specs::Rows::row_bytes))]
 pub fn put_empty(area: &mut [u8])
     requires { 2 ≤ length area.old }
     ensures { area.new ≡ fronted (row_bytes (N ∷ [])) area.old }
@@ -74,6 +76,7 @@ pub fn put_empty(area: &mut [u8])
 }
 
 // Puts the break mark at the front.
+#[tactic(auto, using(crate::proofs::Laws::two), unfolding(text::specs::Rows::row_bytes))]
 pub fn put_break(area: &mut [u8])
     requires { 2 ≤ length area.old }
     ensures { area.new ≡ fronted (row_bytes (B ∷ [])) area.old }
@@ -88,11 +91,9 @@ pub fn put_marked(text: &[u8], mark: Mark, area: &mut [u8])
     ensures { area.new ≡ fronted (row_bytes (marked (mark_of mark) text.now)) area.old }
 {
     let m = mark_byte(mark);
-    let mut at = 0;
-    while at < text.len() {
-        area[2 * at] = text[at];
+    for (at, b) in text.iter().enumerate() {
+        area[2 * at] = *b;
         area[2 * at + 1] = m;
-        at += 1;
     }
 }
 
@@ -101,14 +102,11 @@ pub fn strip_marks(row: &mut [u8]) -> usize
     ensures { Stripped row.old row.new result }
 {
     let mut kept = 0;
-    let mut at = 0;
-    while row.len() - at > 1 {
-        let mark = row[at + 1];
-        if marks::is_mark(mark) {
-            row[kept] = row[at];
+    for at in 0..row.len() / 2 {
+        if marks::is_mark(row[2 * at + 1]) {
+            row[kept] = row[2 * at];
             kept += 1;
         }
-        at += 2;
     }
     kept
 }

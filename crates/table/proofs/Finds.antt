@@ -13,6 +13,15 @@ use Rattle.table.specs.Places.{place_of, spot_by, spot_in, found_by, found_in, H
 use Rattle.table.specs.declared.Record.{Record}
 use Rattle.table.specs.declared.Part.{Part}
 
+-- what `ok` tells of a result
+pub ok_some : {A B : Type 0} (r : Result A B) (x : A) → result_ok r ≡ Some x → r ≡ Ok x
+ok_some (Ok y) x e = ap Ok (cc e)
+ok_some (Err b) x e = cc e
+
+pub ok_none : {A B : Type 0} (r : Result A B) → result_ok r ≡ None → (b : B) × (r ≡ Err b)
+ok_none (Ok y) e = cc e
+ok_none (Err b) e = (b, refl)
+
 known_of : {t key : Text} {p : Record} → Rooms t key (Ok p) → Hole t key p.at p.end × Holds t key (p.mid + 2) p.end
 known_of (known h g) = (h, g)
 
@@ -72,15 +81,7 @@ module _ {t key : Text} {r : Result Record ℕ} (s : Placed t key r) where
 
   -- by the record, where there is one
   pub look_some : (p : Record) → result_ok r ≡ Some p → Looked t key (Some (value_part p))
-  look_some p e = look_known p (is_ok r e)
-    where
-      is_ok : (r : Result Record ℕ) → result_ok r ≡ Some p → r ≡ Ok p
-      is_ok (Ok q) e = ap Ok (cc e)
-      is_ok (Err at) e = cc e
+  look_some p e = look_known p (ok_some r p e)
 
   pub look_none : result_ok r ≡ None → Looked t key None
-  look_none e = let k : (at : ℕ) × (r ≡ Err at) = is_err r e in look_fresh k.0 k.1
-    where
-      is_err : (r : Result Record ℕ) → result_ok r ≡ None → (at : ℕ) × (r ≡ Err at)
-      is_err (Ok q) e = cc e
-      is_err (Err at) e = (at, refl)
+  look_none e = let k : (at : ℕ) × (r ≡ Err at) = ok_none r e in look_fresh k.0 k.1

@@ -22,10 +22,10 @@ use Rattle.table_store.specs.Splice.{spliced, placed}
 use Rattle.table_store.proofs.Splices.{spliced_length, put_placed, splice_is}
 use Rattle.table_store.proofs.StoredImages.{drop_take}
 use Rattle.table_insert.specs.Added.{Gap, Spot, Free, free, taken, Inserts, adding, Adds}
-use Rattle.table_insert.specs.declared.Place.{Place}
-use Rattle.table_insert.specs.declared.Place.TheVariants.{At, Taken}
-use Rattle.table_insert.specs.declared.Added.{Added}
-use Rattle.table_insert.specs.declared.Added.TheVariants.{Used, Twice, Full}
+use Rattle.std.specs.Prelude.{Result, Ok, Err}
+use Rattle.table.specs.declared.Part.{Part}
+use Rattle.table_insert.specs.declared.AddError.{AddError}
+use Rattle.table_insert.specs.declared.AddError.TheVariants.{Twice, NoRoom}
 
 -- `insert`
 module _ (b path : Text) (used at limit : ℕ) (h : (at ≤ used) × (used ≤ limit) × (limit ≤ length b) × (limit ≤ paths_limit)) where
@@ -35,18 +35,18 @@ module _ (b path : Text) (used at limit : ℕ) (h : (at ≤ used) × (used ≤ l
   new_length : length new ≡ used + (length path + 2)
   new_length = spliced_length b (framed path) used at at (omega arith) h.0 (omega arith) ∙ omega arith
 
-  pub insert_full : limit - used < length path + 2 → Inserts limit new b b Full
+  pub insert_full : limit - used < length path + 2 → Inserts limit new b b (Err NoRoom)
   insert_full m = let d : leb (length new) limit ≡ false = lt-leb (length new) limit (omega (arith, new_length)) in
       record { answers = rw d; leaves = rw d }
 
   pub insert_kept : (b1 ys : Text) {r : Outcome ℕ} → length path + 2 ≤ limit - used → b1 ≡ paste b (at + (length path + 2)) (drop at b)
       (used - at) → length b1 ≡ length b
       → Writes (record_in (length (mid_of at (length b1 - at) b1)) path) (mid_of at (length b1 - at) b1) ys r
-      → Inserts limit new b (put_mid at (length b1 - at) b1 ys) (Used (used + (length path + 2)))
+      → Inserts limit new b (put_mid at (length b1 - at) b1 ys) (Ok (used + (length path + 2)))
   insert_kept b1 ys n e long w =
       let d : leb (length new) limit ≡ true = le-leb (length new) limit (omega (arith, new_length)) in
       record {
-        answers = rw d (ap Used (sym new_length));
+        answers = rw d (ap Ok (sym new_length));
         leaves = rw d
             (put_placed at path b1 ys (omega arith) (omega arith) w
             ∙ ap (placed at (framed path)) e
@@ -54,19 +54,19 @@ module _ (b path : Text) (used at limit : ℕ) (h : (at ≤ used) × (used ≤ l
       }
 
 -- `add`
-pub is_free : {t x : Text} {r : Place} → Free t x r → (at : ℕ) → r ≡ At at → Gap t x at
+pub is_free : {t x : Text} {r : Result Part ℕ} → Free t x r → (at : ℕ) → r ≡ Err at → Gap t x at
 is_free {t} {x} s at e = of_free (rw e at s)
   where
-    of_free : Free t x (At at) → Gap t x at
+    of_free : Free t x (Err at) → Gap t x at
     of_free (free g) = g
 
-pub is_taken : {t x : Text} {r : Place} → Free t x r → (at end : ℕ) → r ≡ Taken at end → Spot t x at end
-is_taken {t} {x} s at end e = of_taken (rw e at s)
+pub is_taken : {t x : Text} {r : Result Part ℕ} → Free t x r → (p : Part) → r ≡ Ok p → Spot t x p.from p.to
+is_taken {t} {x} s p e = of_taken (rw e at s)
   where
-    of_taken : Free t x (Taken at end) → Spot t x at end
+    of_taken : Free t x (Ok p) → Spot t x p.from p.to
     of_taken (taken p) = p
 
-pub add_taken : {t x : Text} {at end : ℕ} → Spot t x at end → (limit : ℕ) (old : Text) → Adds (adding limit x (held_texts t)) old old Twice
+pub add_taken : {t x : Text} {at end : ℕ} → Spot t x at end → (limit : ℕ) (old : Text) → Adds (adding limit x (held_texts t)) old old (Err Twice)
 unfolding adding
 add_taken p limit old = rw p.there (record { answers = refl; leaves = refl })
 
@@ -82,7 +82,7 @@ module _ (b x : Text) (used at : ℕ) (l : used ≤ length b) (g : Gap (take use
       rw (front, back, g.is, written_append g.front (x ∷ g.back))
 
   -- the bytes between which a path comes, with its record, are the image with the path
-  pub add_inserts : {limit : ℕ} {left : Text} {r : Added} → Inserts limit (spliced b used at at (framed x)) b left r
+  pub add_inserts : {limit : ℕ} {left : Text} {r : Result ℕ AddError} → Inserts limit (spliced b used at at (framed x)) b left r
       → Adds (adding limit x (held_texts (take used b))) b left r
   unfolding adding
   add_inserts {limit} {left} {r} w = either (leb (image_length more) limit) yes none

@@ -15,13 +15,11 @@ use Rattle.stages.proofs.PathLists.{added_later, without_here, without_later, th
 use Rattle.text.specs.Orders.{order_of}
 use Rattle.std.specs.declared.cmp.Ordering.TheVariants.{Less, Equal, Greater}
 use Rattle.text.proofs.Orders.{order_below, order_equal, above_not_equal, above_not_below}
-use Rattle.table.specs.Pieces.{piece_at}
-use Rattle.table.specs.declared.Piece.{Piece}
-use Rattle.table.specs.declared.Piece.TheVariants as piece
+use Rattle.std.specs.Prelude.{Some, None, Ok, Err}
+use Rattle.table.specs.Pieces.{Piece, malformed, piece_at}
 use Rattle.table.proofs.Pieces.{Ahead, Next, ahead_first, ahead_end, ahead_bad, ahead_text}
 use Rattle.table_find.proofs.Frames.{Frame, frame}
 use Rattle.table_insert.specs.Added.{Column, Free, free, taken}
-use Rattle.table_insert.specs.declared.Place.TheVariants.{At, Taken}
 
 pub record Walking (t x : Text) (at : ℕ) : Type 0 where
   pub passed : List Text
@@ -64,7 +62,7 @@ written_one k l = written_append (k ∷ []) l
 
 module _ {t x : Text} {at : ℕ} (s : Walking t x at) where
   -- the path belongs before all that is ahead
-  here : Under x s.rest → Free t x (At at)
+  here : Under x s.rest → Free t x (Err at)
   here u =
       free (record {
         front = s.passed;
@@ -77,13 +75,13 @@ module _ {t x : Text} {at : ℕ} (s : Walking t x at) where
       })
 
   module _ {r : Piece} (p : r ≡ piece_at t at) where
-    pub place_end : r ≡ piece.End → Free t x (At at)
+    pub place_end : r ≡ Ok None → Free t x (Err at)
     place_end e = here (rw (ahead_end s.ahead p e) tt)
 
-    pub place_bad : r ≡ piece.Bad → Free t x (At at)
+    pub place_bad : r ≡ Err malformed → Free t x (Err at)
     place_bad e = absurd (ahead_bad s.ahead p e)
 
-    pub next_text : {end : ℕ} → r ≡ piece.At end → Facing t x at end
+    pub next_text : {end : ℕ} → r ≡ Ok (Some end) → Facing t x at end
     next_text e = record { walk = s; text = ahead_text s.ahead p e }
 
 module _ {t x : Text} {at end : ℕ} (f : Facing t x at end) where
@@ -96,7 +94,7 @@ module _ {t x : Text} {at end : ℕ} (f : Facing t x at end) where
   abbrev key : Text
   key = part t (at + 2) end
 
-  pub place_less : order_of x key ≡ Less → Free t x (At at)
+  pub place_less : order_of x key ≡ Less → Free t x (Err at)
   place_less o = here s (rw next.is (order_below x key o))
 
   framing : Frame t at key (written next.more)
@@ -127,11 +125,11 @@ module _ {t x : Text} {at end : ℕ} (f : Facing t x at end) where
   behind : drop end t ≡ written next.more
   behind = ap (λ (n : ℕ). drop n t) end_is ∙ framing.next
 
-  pub place_same : order_of x key ≡ Equal → Free t x (Taken at end)
+  pub place_same : order_of x key ≡ Equal → Free t x (Ok (record { from = at; to = end }))
   place_same o =
       let e : eq_text x key ≡ true = order_equal x key o in
       let n : at ≤ end = omega (arith, next.low) in
-      taken {end = end} (record {
+      taken {p = record { from = at; to = end }} (record {
         front = s.passed;
         back = next.more;
         low = n;

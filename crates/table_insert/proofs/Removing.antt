@@ -18,7 +18,7 @@ use Rattle.table_store.proofs.Splices.{spliced_length, splice_is}
 use Rattle.table_store.proofs.StoredImages.{drop_take}
 use Rattle.table_insert.specs.Added.{Gap, Spot}
 use Rattle.table_insert.specs.Removed.{Cuts, removing, Removes}
-use Rattle.table_insert.specs.declared.Removed.TheVariants.{Used, Missing}
+use Rattle.std.specs.Prelude.{Some, None}
 
 -- `cut`
 
@@ -55,7 +55,7 @@ module _ (b : Text) (used at end : ℕ) (h : (at ≤ end) × (end ≤ used) × (
 
 -- `remove`
 
-pub remove_none : {t x : Text} {at : ℕ} → Gap t x at → (used : ℕ) (old : Text) → Removes used (removing x (held_texts t)) old old Missing
+pub remove_none : {t x : Text} {at : ℕ} → Gap t x at → (used : ℕ) (old : Text) → Removes used (removing x (held_texts t)) old old None
 unfolding removing
 remove_none g used old = rw g.new (record { answers = refl; leaves = refl })
 
@@ -72,9 +72,9 @@ module _ (b x : Text) (used at end : ℕ) (l : used ≤ length b) (s : Spot (tak
 
   -- the bytes around a path's record are the image without the path
   pub remove_cuts : {left : Text} {n : ℕ} → Cuts used (spliced b used at end []) b left n
-      → Removes used (removing x (held_texts (take used b))) b left (Used n)
+      → Removes used (removing x (held_texts (take used b))) b left (Some n)
   unfolding removing
   remove_cuts {left} {n} w = go (rw without_is at w)
     where
-      go : Cuts used (image (without x (held_texts (take used b)))) b left n → Removes used (removing x (held_texts (take used b))) b left (Used n)
-      go k = rw s.there (record { answers = ap Used k.answers; leaves = k.leaves })
+      go : Cuts used (image (without x (held_texts (take used b)))) b left n → Removes used (removing x (held_texts (take used b))) b left (Some n)
+      go k = rw s.there (record { answers = ap Some k.answers; leaves = k.leaves })

@@ -1,15 +1,14 @@
 -- A path added to others: it comes where its order wants it, if it is not there yet and the image has room.
-use Rattle.std.specs.Prelude.{ℕ, ◌≤◌, ◌≡◌, Bool, true, false, List, ◌∷◌, ◌++◌, leb, length, take, drop}
+use Rattle.std.specs.Prelude.{ℕ, ◌≤◌, ◌≡◌, Bool, true, false, List, ◌∷◌, ◌++◌, leb, length, take, drop, Result, Ok, Err}
 use Rattle.std.proofs.Math.Option.{some}
 use Rattle.stages.specs.Bytes.{Text}
 use Rattle.stages.specs.Outcome.{pick}
 use Rattle.stages.specs.Images.{texts, rising, written, image, image_length, held_texts}
 use Rattle.stages.specs.Call.{over}
 use Rattle.stages.specs.Updates.{added, without, is_there}
-use Rattle.table_insert.specs.declared.Place.{Place}
-use Rattle.table_insert.specs.declared.Place.TheVariants.{At, Taken}
-use Rattle.table_insert.specs.declared.Added.{Added}
-use Rattle.table_insert.specs.declared.Added.TheVariants.{Used, Twice, Full}
+use Rattle.table.specs.declared.Part.{Part}
+use Rattle.table_insert.specs.declared.AddError.{AddError}
+use Rattle.table_insert.specs.declared.AddError.TheVariants.{Twice, NoRoom}
 
 -- an image of single texts in rising order
 pub record Column (t : Text) : Type 0 where
@@ -38,13 +37,13 @@ pub record Spot (t x : Text) (at end : ℕ) : Type 0 where
   pub there : is_there x (held_texts t) ≡ true
 
 -- what an answer of the walk says of the bytes
-pub data Free (t x : Text) : Place → Type 0 where
-  free : {at : ℕ} → Gap t x at → Free t x (At at)
-  taken : {at end : ℕ} → Spot t x at end → Free t x (Taken at end)
+pub data Free (t x : Text) : Result Part ℕ → Type 0 where
+  free : {at : ℕ} → Gap t x at → Free t x (Err at)
+  taken : {p : Part} → Spot t x p.from p.to → Free t x (Ok p)
 
 -- bytes stand at the front of the old ones, if they are at most `limit`; if not, the old ones stand as they were
-pub record Inserts (limit : ℕ) (new old left : Text) (r : Added) : Type 0 where
-  pub answers : r ≡ pick (leb (length new) limit) (Used (length new)) Full
+pub record Inserts (limit : ℕ) (new old left : Text) (r : Result ℕ AddError) : Type 0 where
+  pub answers : r ≡ pick (leb (length new) limit) (Ok (length new)) (Err NoRoom)
   pub leaves : left ≡ pick (leb (length new) limit) (over new old) old
 
 -- the paths with one more, or why not
@@ -62,10 +61,10 @@ unfoldable pub adding : ℕ → Text → List Text → Adding
 unfolding image_length is_there added
 adding limit x l = adding_by (is_there x l) (leb (image_length (added x l)) limit) (added x l)
 
-abbrev pub answer_of : Adding → Added
-answer_of twice = Twice
-answer_of full = Full
-answer_of (holds l) = Used (image_length l)
+abbrev pub answer_of : Adding → Result ℕ AddError
+answer_of twice = Err Twice
+answer_of full = Err NoRoom
+answer_of (holds l) = Ok (image_length l)
 
 -- the image stands at the front of the old bytes, or the old ones stand as they were
 abbrev pub left_of : Adding → Text → Text
@@ -73,6 +72,6 @@ left_of twice old = old
 left_of full old = old
 left_of (holds l) old = over (image l) old
 
-pub record Adds (o : Adding) (old left : Text) (r : Added) : Type 0 where
+pub record Adds (o : Adding) (old left : Text) (r : Result ℕ AddError) : Type 0 where
   pub answers : r ≡ answer_of o
   pub leaves : left ≡ left_of o old
