@@ -41,25 +41,12 @@ const BACKSLASH: u8 = b'\\';
 fn hex_value(b: u8) -> u8
     ensures { result ≡ hex_value b }
 {
-    if b < b'0' {
-        return 16;
+    match b {
+        b'0'..=b'9' => b - b'0',
+        b'A'..=b'F' => b - b'A' + 10,
+        b'a'..=b'f' => b - b'a' + 10,
+        _ => 16,
     }
-    if b < 58 {
-        return b - b'0';
-    }
-    if b < b'A' {
-        return 16;
-    }
-    if b < 71 {
-        return b - 55;
-    }
-    if b < b'a' {
-        return 16;
-    }
-    if b < 103 {
-        return b - 87;
-    }
-    16
 }
 
 // The byte of two numbers.
@@ -76,10 +63,11 @@ fn hex_byte(high: u8, low: u8) -> Byte
     if b == 0 {
         return Byte::Bad(Fault::ZeroByte);
     }
-    Byte::Is { b: b, more: 3 }
+    Byte::Is { b, more: 3 }
 }
 
 // The byte that stands at a place of a text.
+#[tactic(auto, unfolding(crate::specs::Escapes::byte_at))]
 fn byte_at(text: &[u8], at: usize) -> Byte
     requires { at < length text.now }
     ensures { result ≡ byte_at text.now at }
@@ -89,7 +77,7 @@ fn byte_at(text: &[u8], at: usize) -> Byte
         return Byte::Bad(Fault::ZeroByte);
     }
     if b != BACKSLASH {
-        return Byte::Is { b: b, more: 0 };
+        return Byte::Is { b, more: 0 };
     }
     let left = text.len() - at;
     if left < 2 {
@@ -141,12 +129,5 @@ pub fn read_text(text: &[u8], out: &mut [u8]) -> Read
 pub fn find(text: &[u8], b: u8) -> usize
     ensures { result ≡ up_to b text.now }
 {
-    let mut i: usize = 0;
-    while i < text.len() {
-        if text[i] == b {
-            return i;
-        }
-        i += 1;
-    }
-    i
+    text.iter().position(|c| *c == b).unwrap_or(text.len())
 }

@@ -37,13 +37,7 @@ fn hex_digit(n: u8) -> u8
 fn is_plain(b: u8) -> bool
     ensures { result ≡ is_plain b }
 {
-    if b < 32 {
-        return false;
-    }
-    if 126 < b {
-        return false;
-    }
-    b != BACKSLASH
+    32 <= b && b <= 126 && b != BACKSLASH
 }
 
 // Writes a byte: itself, `\n`, `\\`, or `\x` and two digits.
@@ -76,11 +70,8 @@ fn put_text(text: &[u8], out: &mut [u8]) -> usize
     ensures { Puts (shown_text text.now) out.old out.new result }
 {
     let mut used: usize = 0;
-    let mut i: usize = 0;
-    while i < text.len() {
-        let n = put_byte(text[i], &mut out[used..]);
-        used += n;
-        i += 1;
+    for b in text {
+        used += put_byte(*b, &mut out[used..]);
     }
     used
 }
@@ -96,7 +87,7 @@ fn end_of(first: bool) -> u8
 fn first_next(two: bool, first: bool) -> bool
     ensures { result ≡ first_next two first }
 {
-    if two { !first } else { false }
+    two && !first
 }
 
 // Writes the lines of an image's texts.
@@ -130,12 +121,7 @@ fn put_texts(two: bool, image: &[u8], out: &mut [u8]) -> usize
 fn in_twos(kind: Kind) -> bool
     ensures { result ≡ in_twos kind }
 {
-    match kind {
-        Kind::Variables => true,
-        Kind::Homes => true,
-        Kind::Paths => false,
-        Kind::Fields => false,
-    }
+    matches!(kind, Kind::Variables | Kind::Homes)
 }
 
 // Shows an image of the kind: its lines stand at the front of the buffer, the bytes behind them stay. For what is no such image all bytes stay. The
