@@ -8,16 +8,7 @@ ghost use Rattle.table.specs.Kinds.{in_twos};
 ghost use Rattle.text.specs.Putting.{Puts};
 ghost use Rattle.tab_show.specs.Lines.{hex_digit, is_plain, shown_byte, shown_text, end_of, first_next, shown_texts, showing_of, showing};
 
-use table::{Kind, Piece};
-
-// What showing answers.
-#[derive(Clone, Copy)]
-pub enum Shown {
-    // The bytes of the lines that were written.
-    Len(usize),
-    // No image of the kind, or one that is too long.
-    Malformed,
-}
+use table::{Kind, Malformed};
 
 const BACKSLASH: u8 = b'\\';
 
@@ -99,22 +90,15 @@ fn put_texts(two: bool, image: &[u8], out: &mut [u8]) -> usize
     let mut used: usize = 0;
     let mut at: usize = 1;
     let mut first = two;
-    loop {
-        let piece = table::text_at(image, at);
-        match piece {
-            Piece::End => return used,
-            Piece::Bad => return used,
-            Piece::At(end) => {
-                let start = at + 2;
-                let n = put_text(&image[start..end], &mut out[used..]);
-                let next = used + n;
-                out[next] = end_of(first);
-                first = first_next(two, first);
-                used = next + 1;
-                at = end;
-            }
-        }
+    while let Ok(Some(end)) = table::text_at(image, at) {
+        let n = put_text(&image[at + 2..end], &mut out[used..]);
+        let next = used + n;
+        out[next] = end_of(first);
+        first = first_next(two, first);
+        used = next + 1;
+        at = end;
     }
+    used
 }
 
 // Are the records of the kind two texts?
@@ -124,14 +108,14 @@ fn in_twos(kind: Kind) -> bool
     matches!(kind, Kind::Variables | Kind::Homes)
 }
 
-// Shows an image of the kind: its lines stand at the front of the buffer, the bytes behind them stay. For what is no such image all bytes stay. The
-// lines are at most four times as long as the image.
-pub fn show(kind: Kind, image: &[u8], out: &mut [u8]) -> Shown
+// Shows an image of the kind: its lines stand at the front of the buffer, the bytes behind them stay. For what is no such image, or one that is too long, all
+// bytes stay. The lines are at most four times as long as the image. Answers their length.
+pub fn show(kind: Kind, image: &[u8], out: &mut [u8]) -> Result<usize, Malformed>
     requires { 4 * length image.now ≤ length out.old }
     ensures { showing_of result out.new ≡ showing kind image.now out.old }
 {
     if !table::well_formed(kind, image) {
-        return Shown::Malformed;
+        return Err(Malformed);
     }
-    Shown::Len(put_texts(in_twos(kind), image, out))
+    Ok(put_texts(in_twos(kind), image, out))
 }

@@ -1,10 +1,10 @@
 -- Its test is the stage's, and the lines of a good image are written.
 use Rattle.std.proofs.Common.{sym}
-use Rattle.tab_show.proofs.Answers.{texts_here, lines_room, malformed, shown}
+use Rattle.tab_show.proofs.Answers.{texts_here, lines_room, none_shown, shown}
 use Rattle.tab_show.proofs.show.Goals as goal
 
 pub returns-then-not-well_formed : goal.returns-then-not-well_formed
-returns-then-not-well_formed c = malformed c.args.kind c.args.image.now c.args.out.now (sym c.if-not-well_formed.ensures)
+returns-then-not-well_formed c = none_shown c.args.kind c.args.image.now c.args.out.now (sym c.if-not-well_formed.ensures)
 
 pub put_texts-requires-clause-image_value : goal.put_texts-requires-clause-image_value
 put_texts-requires-clause-image_value c = texts_here c.args.kind c.args.image.now (sym c.if-not-well_formed.ensures)
