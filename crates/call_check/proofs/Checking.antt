@@ -26,16 +26,15 @@ use Rattle.text.proofs.Zeros.{zero_among}
 use Rattle.table.specs.Places.{Listed}
 use Rattle.table.specs.Around.{lent_of}
 use Rattle.read_line.specs.Says.{verdict, verdict_of}
-use Rattle.read_line.specs.declared.LineRead.{LineRead}
-use Rattle.read_line.specs.declared.LineRead.TheVariants as Line-read
+use Rattle.std.specs.Prelude.{Result, Ok, Err}
+use Rattle.text.specs.Refusals.{refusal_number}
+use Rattle.text.specs.declared.refusal.Refused.{Refused}
 use Rattle.read_line.proofs.Lines.{Accepted, passed, refused_of}
 use Rattle.call_check.specs.Calls.{room_of, worked}
 use Rattle.call_check.specs.Checks.{room_in, around, Lends, Unlent, small_area, used_beyond, vars_bad, homes_bad, LendSays}
 use Rattle.call_check.specs.Checks.{Plain, Unplain, too_long, has_zero, PlainSays, Tabled, Passed, Stopped, Checks}
 use Rattle.call_check.specs.Checks.{AssignPassed, AssignStopped, AssignChecks}
 use Rattle.call_check.specs.declared.Job.{Job}
-use Rattle.call_check.specs.declared.Checked.{Checked}
-use Rattle.call_check.specs.declared.Checked.TheVariants.{Fine, Refused}
 
 -- a line that 6 refuses
 zero_in : (t : Text) → is_in 0 t ≡ true → NoZero t → ⊥
@@ -169,12 +168,12 @@ module _ (g : Given) where
         unfolding assign_line
         values_read = values_left ∙ rw (le-leb (length g.line) line_limit p.short, p.whole)
 
-        pub assign_unread : {e place : ℕ} → verdict (read_assignments g.line) ≡ verdict_of (Line-read.Refused e place) → AssignStopped g e place
+        assign_unread : {e place : ℕ} → verdict (read_assignments g.line) ≡ refused_at e place → AssignStopped g e place
         assign_unread {e} {place} h =
             let r = refused_of (read_assignments g.line) e place h in
             record { is = values_read ∙ ap then_all r; early = λ q. refused_read r q.read }
 
-        pub assign_passed : verdict (read_assignments g.line) ≡ verdict_of Line-read.Read → AssignPassed g
+        assign_passed : verdict (read_assignments g.line) ≡ done_at tt → AssignPassed g
         assign_passed h =
             let r = passed (read_assignments g.line) h in
             record {
@@ -186,6 +185,10 @@ module _ (g : Given) where
               read = r.is;
               is = values_read ∙ ap then_all r.is;
             }
+
+        pub assign_read : (r : Result (Unit {0}) Refused) → verdict (read_assignments g.line) ≡ verdict_of r → AssignChecks g r
+        assign_read (Ok u) h = assign_passed h
+        assign_read (Err e) h = assign_unread h
 
 -- a list that 23 lets pass
 module _ {g : Given} (t : Tabled g) where
@@ -297,50 +300,3 @@ module _ (job : Job) (g : Given) (t : Tabled g) (l : length g.line ≤ line_limi
             (fits_capped g (room_of job (length g.out)) 1 ∙ rw (le-leb 1 (capped (room_of job (length g.out))) b)) ∙ words_capped g
             (room_of job (length g.out)) a.all 1 (held (take g.vars_used g.vars));
       }
-
--- an answer once it is known
-
-module _ {work vars houses : Text} {used : ℕ} {r : Checked} where
-  pub unlent_as : {n place : ℕ} → r ≡ Refused n place → Unlent work vars used houses n place → LendSays work vars used houses r
-  unlent_as e h = subst (λ (x : Checked). LendSays work vars used houses x) (sym e) h
-
-  pub unlent_of : {n place : ℕ} → LendSays work vars used houses r → r ≡ Refused n place → Unlent work vars used houses n place
-  unlent_of h e = subst (λ (x : Checked). LendSays work vars used houses x) e h
-
-  pub lends_of : LendSays work vars used houses r → r ≡ Fine → Lends work vars used houses
-  lends_of h e = subst (λ (x : Checked). LendSays work vars used houses x) e h
-
-module _ {line : Text} {r : Checked} where
-  pub unplain_as : {n place : ℕ} → r ≡ Refused n place → Unplain line n place → PlainSays line r
-  unplain_as e h = subst (λ (x : Checked). PlainSays line x) (sym e) h
-
-  pub unplain_of : {n place : ℕ} → PlainSays line r → r ≡ Refused n place → Unplain line n place
-  unplain_of h e = subst (λ (x : Checked). PlainSays line x) e h
-
-  pub plain_of : PlainSays line r → r ≡ Fine → Plain line
-  plain_of h e = subst (λ (x : Checked). PlainSays line x) e h
-
-pub refuses : (job : Job) (g : Given) {r : Checked} {n place : ℕ} → r ≡ Refused n place → Stopped job g n place → Checks job g r
-refuses job g e h = subst (λ (x : Checked). Checks job g x) (sym e) h
-
-pub read_as : {w : Placed (Unit {0})} {r s : LineRead} → w ≡ verdict_of r → r ≡ s → w ≡ verdict_of s
-read_as h e = h ∙ ap verdict_of e
-
--- the same of a line of assignments
-
-pub assign_refuses : (g : Given) {r : Checked} {n place : ℕ} → r ≡ Refused n place → AssignStopped g n place → AssignChecks g r
-assign_refuses g e h = subst (λ (x : Checked). AssignChecks g x) (sym e) h
-
-pub assign_fine : (g : Given) {r : Checked} → AssignChecks g r → r ≡ Fine → AssignPassed g
-assign_fine g h e = subst (λ (x : Checked). AssignChecks g x) e h
-
-pub assign_refused : (g : Given) {r : Checked} {n place : ℕ} → AssignChecks g r → r ≡ Refused n place → assigned g ≡ refused_at n place
-assign_refused g {n = n} {place = place} h e = let s : AssignStopped g n place = subst (λ (x : Checked). AssignChecks g x) e h in s.is
-
--- what a call that is checked passes, or is refused with
-
-pub check_passed : (job : Job) (g : Given) {r : Checked} → Checks job g r → r ≡ Fine → Passed job g
-check_passed job g h e = subst (λ (x : Checked). Checks job g x) e h
-
-pub check_refused : (job : Job) (g : Given) {r : Checked} {n place : ℕ} → Checks job g r → r ≡ Refused n place → worked job g ≡ refused_at n place
-check_refused job g {n = n} {place = place} h e = let s : Stopped job g n place = subst (λ (x : Checked). Checks job g x) e h in s.is

@@ -12,8 +12,9 @@ use Rattle.stages.specs.Call.{Given, assigned}
 use Rattle.table.specs.Around.{lent_of, among}
 use Rattle.call_check.specs.Calls.{room_of, worked}
 use Rattle.call_check.specs.declared.Job.{Job}
-use Rattle.call_check.specs.declared.Checked.{Checked}
-use Rattle.call_check.specs.declared.Checked.TheVariants.{Fine, Refused}
+use Rattle.std.specs.Prelude.{Result, Ok, Err}
+use Rattle.text.specs.Refusals.{refusal_number}
+use Rattle.text.specs.declared.refusal.Refused.{Refused}
 
 -- "longer than the output or 8,192": the lesser of the two
 abbrev pub room_in : Job → ℕ → ℕ
@@ -38,9 +39,9 @@ pub data Unlent (work vars : Text) (used : ℕ) (houses : Text) : ℕ → ℕ �
   homes_bad : work_least ≤ length work → used ≤ length vars → is_some (variables_of (take used vars)) ≡ true → is_some (homes_of houses) ≡ false
       → Unlent work vars used houses bad_homes 0
 
-abbrev pub LendSays : Text → Text → ℕ → Text → Checked → Type 0
-LendSays work vars used houses Fine = Lends work vars used houses
-LendSays work vars used houses (Refused n place) = Unlent work vars used houses n place
+abbrev pub LendSays : Text → Text → ℕ → Text → Result (Unit {0}) Refused → Type 0
+LendSays work vars used houses (Ok u) = Lends work vars used houses
+LendSays work vars used houses (Err e) = Unlent work vars used houses (refusal_number e.why) e.place
 
 -- 5 and 6 are passed
 pub record Plain (line : Text) : Type 0 where
@@ -52,9 +53,9 @@ pub data Unplain (line : Text) : ℕ → ℕ → Type 0 where
   too_long : line_limit < length line → Unplain line line_too_long 0
   has_zero : length line ≤ line_limit → is_in 0 line ≡ true → Unplain line zero_byte 0
 
-abbrev pub PlainSays : Text → Checked → Type 0
-PlainSays line Fine = Plain line
-PlainSays line (Refused n place) = Unplain line n place
+abbrev pub PlainSays : Text → Result (Unit {0}) Refused → Type 0
+PlainSays line (Ok u) = Plain line
+PlainSays line (Err e) = Unplain line (refusal_number e.why) e.place
 
 -- 1 to 4 and 23 are passed
 pub record Tabled (g : Given) : Type 0 where
@@ -80,9 +81,9 @@ pub record Stopped (job : Job) (g : Given) (n place : ℕ) : Type 0 where
   pub is : worked job g ≡ refused_at n place
   pub early : Passed job g → ⊥
 
-abbrev pub Checks : Job → Given → Checked → Type 0
-Checks job g Fine = Passed job g
-Checks job g (Refused n place) = Stopped job g n place
+abbrev pub Checks : Job → Given → Result (Unit {0}) Refused → Type 0
+Checks job g (Ok u) = Passed job g
+Checks job g (Err e) = Stopped job g (refusal_number e.why) e.place
 
 -- E9: 1 to 3, 23, 5, 6 and the reading are passed: the assignments are all that is left
 pub record AssignPassed (g : Given) : Type 0 where
@@ -98,6 +99,6 @@ pub record AssignStopped (g : Given) (n place : ℕ) : Type 0 where
   pub is : assigned g ≡ refused_at n place
   pub early : AssignPassed g → ⊥
 
-abbrev pub AssignChecks : Given → Checked → Type 0
-AssignChecks g Fine = AssignPassed g
-AssignChecks g (Refused n place) = AssignStopped g n place
+abbrev pub AssignChecks : Given → Result (Unit {0}) Refused → Type 0
+AssignChecks g (Ok u) = AssignPassed g
+AssignChecks g (Err e) = AssignStopped g (refusal_number e.why) e.place

@@ -6,11 +6,11 @@ ghost use Rattle.std.specs.Prelude.{◌≡◌, [], length, Bool, true};
 ghost use Rattle.stages.specs.Bytes.{Text};
 ghost use Rattle.stages.specs.Images.{is_some, fields_of};
 ghost use Rattle.call_check.specs.Calls.{given};
-ghost use Rattle.call_check.specs.Checks.{room_in, LendSays, PlainSays, Tabled, Checks, Lends, AssignChecks};
+ghost use Rattle.call_check.specs.Checks.{room_in, LendSays, PlainSays, Checks, AssignChecks};
 
-use read_line::LineRead;
 use table::Kind;
 use text::numbers;
+use text::refusal::{Refusal, Refused};
 
 // The two jobs that take a line: one gives the fields' image, the other the fields as a quoted line.
 #[derive(Clone, Copy)]
@@ -26,13 +26,6 @@ pub struct Asked {
     pub shouts: bool,
 }
 
-// What the checks answer: the words may be expanded, or the number and the place that refuse the call.
-#[derive(Clone, Copy)]
-pub enum Checked {
-    Fine,
-    Refused { number: u8, place: usize },
-}
-
 // The expander's output room: "longer than the output or 8,192"; "In the normaliser the expander's output room is 8,192."
 pub fn room(job: Job, out: usize) -> usize
     ensures { result ≡ room_in job out }
@@ -44,91 +37,43 @@ pub fn room(job: Job, out: usize) -> usize
 }
 
 // A refusal whose place is 0.
-fn refuse(number: u8) -> Checked
-    ensures { result ≡ Checked.Refused number 0 }
+fn refuse(why: Refusal) -> Refused
+    ensures { result ≡ record { why = why; place = 0 } }
 {
-    Checked::Refused {
-        number: number,
-        place: 0,
-    }
+    Refused { why, place: 0 }
 }
 
 // 1 to 3: what every job that takes a line is lent.
-fn check_lent(vars: &[u8], vars_used: usize, homes: &[u8], work: &[u8]) -> Checked
+fn check_lent(vars: &[u8], vars_used: usize, homes: &[u8], work: &[u8]) -> Result<(), Refused>
     ensures { LendSays work.now vars.now vars_used homes.now result }
 {
     if work.len() < numbers::WORK_LEAST {
-        return refuse(numbers::REFUSED_WORK);
+        return Err(refuse(Refusal::WorkTooSmall));
     }
-    if vars.len() < vars_used {
-        return refuse(numbers::REFUSED_VARIABLES);
-    }
-    if !table::well_formed(Kind::Variables, &vars[..vars_used]) {
-        return refuse(numbers::REFUSED_VARIABLES);
+    if vars.len() < vars_used || !table::well_formed(Kind::Variables, &vars[..vars_used]) {
+        return Err(refuse(Refusal::BadVariables));
     }
     if !table::well_formed(Kind::Homes, homes) {
-        return refuse(numbers::REFUSED_HOMES);
+        return Err(refuse(Refusal::BadHomes));
     }
-    Checked::Fine
+    Ok(())
 }
 
 // 5 and 6: what no line may be.
-fn check_bytes(line: &[u8]) -> Checked
+fn check_bytes(line: &[u8]) -> Result<(), Refused>
     ensures { PlainSays line.now result }
 {
     if numbers::LINE_LIMIT < line.len() {
-        return refuse(numbers::REFUSED_LENGTH);
+        return Err(refuse(Refusal::LineTooLong));
     }
     if !text::no_zero(line) {
-        return refuse(numbers::REFUSED_ZERO);
+        return Err(refuse(Refusal::ZeroByte));
     }
-    Checked::Fine
+    Ok(())
 }
 
-// The line is read, and the empty fields image has its byte. Neither message nor switch is looked at: what holds here and in `check` holds whatever they are.
-fn check_line(
-    job: Job,
-    line: &[u8],
-    vars: &[u8],
-    vars_used: usize,
-    homes: &[u8],
-    params: &[u8],
-    paths: &[u8],
-    work: &[u8],
-    out: &[u8],
-) -> Checked
-    requires { (shouts : Bool) (message : Text) → Tabled
-        (given line.now vars.now vars_used shouts homes.now params.now paths.now work.now out.now message) }
-    ensures { (shouts : Bool) (message : Text) → Checks job
-        (given line.now vars.now vars_used shouts homes.now params.now paths.now work.now
-        out.now message) result }
-{
-    let bytes = check_bytes(line);
-    match bytes {
-        Checked::Refused { number, place } => {
-            return Checked::Refused {
-                number: number,
-                place: place,
-            };
-        }
-        Checked::Fine => {}
-    }
-    let read = read_line::read_line(line);
-    match read {
-        LineRead::Refused { number, place } => Checked::Refused {
-            number: number,
-            place: place,
-        },
-        LineRead::Read => {
-            if room(job, out.len()) == 0 {
-                return refuse(numbers::REFUSED_OUTPUT);
-            }
-            Checked::Fine
-        }
-    }
-}
-
-// All that is checked before the first word, in the documents' order.
+// All that is checked before the first word, in the documents' order; at last the empty fields image has its byte. Neither message nor switch is looked at:
+// what holds here holds whatever they are.
 pub fn check(
     job: Job,
     line: &[u8],
@@ -139,62 +84,24 @@ pub fn check(
     paths: &[u8],
     work: &[u8],
     out: &[u8],
-) -> Checked
+) -> Result<(), Refused>
     ensures { (shouts : Bool) (message : Text) → Checks job
         (given line.now vars.now vars_used shouts homes.now params.now paths.now work.now
         out.now message) result }
 {
-    let lent = check_lent(vars, vars_used, homes, work);
-    match lent {
-        Checked::Refused { number, place } => {
-            return Checked::Refused {
-                number: number,
-                place: place,
-            };
-        }
-        Checked::Fine => {}
-    }
+    check_lent(vars, vars_used, homes, work)?;
     if !table::well_formed(Kind::Paths, paths) {
-        return refuse(numbers::REFUSED_PATHS);
+        return Err(refuse(Refusal::BadPaths));
     }
     if !table::well_formed(Kind::Fields, params) {
-        return refuse(numbers::REFUSED_PARAMETERS);
+        return Err(refuse(Refusal::BadParameters));
     }
-    check_line(job, line, vars, vars_used, homes, params, paths, work, out)
-}
-
-// The line of assignments is read. Neither paths nor output, message nor switch is looked at.
-fn check_values(
-    line: &[u8],
-    vars: &[u8],
-    vars_used: usize,
-    homes: &[u8],
-    params: &[u8],
-    work: &[u8],
-) -> Checked
-    requires lends { Lends work.now vars.now vars_used homes.now }
-    requires params_value { is_some (fields_of params.now) ≡ true }
-    ensures { (shouts : Bool) (message : Text) → AssignChecks
-        (given line.now vars.now vars_used shouts homes.now params.now [] work.now [] message) result }
-{
-    let bytes = check_bytes(line);
-    match bytes {
-        Checked::Refused { number, place } => {
-            return Checked::Refused {
-                number: number,
-                place: place,
-            };
-        }
-        Checked::Fine => {}
+    check_bytes(line)?;
+    read_line::read_line(line)?;
+    if room(job, out.len()) == 0 {
+        return Err(refuse(Refusal::OutputRoom));
     }
-    let read = read_line::read_assignments(line);
-    match read {
-        LineRead::Refused { number, place } => Checked::Refused {
-            number: number,
-            place: place,
-        },
-        LineRead::Read => Checked::Fine,
-    }
+    Ok(())
 }
 
 // All that is checked before the first assignment, in the documents' order: "The job takes neither paths nor output: 4 and 21 do not arise".
@@ -205,23 +112,15 @@ pub fn check_assignments(
     homes: &[u8],
     params: &[u8],
     work: &[u8],
-) -> Checked
+) -> Result<(), Refused>
     ensures { (shouts : Bool) (message : Text) → AssignChecks
         (given line.now vars.now vars_used shouts homes.now params.now [] work.now [] message) result }
 {
-    let lent = check_lent(vars, vars_used, homes, work);
-    match lent {
-        Checked::Refused { number, place } => {
-            return Checked::Refused {
-                number: number,
-                place: place,
-            };
-        }
-        Checked::Fine => {}
-    }
+    check_lent(vars, vars_used, homes, work)?;
     let numbered = table::well_formed(Kind::Fields, params);
-    if numbered {
-        return check_values(line, vars, vars_used, homes, params, work);
+    if !numbered {
+        return Err(refuse(Refusal::BadParameters));
     }
-    refuse(numbers::REFUSED_PARAMETERS)
+    check_bytes(line)?;
+    read_line::read_assignments(line)
 }

@@ -1,28 +1,20 @@
 -- What the job on a pattern's cost answers, and what the work area holds then, by document 02's stage: every value and every byte.
-use Rattle.std.specs.Prelude.{ℕ, ◌≡◌, Bool, true, false, ◌||◌, ltb}
-use Rattle.stages.specs.Numbers.{accepted, bracket_class, too_many_units, elements_limit, compared_limit}
+use Rattle.std.specs.Prelude.{ℕ, ◌≡◌, Result, Ok, Err}
 use Rattle.stages.specs.Bytes.{Text}
-use Rattle.stages.specs.Outcome.{pick}
+use Rattle.stages.specs.Outcome.{Placed, refused_at, done_at}
 use Rattle.stages.specs.Cost as stage
-use Rattle.pattern_cost.specs.declared.Elements.{Elements}
-use Rattle.pattern_cost.specs.declared.Elements.TheVariants.{Class, Count}
+use Rattle.text.specs.declared.refusal.Refusal.{Refusal}
+use Rattle.text.specs.Refusals.{refusal_number}
 use Rattle.call_cost.specs.declared.Costed.{Costed}
 
 -- a call, by what it is handed
 abbrev pub costing : Text → Text → Text → stage.Costing
 costing pattern text work = record { pattern = pattern; text = text; work = work }
 
-abbrev pub is_class : Elements → Bool
-is_class Class = true
-is_class (Count n) = false
-
-abbrev pub is_large : Elements → ℕ → Bool
-is_large Class size = false
-is_large (Count n) size = ltb elements_limit n || ltb compared_limit size
-
--- "19 .. 14, in that order"
-abbrev pub number_for : Bool → Bool → ℕ
-number_for class large = pick class bracket_class (pick large too_many_units accepted)
+-- what the stage says by this result: a count, or a refusal, whose place is 0
+abbrev pub placed : Result ℕ Refusal → Placed ℕ
+placed (Ok k) = done_at k
+placed (Err e) = refused_at (refusal_number e) 0
 
 abbrev pub answer_as : ℕ → ℕ → Costed
 answer_as n pairs = record { number = n; place = 0; pairs = pairs }

@@ -23,10 +23,9 @@ use Rattle.stages.proofs.UpdateCalls.{beyond_buffer, no_table, no_path, insertio
 use Rattle.stages.proofs.UpdateCalls.{insertion_there, insertion_full, insertion_gives, deletion_missing, deletion_gives}
 use Rattle.table_insert.specs.Added as added
 use Rattle.table_insert.specs.Removed as removed
-use Rattle.table_insert.specs.declared.Added as code
-use Rattle.table_insert.specs.declared.Added.TheVariants as add
-use Rattle.table_insert.specs.declared.Removed as gone
-use Rattle.table_insert.specs.declared.Removed.TheVariants as remove
+use Rattle.std.specs.Prelude.{Result, Ok, Err, Option, Some, None}
+use Rattle.table_insert.specs.declared.AddError.{AddError}
+use Rattle.table_insert.specs.declared.AddError.TheVariants.{Twice, NoRoom}
 use Rattle.call_update.specs.Hands.{is_ready, room_in, answer_as, place_of, Hands}
 use Rattle.call_update.specs.declared.Updated.{Updated}
 
@@ -196,17 +195,17 @@ pub add_ready : (g : stage.Updating) {l : List Text} → Ready g l → (limit : 
 add_ready g r limit e = rw e ((ready_small g r, (room_most (length g.paths)).0, (room_most (length g.paths)).1), column_of g r)
 
 -- what the job answers by what adding gives
-abbrev pub inserted_as : ℕ → code.Added → Updated
-inserted_as used (add.Used n) = answer_as accepted n
-inserted_as used add.Twice = answer_as bad_path used
-inserted_as used add.Full = answer_as output_room used
+abbrev pub inserted_as : ℕ → Result ℕ AddError → Updated
+inserted_as used (Ok n) = answer_as accepted n
+inserted_as used (Err Twice) = answer_as bad_path used
+inserted_as used (Err NoRoom) = answer_as output_room used
 
 module _ (g : stage.Updating) (l : List Text) (w : Ready g l) (b : Bytes g.paths) where
   fit_test : (m : List Text) → stage.paths_fit g m ≡ leb (image_length m) (room_in (length g.paths))
   unfolding stage.paths_fit
   fit_test m = rw (length_image m) (sym (room_test (image_length m) (length g.paths)))
 
-  module _ (limit : ℕ) (k : limit ≡ room_in (length g.paths)) (left : Text) (s : code.Added)
+  module _ (limit : ℕ) (k : limit ≡ room_in (length g.paths)) (left : Text) (s : Result ℕ AddError)
       (h : added.Adds (added.adding limit g.path l) g.paths left s) where
     abbrev more : List Text
     more = stage.added g.path l
@@ -217,21 +216,21 @@ module _ (g : stage.Updating) (l : List Text) (w : Ready g l) (b : Bytes g.paths
       where
         known : stage.is_there g.path l ≡ true → Hands g (stage.inserter g) r left
         known e =
-            let u : s ≡ add.Twice = h.answers ∙ rw e in
+            let u : s ≡ Err Twice = h.answers ∙ rw e in
             let p : left ≡ g.paths = h.leaves ∙ rw e in
             insert_refuses g b bad_path (insertion_there g l w e) (f ∙ ap (inserted_as g.used) u) p
 
         fits : stage.is_there g.path l ≡ false → leb (image_length more) limit ≡ true → Hands g (stage.inserter g) r left
         fits e d =
             let q : stage.paths_fit g more ≡ true = fit_test more ∙ ap (leb (image_length more)) (sym k) ∙ d in
-            let u : s ≡ add.Used (image_length more) = h.answers ∙ rw (e, d) in
+            let u : s ≡ Ok (image_length more) = h.answers ∙ rw (e, d) in
             let p : left ≡ over (image more) g.paths = h.leaves ∙ rw (e, d) in
             insert_accepts g b more (insertion_gives g l w e q) (f ∙ ap (inserted_as g.used) u ∙ ap (answer_as accepted) (sym (length_image more))) p
 
         full : stage.is_there g.path l ≡ false → leb (image_length more) limit ≡ false → Hands g (stage.inserter g) r left
         full e d =
             let q : stage.paths_fit g more ≡ false = fit_test more ∙ ap (leb (image_length more)) (sym k) ∙ d in
-            let u : s ≡ add.Full = h.answers ∙ rw (e, d) in
+            let u : s ≡ Err NoRoom = h.answers ∙ rw (e, d) in
             let p : left ≡ g.paths = h.leaves ∙ rw (e, d) in
             insert_refuses g b output_room (insertion_full g l w e q) (f ∙ ap (inserted_as g.used) u) p
 
@@ -240,11 +239,11 @@ module _ (g : stage.Updating) (l : List Text) (w : Ready g l) (b : Bytes g.paths
 
 -- `delete_path`
 
-abbrev pub deleted_as : ℕ → gone.Removed → Updated
-deleted_as used (remove.Used n) = answer_as accepted n
-deleted_as used remove.Missing = answer_as bad_path used
+abbrev pub deleted_as : ℕ → Option ℕ → Updated
+deleted_as used (Some n) = answer_as accepted n
+deleted_as used None = answer_as bad_path used
 
-module _ (g : stage.Updating) (l : List Text) (w : Ready g l) (b : Bytes g.paths) (left : Text) (s : gone.Removed)
+module _ (g : stage.Updating) (l : List Text) (w : Ready g l) (b : Bytes g.paths) (left : Text) (s : Option ℕ)
     (h : removed.Removes g.used (removed.removing g.path l) g.paths left s) where
   abbrev less : List Text
   less = stage.without g.path l
@@ -255,12 +254,12 @@ module _ (g : stage.Updating) (l : List Text) (w : Ready g l) (b : Bytes g.paths
     where
       known : stage.is_there g.path l ≡ true → Hands g (stage.deleter g) r left
       known e =
-          let u : s ≡ remove.Used (length (image less)) = h.answers ∙ rw e in
+          let u : s ≡ Some (length (image less)) = h.answers ∙ rw e in
           let p : left ≡ over (padded g.used (image less)) g.paths = h.leaves ∙ rw e in
           delete_accepts g b less (deletion_gives g l w e) (f ∙ ap (deleted_as g.used) u) p
 
       missing : stage.is_there g.path l ≡ false → Hands g (stage.deleter g) r left
       missing e =
-          let u : s ≡ remove.Missing = h.answers ∙ rw e in
+          let u : s ≡ None = h.answers ∙ rw e in
           let p : left ≡ g.paths = h.leaves ∙ rw e in
           delete_refuses g b bad_path (deletion_missing g l w e) (f ∙ ap (deleted_as g.used) u) p

@@ -2,12 +2,15 @@
 #![tactic(auto)]
 
 ghost use Rattle.std.specs.Prelude.{◌≡◌};
+ghost use Rattle.stages.specs.Numbers.{accepted};
+ghost use Rattle.text.specs.Refusals.{refusal_number};
 ghost use Rattle.stages.specs.Updates.{is_path, inserter, deleter};
 ghost use Rattle.call_update.specs.Hands.{updating, is_ready, room_in, answer_as, Hands};
 
 use table::Kind;
-use table_insert::{Added, Removed};
+use table_insert::AddError;
 use text::numbers;
+use text::refusal::Refusal;
 
 // A number, a place, and the used length of the paths. Laid out as C lays it out.
 #[repr(C)]
@@ -18,12 +21,23 @@ pub struct Updated {
     pub used: usize,
 }
 
-// The answer with this number and used length: every place is 0.
-fn answer(number: u8, used: usize) -> Updated
-    ensures { result ≡ answer_as number used }
+// An acceptance: the paths have this used length.
+fn accept(used: usize) -> Updated
+    ensures { result ≡ answer_as accepted used }
 {
     Updated {
-        number,
+        number: numbers::ACCEPTED,
+        place: 0,
+        used,
+    }
+}
+
+// A refusal, whose place is 0: the used length is the one that was given.
+fn refuse(why: Refusal, used: usize) -> Updated
+    ensures { result ≡ answer_as (refusal_number why) used }
+{
+    Updated {
+        number: why.number(),
         place: 0,
         used,
     }
@@ -59,14 +73,13 @@ pub fn insert_path(paths: &mut [u8], paths_used: usize, path: &[u8]) -> Updated
         (inserter (updating paths.old paths_used path.now)) result paths.new }
 {
     if !is_ready(paths, paths_used, path) {
-        return answer(numbers::REFUSED_PATHS, paths_used);
+        return refuse(Refusal::BadPaths, paths_used);
     }
     let limit = room(paths.len());
-    let added = table_insert::add(paths, paths_used, path, limit);
-    match added {
-        Added::Used(n) => answer(numbers::ACCEPTED, n),
-        Added::Twice => answer(numbers::REFUSED_PATH, paths_used),
-        Added::Full => answer(numbers::REFUSED_OUTPUT, paths_used),
+    match table_insert::add(paths, paths_used, path, limit) {
+        Ok(n) => accept(n),
+        Err(AddError::Twice) => refuse(Refusal::BadPath, paths_used),
+        Err(AddError::NoRoom) => refuse(Refusal::OutputRoom, paths_used),
     }
 }
 
@@ -77,11 +90,10 @@ pub fn delete_path(paths: &mut [u8], paths_used: usize, path: &[u8]) -> Updated
         (deleter (updating paths.old paths_used path.now)) result paths.new }
 {
     if !is_ready(paths, paths_used, path) {
-        return answer(numbers::REFUSED_PATHS, paths_used);
+        return refuse(Refusal::BadPaths, paths_used);
     }
-    let removed = table_insert::remove(paths, paths_used, path);
-    match removed {
-        Removed::Used(n) => answer(numbers::ACCEPTED, n),
-        Removed::Missing => answer(numbers::REFUSED_PATH, paths_used),
+    match table_insert::remove(paths, paths_used, path) {
+        Some(n) => accept(n),
+        None => refuse(Refusal::BadPath, paths_used),
     }
 }

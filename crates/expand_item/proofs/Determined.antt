@@ -15,7 +15,7 @@ use Rattle.expand_param.specs.Holding.{holding_in}
 use Rattle.expand_add.specs.Added.{Adds}
 use Rattle.expand_item.specs.Sought.{value_row, length_row}
 use Rattle.expand_add.specs.declared.answers.Onward.{Onward}
-use Rattle.expand_add.specs.declared.answers.Expanded.{Expanded}
+use Rattle.expand_add.specs.Expanded.{Expanded}
 use Rattle.expand_add.proofs.Determined.{adds_determined}
 
 module _ (units : ℕ) (on : Onward) (area area' : Text) (r s : Expanded) where

@@ -15,11 +15,11 @@ use Rattle.text.specs.Rows.{row_bytes}
 use Rattle.text.proofs.Rows.{row_bytes_append}
 use Rattle.row.specs.Stands.{fronted}
 use Rattle.table.specs.Places.{Shown, shown, absent}
-use Rattle.table.specs.declared.Found.{Found}
-use Rattle.table.specs.declared.Found.TheVariants.{At}
+use Rattle.std.specs.Prelude.{Option as Perhaps, Some}
+use Rattle.table.specs.declared.Part.{Part}
 use Rattle.expand_add.specs.Added.{Adds, Fitting, measured}
 use Rattle.expand_add.specs.declared.answers.Onward.{Onward}
-use Rattle.expand_add.specs.declared.answers.Expanded.{Expanded}
+use Rattle.expand_add.specs.Expanded.{Expanded}
 use Rattle.expand_add.proofs.Fitting.{measured_full, marked_count, adds_same}
 use Rattle.expand_add.proofs.Standing.{front}
 use Rattle.expand_item.specs.Homes.{Inside, text_at}
@@ -52,16 +52,16 @@ module _ (units : ℕ) (on : Onward) (c : Cell) (m : Mark) (t : Text) where
 
 -- What a look-up found lies inside the image, and is the key's value.
 
-pub found_inside : {t key : Text} {found : Found} → Shown t key found → Inside t found
+pub found_inside : {t key : Text} {found : Perhaps Part} → Shown t key found → Inside t found
 found_inside (shown h) = (h.low, h.high)
 found_inside (absent h) = tt
 
-pub found_text : {t key : Text} {found : Found} → Shown t key found → lookup key (held t) ≡ text_at t found
+pub found_text : {t key : Text} {found : Perhaps Part} → Shown t key found → lookup key (held t) ≡ text_at t found
 found_text (shown h) = h.gets
 found_text (absent h) = h
 
-pub inside_known : (t : Text) {found : Found} {from to : ℕ} → Inside t found → found ≡ At from to → (from ≤ to) × (to ≤ length t)
-inside_known t i e = subst (λ (f : Found). Inside t f) e i
+pub inside_known : (t : Text) {found : Perhaps Part} {p : Part} → Inside t found → found ≡ Some p → (p.from ≤ p.to) × (p.to ≤ length t)
+inside_known t i e = subst (λ (f : Perhaps Part). Inside t f) e i
 
 pub empty_login : (v homes : Pairs) (t : Text) → length t ≡ 0 → directory v homes t ≡ lookup (text "HOME") v
 unfolding directory

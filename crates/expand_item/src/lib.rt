@@ -17,32 +17,33 @@ ghost use Rattle.expand_add.specs.Added.{Adds};
 ghost use Rattle.expand_item.specs.Homes.{Inside, text_at};
 ghost use Rattle.expand_item.specs.Sought.{value_row, length_row};
 
-use expand_add::answers::{Expanded, Onward};
+use expand_add::answers::{Onward, Row, Stop};
 use read_brace::Param;
 use row::{Mark, RowEnd};
-use table::Found;
+use table::Part;
 use text::numbers;
+use text::refusal::Refusal;
 
 // Adds one unit, with the row's mark.
-pub fn give_unit(b: u8, row: RowEnd, on: Onward, area: &mut [u8]) -> Expanded
+pub fn give_unit(b: u8, row: RowEnd, on: Onward, area: &mut [u8]) -> Result<Row, Stop>
     requires { (row.units ≤ row_limit) × (2 * row_limit ≤ length area.old + 2 * row.units) }
     ensures { Adds row.units on (done (cell (mark_of row.mark) b ∷ [])) area.new result }
 {
     if row.units >= numbers::ROW_LIMIT {
-        return Expanded::Refused(numbers::REFUSED_UNITS);
+        return Err(Stop::Refused(Refusal::TooManyUnits));
     }
-    let mark = row.mark;
-    row::put_unit(area, b, mark);
-    Expanded::Row {
-        units: 1,
-        next: on.next,
-        vars_used: on.vars_used,
-        of_none: on.of_none,
-    }
+    row::put_unit(area, b, row.mark);
+    Ok(on.row(1))
 }
 
 // Adds the decimal text of a count, which is worked out in `digits`.
-fn give_count(n: u64, row: RowEnd, on: Onward, digits: &mut [u8], area: &mut [u8]) -> Expanded
+fn give_count(
+    n: u64,
+    row: RowEnd,
+    on: Onward,
+    digits: &mut [u8],
+    area: &mut [u8],
+) -> Result<Row, Stop>
     requires { (most_digits ≤ length digits.old) × (row.units ≤ row_limit) × (2 * row_limit ≤ length area.old + 2 * row.units) }
     ensures { Adds row.units on (done (marked (expanded_mark (mark_of row.mark)) (decimal n))) area.new result }
 {
@@ -51,15 +52,15 @@ fn give_count(n: u64, row: RowEnd, on: Onward, digits: &mut [u8], area: &mut [u8
 }
 
 // Adds the value of a parameter, nothing if it is unset.
-pub fn give_value<'a>(
+pub fn give_value(
     text: &[u8],
     param: Param,
     row: RowEnd,
     on: Onward,
-    vars: &'a [u8],
-    params: &'a [u8],
+    vars: &[u8],
+    params: &[u8],
     area: &mut [u8],
-) -> Expanded
+) -> Result<Row, Stop>
     requires { Name text.now param.from param.to × Table vars.now × Listed params.now × (row.units ≤ row_limit) ×
         (2 * row_limit ≤ length area.old + 2 * row.units) }
     ensures { Adds row.units on
@@ -72,16 +73,16 @@ pub fn give_value<'a>(
 }
 
 // Adds the value of a parameter in its plain form: one that is unset is refused if the switch is on.
-pub fn give_sought<'a>(
+pub fn give_sought(
     text: &[u8],
     param: Param,
     row: RowEnd,
     on: Onward,
-    vars: &'a [u8],
-    params: &'a [u8],
+    vars: &[u8],
+    params: &[u8],
     area: &mut [u8],
     shouts: bool,
-) -> Expanded
+) -> Result<Row, Stop>
     requires { Name text.now param.from param.to × Table vars.now × Listed params.now × (row.units ≤ row_limit) ×
         (2 * row_limit ≤ length area.old + 2 * row.units) }
     ensures { Adds row.units on
@@ -89,22 +90,22 @@ pub fn give_sought<'a>(
         area.new result }
 {
     if expand_param::must_shout(text, param, vars, params, shouts) {
-        return Expanded::Refused(numbers::REFUSED_UNSET);
+        return Err(Stop::Refused(Refusal::UnsetName));
     }
     give_value(text, param, row, on, vars, params, area)
 }
 
 // Adds the length in bytes of a parameter's value, 0 if it is unset. One that is unset is refused if the switch is on.
-pub fn give_length<'a>(
+pub fn give_length(
     text: &[u8],
     param: Param,
     row: RowEnd,
     on: Onward,
-    vars: &'a [u8],
-    params: &'a [u8],
+    vars: &[u8],
+    params: &[u8],
     area: &mut [u8],
     shouts: bool,
-) -> Expanded
+) -> Result<Row, Stop>
     requires { Name text.now param.from param.to × Table vars.now × Listed params.now × (row.units ≤ row_limit) ×
         (2 * row_limit ≤ length area.old + 2 * row.units) }
     ensures { Adds row.units on
@@ -113,7 +114,7 @@ pub fn give_length<'a>(
 {
     let unset = expand_param::must_shout(text, param, vars, params, shouts);
     if unset {
-        return Expanded::Refused(numbers::REFUSED_UNSET);
+        return Err(Stop::Refused(Refusal::UnsetName));
     }
     let value = expand_param::value_of(text, param, vars, params);
     let mut digits = [0u8; numbers::MOST_DIGITS];
@@ -121,7 +122,7 @@ pub fn give_length<'a>(
 }
 
 // Adds how many positional parameters there are.
-pub fn give_total(row: RowEnd, on: Onward, params: &[u8], area: &mut [u8]) -> Expanded
+pub fn give_total(row: RowEnd, on: Onward, params: &[u8], area: &mut [u8]) -> Result<Row, Stop>
     requires { Listed params.now × (row.units ≤ row_limit) × (2 * row_limit ≤ length area.old + 2 * row.units) }
     ensures { Adds row.units on (done (marked (expanded_mark (mark_of row.mark)) (decimal (length (held_texts params.now)))))
         area.new result }
@@ -132,60 +133,49 @@ pub fn give_total(row: RowEnd, on: Onward, params: &[u8], area: &mut [u8]) -> Ex
 }
 
 // Adds a directory: an N, then its bytes as Q.
-fn give_directory(directory: &[u8], row: RowEnd, on: Onward, area: &mut [u8]) -> Expanded
+fn give_directory(directory: &[u8], row: RowEnd, on: Onward, area: &mut [u8]) -> Result<Row, Stop>
     requires { (row.units ≤ row_limit) × (2 * row_limit ≤ length area.old + 2 * row.units) }
     ensures { Adds row.units on (done (N ∷ marked Q directory.now)) area.new result }
 {
     let room = numbers::ROW_LIMIT - row.units;
     if directory.len() >= room {
-        return Expanded::Refused(numbers::REFUSED_UNITS);
+        return Err(Stop::Refused(Refusal::TooManyUnits));
     }
     row::put_empty(area);
     row::put_marked(directory, Mark::Q, &mut area[2..]);
-    Expanded::Row {
-        units: directory.len() + 1,
-        next: on.next,
-        vars_used: on.vars_used,
-        of_none: on.of_none,
-    }
+    Ok(on.row(directory.len() + 1))
 }
 
 // Adds a tilde and its login as they stand, each byte with the row's mark.
-fn give_literal(login: &[u8], row: RowEnd, on: Onward, area: &mut [u8]) -> Expanded
+fn give_literal(login: &[u8], row: RowEnd, on: Onward, area: &mut [u8]) -> Result<Row, Stop>
     requires { (row.units ≤ row_limit) × (2 * row_limit ≤ length area.old + 2 * row.units) }
     ensures { Adds row.units on (done (tilde_row login.now (mark_of row.mark) none)) area.new result }
 {
     let room = numbers::ROW_LIMIT - row.units;
     if login.len() >= room {
-        return Expanded::Refused(numbers::REFUSED_UNITS);
+        return Err(Stop::Refused(Refusal::TooManyUnits));
     }
-    let mark = row.mark;
-    row::put_unit(area, b'~', mark);
-    row::put_marked(login, mark, &mut area[2..]);
-    Expanded::Row {
-        units: login.len() + 1,
-        next: on.next,
-        vars_used: on.vars_used,
-        of_none: on.of_none,
-    }
+    row::put_unit(area, b'~', row.mark);
+    row::put_marked(login, row.mark, &mut area[2..]);
+    Ok(on.row(login.len() + 1))
 }
 
 // Adds what a login's look-up in an image found: the directory, or the tilde and the login.
 fn give_found(
     login: &[u8],
     image: &[u8],
-    found: Found,
+    found: Option<Part>,
     row: RowEnd,
     on: Onward,
     area: &mut [u8],
-) -> Expanded
+) -> Result<Row, Stop>
     requires { Inside image.now found × (row.units ≤ row_limit) × (2 * row_limit ≤ length area.old + 2 * row.units) }
     ensures { Adds row.units on (done (tilde_row login.now (mark_of row.mark) (text_at image.now found)))
         area.new result }
 {
     match found {
-        Found::Missing => give_literal(login, row, on, area),
-        Found::At { from, to } => give_directory(&image[from..to], row, on, area),
+        None => give_literal(login, row, on, area),
+        Some(part) => give_directory(&image[part.from..part.to], row, on, area),
     }
 }
 
@@ -197,7 +187,7 @@ pub fn give_home(
     vars: &[u8],
     homes: &[u8],
     area: &mut [u8],
-) -> Expanded
+) -> Result<Row, Stop>
     requires { Table vars.now × Table homes.now × (row.units ≤ row_limit) × (2 * row_limit ≤ length area.old + 2 * row.units) }
     ensures { Adds row.units on
         (done (tilde_row login.now (mark_of row.mark)
@@ -205,9 +195,14 @@ pub fn give_home(
         area.new result }
 {
     if login.len() == 0 {
-        let found = table_find::look_up_home(vars);
-        return give_found(login, vars, found, row, on, area);
+        return give_found(login, vars, table_find::look_up_home(vars), row, on, area);
     }
-    let found = table_find::look_up(homes, login);
-    give_found(login, homes, found, row, on, area)
+    give_found(
+        login,
+        homes,
+        table_find::look_up(homes, login),
+        row,
+        on,
+        area,
+    )
 }

@@ -7,6 +7,7 @@ use native.Mathlib.Nat.{suc-mul}
 use mathlib.Core.Path.{◌≡◌, refl, sym, ◌∙◌, ap}
 use mathlib.Core.Bool.{Bool, true, false, not}
 use mathlib.Core.List.{List}
+use Rattle.std.proofs.Common.{Result, Ok, Err}
 use lib.Dec.{eqb}
 use lib.ListN.{length, get_or}
 use lib.Seq.{ext_get_or}
@@ -16,16 +17,15 @@ use Rattle.stages.specs.Pattern.{Element}
 use Rattle.stages.proofs.Bools.{no as never, apart}
 use Rattle.stages.proofs.Reaching.{reachable_most}
 use Rattle.text.proofs.Determined.{one_answer}
+use Rattle.pattern_member.specs.declared.BadClass.{BadClass}
 use Rattle.pattern_cost.specs.Areas.{on, Marked}
 use Rattle.pattern_cost.specs.Counts.{elements_of, CountSays}
-use Rattle.pattern_cost.specs.declared.Elements.{Elements}
-use Rattle.pattern_cost.specs.declared.Elements.TheVariants.{Class, Count}
 
-pub count_elements_determined : (pattern : Text) (r q : Elements) → CountSays pattern r → CountSays pattern q → r ≡ q
-count_elements_determined pattern Class Class s t = refl
-count_elements_determined pattern Class (Count n) s t = absurd (apart t.0 s)
-count_elements_determined pattern (Count m) Class s t = absurd (apart s.0 t)
-count_elements_determined pattern (Count m) (Count n) s t = ap Count (one_answer s.1 t.1)
+pub count_elements_determined : (pattern : Text) (r q : Result ℕ BadClass) → CountSays pattern r → CountSays pattern q → r ≡ q
+count_elements_determined pattern (Err d) (Err e) s t = refl
+count_elements_determined pattern (Err d) (Ok n) s t = absurd (apart t.0 s)
+count_elements_determined pattern (Ok m) (Err e) s t = absurd (apart s.0 t)
+count_elements_determined pattern (Ok m) (Ok n) s t = ap Ok (one_answer s.1 t.1)
 
 -- a place in rows of so many flags
 record Flag (rows width k : ℕ) : Type 0 where

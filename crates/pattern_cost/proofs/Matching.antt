@@ -1,5 +1,5 @@
 -- What an element matches, by how it stands in its pattern.
-use Prim.Native.Nat.{ℕ, ◌≤◌}
+use Prim.Native.Nat.{ℕ}
 use mathlib.Core.Path.{◌≡◌, sym, ◌∙◌, ap}
 use mathlib.Core.Bool.{Bool, false, not, ◌||◌, or-false}
 use lib.Dec.{eqb}
@@ -8,12 +8,9 @@ use Rattle.stages.specs.Pattern.{sense_of, in_set}
 use Rattle.stages.specs.Cost.{matches_byte}
 use Rattle.pattern_unit.specs.Widths.{signs_by}
 use Rattle.pattern_unit.specs.declared.Width.TheVariants.{Plain}
-use Rattle.pattern_element.specs.Pieces.{element_of, Lies}
+use Rattle.pattern_element.specs.Pieces.{element_of}
 use Rattle.pattern_element.specs.declared.Piece.{Piece}
 use Rattle.pattern_element.specs.declared.Piece.TheVariants.{Star, One, Byte, Refusing, Set}
-
-pub set_lies : (n : ℕ) {q : Piece} {negative : Bool} {a e : ℕ} → q ≡ Set negative a e → Lies n q → (a ≤ e) × (e ≤ n)
-set_lies n h l = rw h at l
 
 module _ (p : Text) (q : Piece) (k : ℕ) {x : Bool} where
   seen : {d : Piece} → q ≡ d → x ≡ matches_byte (element_of Plain p d) k → x ≡ matches_byte (element_of Plain p q) k

@@ -1,12 +1,11 @@
 -- The elements of a pattern, all bytes of it active: how many there are, and which is a star.
-use Rattle.std.specs.Prelude.{◌≡◌, Bool, true, false, List, length}
+use Rattle.std.specs.Prelude.{ℕ, ◌≡◌, Bool, true, false, List, length, Result, Ok, Err}
 use Rattle.stages.specs.Bytes.{Text}
 use Rattle.stages.specs.Pattern.{Element, elements, has_class}
 use Rattle.pattern_unit.specs.Widths.{plain_signs}
+use Rattle.pattern_member.specs.declared.BadClass.{BadClass}
 use Rattle.pattern_element.specs.declared.Piece.{Piece}
 use Rattle.pattern_element.specs.declared.Piece.TheVariants.{Star, One, Byte, Refusing, Set}
-use Rattle.pattern_cost.specs.declared.Elements.{Elements}
-use Rattle.pattern_cost.specs.declared.Elements.TheVariants.{Class, Count}
 
 -- the elements of a pattern in the removals' sense, and whether it has a class that is not served
 abbrev pub elements_of : Text → List Element
@@ -15,9 +14,10 @@ elements_of p = elements false 0 (plain_signs p)
 abbrev pub class_in : Text → Bool
 class_in p = has_class false 0 (plain_signs p)
 
-abbrev pub CountSays : Text → Elements → Type 0
-CountSays p Class = class_in p ≡ true
-CountSays p (Count n) = (class_in p ≡ false) × (n ≡ length (elements_of p))
+-- what the count of its elements says
+abbrev pub CountSays : Text → Result ℕ BadClass → Type 0
+CountSays p (Err e) = class_in p ≡ true
+CountSays p (Ok n) = (class_in p ≡ false) × (n ≡ length (elements_of p))
 
 -- the element is a star
 abbrev pub is_star_piece : Piece → Bool

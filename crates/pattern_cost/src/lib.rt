@@ -12,65 +12,39 @@ ghost use Rattle.pattern_cost.specs.Areas.{Clear, Led, RowWalked, Room, Marked};
 ghost use Rattle.pattern_cost.specs.Counts.{is_star_piece, elements_of, CountSays};
 
 use pattern_element::Piece;
+use pattern_member::BadClass;
 use pattern_set::ByteSet;
 use pattern_unit::Width;
-
-// How many elements a pattern has, or that a class in it is not served.
-#[derive(Clone, Copy)]
-pub enum Elements {
-    Class,
-    Count(usize),
-}
 
 // The element met what is 19.
 fn is_refusing(piece: Piece) -> bool
     ensures { result ≡ is_refusing_piece piece }
 {
-    match piece {
-        Piece::Star => false,
-        Piece::One => false,
-        Piece::Byte(_) => false,
-        Piece::Refusing => true,
-        Piece::Set {
-            negative: _,
-            from: _,
-            to: _,
-        } => false,
-    }
+    matches!(piece, Piece::Refusing)
 }
 
 // Counts the elements of a pattern, all bytes of it active. A class that is not served is looked for up to its end, however many elements there are.
-pub fn count_elements(pattern: &[u8]) -> Elements
+pub fn count_elements(pattern: &[u8]) -> Result<usize, BadClass>
     ensures { CountSays pattern.now result }
 {
-    let mut elements: usize = 0;
-    let mut at: usize = 0;
+    let mut elements = 0;
+    let mut at = 0;
     while at < pattern.len() {
         let piece = pattern_element::search_piece(pattern, at, false, Width::Plain);
         if is_refusing(piece) {
-            return Elements::Class;
+            return Err(BadClass);
         }
         elements += 1;
         at = pattern_element::behind(piece, at, Width::Plain);
     }
-    Elements::Count(elements)
+    Ok(elements)
 }
 
 // The element is a star.
 fn is_star(piece: Piece) -> bool
     ensures { result ≡ is_star_piece piece }
 {
-    match piece {
-        Piece::Star => true,
-        Piece::One => false,
-        Piece::Byte(_) => false,
-        Piece::Refusing => false,
-        Piece::Set {
-            negative: _,
-            from: _,
-            to: _,
-        } => false,
-    }
+    matches!(piece, Piece::Star)
 }
 
 // The bytes that an element matches; a star matches none by itself.
@@ -93,10 +67,7 @@ fn matched_by(pattern: &[u8], piece: Piece) -> ByteSet
 fn takes_next(set: ByteSet, text: &[u8], j: usize) -> bool
     ensures { result ≡ (ltb j (length text.now) && has set.words (get_or text.now j 0)) }
 {
-    if j < text.len() {
-        return set.has(text[j]);
-    }
-    false
+    j < text.len() && set.has(text[j])
 }
 
 // Marks what the pair at `here` leads to, rows being `width` wide: at a star the next element, and the next byte if there is one more; at another element that
@@ -107,13 +78,10 @@ fn lead_on(area: &mut [u8], here: usize, width: usize, star: bool, more: bool, t
 {
     if star {
         area[here + width] = 1;
-        if !more {
-            return;
+        if more {
+            area[here + 1] = 1;
         }
-        area[here + 1] = 1;
-        return;
-    }
-    if taken {
+    } else if taken {
         area[here + width + 1] = 1;
     }
 }
@@ -125,17 +93,13 @@ fn walk_row(star: bool, set: ByteSet, text: &[u8], area: &mut [u8], base: usize)
     ensures { RowWalked star (has set.words) text.now base area.old area.new result }
 {
     let width = text.len() + 1;
-    let mut count: usize = 0;
-    let mut j: usize = 0;
-    while j < width {
-        if area[base + j] == 0 {
-            j += 1;
-            continue;
+    let mut count = 0;
+    for j in 0..width {
+        if area[base + j] != 0 {
+            count += 1;
+            let taken = takes_next(set, text, j);
+            lead_on(area, base + j, width, star, j + 1 < width, taken);
         }
-        count += 1;
-        let taken = takes_next(set, text, j);
-        lead_on(area, base + j, width, star, j + 1 < width, taken);
-        j += 1;
     }
     count
 }
@@ -147,9 +111,9 @@ pub fn count_pairs(pattern: &[u8], text: &[u8], area: &mut [u8]) -> usize
 {
     let width = text.len() + 1;
     area[0] = 1;
-    let mut count: usize = 0;
-    let mut base: usize = 0;
-    let mut at: usize = 0;
+    let mut count = 0;
+    let mut base = 0;
+    let mut at = 0;
     while at < pattern.len() {
         let piece = pattern_element::search_piece(pattern, at, false, Width::Plain);
         let set = matched_by(pattern, piece);

@@ -17,26 +17,28 @@ use Rattle.pattern_cell.specs.Cells.{words_at, Is}
 use Rattle.pattern_cell.proofs.Showing.{shown_length}
 use Rattle.pattern_settle.specs.Settled.{Settles, SettleSays}
 use Rattle.pattern_settle.specs.declared.Settled.{Settled}
-use Rattle.pattern_settle.specs.declared.Settled.TheVariants.{Class, NoRoom, Cells}
+use Rattle.pattern_settle.specs.declared.SettleError.{SettleError}
+use Rattle.pattern_settle.specs.declared.SettleError.TheVariants.{BadClass, NoRoom}
+use Rattle.std.specs.Prelude.{Result, Ok, Err}
 
-module _ {w : Width} {path : Bool} {p : Text} {cells sets ends more : List ℕ} {m n : ℕ} {x y : Bool} where
-  answers : Settles w path p cells sets m x → Settles w path p ends more n y → Cells m x ≡ Cells n y
-  answers s t =
-      let c : m ≡ n =
-      sym (length-take-le m cells s.inside) ∙ sym (shown_length s.shows) ∙ shown_length t.shows ∙ length-take-le n ends t.inside in
-      let z : x ≡ y = s.active ∙ sym t.active in
-      ap (λ (k : ℕ). Cells k x) c ∙ ap (Cells n) z
+module _ {w : Width} {path : Bool} {p : Text} {cells sets ends more : List ℕ} where
+  answers : {r q : Settled} → Settles w path p cells sets r.count r.special → Settles w path p ends more q.count q.special → r ≡ q
+  answers {r} {q} s t =
+      let c : r.count ≡ q.count =
+      sym (length-take-le r.count cells s.inside) ∙ sym (shown_length s.shows) ∙ shown_length t.shows ∙ length-take-le q.count ends t.inside in
+      let z : r.special ≡ q.special = s.active ∙ sym t.active in
+      ap (λ (n : ℕ). record { count = n; special = r.special }) c ∙ ap (λ (b : Bool). record { count = q.count; special = b }) z
 
 pub settle_determined : (pattern : Text) (path : Bool) (w : Width) (cells sets ends more : List ℕ) → 4 * length pattern ≤ 3 * (size w * length sets)
-    → 4 * length pattern ≤ 3 * (size w * length more) → (r q : Settled) → SettleSays w path pattern cells sets r → SettleSays w path pattern ends more q
-    → r ≡ q
-settle_determined pattern path w cells sets ends more h k NoRoom q s t = absurd (omega (arith, s))
-settle_determined pattern path w cells sets ends more h k Class NoRoom s t = absurd (omega (arith, t))
-settle_determined pattern path w cells sets ends more h k (Cells m x) NoRoom s t = absurd (omega (arith, t))
-settle_determined pattern path w cells sets ends more h k Class Class s t = refl
-settle_determined pattern path w cells sets ends more h k Class (Cells n y) s t = absurd (apart t.served s)
-settle_determined pattern path w cells sets ends more h k (Cells m x) Class s t = absurd (apart s.served t)
-settle_determined pattern path w cells sets ends more h k (Cells m x) (Cells n y) s t = answers s t
+    → 4 * length pattern ≤ 3 * (size w * length more) → (r q : Result Settled SettleError) → SettleSays w path pattern cells sets r
+    → SettleSays w path pattern ends more q → r ≡ q
+settle_determined pattern path w cells sets ends more h k (Err NoRoom) q s t = absurd (omega (arith, s))
+settle_determined pattern path w cells sets ends more h k (Err BadClass) (Err NoRoom) s t = absurd (omega (arith, t))
+settle_determined pattern path w cells sets ends more h k (Ok r) (Err NoRoom) s t = absurd (omega (arith, t))
+settle_determined pattern path w cells sets ends more h k (Err BadClass) (Err BadClass) s t = refl
+settle_determined pattern path w cells sets ends more h k (Err BadClass) (Ok q) s t = absurd (apart t.served s)
+settle_determined pattern path w cells sets ends more h k (Ok r) (Err BadClass) s t = absurd (apart s.served t)
+settle_determined pattern path w cells sets ends more h k (Ok r) (Ok q) s t = ap Ok (answers s t)
 
 -- two cells, each with its table, that stand for one element
 abbrev Agree : Element → List ℕ → ℕ → List ℕ → ℕ → Type 0

@@ -15,15 +15,18 @@ use Rattle.pattern_unit.specs.declared.Width.TheVariants.{Plain, Marked}
 use Rattle.pattern_unit.proofs.Units.{scale_zero, scale_add}
 use Rattle.pattern_set.specs.Sets.{has, PutsWords}
 use Rattle.pattern_element.specs.Ends.{unit_of, Ended}
-use Rattle.pattern_element.specs.Pieces.{element_of, is_refusing_piece, sets_in}
+use Rattle.pattern_element.specs.Pieces.{element_of, is_refusing_piece, sets_in, piece_at, behind_of}
 use Rattle.pattern_element.specs.declared.Piece.{Piece}
 use Rattle.pattern_element.specs.declared.Piece.TheVariants.{Star, One, Byte, Set}
 use Rattle.pattern_element.proofs.Filling.{scale_less, scale_room}
 use Rattle.pattern_element.proofs.Reading.{elements_over, class_over}
 use Rattle.pattern_cell.specs.Cells.{Holds, Is, Shows, none, more}
 use Rattle.pattern_cell.proofs.Showing.{shown_both, shown_grown}
-use Rattle.pattern_settle.specs.Celled.{Celled, is_special}
-use Rattle.pattern_settle.specs.Settled.{Settles}
+use Rattle.std.specs.Prelude.{Err}
+use Rattle.pattern_settle.specs.Celled.{Celled, CellSays, is_special}
+use Rattle.pattern_settle.specs.Settled.{Settles, SettleSays}
+use Rattle.pattern_settle.specs.declared.SettleError.{SettleError}
+use Rattle.pattern_settle.specs.declared.SettleError.TheVariants.{BadClass, NoRoom}
 use Rattle.pattern_element.proofs.Standing.{from, class_from, Standing, piece_inside, piece_further, set_inside, parted, class_step, ended_next}
 use Rattle.pattern_settle.proofs.Special.{special_step}
 
@@ -97,6 +100,11 @@ cell_set w p from to negative used special {words} h l put same = record {
 }
 
 -- THE WALK
+
+-- the element at a place, as the code reads it
+pub stood : {w : Width} {path : Bool} {p : Text} {at u n : ℕ} {q : Piece} → at + u ≤ length p → u ≡ size w → q ≡ piece_at w path at (signs_by w (drop at p))
+    → n ≡ behind_of w q at → Standing w path p at q n
+stood h e is ends = record { there = omega (arith, h, e); is = is; ends = ends }
 
 pub record Settling (w : Width) (path : Bool) (p : Text) (cells sets : List ℕ) (at count used : ℕ) (special : Bool) : Type 0 where
   pub ended : Ended w path p cells at
@@ -186,6 +194,11 @@ module _ {w : Width} {path : Bool} {p : Text} {cells sets : List ℕ} {at count 
     settling_full exit y h =
         no_room w (length exit) used at (length p) h s.long
         (let i = set_inside t in let e : size w * sets_in q ≡ size w * 1 = ap (λ (k : ℕ). size w * k) y in omega (arith, i, e, piece_inside t))
+
+    -- where an element has no cell
+    pub settling_stops : (left exit : List ℕ) (e : SettleError) → CellSays w p q used special sets exit (Err e) → SettleSays w path p left exit (Err e)
+    settling_stops left exit BadClass y = settling_class y
+    settling_stops left exit NoRoom y = settling_full exit y.0 y.1
 
     pub settling_there : count < length cells
     settling_there =

@@ -1,5 +1,5 @@
 -- What one element of a pattern becomes: its cell, behind those of the elements before it.
-use Rattle.std.specs.Prelude.{ℕ, ◌+◌, ◌*◌, ◌≤◌, ◌<◌, ◌≡◌, Bool, true, false, ◌||◌, List, ◌++◌, length, take}
+use Rattle.std.specs.Prelude.{ℕ, ◌+◌, ◌*◌, ◌≤◌, ◌<◌, ◌≡◌, Bool, true, false, ◌||◌, List, ◌++◌, length, take, Result, Ok, Err}
 use Rattle.stages.specs.Bytes.{Text}
 use Rattle.pattern_unit.specs.declared.Width.{Width}
 use Rattle.pattern_element.specs.Pieces.{element_of, is_refusing_piece, sets_in}
@@ -7,7 +7,8 @@ use Rattle.pattern_element.specs.declared.Piece.{Piece}
 use Rattle.pattern_element.specs.declared.Piece.TheVariants.{Star, One, Byte, Refusing, Set}
 use Rattle.pattern_cell.specs.Cells.{Is}
 use Rattle.pattern_settle.specs.declared.Cell.{Cell}
-use Rattle.pattern_settle.specs.declared.Cell.TheVariants.{Class, NoRoom, Is as Becomes}
+use Rattle.pattern_settle.specs.declared.SettleError.{SettleError}
+use Rattle.pattern_settle.specs.declared.SettleError.TheVariants.{BadClass, NoRoom}
 
 -- more sets than a pattern has
 abbrev pub sets_limit : ℕ
@@ -31,7 +32,7 @@ pub record Celled (w : Width) (p : Text) (piece : Piece) (used : ℕ) (special :
   pub added : List ℕ
   pub grown : take (4 * next) exit ≡ take (4 * used) entry ++ added
 
-abbrev pub CellSays : Width → Text → Piece → ℕ → Bool → List ℕ → List ℕ → Cell → Type 0
-CellSays w p piece used special entry exit Class = is_refusing_piece piece ≡ true
-CellSays w p piece used special entry exit NoRoom = (sets_in piece ≡ 1) × (length exit < 4 * used + 4)
-CellSays w p piece used special entry exit (Becomes cell marked next) = Celled w p piece used special entry exit cell marked next
+abbrev pub CellSays : Width → Text → Piece → ℕ → Bool → List ℕ → List ℕ → Result Cell SettleError → Type 0
+CellSays w p piece used special entry exit (Err BadClass) = is_refusing_piece piece ≡ true
+CellSays w p piece used special entry exit (Err NoRoom) = (sets_in piece ≡ 1) × (length exit < 4 * used + 4)
+CellSays w p piece used special entry exit (Ok r) = Celled w p piece used special entry exit r.cell r.special r.used

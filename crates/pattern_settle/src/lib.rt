@@ -12,13 +12,18 @@ ghost use Rattle.pattern_settle.specs.Settled.{SettleSays};
 use pattern_element::Piece;
 use pattern_unit::Width;
 
-// What a pattern is settled as: a class that is not served refuses it with 19; or its sets are too many for the table; or so many cells stand for its
-// elements, and it is special if one of them is: a star, a `?` or a set.
-#[derive(Clone, Copy)]
-pub enum Settled {
-    Class,
+// What a pattern is settled as: so many cells stand for its elements, and it is special if one of them is: a star, a `?` or a set.
+#[derive(Clone, Copy, PartialEq, Eq)]
+pub struct Settled {
+    pub count: usize,
+    pub special: bool,
+}
+
+// Why a pattern is not settled: a class that is not served refuses it with 19, or its sets are too many for the table.
+#[derive(Clone, Copy, PartialEq, Eq)]
+pub enum SettleError {
+    BadClass,
     NoRoom,
-    Cells { count: usize, special: bool },
 }
 
 // The words of a table that has room for the sets of any row: each has three units at the least.
@@ -27,16 +32,12 @@ pub const SETS_ROOM: usize = 2732;
 // The words of a table of 16 sets: few patterns have more, and a small table is quickly made.
 pub const FEW_SETS: usize = 64;
 
-// What one element becomes: as above, or its cell, whether it or one before it is special, and how many sets the table has with it.
+// What one element becomes: its cell, whether it or one before it is special, and how many sets the table has with it.
 #[derive(Clone, Copy)]
-enum Cell {
-    Class,
-    NoRoom,
-    Is {
-        cell: u16,
-        special: bool,
-        used: usize,
-    },
+struct Cell {
+    cell: u16,
+    special: bool,
+    used: usize,
 }
 
 // The cell of a set, whose words go into the table behind those of the sets before it.
@@ -48,22 +49,22 @@ fn set_cell(
     width: Width,
     sets: &mut [u64],
     used: usize,
-) -> Cell
+) -> Result<Cell, SettleError>
     requires lies { Lies (length pattern.now) (Set negative from to) }
     requires used_le_sets_limit { (used ≤ sets_limit) × (4 * used ≤ length sets.old) }
     ensures { (special : Bool) → CellSays width pattern.now (Set negative from to) used special sets.old sets.new result }
 {
     let at = 4 * used;
     if sets.len() < at + 4 {
-        return Cell::NoRoom;
+        return Err(SettleError::NoRoom);
     }
     let set = pattern_set::set_of(&pattern[from..to], negative, width);
     pattern_set::put_set(set, sets, at);
-    Cell::Is {
+    Ok(Cell {
         cell: pattern_cell::FIRST_SET + (used as u16),
         special: true,
         used: used + 1,
-    }
+    })
 }
 
 // The cell of an element.
@@ -74,28 +75,28 @@ fn cell_of(
     sets: &mut [u64],
     used: usize,
     special: bool,
-) -> Cell
+) -> Result<Cell, SettleError>
     requires lies { Lies (length pattern.now) piece }
     requires used_le_sets_limit { (used ≤ sets_limit) × (4 * used ≤ length sets.old) }
     ensures { CellSays width pattern.now piece used special sets.old sets.new result }
 {
     match piece {
-        Piece::Star => Cell::Is {
+        Piece::Star => Ok(Cell {
             cell: pattern_cell::STAR,
             special: true,
             used,
-        },
-        Piece::One => Cell::Is {
+        }),
+        Piece::One => Ok(Cell {
             cell: pattern_cell::ONE,
             special: true,
             used,
-        },
-        Piece::Byte(b) => Cell::Is {
+        }),
+        Piece::Byte(b) => Ok(Cell {
             cell: b as u16,
             special,
             used,
-        },
-        Piece::Refusing => Cell::Class,
+        }),
+        Piece::Refusing => Err(SettleError::BadClass),
         Piece::Set { negative, from, to } => {
             set_cell(pattern, from, to, negative, width, sets, used)
         }
@@ -109,7 +110,7 @@ fn settle_pieces(
     width: Width,
     cells: &mut [u16],
     sets: &mut [u64],
-) -> Settled
+) -> Result<Settled, SettleError>
     requires { Ended width path pattern.now cells.old 0 }
     ensures { SettleSays width path pattern.now cells.new sets.new result }
 {
@@ -120,23 +121,14 @@ fn settle_pieces(
     let mut special = false;
     while at + size <= pattern.len() {
         let piece = pattern_element::piece_at(pattern, at, path, width, cells);
-        match cell_of(pattern, piece, width, sets, used, special) {
-            Cell::Class => return Settled::Class,
-            Cell::NoRoom => return Settled::NoRoom,
-            Cell::Is {
-                cell,
-                special: so_far,
-                used: with_it,
-            } => {
-                cells[count] = cell;
-                special = so_far;
-                used = with_it;
-            }
-        }
+        let cell = cell_of(pattern, piece, width, sets, used, special)?;
+        cells[count] = cell.cell;
+        special = cell.special;
+        used = cell.used;
         count += 1;
         at = pattern_element::behind(piece, at, width);
     }
-    Settled::Cells { count, special }
+    Ok(Settled { count, special })
 }
 
 // Settles a pattern. What its ends or its sets leave in the cells and in the table behind those that the answer counts is scratch.
@@ -146,7 +138,7 @@ pub fn settle(
     width: Width,
     cells: &mut [u16],
     sets: &mut [u64],
-) -> Settled
+) -> Result<Settled, SettleError>
     requires { (length pattern.now ≤ size width * length cells.old) × (length cells.old ≤ 2048) }
     ensures { SettleSays width path pattern.now cells.new sets.new result }
 {

@@ -59,8 +59,8 @@ fn answer_with(
     let mut work = system::large_buffer();
     let mut said = said_room();
     let asked = Asked {
-        vars_used: vars_used,
-        shouts: shouts,
+        vars_used,
+        shouts,
     };
     answering::answer_all(
         rt, asked, &mut block, &mut line, vars, homes, params, paths, &mut work, &mut said,

@@ -98,8 +98,8 @@ fn say_in(
     let m = answer.message_len;
     let told = recipe_cut::put_told(answer.number, carried.line, &message[..m], &mut said[len..]);
     Said {
-        len: len,
-        told: told,
+        len,
+        told,
         vars_used: answer.vars_used,
     }
 }
@@ -171,7 +171,7 @@ pub fn answer_next(
                 len: spoken.len,
                 told: spoken.told,
                 vars_used: spoken.vars_used,
-                next: next,
+                next,
             }
         }
     }

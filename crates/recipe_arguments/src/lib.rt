@@ -74,35 +74,26 @@ pub fn hear(image: &mut [u8], so_far: Heard, argument: &[u8]) -> Heard
     requires { so_far.used ≤ length image.old }
     ensures { Hears argument.now so_far image.old image.new result }
 {
-    let word = word_of(so_far.options, argument);
-    match word {
+    match word_of(so_far.options, argument) {
         Word::Shout => Heard {
-            used: so_far.used,
             shouts: true,
             options: true,
-            known: so_far.known,
+            ..so_far
         },
         Word::End => Heard {
-            used: so_far.used,
-            shouts: so_far.shouts,
             options: false,
-            known: so_far.known,
+            ..so_far
         },
         Word::Unknown => Heard {
-            used: so_far.used,
-            shouts: so_far.shouts,
             options: true,
             known: false,
+            ..so_far
         },
-        Word::Parameter => {
-            let longer = append_argument(image, so_far.used, argument);
-            Heard {
-                used: longer,
-                shouts: so_far.shouts,
-                options: false,
-                known: so_far.known,
-            }
-        }
+        Word::Parameter => Heard {
+            used: append_argument(image, so_far.used, argument),
+            options: false,
+            ..so_far
+        },
     }
 }
 
@@ -121,9 +112,8 @@ fn take_argument(
         Ok(n) => hear(image, so_far, &buffer[..n]),
         Err(_) => Heard {
             used: image.len(),
-            shouts: so_far.shouts,
             options: false,
-            known: so_far.known,
+            ..so_far
         },
     }
 }
@@ -146,10 +136,8 @@ fn gather_in(
         options: true,
         known: true,
     };
-    let mut number = first;
-    while number < count {
+    for number in first..count {
         so_far = take_argument(rt, number, buffer, image, so_far);
-        number += 1;
     }
     so_far
 }

@@ -56,16 +56,14 @@ fn report_argument(
     pattern: &mut [u8],
     work: &mut [u8],
 ) {
-    let n = system::arg(rt, number, pattern);
+    let n = system::arg(rt, number, pattern).unwrap_or(0);
     report(rt, &pattern[..n], text, work);
 }
 
 // Reports every pattern, in the order of the arguments.
 fn report_all(rt: &HostRuntime, count: usize, text: &[u8], pattern: &mut [u8], work: &mut [u8]) {
-    let mut number: usize = 2;
-    while number < count {
+    for number in 2..count {
         report_argument(rt, number, text, pattern, work);
-        number += 1;
     }
 }
 
@@ -77,7 +75,7 @@ fn main(rt: HostRuntime) {
         return;
     }
     let mut text = argument_room();
-    let n = system::arg(rt, 1, &mut text);
+    let n = system::arg(rt, 1, &mut text).unwrap_or(0);
     let mut pattern = argument_room();
     let mut work = system::large_buffer();
     report_all(rt, count, &text[..n], &mut pattern, &mut work);

@@ -1,80 +1,77 @@
 -- Taking a line from a block, on plain lists: the walk to the newline, the bytes that are kept, the answer.
-use Prim.Native.Nat.{ℕ, suc, ◌+◌, ◌-◌, ◌≤◌, ◌<◌}
+use Prim.Native.Nat.{ℕ, suc, ◌+◌, ◌-◌, ◌≤◌, ◌<◌, min}
+use Rattle.std.proofs.lemmas.Grind.{common_steps}
 use native.Mathlib.Omega.{arith}
-use native.Mathlib.Nat.{sub_self}
 use mathlib.Core.Path.{◌≡◌, refl, sym, ap, ◌∙◌}
-use mathlib.Core.Bool.{true, false, not}
-use mathlib.Core.Logic.{◌⊎◌, inl, inr}
+use mathlib.Core.Bool.{Bool, true, false, not}
 use mathlib.Core.List.{List, [], ◌∷◌, ◌++◌, append-nil}
 use mathlib.Core.Option.{some}
-use lib.ListN.{length, take, drop, get_or, length-append, length-drop, take-append-drop, drop_of_length-le}
-use lib.Seq.{take_all, take-append-add, drop-cons, drop-drop, length-take-le}
+use Rattle.std.proofs.Common.{Option, Some, None, cond}
+use Rattle.std.specs.Option.{unwrap_or}
+use lib.Dec.{ltb}
+use borrow.Author.Tests.{ltb-false}
+use lib.ListN.{length, take, drop, length-append, length-drop, take-append-drop, drop_of_length-le}
+use lib.Seq.{take-append-add, drop-cons, drop-drop, length-take-le}
 use borrow.Rule.Slice.PartMut.{put_mid, mid_of}
 use lib.Dec.{eqb}
 use borrow.Author.Tests.{eq-eqb, ne_eqb}
-use Rattle.stages.specs.Bytes.{Text, part, all, span}
+use Rattle.stages.specs.Bytes.{Text, part, span}
 use Rattle.stages.specs.Program.{lines_of, longer_line}
 use Rattle.stages.specs.Call.{over}
 use Rattle.stages.proofs.Bools.{either}
-use Rattle.stages.proofs.Texts.{Stops, all_append, span_of}
-use Rattle.text.proofs.Scans.{part_more}
+use Rattle.std.specs.List.{position_or_len}
+use Rattle.std.proofs.lemmas.List.Sums.{prefix_len-le-length}
 use Rattle.text.specs.Putting.{Puts}
 use Rattle.text.proofs.Filling.{Filling, fill_piece, fill_fits, fill_ends}
 use Rattle.recipe_cut.specs.Lines.{not_newline, line_kept, kept_of, came, behind, next_place, LineEnd, Takes, has_line, any_line}
 use Rattle.recipe_cut.specs.declared.Taken.TheVariants.{Ended, Open}
 
--- `line_end`: no byte from `from` to i is a newline
-pub record Passing (block : Text) (from i : ℕ) : Type 0 where
-  pub onward : from ≤ i
-  pub within : i ≤ length block
-  pub plain : all not_newline (part block from i) ≡ true
+abbrev pub newline : ℕ → Bool
+newline b = eqb b 10
 
-pub passing_starts : (block : Text) (from : ℕ) → from ≤ length block → Passing block from from
-passing_starts block from h = record { onward = omega arith; within = h; plain = rw (sub_self from) }
+-- the longest run without a newline ends at the first one
+span_first : (t : Text) → span not_newline t ≡ (take (position_or_len newline t) t, drop (position_or_len newline t) t)
+unfolding span
+span_first [] = refl
+span_first (b ∷ t) =
+    let k : 1 + position_or_len newline t ≡ suc (position_or_len newline t) = omega arith in
+    either (eqb b 10) (λ e. rw (e, span)) (λ e. rw (e, span, span_first t, k))
 
-module _ {block : Text} {from i : ℕ} (p : Passing block from i) where
-  pub passing_more : i < length block → (get_or block i 0 ≡ 10 → ⊥) → Passing block from (i + 1)
-  passing_more h e = record {
-    onward = omega (arith, p.onward);
-    within = omega arith;
-    plain = ap (all not_newline) (part_more block from i p.onward h) ∙ all_append not_newline (part block from i) (get_or block i 0 ∷ [])
-        p.plain (rw (ne_eqb (get_or block i 0) 10 e));
-  }
+-- its place, or the length, as `position` tells it
+first : (f : ℕ → Bool) (t : Text) → unwrap_or (cond (ltb (position_or_len f t) (length t)) (Some (position_or_len f t)) None) (length t) ≡ position_or_len f t
+first f t =
+    let p : position_or_len f t ≤ length t = prefix_len-le-length (λ b. not (f b)) t in
+    either (ltb (position_or_len f t) (length t)) (λ e. rw e) (λ e. let h : length t ≤ position_or_len f t = ltb-false _ _ e in rw e (omega arith))
 
-  split : part block from i ++ drop i block ≡ drop from block
-  split =
-      let k : from + (i - from) ≡ i = omega (arith, p.onward) in
-      ap (λ (u : Text). part block from i ++ u) (ap (λ (n : ℕ). drop n block) (sym k) ∙ sym (drop-drop (i - from) from block)) ∙
-      take-append-drop (i - from) (drop from block)
+-- `line_end`: the place of the first newline behind `from`
+first_ends : (block : Text) (from k : ℕ) → from ≤ length block → k ≡ position_or_len newline (drop from block) → LineEnd block from (from + k)
+first_ends block from k h e =
+    let p : position_or_len newline (drop from block) ≤ length (drop from block) = prefix_len-le-length (λ b. not (newline b)) (drop from block) in
+    let back : from + k - from ≡ k = omega arith in
+    let on : drop (from + k) block ≡ drop k (drop from block) = sym (drop-drop k from block) in
+    record {
+      is = rw (back, on, e) (span_first (drop from block));
+      onward = omega arith;
+      within = omega (arith, length-drop from block);
+    }
 
-  stopped : Stops not_newline (drop i block) → LineEnd block from i
-  stopped s = record {
-    is = ap (span not_newline) (sym split) ∙ span_of not_newline (part block from i) (drop i block) p.plain s;
-    onward = p.onward;
-    within = p.within;
-  }
-
-  pub passing_newline : i < length block → get_or block i 0 ≡ 10 → LineEnd block from i
-  passing_newline h e = stopped (rw (drop-cons block i 0 h, eq-eqb (get_or block i 0) 10 e))
-
-  pub passing_end : length block ≤ i → LineEnd block from i
-  passing_end h = stopped (rw (drop_of_length-le block h) tt)
+pub ends_first : (block : Text) (from k : ℕ) (o : Option ℕ) (rest : Text) → from ≤ length block → rest ≡ drop from block
+    → o ≡ cond (ltb (position_or_len newline rest) (length rest)) (Some (position_or_len newline rest)) None
+    → k ≡ unwrap_or o (length rest) → LineEnd block from (from + k)
+ends_first block from k o rest h r e u =
+    first_ends block from k h (u ∙ ap (λ (x : Option ℕ). unwrap_or x (length rest)) e ∙ first newline rest ∙ ap (position_or_len newline) r)
 
 -- `keep`: n bytes are copied behind those that are kept
 module _ (line bytes : Text) (kept n : ℕ) (h : kept ≤ line_kept) (l : line_kept ≤ length line)
-    (least : (n ≤ length bytes) × (n ≤ line_kept - kept) × ((n ≡ length bytes) ⊎ (n ≡ line_kept - kept))) where
-  pub copied_length : length (take n bytes) ≡ n
-  copied_length = length-take-le n bytes least.0
+    (least : n ≡ min (length bytes) (line_kept - kept)) where
+  copied_length : length (take n bytes) ≡ n
+  copied_length = length-take-le n bytes (omega arith)
 
   front_length : length (take kept line) ≡ kept
   front_length = length-take-le kept line (omega arith)
 
   copied : take (line_kept - kept) bytes ≡ take n bytes
-  copied = by least.2
-    where
-      by : (n ≡ length bytes) ⊎ (n ≡ line_kept - kept) → take (line_kept - kept) bytes ≡ take n bytes
-      by (inl e) = take_all (line_kept - kept) bytes (omega (arith, least.1)) ∙ sym (take_all n bytes (omega arith))
-      by (inr e) = ap (λ (m : ℕ). take m bytes) (sym e)
+  copied = grind (arith, common_steps)
 
   kept_is : kept_of (take kept line ++ bytes) ≡ take kept line ++ take n bytes
   kept_is =
@@ -90,7 +87,7 @@ module _ (line bytes : Text) (kept n : ℕ) (h : kept ≤ line_kept) (l : line_k
     splits = refl;
     long = sym front_length;
     is = sym (ap (λ (m : ℕ). take kept line ++ drop m line) front_length ∙ take-append-drop kept line);
-    fits = omega (arith, length-append (take kept line) (take n bytes), front_length, copied_length, least.1);
+    fits = omega (arith, length-append (take kept line) (take n bytes), front_length, copied_length);
   }
 
   pub keep_fits : length (take n bytes) ≤ length (mid_of kept (length line - kept) line)
@@ -105,8 +102,7 @@ module _ (line bytes : Text) (kept n : ℕ) (h : kept ≤ line_kept) (l : line_k
       (record { counts = sym copied_length; leaves = e }) refl) refl)
 
 -- `take_in`
-module _ (line : Text) (kept : ℕ) (block : Text) (from end : ℕ) (left : Text) (n : ℕ) (e : LineEnd block from end)
-    (p : Puts (kept_of (take kept line ++ part block from end)) line left n) where
+module _ {block : Text} {from end : ℕ} (e : LineEnd block from end) where
   here : came block from ≡ part block from end
   unfolding came
   here = ap (λ (x : Text × Text). x.0) e.is
@@ -115,13 +111,15 @@ module _ (line : Text) (kept : ℕ) (block : Text) (from end : ℕ) (left : Text
   unfolding behind
   there = ap (λ (x : Text × Text). x.1) e.is
 
+module _ {line : Text} {kept : ℕ} {block : Text} {from end : ℕ} {left : Text} {n : ℕ} (e : LineEnd block from end)
+    (p : Puts (kept_of (take kept line ++ part block from end)) line left n) where
   pub taken_ended : end < length block → Takes line kept block from left (Ended n (end + 1))
   taken_ended h =
       let k : length block - length (drop (suc end) block) ≡ end + 1 = omega (arith, length-drop (suc end) block) in
-      record { puts = rw here p; goes = sym (ap (next_place block) (there ∙ drop-cons block end 0 h) ∙ ap some k) }
+      record { puts = rw (here e) p; goes = sym (ap (next_place block) (there e ∙ drop-cons block end 0 h) ∙ ap some k) }
 
   pub taken_open : length block ≤ end → Takes line kept block from left (Open n)
-  taken_open h = record { puts = rw here p; goes = sym (ap (next_place block) (there ∙ drop_of_length-le block h)) }
+  taken_open h = record { puts = rw (here e) p; goes = sym (ap (next_place block) (there e ∙ drop_of_length-le block h)) }
 
 any_longer : (b : ℕ) (ls : List Text) → any_line (longer_line b ls) ≡ true
 unfolding longer_line

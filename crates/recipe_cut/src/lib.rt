@@ -2,7 +2,7 @@
 // matter; lines are counted; what it writes for a line is its answer in words, and the message that the line demands.
 #![tactic(auto)]
 
-ghost use Rattle.std.specs.Prelude.{◌≡◌, ◌++◌, ◌⊎◌, ◌+◌, ◌≤◌, length, take};
+ghost use Rattle.std.specs.Prelude.{◌≡◌, ◌++◌, ◌+◌, ◌≤◌, length, take};
 ghost use Rattle.stages.specs.Program.{next_number};
 ghost use Rattle.text.specs.Putting.{Puts};
 ghost use Rattle.recipe_cut.specs.Lines.{line_kept, kept_of, has_line, LineEnd, Takes};
@@ -34,26 +34,16 @@ const NEWLINE: u8 = b'\n';
 
 const BLANK: u8 = b' ';
 
-// The lesser of two numbers.
-fn least(a: usize, b: usize) -> usize
-    ensures { (result ≤ a) × (result ≤ b) × ((result ≡ a) ⊎ (result ≡ b)) }
-{
-    if a < b { a } else { b }
-}
-
 // The place of the next newline, or the block's end.
 fn line_end(block: &[u8], from: usize) -> usize
     requires { from ≤ length block.now }
     ensures { LineEnd block.now from result }
 {
-    let mut i = from;
-    while i < block.len() {
-        if block[i] == NEWLINE {
-            return i;
-        }
-        i += 1;
-    }
-    i
+    let rest = &block[from..];
+    from + rest
+        .iter()
+        .position(|b| *b == NEWLINE)
+        .unwrap_or(rest.len())
 }
 
 // Puts bytes of a line behind those that are kept of it, as many as can matter.
@@ -61,7 +51,7 @@ fn keep(line: &mut [u8], kept: usize, bytes: &[u8]) -> usize
     requires { (kept ≤ line_kept) × (line_kept ≤ length line.old) }
     ensures { Puts (kept_of (take kept line.old ++ bytes.now)) line.old line.new result }
 {
-    let n = least(bytes.len(), numbers::LINE_KEPT - kept);
+    let n = bytes.len().min(numbers::LINE_KEPT - kept);
     text_copy::copy_in(&bytes[..n], &mut line[kept..]);
     kept + n
 }
@@ -87,7 +77,7 @@ pub fn take_in(line: &mut [u8], kept: usize, block: &[u8], from: usize) -> Taken
 pub fn is_last_line(line: &[u8]) -> bool
     ensures { result ≡ has_line line.now }
 {
-    line.len() != 0
+    !line.is_empty()
 }
 
 // The number of the line behind line n.

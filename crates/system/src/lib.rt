@@ -1,13 +1,13 @@
 // What the programs ask of the system, over std: arguments, standard input and output, and what is told on standard error.
 #![tactic(auto)]
 
-ghost use Rattle.std.specs.Prelude.{◌≡◌, ◌≤◌, length};
+ghost use Rattle.std.specs.Prelude.{◌≡◌, ◌≤◌, length, IfSome};
 ghost use Rattle.system.specs.Counts.{IsPrefixLen};
 
 use std::env::{Env, FillError};
-use std::fmt::Write;
+use std::fmt::InlineText;
+use std::io;
 use std::io::{Eprint, Print, Read};
-use std::{fmt, io};
 
 // 4,096 zeros.
 pub fn buffer() -> [u8; 4096]
@@ -23,23 +23,18 @@ pub fn large_buffer() -> [u8; 65536]
     [0; 65536]
 }
 
-// Puts an argument, 0 being the program's own name, at the front of a buffer, and answers its length; 0 where there is none, or it is longer than the buffer.
-pub fn arg(rt: &HostRuntime, number: usize, buffer: &mut [u8]) -> usize
-    ensures { IsPrefixLen result buffer.new }
+// Puts an argument, 0 being the program's own name, at the front of a buffer, and answers its length; `None` where there is none, or it is longer than the
+// buffer.
+pub fn arg(rt: &HostRuntime, number: usize, buffer: &mut [u8]) -> Option<usize>
+    ensures { IfSome result (λ n. IsPrefixLen n buffer.new) }
 {
-    match rt.arg(number, buffer) {
-        Ok(n) => n,
-        Err(_) => 0,
-    }
+    rt.arg(number, buffer).ok()
 }
 
 // Is there an argument of that number?
 fn has_arg(rt: &HostRuntime, number: usize) -> bool {
     let mut one = [0u8; 16];
-    match rt.arg(number, &mut one) {
-        Err(FillError::NotPresent) => false,
-        _ => true,
-    }
+    !matches!(rt.arg(number, &mut one), Err(FillError::NotPresent))
 }
 
 // How many arguments there are, the program's own name with them.
@@ -78,56 +73,21 @@ pub fn tell(rt: &HostRuntime, bytes: &[u8]) {
     let _ = rt.stderr().write_all(bytes);
 }
 
-// The words of an error.
-#[derive(Drop)]
-struct Words {
-    bytes: [u8; 256],
-    len: usize,
-}
-
-impl Write for Words {
-    fn write_str(&mut self, s: &str) -> fmt::Result {
-        for b in s.as_bytes() {
-            let len = self.len;
-            if len >= 256 {
-                return Err(fmt::Error);
-            }
-            self.bytes[len] = *b;
-            self.len = len + 1;
-        }
-        Ok(())
+// std writes ` (os error 2)` behind the words of the C library: they end before it.
+fn without_number(shown: &str) -> &str {
+    match shown.rsplit_once(" (") {
+        Some((words, _)) => words,
+        None => shown,
     }
 }
 
-// std writes ` (os error 2)` behind the words of the C library: they end before the last parenthesis.
-fn words_end(shown: &[u8]) -> usize
-    ensures { result ≤ length shown.now }
-{
-    let mut end = shown.len();
-    while end > 0 {
-        end -= 1;
-        if shown[end] == b'(' {
-            return end.saturating_sub(1);
-        }
-    }
-    shown.len()
-}
-
+// Tells the words of an error.
 fn tell_words(rt: &HostRuntime, error: io::Error) {
-    let mut words = Words {
-        bytes: [0; 256],
-        len: 0,
-    };
-    let _ = write!(words, "{error}");
-    let n = words.len.min(256);
-    let all = &words.bytes[..];
-    let shown = &all[..n];
-    let end = if error.raw_os_error().is_some() {
-        words_end(shown)
-    } else {
-        n
-    };
-    tell(rt, &shown[..end]);
+    let is_systems = error.raw_os_error().is_some();
+    let shown = InlineText::<256>::of(error);
+    let all = shown.as_str();
+    let words = if is_systems { without_number(all) } else { all };
+    tell(rt, words.as_bytes());
 }
 
 // Tells what failed, as the caller names it, and why.

@@ -52,13 +52,11 @@ fn was_read(rt: &HostRuntime, n: usize, room: usize) -> bool {
         return true;
     }
     let mut one = [0u8; 16];
-    match rt.stdin().read(&mut one) {
-        Ok(_) => true,
-        Err(error) => {
-            system::fail(rt, b"standard input", error);
-            false
-        }
+    if let Err(error) = rt.stdin().read(&mut one) {
+        system::fail(rt, b"standard input", error);
+        return false;
     }
+    true
 }
 
 // A text of n bytes was read into a buffer: all of it? If not, that is told.
@@ -75,10 +73,10 @@ fn is_whole(rt: &HostRuntime, n: usize, room: usize) -> bool {
 
 // Writes the first n bytes.
 fn write_out(rt: &HostRuntime, out: &[u8], n: usize) {
-    if out.len() < n {
+    let Some(bytes) = out.get(..n) else {
         return;
-    }
-    if let Err(error) = system::write_out(rt, &out[..n]) {
+    };
+    if let Err(error) = system::write_out(rt, bytes) {
         system::fail(rt, b"standard output", error);
     }
 }
@@ -109,9 +107,7 @@ fn pack_lines(kind: Kind, text: &[u8], image: &mut [u8], work: &mut [u8]) -> Pac
     requires { (paths_limit + 1 ≡ length image.old) × (length text.now ≤ length work.old) }
 {
     match kind {
-        Kind::Variables => tab_pack::pack(kind, text, image, work),
-        Kind::Homes => tab_pack::pack(kind, text, image, work),
-        Kind::Paths => tab_pack::pack(kind, text, image, work),
+        Kind::Variables | Kind::Homes | Kind::Paths => tab_pack::pack(kind, text, image, work),
         Kind::Fields => tab_list::pack_fields(text, &mut image[..numbers::IMAGE_LIMIT], work),
     }
 }
@@ -186,7 +182,7 @@ fn assign_input(
     }
     let asked = Asked {
         vars_used: used,
-        shouts: shouts,
+        shouts,
     };
     let front = &mut vars[..numbers::IMAGE_LIMIT];
     assign_text(
@@ -229,10 +225,9 @@ fn assign(rt: &HostRuntime) {
 
 // Inserts a path into an image of n bytes, or deletes it.
 fn update(job: &[u8], image: &mut [u8], n: usize, path: &[u8]) -> Updated {
-    if text::same(job, b"insert") {
-        drunquill::insert_path(image, n, path)
-    } else {
-        drunquill::delete_path(image, n, path)
+    match job {
+        b"insert" => drunquill::insert_path(image, n, path),
+        _ => drunquill::delete_path(image, n, path),
     }
 }
 
@@ -255,71 +250,40 @@ fn update_paths(rt: &HostRuntime, job: &[u8], path: &[u8]) {
     update_input(rt, job, path, &mut image);
 }
 
-fn pack_named(rt: &HostRuntime, word: &[u8]) {
-    if text::same(word, b"vars") {
-        pack(rt, Kind::Variables);
-        return;
+// The kind of table that a word names.
+fn kind_named(word: &[u8]) -> Option<Kind> {
+    match word {
+        b"vars" => Some(Kind::Variables),
+        b"homes" => Some(Kind::Homes),
+        b"paths" => Some(Kind::Paths),
+        b"fields" => Some(Kind::Fields),
+        _ => None,
     }
-    if text::same(word, b"homes") {
-        pack(rt, Kind::Homes);
-        return;
-    }
-    if text::same(word, b"paths") {
-        pack(rt, Kind::Paths);
-        return;
-    }
-    if text::same(word, b"fields") {
-        pack(rt, Kind::Fields);
-        return;
-    }
-    telling::usage(rt);
 }
 
-fn show_named(rt: &HostRuntime, word: &[u8]) {
-    if text::same(word, b"vars") {
-        show(rt, Kind::Variables);
-        return;
+// Does a job with the word behind it.
+fn do_job(rt: &HostRuntime, job: &[u8], word: &[u8]) {
+    match (job, kind_named(word)) {
+        (b"show", Some(kind)) => show(rt, kind),
+        (b"pack", Some(kind)) => pack(rt, kind),
+        (b"insert" | b"delete", _) => update_paths(rt, job, word),
+        _ => telling::usage(rt),
     }
-    if text::same(word, b"homes") {
-        show(rt, Kind::Homes);
-        return;
-    }
-    if text::same(word, b"paths") {
-        show(rt, Kind::Paths);
-        return;
-    }
-    if text::same(word, b"fields") {
-        show(rt, Kind::Fields);
-        return;
-    }
-    telling::usage(rt);
 }
 
 fn main(rt: HostRuntime) {
     let rt = &rt;
     let mut job = system::buffer();
-    let n = system::arg(rt, 1, &mut job);
-    if text::same(&job[..n], b"assign") {
+    let n = system::arg(rt, 1, &mut job).unwrap_or(0);
+    if matches!(&job[..n], b"assign") {
         assign(rt);
         return;
     }
     let mut word = lines_room();
-    let m = system::arg(rt, 2, &mut word);
+    let m = system::arg(rt, 2, &mut word).unwrap_or(0);
     if system::arg_count(rt) != 3 {
         telling::usage(rt);
         return;
     }
-    if text::same(&job[..n], b"show") {
-        show_named(rt, &word[..m]);
-        return;
-    }
-    if text::same(&job[..n], b"pack") {
-        pack_named(rt, &word[..m]);
-        return;
-    }
-    if text::same(&job[..n], b"insert") || text::same(&job[..n], b"delete") {
-        update_paths(rt, &job[..n], &word[..m]);
-        return;
-    }
-    telling::usage(rt);
+    do_job(rt, &job[..n], &word[..m]);
 }

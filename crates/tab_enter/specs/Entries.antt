@@ -1,5 +1,5 @@
 -- What a line is as a record: of variables or homes a key, `=` and the value's text, of paths the path's text; and what entering it among others gives.
-use Rattle.std.specs.Prelude.{ℕ, suc, ◌≡◌, Bool, true, false, [], ◌∷◌, leb, length, take, drop}
+use Rattle.std.specs.Prelude.{ℕ, suc, ◌≡◌, Bool, true, false, [], ◌∷◌, leb, length, take, drop, Result, Ok, Err}
 use Rattle.std.proofs.Math.Option.{Option, none, some}
 use Rattle.stages.specs.Bytes.{Text}
 use Rattle.stages.specs.Outcome.{pick}
@@ -12,8 +12,8 @@ use Rattle.tab_enter.specs.Records.{texts_by, limit_by}
 use Rattle.tab_escape.specs.Escapes.{Reading, bad, good, read_text, up_to}
 use Rattle.tab_escape.specs.declared.Fault.{Fault}
 use Rattle.tab_escape.specs.declared.Fault.TheVariants.{NoEquals, NoKey, Twice, TooLong}
-use Rattle.tab_enter.specs.declared.Entered.{Entered}
-use Rattle.tab_enter.specs.declared.Entered.TheVariants as answer
+use Rattle.table_insert.specs.declared.AddError.{AddError}
+use Rattle.table_insert.specs.declared.AddError.TheVariants as error
 
 -- a record, or why a line is none
 pub data Entry : Type 0 where
@@ -62,8 +62,13 @@ unfolding lookup stored image_length
 entered two (faulty f) v = stop f
 entered two (entry key t) v = entered_by (lookup key v) (leb (image_length (texts_by two (stored key t v))) (limit_by two)) (stored key t v)
 
+-- why a path is not entered
+abbrev pub fault_of_lem : AddError → Fault
+fault_of_lem error.Twice = Twice
+fault_of_lem error.NoRoom = TooLong
+
 -- what entering a record answers and leaves
-pub data Enters (two : Bool) (o : Step) (old left : Text) : Entered → Type 0 where
+pub data Enters (two : Bool) (o : Step) (old left : Text) : Result ℕ Fault → Type 0 where
   takes : {w : Pairs} {n : ℕ} → o ≡ go w → n ≡ image_length (texts_by two w) → left ≡ over (image (texts_by two w)) old
-      → Enters two o old left (answer.Used n)
-  stops : {f : Fault} → o ≡ stop f → left ≡ old → Enters two o old left (answer.Bad f)
+      → Enters two o old left (Ok n)
+  stops : {f : Fault} → o ≡ stop f → left ≡ old → Enters two o old left (Err f)

@@ -9,45 +9,36 @@ ghost use Rattle.table.specs.Places.{Table};
 ghost use Rattle.table_insert.specs.Added.{Column};
 ghost use Rattle.tab_escape.specs.Escapes.{read_text};
 ghost use Rattle.tab_enter.specs.Records.{alone, records_by, limit_by, TableBy};
-ghost use Rattle.tab_enter.specs.Entries.{entry, pair_of, path_of, entry_of, entered, Enters};
+ghost use Rattle.tab_enter.specs.Entries.{entry, pair_of, path_of, entry_of, fault_of_lem, entered, Enters};
 
-use tab_escape::{Fault, Read};
-use table::{Found, Kind};
-use table_insert::Added;
-use table_store::Stored;
+use tab_escape::Fault;
+use table::Kind;
+use table_insert::AddError;
 use text::numbers;
-
-// What a line's record answers.
-#[derive(Clone, Copy)]
-pub enum Entered {
-    // The length of the image with the record.
-    Used(usize),
-    Bad(Fault),
-}
 
 const EQUALS: u8 = b'=';
 
-// Enters a record of two texts at its place, if its key is new and the image has room.
-fn enter(image: &mut [u8], used: usize, key: &[u8], value: &[u8]) -> Entered
+// Enters a record of two texts at its place, if its key is new and the image has room. Answers the length of the image with it.
+fn enter(image: &mut [u8], used: usize, key: &[u8], value: &[u8]) -> Result<usize, Fault>
     requires used_le_image_limit { (used ≤ image_limit) × (image_limit ≤ length image.old) }
     requires table { Table (take used image.old) }
     ensures { Enters true (entered true (entry key.now value.now) (held (take used image.old)))
         image.old image.new result }
 {
-    let found = table_find::look_up(&image[..used], key);
-    match found {
-        Found::At { from: _, to: _ } => return Entered::Bad(Fault::Twice),
-        Found::Missing => {}
+    if table_find::look_up(&image[..used], key).is_some() {
+        return Err(Fault::Twice);
     }
-    let stored = table_store::store(image, used, key, value, numbers::IMAGE_LIMIT);
-    match stored {
-        Stored::Used(n) => Entered::Used(n),
-        Stored::Full => Entered::Bad(Fault::TooLong),
-    }
+    table_store::store(image, used, key, value, numbers::IMAGE_LIMIT).map_err(|_| Fault::TooLong)
 }
 
 // Enters the record of a line of variables or homes: a key, `=`, and the value's text.
-fn enter_pair(kind: Kind, line: &[u8], image: &mut [u8], used: usize, work: &mut [u8]) -> Entered
+fn enter_pair(
+    kind: Kind,
+    line: &[u8],
+    image: &mut [u8],
+    used: usize,
+    work: &mut [u8],
+) -> Result<usize, Fault>
     requires kind_value { in_twos kind ≡ true }
     requires used_le_image_limit { (used ≤ image_limit) × (image_limit ≤ length image.old) × (length line.now ≤ length work.old) }
     requires table { Table (take used image.old) }
@@ -56,52 +47,49 @@ fn enter_pair(kind: Kind, line: &[u8], image: &mut [u8], used: usize, work: &mut
 {
     let end = tab_escape::find(line, EQUALS);
     if line.len() <= end {
-        return Entered::Bad(Fault::NoEquals);
+        return Err(Fault::NoEquals);
     }
     if !table::key_fits(kind, b"", &line[..end]) {
-        return Entered::Bad(Fault::NoKey);
+        return Err(Fault::NoKey);
     }
     let start = end + 1;
-    let got = tab_escape::read_text(&line[start..], work);
-    match got {
-        Read::Bad(fault) => Entered::Bad(fault),
-        Read::Len(n) => enter(image, used, &line[..end], &work[..n]),
+    let n = tab_escape::read_text(&line[start..], work)?;
+    enter(image, used, &line[..end], &work[..n])
+}
+
+// Why a path is not entered.
+fn fault_of(error: AddError) -> Fault
+    ensures { result ≡ fault_of_lem error }
+{
+    match error {
+        AddError::Twice => Fault::Twice,
+        AddError::NoRoom => Fault::TooLong,
     }
 }
 
 // Enters the record of a line of paths: the path's text.
-fn enter_path(line: &[u8], image: &mut [u8], used: usize, work: &mut [u8]) -> Entered
+fn enter_path(line: &[u8], image: &mut [u8], used: usize, work: &mut [u8]) -> Result<usize, Fault>
     requires used_le_paths_limit { (used ≤ paths_limit) × (paths_limit ≤ length image.old) × (length line.now ≤ length work.old) }
     requires column { Column (take used image.old) }
     ensures { Enters false (entered false (path_of (read_text line.now)) (alone (held_texts (take used image.old))))
         image.old image.new result }
 {
-    let got = tab_escape::read_text(line, work);
-    match got {
-        Read::Bad(fault) => Entered::Bad(fault),
-        Read::Len(n) => {
-            if n == 0 {
-                return Entered::Bad(Fault::NoKey);
-            }
-            let added = table_insert::add(image, used, &work[..n], numbers::PATHS_LIMIT);
-            match added {
-                Added::Used(m) => Entered::Used(m),
-                Added::Twice => Entered::Bad(Fault::Twice),
-                Added::Full => Entered::Bad(Fault::TooLong),
-            }
-        }
+    let n = tab_escape::read_text(line, work)?;
+    if n == 0 {
+        return Err(Fault::NoKey);
     }
+    table_insert::add(image, used, &work[..n], numbers::PATHS_LIMIT).map_err(fault_of)
 }
 
 // Enters the record of a line into the image that the first `used` bytes are. The bytes from the new image's end on stay; where the line is no record that can
-// be entered, all bytes stay. Fields have no keys: no line is a record of them. The work area has room for the line.
+// be entered, all bytes stay. Answers the length of the new image. Fields have no keys: no line is a record of them. The work area has room for the line.
 pub fn enter_line(
     kind: Kind,
     line: &[u8],
     image: &mut [u8],
     used: usize,
     work: &mut [u8],
-) -> Entered
+) -> Result<usize, Fault>
     requires used_bound { (used ≤ limit_by (in_twos kind)) × (limit_by (in_twos kind) ≤ length image.old) × (length line.now ≤ length work.old) }
     requires table_by { TableBy (in_twos kind) (take used image.old) }
     ensures { Enters (in_twos kind)
@@ -109,9 +97,8 @@ pub fn enter_line(
         image.new result }
 {
     match kind {
-        Kind::Variables => enter_pair(kind, line, image, used, work),
-        Kind::Homes => enter_pair(kind, line, image, used, work),
+        Kind::Variables | Kind::Homes => enter_pair(kind, line, image, used, work),
         Kind::Paths => enter_path(line, image, used, work),
-        Kind::Fields => Entered::Bad(Fault::NoKey),
+        Kind::Fields => Err(Fault::NoKey),
     }
 }

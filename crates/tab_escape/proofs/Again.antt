@@ -1,30 +1,40 @@
 -- What is shown is read again: the escapes of a text stand for the text.
-use Prim.Native.Nat.{ℕ, suc, ◌+◌, ◌*◌, ◌/◌, ◌%◌, ◌≤◌, ◌<◌}
+use Rattle.std.specs.Prelude.{Some}
+use Prim.Native.Nat.{ℕ, suc, ◌+◌, ◌-◌, ◌*◌, ◌/◌, ◌%◌, ◌≤◌, ◌<◌}
 use native.Mathlib.Omega.{arith}
 use mathlib.Core.Path.{◌≡◌, refl, sym, ap, ◌∙◌}
 use mathlib.Core.Bool.{true, false, not}
 use mathlib.Core.List.{[], ◌∷◌, ◌++◌}
 use lib.Dec.{eqb, ltb}
-use borrow.Author.Tests.{leb-true, eqb-true, eqb-false, ltb-true, ltb-false, not-true}
+use borrow.Author.Tests.{le-leb, lt-leb, ne_eqb, leb-true, eqb-true, eqb-false, ltb-true, ltb-false, not-true}
 use Rattle.stages.specs.Bytes.{Text, all, not_zero, between}
 use Rattle.stages.proofs.Bools.{either, and_left, and_right}
 use Rattle.stages.proofs.Images.{Bytes}
 use Rattle.tab_show.specs.Lines.{hex_digit, is_plain, shown_byte, shown_text}
-use Rattle.tab_escape.specs.Escapes.{hex_value, hex_byte, byte_at, good, before, read_on, read_from, read_text}
-use Rattle.tab_escape.specs.declared.Byte.TheVariants.{Is}
-use Rattle.tab_escape.proofs.Escaping.{value_2, value_4, byte_is, Other, at_plain, at_newline, at_backslash, at_hex}
+use Rattle.tab_escape.specs.Escapes.{taking, hex_value, hex_byte, byte_at, good, before, read_on, read_from, read_text}
+use Rattle.tab_escape.proofs.Escaping.{Escape, at_plain, at_newline, at_backslash, at_hex}
 
 -- a digit stands for its number
-digit_value : (n : ℕ) → n < 16 → hex_value (hex_digit n) ≡ n
-digit_value n h = either (ltb n 10) low high
-  where
-    low : ltb n 10 ≡ true → hex_value (hex_digit n) ≡ n
-    low e = rw e (sym (value_2 (48 + n) (omega arith) (omega (arith, ltb-true n 10 e))) ∙ omega arith)
+digit_value : (n : ℕ) → n < 16 → hex_value (hex_digit n) ≡ Some n
+digit_value n h =
+    either (ltb n 10)
+    (λ e.
+    let k : n < 10 = ltb-true n 10 e in
+    let v : 48 + n - 48 ≡ n = omega arith in
+    rw (e, le-leb 48 (48 + n) (omega arith), le-leb (48 + n) 57 (omega arith), v))
+    (λ e.
+    let k : 10 ≤ n = ltb-false n 10 e in
+    let v : 55 + n - 55 ≡ n = omega arith in
+    rw (
+      e,
+      le-leb 48 (55 + n) (omega arith),
+      lt-leb (55 + n) 57 (omega arith),
+      le-leb 65 (55 + n) (omega arith),
+      le-leb (55 + n) 70 (omega arith),
+      v,
+    ))
 
-    high : ltb n 10 ≡ false → hex_value (hex_digit n) ≡ n
-    high e = rw e (sym (value_4 (55 + n) (omega arith) (omega (arith, ltb-false n 10 e)) (omega (arith, ltb-false n 10 e)) (omega arith)) ∙ omega arith)
-
-from_first : (b : ℕ) (t : Text) (c k : ℕ) → Is c k ≡ byte_at (b ∷ t) 0 → read_from 0 (b ∷ t) ≡ before c (read_from k t)
+from_first : (b : ℕ) (t : Text) (c k : ℕ) → taking c k ≡ byte_at (b ∷ t) 0 → read_from 0 (b ∷ t) ≡ before c (read_from k t)
 unfolding read_from
 from_first b t c k e = ap (λ y. read_on y (λ k. read_from k t)) (sym e)
 
@@ -41,24 +51,24 @@ module _ (b : ℕ) (u : Text) where
   unfolding read_from
   backslash_again e =
       rw e (from_first 92 (92 ∷ u) 92 1
-      (at_backslash {t = 92 ∷ 92 ∷ u} {i = 0} (record { backslash = refl; long = omega arith }) (λ e. omega arith) refl))
+      (at_backslash {t = 92 ∷ 92 ∷ u} {i = 0} (record { backslash = refl; long = omega arith }) refl))
 
   module _ (h : 1 ≤ b) (k : b < 256) where
     hex_again : read_from 0 (92 ∷ 120 ∷ hex_digit (b / 16) ∷ hex_digit (b % 16) ∷ u) ≡ before b (read_from 0 u)
     unfolding read_from
-    hex_again =
-        from_first 92 (120 ∷ hex_digit (b / 16) ∷ hex_digit (b % 16) ∷ u) b 3
-        (at_hex other refl (omega arith)
-        (b / 16) (b % 16) (Is b 3) (sym (digit_value (b / 16) (omega arith))) (sym (digit_value (b % 16) (omega arith))) is)
+    hex_again = from_first 92 (120 ∷ hex_digit (b / 16) ∷ hex_digit (b % 16) ∷ u) b 3 (is ∙ at_hex {t = whole} {i = 0} escape refl (omega arith))
       where
-        other : Other (92 ∷ 120 ∷ hex_digit (b / 16) ∷ hex_digit (b % 16) ∷ u) 0
-        other = record { escape = record { backslash = refl; long = omega arith }; not_n = λ e. omega arith; not_backslash = λ e. omega arith }
+        whole : Text
+        whole = 92 ∷ 120 ∷ hex_digit (b / 16) ∷ hex_digit (b % 16) ∷ u
+
+        escape : Escape whole 0
+        escape = record { backslash = refl; long = omega arith }
 
         sum : b / 16 * 16 + b % 16 ≡ b
         sum = omega arith
 
-        is : Is b 3 ≡ hex_byte (b / 16) (b % 16)
-        is = ap (λ (n : ℕ). Is n 3) (sym sum) ∙ byte_is (b / 16) (b % 16) (omega arith) (omega arith) (λ e. omega (arith, e, sum, h))
+        is : taking b 3 ≡ hex_byte (hex_value (hex_digit (b / 16))) (hex_value (hex_digit (b % 16)))
+        is = rw (digit_value (b / 16) (omega arith), digit_value (b % 16) (omega arith), sum, ne_eqb b 0 (λ e. omega (arith, e, h)))
 
     byte_again : read_from 0 (shown_byte b ++ u) ≡ before b (read_from 0 u)
     unfolding shown_byte

@@ -2,3 +2,4 @@ pub mod Escaping
 pub mod Passing
 pub mod Again
 pub mod Determined
+pub mod Finding

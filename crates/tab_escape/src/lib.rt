@@ -1,7 +1,7 @@
 // Texts in which `\n`, `\\` and `\x` with two digits are escapes: what one stands for, and where a byte stands in a line.
 #![tactic(auto)]
 
-ghost use Rattle.std.specs.Prelude.{◌≡◌, ◌<◌, ◌≤◌, length};
+ghost use Rattle.std.specs.Prelude.{◌≡◌, ◌<◌, ◌≤◌, length, IfSome};
 ghost use Rattle.tab_escape.specs.Escapes.{hex_value, hex_byte, byte_at, read_text, Reads, up_to};
 
 // Why a line is no record of the table.
@@ -23,130 +23,98 @@ pub enum Fault {
 
 // A byte of a text, and how many bytes behind its first it takes.
 #[derive(Clone, Copy)]
-pub enum Byte {
-    Bad(Fault),
-    Is { b: u8, more: usize },
-}
-
-// What reading a text answers.
-#[derive(Clone, Copy)]
-pub enum Read {
-    Len(usize),
-    Bad(Fault),
+pub struct Byte {
+    pub b: u8,
+    pub more: usize,
 }
 
 const BACKSLASH: u8 = b'\\';
 
-// The number that a digit stands for, 16 where it is none.
-fn hex_value(b: u8) -> u8
-    ensures { result ≡ hex_value b }
+// The number that a digit stands for, in either case.
+fn hex_value(b: u8) -> Option<u8>
+    ensures value { result ≡ hex_value b }
+    ensures below { IfSome result (λ n. n < 16) }
 {
-    if b < b'0' {
-        return 16;
+    match b {
+        b'0'..=b'9' => Some(b - b'0'),
+        b'A'..=b'F' => Some(b - b'A' + 10),
+        b'a'..=b'f' => Some(b - b'a' + 10),
+        _ => None,
     }
-    if b < 58 {
-        return b - b'0';
-    }
-    if b < b'A' {
-        return 16;
-    }
-    if b < 71 {
-        return b - 55;
-    }
-    if b < b'a' {
-        return 16;
-    }
-    if b < 103 {
-        return b - 87;
-    }
-    16
 }
 
-// The byte of two numbers.
-fn hex_byte(high: u8, low: u8) -> Byte
-    ensures { result ≡ hex_byte high low }
+// The byte of two digits.
+fn hex_byte(first: u8, second: u8) -> Result<Byte, Fault>
+    ensures { result ≡ hex_byte (hex_value first) (hex_value second) }
 {
-    if 15 < high {
-        return Byte::Bad(Fault::BadEscape);
-    }
-    if 15 < low {
-        return Byte::Bad(Fault::BadEscape);
-    }
+    let Some(high) = hex_value(first) else {
+        return Err(Fault::BadEscape);
+    };
+    let Some(low) = hex_value(second) else {
+        return Err(Fault::BadEscape);
+    };
     let b = high * 16 + low;
     if b == 0 {
-        return Byte::Bad(Fault::ZeroByte);
+        return Err(Fault::ZeroByte);
     }
-    Byte::Is { b: b, more: 3 }
+    Ok(Byte { b, more: 3 })
 }
 
 // The byte that stands at a place of a text.
-fn byte_at(text: &[u8], at: usize) -> Byte
+#[tactic(auto, unfolding(crate::specs::Escapes::byte_at))]
+fn byte_at(text: &[u8], at: usize) -> Result<Byte, Fault>
     requires { at < length text.now }
     ensures { result ≡ byte_at text.now at }
 {
     let b = text[at];
     if b == 0 {
-        return Byte::Bad(Fault::ZeroByte);
+        return Err(Fault::ZeroByte);
     }
     if b != BACKSLASH {
-        return Byte::Is { b: b, more: 0 };
+        return Ok(Byte { b, more: 0 });
     }
     let left = text.len() - at;
     if left < 2 {
-        return Byte::Bad(Fault::BadEscape);
+        return Err(Fault::BadEscape);
     }
     let c = text[at + 1];
     if c == b'n' {
-        return Byte::Is { b: b'\n', more: 1 };
+        return Ok(Byte { b: b'\n', more: 1 });
     }
     if c == BACKSLASH {
-        return Byte::Is {
+        return Ok(Byte {
             b: BACKSLASH,
             more: 1,
-        };
+        });
     }
     if c != b'x' {
-        return Byte::Bad(Fault::BadEscape);
+        return Err(Fault::BadEscape);
     }
     if left < 4 {
-        return Byte::Bad(Fault::BadEscape);
+        return Err(Fault::BadEscape);
     }
-    let high = hex_value(text[at + 2]);
-    let low = hex_value(text[at + 3]);
-    hex_byte(high, low)
+    hex_byte(text[at + 2], text[at + 3])
 }
 
 // Reads a text and writes what it stands for at the front of a buffer, at a fault what stands before it. The bytes behind stay.
-pub fn read_text(text: &[u8], out: &mut [u8]) -> Read
+pub fn read_text(text: &[u8], out: &mut [u8]) -> Result<usize, Fault>
     requires { length text.now ≤ length out.old }
     ensures { Reads (read_text text.now) out.old out.new result }
 {
     let mut used: usize = 0;
     let mut i: usize = 0;
     while i < text.len() {
-        let byte = byte_at(text, i);
-        match byte {
-            Byte::Bad(fault) => return Read::Bad(fault),
-            Byte::Is { b, more } => {
-                out[used] = b;
-                used += 1;
-                i = i + 1 + more;
-            }
-        }
+        let byte = byte_at(text, i)?;
+        out[used] = byte.b;
+        used += 1;
+        i = i + 1 + byte.more;
     }
-    Read::Len(used)
+    Ok(used)
 }
 
 // The place of the first such byte, or the end.
 pub fn find(text: &[u8], b: u8) -> usize
     ensures { result ≡ up_to b text.now }
 {
-    let mut i: usize = 0;
-    while i < text.len() {
-        if text[i] == b {
-            return i;
-        }
-        i += 1;
-    }
-    i
+    text.iter().position(|c| *c == b).unwrap_or(text.len())
 }

@@ -11,11 +11,12 @@ use Rattle.stages.specs.Images.{texts, held_texts, held, flat, image_length}
 use Rattle.stages.proofs.Images.{pairs_of_some, held_texts_texts}
 use Rattle.stages.proofs.Tables.{vars_of, homes_of_lem, paths_of_lem, fields_of_lem, texts_held_length}
 use Rattle.table.specs.Kinds.{well_formed, in_twos}
+use Rattle.table.specs.Pieces.{malformed}
 use Rattle.table.specs.declared.Kind.{Kind}
 use Rattle.table.specs.declared.Kind.TheVariants.{Variables, Homes, Paths, Fields}
 use Rattle.text.specs.Putting.{Puts}
 use Rattle.tab_show.specs.Lines.{shown_texts, shown_of, showing_of, showing}
-use Rattle.tab_show.specs.declared.Shown.TheVariants.{Len, Malformed}
+use Rattle.std.specs.Prelude.{Ok, Err}
 use Rattle.tab_show.proofs.Writing.{lines_small}
 
 held_flat : (t : Text) (l : List Text) → texts t ≡ some l → texts t ≡ some (held_texts t)
@@ -33,11 +34,11 @@ unfolding image_length
 lines_room two t n e h = omega (arith, lines_small two two (held_texts t), texts_held_length t e, h)
 
 module _ (kind : Kind) (t old : Text) where
-  pub malformed : well_formed kind t ≡ false → showing_of Malformed old ≡ showing kind t old
+  pub none_shown : well_formed kind t ≡ false → showing_of (Err malformed) old ≡ showing kind t old
   unfolding showing
-  malformed e = rw e
+  none_shown e = rw e
 
   pub shown : well_formed kind t ≡ true → (two : Bool) (left : Text) (n : ℕ) → two ≡ in_twos kind → Puts (shown_texts two two (held_texts t)) old left n
-      → showing_of (Len n) left ≡ showing kind t old
+      → showing_of (Ok n) left ≡ showing kind t old
   unfolding showing shown_of
   shown e two left n k p = rw (e, ← k, p.counts, p.leaves)

@@ -2,10 +2,12 @@
 use Prim.Native.Nat.{ℕ, ◌+◌, ◌-◌, ◌*◌, ◌/◌, ◌%◌, ◌≤◌, ◌<◌}
 use native.Mathlib.Omega.{arith}
 use native.Mathlib.Numerals.{add-one}
-use mathlib.Core.Path.{◌≡◌, refl, ap}
+use mathlib.Core.Path.{◌≡◌, refl, ap, ◌∙◌}
 use mathlib.Core.Bool.{Bool, true, false, not}
 use mathlib.Core.List.{List, [], ◌∷◌, ◌++◌}
-use mathlib.Core.Option.{Option, none, some}
+use mathlib.Core.Option as o
+use Rattle.std.specs.Prelude.{Option, Some, Ok}
+use mathlib.Core.Option.{none, some}
 use lib.Dec.{eqb}
 use lib.ListN.{length, drop, get_or, set, length-append, drop_of_length-le}
 use lib.Seq.{drop-cons}
@@ -15,7 +17,8 @@ use Rattle.stages.specs.Bytes.{Text, text, part}
 use Rattle.stages.specs.Images.{held_texts, texts, record_bytes}
 use Rattle.stages.proofs.Bools.{either}
 use Rattle.table.proofs.Pieces.{Next, ahead_first}
-use Rattle.table.proofs.Writing.{Writing as Walk, Facing}
+use Rattle.table.specs.Pieces.{Piece, piece_at}
+use Rattle.table.proofs.Writing.{Writing as Walk, Facing, writing_text}
 use Rattle.text.specs.Putting.{Puts}
 use Rattle.text.proofs.Filling.{Filling, fill_starts, fill_byte, fill_piece, fill_ends, fill_next, fill_fits}
 use Rattle.tab_show.specs.Lines.{hex_digit, is_plain, letter_of, escaped, shown_byte, shown_text, end_of, first_next, shown_texts}
@@ -57,7 +60,7 @@ module _ (b : ℕ) where
     unfolding shown_byte
     backslash_shown n e = rw (p, ne_eqb b 10 n, eq-eqb b 92 e)
 
-escaped_long : (b : ℕ) (o : Option ℕ) → (2 ≤ length (escaped b o)) × (length (escaped b o) ≤ 4)
+escaped_long : (b : ℕ) (c : o.Option ℕ) → (2 ≤ length (escaped b c)) × (length (escaped b c) ≤ 4)
 escaped_long b (some c) = (omega arith, omega arith)
 escaped_long b none = (omega arith, omega arith)
 
@@ -164,6 +167,12 @@ shown_none two first = refl
 -- the text at the walk's place: it is written, then its `=` or newline
 pub record Line (two first : Bool) (whole t : Text) (at end : ℕ) (old out : Text) (used : ℕ) : Type 0 where
   pub facing : Facing whole (shown_texts two first) t at end old out used
+
+-- what stands at the walk's place
+module _ {two first : Bool} {whole t : Text} {at : ℕ} {old out : Text} {used : ℕ} (w : Walk whole (shown_texts two first) t at old out used)
+    {r : Piece} (s : r ≡ piece_at t at) where
+  pub line_at : {o : Option ℕ} {end : ℕ} → r ≡ Ok o → o ≡ Some end → Line two first whole t at end old out used
+  line_at e f = record { facing = writing_text w s (e ∙ ap Ok f) }
 
 module _ {two first : Bool} {whole t : Text} {at end : ℕ} {old out : Text} {used : ℕ} (f : Line two first whole t at end old out used) where
   abbrev text_there : Next t at end f.facing.walk.left

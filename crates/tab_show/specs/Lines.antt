@@ -1,6 +1,6 @@
 -- How a table is shown as text: one record to a line, `name=value`, `login=directory` or the path alone. A newline is shown as `\n`, a backslash as
 -- `\\`, any other byte that is not printed as `\xHH`.
-use Rattle.std.specs.Prelude.{ℕ, ◌+◌, ◌-◌, ◌/◌, ◌%◌, Bool, true, false, ◌&&◌, not, List, [], ◌∷◌, ◌++◌, eqb, ltb, length}
+use Rattle.std.specs.Prelude.{ℕ, ◌+◌, ◌-◌, ◌/◌, ◌%◌, Bool, true, false, ◌&&◌, not, List, [], ◌∷◌, ◌++◌, eqb, ltb, length, Result, Ok, Err}
 use Prim.Native.Char.{code}
 use Rattle.std.proofs.Math.Option.{Option, none, some}
 use Rattle.stages.specs.Bytes.{Text, between}
@@ -9,8 +9,7 @@ use Rattle.stages.specs.Images.{held_texts}
 use Rattle.stages.specs.Call.{over}
 use Rattle.table.specs.Kinds.{well_formed, in_twos}
 use Rattle.table.specs.declared.Kind.{Kind}
-use Rattle.tab_show.specs.declared.Shown.{Shown}
-use Rattle.tab_show.specs.declared.Shown.TheVariants.{Len, Malformed}
+use Rattle.table.specs.declared.Malformed.{Malformed}
 
 -- the digit of a number below 16
 abbrev pub hex_digit : ℕ → ℕ
@@ -58,9 +57,9 @@ unfolding shown_texts
 shown_of kind l = shown_texts (in_twos kind) (in_twos kind) l
 
 -- an answer as a length or none, and the bytes left
-abbrev pub showing_of : Shown → Text → Option ℕ × Text
-showing_of (Len n) left = (some n, left)
-showing_of Malformed left = (none, left)
+abbrev pub showing_of : Result ℕ Malformed → Text → Option ℕ × Text
+showing_of (Ok n) left = (some n, left)
+showing_of (Err e) left = (none, left)
 
 -- the lines of an image of the kind stand at the front of the old bytes; for what is no such image the old bytes stay
 unfoldable pub showing : Kind → Text → Text → Option ℕ × Text

@@ -8,16 +8,7 @@ ghost use Rattle.table.specs.Kinds.{in_twos};
 ghost use Rattle.text.specs.Putting.{Puts};
 ghost use Rattle.tab_show.specs.Lines.{hex_digit, is_plain, shown_byte, shown_text, end_of, first_next, shown_texts, showing_of, showing};
 
-use table::{Kind, Piece};
-
-// What showing answers.
-#[derive(Clone, Copy)]
-pub enum Shown {
-    // The bytes of the lines that were written.
-    Len(usize),
-    // No image of the kind, or one that is too long.
-    Malformed,
-}
+use table::{Kind, Malformed};
 
 const BACKSLASH: u8 = b'\\';
 
@@ -37,13 +28,7 @@ fn hex_digit(n: u8) -> u8
 fn is_plain(b: u8) -> bool
     ensures { result ≡ is_plain b }
 {
-    if b < 32 {
-        return false;
-    }
-    if 126 < b {
-        return false;
-    }
-    b != BACKSLASH
+    32 <= b && b <= 126 && b != BACKSLASH
 }
 
 // Writes a byte: itself, `\n`, `\\`, or `\x` and two digits.
@@ -76,11 +61,8 @@ fn put_text(text: &[u8], out: &mut [u8]) -> usize
     ensures { Puts (shown_text text.now) out.old out.new result }
 {
     let mut used: usize = 0;
-    let mut i: usize = 0;
-    while i < text.len() {
-        let n = put_byte(text[i], &mut out[used..]);
-        used += n;
-        i += 1;
+    for b in text {
+        used += put_byte(*b, &mut out[used..]);
     }
     used
 }
@@ -96,7 +78,7 @@ fn end_of(first: bool) -> u8
 fn first_next(two: bool, first: bool) -> bool
     ensures { result ≡ first_next two first }
 {
-    if two { !first } else { false }
+    two && !first
 }
 
 // Writes the lines of an image's texts.
@@ -108,44 +90,32 @@ fn put_texts(two: bool, image: &[u8], out: &mut [u8]) -> usize
     let mut used: usize = 0;
     let mut at: usize = 1;
     let mut first = two;
-    loop {
-        let piece = table::text_at(image, at);
-        match piece {
-            Piece::End => return used,
-            Piece::Bad => return used,
-            Piece::At(end) => {
-                let start = at + 2;
-                let n = put_text(&image[start..end], &mut out[used..]);
-                let next = used + n;
-                out[next] = end_of(first);
-                first = first_next(two, first);
-                used = next + 1;
-                at = end;
-            }
-        }
+    while let Ok(Some(end)) = table::text_at(image, at) {
+        let n = put_text(&image[at + 2..end], &mut out[used..]);
+        let next = used + n;
+        out[next] = end_of(first);
+        first = first_next(two, first);
+        used = next + 1;
+        at = end;
     }
+    used
 }
 
 // Are the records of the kind two texts?
 fn in_twos(kind: Kind) -> bool
     ensures { result ≡ in_twos kind }
 {
-    match kind {
-        Kind::Variables => true,
-        Kind::Homes => true,
-        Kind::Paths => false,
-        Kind::Fields => false,
-    }
+    matches!(kind, Kind::Variables | Kind::Homes)
 }
 
-// Shows an image of the kind: its lines stand at the front of the buffer, the bytes behind them stay. For what is no such image all bytes stay. The
-// lines are at most four times as long as the image.
-pub fn show(kind: Kind, image: &[u8], out: &mut [u8]) -> Shown
+// Shows an image of the kind: its lines stand at the front of the buffer, the bytes behind them stay. For what is no such image, or one that is too long, all
+// bytes stay. The lines are at most four times as long as the image. Answers their length.
+pub fn show(kind: Kind, image: &[u8], out: &mut [u8]) -> Result<usize, Malformed>
     requires { 4 * length image.now ≤ length out.old }
     ensures { showing_of result out.new ≡ showing kind image.now out.old }
 {
     if !table::well_formed(kind, image) {
-        return Shown::Malformed;
+        return Err(Malformed);
     }
-    Shown::Len(put_texts(in_twos(kind), image, out))
+    Ok(put_texts(in_twos(kind), image, out))
 }

@@ -1,5 +1,6 @@
 -- Texts compared by the numbers of eight bytes each.
-use Rattle.std.specs.Prelude.{min}
+use Rattle.std.proofs.Common.{w64}
+use Rattle.std.specs.Int.{from_be_bytes}
 use Prim.Native.Nat.{ℕ, suc, ◌+◌, ◌-◌, ◌*◌, ◌≤◌, ◌<◌}
 use native.Mathlib.Omega.{arith}
 use mathlib.Core.Path.{◌≡◌, refl, sym, ap, ◌∙◌}
@@ -13,10 +14,10 @@ use Rattle.stages.specs.Bytes.{Text, part, lt_text}
 use Rattle.stages.proofs.Bools.{either}
 use Rattle.table.specs.Words.{weigh, Weighs}
 
--- the number as the code adds it up
+-- the number that the code makes of them
 pub eight : (t : Text) → length t ≡ 8
-    → get_or t 0 0 * 72057594037927936 + get_or t 1 0 * 281474976710656 + get_or t 2 0 * 1099511627776 + get_or t 3 0 * 4294967296
-    + (get_or t 4 0 * 16777216 + get_or t 5 0 * 65536 + get_or t 6 0 * 256 + get_or t 7 0) ≡ weigh 0 t
+    → from_be_bytes w64 (get_or t 0 0 ∷ get_or t 1 0 ∷ get_or t 2 0 ∷ get_or t 3 0 ∷ get_or t 4 0 ∷ get_or t 5 0 ∷ get_or t 6 0 ∷ get_or t 7 0 ∷ [])
+    ≡ weigh 0 t
 eight (a ∷ b ∷ c ∷ d ∷ e ∷ f ∷ g ∷ h ∷ []) l = omega arith
 eight [] l = absurd (omega arith)
 eight (a ∷ []) l = absurd (omega arith)
@@ -83,18 +84,8 @@ pub record Rising (last key : Text) (i : ℕ) : Type 0 where
   pub within_key : i ≤ length key
   pub less : lt_text last key ≡ lt_text (drop i last) (drop i key)
 
-rising_starts : (last key : Text) → Rising last key 0
-rising_starts last key = record { within_last = omega arith; within_key = omega arith; less = refl }
-
--- and both texts have `both` bytes
-pub record Pairing (last key : Text) (both i : ℕ) : Type 0 where
-  pub rising : Rising last key i
-  pub low : i ≤ both
-  pub in_last : both ≤ length last
-  pub in_key : both ≤ length key
-
-pub pairing_starts : (last key : Text) → Pairing last key (min (length last) (length key)) 0
-pairing_starts last key = record { rising = rising_starts last key; low = omega arith; in_last = omega arith; in_key = omega arith }
+pub rising_at : {last key : Text} {i j : ℕ} → Rising last key i → i ≡ j → Rising last key j
+rising_at r e = rw (← e) r
 
 part_eight : (t : Text) (i : ℕ) → part t i (i + 8) ≡ take 8 (drop i t)
 part_eight t i = let e : i + 8 - i ≡ 8 = omega arith in rw e
@@ -107,30 +98,24 @@ split_eight t i =
     sym (take-append-drop 8 (drop i t)) ∙ ap (λ (u : Text). u ++ drop 8 (drop i t)) (sym (part_eight t i))
     ∙ ap (λ (u : Text). part t i (i + 8) ++ u) (drop-drop 8 i t)
 
-module _ {last key : Text} {both i : ℕ} (p : Pairing last key both i) (h : i + 8 ≤ both) {x y : ℕ}
+module _ {last key : Text} {i : ℕ} (p : Rising last key i) (h : i + 8 ≤ length last) (k : i + 8 ≤ length key) {x y : ℕ}
     (u : Weighs (part last i (i + 8)) x) (v : Weighs (part key i (i + 8)) y) where
   by_words : lt_text last key ≡ by_numbers x y (lt_text (drop (i + 8) last) (drop (i + 8) key))
   by_words =
-      p.rising.less ∙ ap (λ (t : Text). lt_text t (drop i key)) (split_eight last i)
+      p.less ∙ ap (λ (t : Text). lt_text t (drop i key)) (split_eight last i)
       ∙ ap (λ (t : Text). lt_text (part last i (i + 8) ++ drop (i + 8) last) t) (split_eight key i)
       ∙ fronts 0 (part last i (i + 8)) (part key i (i + 8)) (drop (i + 8) last) (drop (i + 8) key)
-      (eight_long last i (omega (arith, p.in_last)) ∙ sym (eight_long key i (omega (arith, p.in_key)))) u.bytes v.bytes
+      (eight_long last i h ∙ sym (eight_long key i k)) u.bytes v.bytes
       ∙ ap (λ (n : ℕ). by_numbers n (weigh 0 (part key i (i + 8))) (lt_text (drop (i + 8) last) (drop (i + 8) key))) (sym u.is)
       ∙ ap (λ (n : ℕ). by_numbers x n (lt_text (drop (i + 8) last) (drop (i + 8) key))) (sym v.is)
 
-  pub word_less : x < y → true ≡ lt_text last key
-  word_less l = sym (by_words ∙ by_less x y _ l)
+  pub words_differ : (x ≡ y → ⊥) → ltb x y ≡ lt_text last key
+  words_differ n =
+      sym (by_words ∙ either (ltb x y) (λ e. by_less x y _ (ltb-true x y e) ∙ sym e)
+      (λ e. let m = ltb-false x y e in by_more x y _ (omega arith) ∙ sym e))
 
-  pub word_more : y < x → false ≡ lt_text last key
-  word_more l = sym (by_words ∙ by_more x y _ l)
-
-  pub word_same : x ≡ y → Pairing last key both (i + 8)
-  word_same l = record {
-    rising = record { within_last = omega (arith, p.in_last); within_key = omega (arith, p.in_key); less = by_words ∙ by_same x y _ l };
-    low = h;
-    in_last = p.in_last;
-    in_key = p.in_key;
-  }
+  pub words_same : x ≡ y → Rising last key (i + 8)
+  words_same l = record { within_last = h; within_key = k; less = by_words ∙ by_same x y _ l }
 
 -- `&last[i..]` and `&key[i..]` are compared byte by byte
 module _ {last key : Text} {i : ℕ} (p : Rising last key i) where

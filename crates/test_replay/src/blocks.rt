@@ -19,14 +19,10 @@ pub(crate) fn line_end(block: &[u8], have: usize) -> usize
     requires { have ≤ length block.now }
     ensures { (result ≤ have) × (IsPrefixLen result block.now) }
 {
-    let mut i: usize = 0;
-    while i < have {
-        if block[i] == NEWLINE {
-            return i;
-        }
-        i += 1;
-    }
-    i
+    block[..have]
+        .iter()
+        .position(|b| *b == NEWLINE)
+        .unwrap_or(have)
 }
 
 // Drops a line and its newline from the block's front, and answers how many bytes it holds then.
@@ -37,7 +33,7 @@ pub(crate) fn drop_line(block: &mut [u8], have: usize, end: usize) -> usize
     if end == have {
         return 0;
     }
-    let left = have - end - 1;
-    text_copy::shift(block, end + 1, 0, left);
-    left
+    let rest = end + 1;
+    block.copy_within(rest..have, 0);
+    have - rest
 }

@@ -25,10 +25,8 @@ pub const WORK_ZERO: u8 = 0;
 
 // Writes the bytes of a word to the front of an area, and the fill behind them.
 pub(crate) fn lay(area: &mut [u8], bytes: &[u8], fill: u8) {
-    let mut i: usize = 0;
-    while i < area.len() {
-        area[i] = byte_at(bytes, i, fill);
-        i += 1;
+    for (i, b) in area.iter_mut().enumerate() {
+        *b = byte_at(bytes, i, fill);
     }
 }
 
@@ -36,7 +34,7 @@ pub(crate) fn lay(area: &mut [u8], bytes: &[u8], fill: u8) {
 fn cut(size: usize, area: &[u8]) -> usize
     ensures { IsPrefixLen result area.now }
 {
-    if size < area.len() { size } else { area.len() }
+    size.min(area.len())
 }
 
 // As many bytes of the area as a word of the case writes.
@@ -86,7 +84,7 @@ fn hold_behind(told: Told, what: &[u8], kept: &[u8], end: usize, before: &[u8], 
 pub(crate) fn asked_by(case: &[u8], shout: usize) -> Asked {
     Asked {
         vars_used: number(word(case, words::USED)),
-        shouts: text::same(word(case, shout), b"1"),
+        shouts: matches!(word(case, shout), b"1"),
     }
 }
 
@@ -96,10 +94,7 @@ fn changed(case: &[u8], image: usize, used: usize, area: &[u8]) -> usize
 {
     let end = cut_to_bytes(case, image, area);
     let old = cut_to_size(case, used, area);
-    if end < old {
-        return old;
-    }
-    end
+    end.max(old)
 }
 
 // Holds a buffer against the case: the new image, zeros behind it up to the used length that was given, and what was there before; on a refusal all that was

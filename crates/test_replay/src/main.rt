@@ -17,7 +17,6 @@ ghost use Rattle.std.specs.Prelude.{◌≡◌, length};
 use kinds::Job;
 use std::fs::File;
 use std::io::Read;
-use std::num::wrapping_add_u64;
 use std::{io, str};
 use telling::Told;
 use words::ROOM;
@@ -52,7 +51,9 @@ fn try_case(
     out: &mut [u8],
     message: &mut [u8],
 ) -> Told {
-    let job = kinds::job_of(case);
+    let Some(job) = kinds::job_of(case) else {
+        return telling::tell(told, b"not a case, or too large for its buffers here");
+    };
     match job {
         Job::Line => calls::try_line(
             told, case, line, vars, homes, params, paths, work, out, message,
@@ -63,7 +64,6 @@ fn try_case(
         Job::Quoter => calls::try_quote(told, case, line, out),
         Job::Update => updates::try_update(told, case, paths, line),
         Job::Coster => costs::try_cost(told, case, line, paths, work),
-        Job::None => telling::tell(told, b"not a case, or too large for its buffers here"),
     }
 }
 
@@ -103,27 +103,23 @@ fn differs(rt: &HostRuntime, number: u64, case: &[u8]) -> bool {
     told.any
 }
 
-// Runs each case that is read. A proved loop has to end, so it counts its turns down from a number that no run uses up. A line longer than the block is
+// Runs each case that is read. A proved loop has to end, so it counts its cases up to a number that no run reaches. A line longer than the block is
 // taken in pieces, which are no cases and are told.
 fn run_cases<R: Read>(rt: &HostRuntime, input: &mut R, block: &mut [u8]) {
-    let mut cases: u64 = 0;
     let mut differ: u64 = 0;
-    let mut turns = u64::MAX;
     let mut have = blocks::read_behind(input, block, 0);
-    while have > 0 {
-        if turns == 0 {
+    for cases in 0..u64::MAX {
+        if have == 0 {
+            telling::say_sum(rt, cases, differ);
             return;
         }
-        turns -= 1;
         let end = blocks::line_end(block, have);
-        cases = wrapping_add_u64(cases, 1);
-        if differs(rt, cases, &block[..end]) {
-            differ = wrapping_add_u64(differ, 1);
+        if differs(rt, cases + 1, &block[..end]) {
+            differ += 1;
         }
         let left = blocks::drop_line(block, have, end);
         have = blocks::read_behind(input, block, left);
     }
-    telling::say_sum(rt, cases, differ);
 }
 
 // Lends the block to a run.
@@ -150,6 +146,6 @@ fn main(rt: HostRuntime) {
         return;
     }
     let mut path = system::buffer();
-    let length = system::arg(&rt, 1, &mut path);
+    let length = system::arg(&rt, 1, &mut path).unwrap_or(0);
     run_file(&rt, &path[..length]);
 }

@@ -1,5 +1,5 @@
 // What a call gave is held against what the case says, and each difference is told, all those of a case on one line.
-ghost use Rattle.std.specs.Prelude.{◌≡◌, true, ◌≢◌};
+ghost use Rattle.std.specs.Prelude.{◌≡◌, true, ◌≢◌, ◌<◌, length, IfSome};
 
 use crate::words::byte_at;
 
@@ -47,11 +47,7 @@ pub(crate) fn tell(told: Told, what: &[u8]) -> Told
     ensures { (result.line ≡ told.line) × (result.any ≡ true) }
 {
     open_with(told, what);
-    Told {
-        rt: told.rt,
-        line: told.line,
-        any: true,
-    }
+    Told { any: true, ..told }
 }
 
 // Tells that a number is not the case's.
@@ -66,11 +62,7 @@ pub(crate) fn hold_number(told: Told, what: &[u8], given: usize, wanted: usize) 
     say_number(&told.rt, given);
     say(&told.rt, b", not ");
     say_number(&told.rt, wanted);
-    Told {
-        rt: told.rt,
-        line: told.line,
-        any: true,
-    }
+    Told { any: true, ..told }
 }
 
 // The byte wanted at a place: those of `after` come first, behind them those of `before`, behind both the fill.
@@ -78,16 +70,11 @@ fn wanted_at(after: &[u8], before: &[u8], fill: u8, i: usize) -> u8 {
     byte_at(after, i, byte_at(before, i, fill))
 }
 
-// The place of the first byte that is not the wanted one, or the area's end.
-fn first_difference(area: &[u8], after: &[u8], before: &[u8], fill: u8) -> usize {
-    let mut i: usize = 0;
-    while i < area.len() {
-        if area[i] != wanted_at(after, before, fill, i) {
-            return i;
-        }
-        i += 1;
-    }
-    i
+// The place of the first byte that is not the wanted one.
+fn first_difference(area: &[u8], after: &[u8], before: &[u8], fill: u8) -> Option<usize>
+    ensures { IfSome result (λ at. at < length area.now) }
+{
+    (0..area.len()).find(|i| area[*i] != wanted_at(after, before, fill, *i))
 }
 
 // Tells the first byte of an area that is not the wanted one.
@@ -99,10 +86,9 @@ pub(crate) fn hold_bytes(
     before: &[u8],
     fill: u8,
 ) -> Told {
-    let at = first_difference(area, after, before, fill);
-    if at >= area.len() {
+    let Some(at) = first_difference(area, after, before, fill) else {
         return told;
-    }
+    };
     open_with(told, what);
     say(&told.rt, b" byte ");
     say_number(&told.rt, at);
@@ -110,11 +96,7 @@ pub(crate) fn hold_bytes(
     say_byte(&told.rt, area[at]);
     say(&told.rt, b", not ");
     say_byte(&told.rt, wanted_at(after, before, fill, at));
-    Told {
-        rt: told.rt,
-        line: told.line,
-        any: true,
-    }
+    Told { any: true, ..told }
 }
 
 // Says how many cases were run and how many of them differ.

@@ -119,39 +119,23 @@ fn word_start(line: &[u8], n: usize) -> usize
     ensures { result ≤ length line.now }
 {
     let mut left = n;
-    let mut i: usize = 0;
-    while i < line.len() {
+    for (i, b) in line.iter().enumerate() {
         if left == 0 {
             return i;
         }
-        if line[i] == BLANK {
+        if *b == BLANK {
             left -= 1;
         }
-        i += 1;
     }
-    i
-}
-
-// The place of the next blank, or the line's end.
-fn word_end(line: &[u8], from: usize) -> usize
-    requires { from ≤ length line.now }
-    ensures { (from ≤ result) × (result ≤ length line.now) }
-{
-    let mut i = from;
-    while i < line.len() {
-        if line[i] == BLANK {
-            return i;
-        }
-        i += 1;
-    }
-    i
+    line.len()
 }
 
 // The n-th word, counted from 0; no bytes if the line has fewer.
 pub(crate) fn word(line: &[u8], n: usize) -> &[u8] {
     let from = word_start(line, n);
-    let end = word_end(line, from);
-    &line[from..end]
+    let rest = &line[from..];
+    let end = rest.iter().position(|b| *b == BLANK).unwrap_or(rest.len());
+    &rest[..end]
 }
 
 // The number of a digit of either base; any other byte gives some number below 16.
@@ -163,33 +147,21 @@ fn digit(b: u8) -> u8
 
 // Are all of the word's bytes in the set?
 fn all_in(word: &[u8], set: &[u8]) -> bool {
-    let mut i: usize = 0;
-    while i < word.len() {
-        if !text::is_in(word[i], set) {
-            return false;
-        }
-        i += 1;
-    }
-    true
+    word.iter().all(|b| set.contains(b))
 }
 
 // Does the word write bytes, as many as there is room for?
 fn is_bytes(word: &[u8]) -> bool {
-    if text::same(word, b"-") {
-        return true;
-    }
-    if word.len() == 0 || word.len() % 2 == 1 || byte_count(word) > ROOM {
-        return false;
-    }
-    all_in(word, b"0123456789abcdef")
+    let is_hex = !word.is_empty()
+        && word.len() % 2 == 0
+        && byte_count(word) <= ROOM
+        && all_in(word, b"0123456789abcdef");
+    is_hex || matches!(word, b"-")
 }
 
 // Does the word write a number?
 fn is_number(word: &[u8]) -> bool {
-    if word.len() == 0 || word.len() > numbers::MOST_DIGITS {
-        return false;
-    }
-    all_in(word, b"0123456789")
+    !word.is_empty() && word.len() <= numbers::MOST_DIGITS && all_in(word, b"0123456789")
 }
 
 // How many bytes a word of hexadecimal digits writes; none for `-`.
@@ -210,14 +182,8 @@ pub(crate) fn byte_at(word: &[u8], i: usize, other: u8) -> u8 {
 // The number that a word of decimal digits writes; the largest one for what is beyond it.
 pub(crate) fn number(word: &[u8]) -> usize {
     let mut n: usize = 0;
-    let mut i: usize = 0;
-    while i < word.len() {
-        let d = digit(word[i]) as usize;
-        if n > (usize::MAX - d) / 10 {
-            return usize::MAX;
-        }
-        n = n * 10 + d;
-        i += 1;
+    for b in word {
+        n = n.saturating_mul(10).saturating_add(digit(*b) as usize);
     }
     n
 }
@@ -229,21 +195,18 @@ fn is_of(word: &[u8], kind: u8) -> bool {
         b'h' => is_bytes(word),
         b'd' => is_number(word),
         b's' => is_number(word) && number(word) <= ROOM,
-        b'b' => text::same(word, b"0") || text::same(word, b"1"),
-        _ => text::same(word, b"="),
+        b'b' => matches!(word, b"0" | b"1"),
+        _ => matches!(word, b"="),
     }
 }
 
 // Has the line a word of each kind and no more?
 pub(crate) fn has_shape(line: &[u8], kinds: &[u8]) -> bool {
-    let mut i: usize = 0;
-    while i < kinds.len() {
-        if !is_of(word(line, i), kinds[i]) {
-            return false;
-        }
-        i += 1;
-    }
-    word_start(line, i) == line.len()
+    kinds
+        .iter()
+        .enumerate()
+        .all(|(i, kind)| is_of(word(line, i), *kind))
+        && word_start(line, kinds.len()) == line.len()
 }
 
 // Has the word of bytes as many as the word of a number says?

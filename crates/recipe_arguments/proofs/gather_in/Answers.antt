@@ -1,6 +1,4 @@
-use Rattle.std.proofs.Common.{◌∙◌}
-use mathlib.Core.Path.{refl}
-use native.Mathlib.Omega.{arith}
+use Rattle.std.proofs.Common.{◌∙◌, refl, arith}
 use Rattle.recipe_arguments.proofs.Packing.{packing_starts, packing_more, packing_ends}
 use Rattle.recipe_arguments.proofs.gather_in.Goals as goal
 
@@ -10,7 +8,7 @@ loop-number-init c = (packing_starts c.args.image.now c.args.first c.args.count 
 pub loop-number-preserved : goal.loop-number-preserved
 loop-number-preserved c =
     let a = c.take_argument-so_far in
-    (packing_more c.loop-number.invariant.0 (omega (arith, c.loop-number-test.true)) a.ensures a.auto.image, a.auto.buffer ∙ c.loop-number.invariant.1)
+    (packing_more c.loop-number.invariant.0 (omega arith) a.ensures a.auto.image, a.auto.buffer ∙ c.loop-number.invariant.1)
 
 pub returns : goal.returns
-returns c = packing_ends c.loop-number.invariant.0 (omega (arith, c.loop-number-test.false))
+returns c = packing_ends c.loop-number.invariant.0 (omega arith)

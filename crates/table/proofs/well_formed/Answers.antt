@@ -1,6 +1,6 @@
 -- `table::well_formed` meets its contract: the image is well formed just if what is left of it is, behind the last key.
-use Rattle.std.proofs.Common.{◌≡◌, ◌≤◌, length, None, Ok, sym, ap, ◌∙◌, arith, rules}
-use Rattle.table.specs.Kinds.{limit_of}
+use Rattle.std.proofs.Common.{◌≡◌, None, Ok, sym, ap, ◌∙◌, arith, rules}
+use borrow.Author.Tests.{eqb-true, eqb-false}
 use Rattle.table.proofs.Walk.{
   Keyed,
   begins,
@@ -18,11 +18,13 @@ use Rattle.table.proofs.Walk.{
   record_on,
 }
 use Rattle.table.proofs.well_formed.Goals as goal
-use Rattle.table.proofs.well_formed.Goals.{Else-limit-image, In-Ok-Some, Else-not-key_fits, In-Ok-Some-record_end}
-
--- the image is not longer than one of its kind may be
-small : (c : Else-limit-image) → length c.args.image.now ≤ limit_of c.args.kind
-small c = omega (arith, c.limit.ensures, c.if-limit-image.false)
+use Rattle.table.proofs.well_formed.Goals.{
+  then-limit-image-via-then-limit-image,
+  then-limit-image-via-else-limit-image+then-is_empty,
+  then-limit-image-via-else-limit-image+else-is_empty+then-image-ne-VERSION,
+  In-Ok-Some,
+  Else-not-key_fits,
+}
 
 -- the key that was read at the walk's place
 stood : (c : In-Ok-Some) → Key c.args.kind c.args.image.now c.loop-end.at c.in-Ok-Some.end
@@ -36,16 +38,18 @@ keyed c =
     record { going = c.loop-end.invariant; stands = k.fitting _ e; fits = e }
 
 pub returns-then-limit-image : goal.returns-then-limit-image
-returns-then-limit-image c = too_long _ _ (omega (arith, c.limit.ensures, c.if-limit-image.true))
-
-pub returns-then-image-eq0 : goal.returns-then-image-eq0
-returns-then-image-eq0 c = empty _ _ (small (goal.at.returns-then-image-eq0 c).Else-limit-image) c.if-image-eq0.true
-
-pub returns-then-image-ne-VERSION : goal.returns-then-image-ne-VERSION
-returns-then-image-ne-VERSION c = other_version _ _ (small (goal.at.returns-then-image-ne-VERSION c).Else-limit-image) c.if-image-ne-VERSION.true
+returns-then-limit-image c =
+    elim c.then-limit-image.branch [
+      | then-limit-image-via-then-limit-image w ↦ too_long _ _ (omega (arith, c.limit.ensures, w.if-limit-image.true))
+      | then-limit-image-via-else-limit-image+then-is_empty w ↦
+          empty _ _ (omega (arith, c.limit.ensures, w.if-limit-image.false)) (eqb-true _ _ (sym w.is_empty.ensures ∙ w.if-is_empty.true))
+      | then-limit-image-via-else-limit-image+else-is_empty+then-image-ne-VERSION w ↦
+          other_version _ _ (omega (arith, c.limit.ensures, w.if-limit-image.false)) w.if-image-ne-VERSION.true
+    ]
 
 pub loop-end-init : goal.loop-end-init
-loop-end-init c = begins _ _ (small (goal.at.loop-end-init c).Else-limit-image) c.if-image-eq0.false c.if-image-ne-VERSION.false
+loop-end-init c =
+    begins _ _ (omega (arith, c.limit.ensures, c.if-limit-image.false)) (eqb-false _ _ (sym c.is_empty.ensures ∙ c.if-is_empty.false)) c.if-image-ne-VERSION.false
 
 pub returns-in-Ok-None : goal.returns-in-Ok-None
 returns-in-Ok-None c = no_key c.loop-end.invariant c.key_at.ensures (c.in-Ok-None.is ∙ ap Ok c.in-Ok-None.field-0-is)
