@@ -100,7 +100,8 @@ module _ (s : Text) (from : Cursor) where
           (hash_is ∙ c.is (λ x k u. behind_length x (k + 3) u)
           ∙ ap (λ (n : ℕ). behind_length (param_of s p) n (drop p.to s)) (named_width p.from p.to from.at 3 c.starts c.onward)) h
 
-      pub hash_wrong : CalledAt s (from.at + 3) None → (n : Refusal) → wrong unserved (get_or s (from.at + 3) 0 ∷ []) ≡ fault (refusal_number n) → Hashes s from (Err n)
+      pub hash_wrong : CalledAt s (from.at + 3) None → (n : Refusal)
+          → wrong unserved (get_or s (from.at + 3) 0 ∷ []) ≡ fault (refusal_number n) → Hashes s from (Err n)
       hash_wrong c n w = none_wrong s (from.at + 3) l (hash_is ∙ c (λ x k u. behind_length x (k + 3) u)) w
 
 -- After `${@:` and `${*:`.
@@ -118,7 +119,8 @@ module _ (s : Text) (from : Cursor) where
     unfolding behind_list_colon
     list_colon_sign e = rw (drop-cons s (from.at + 4) 0 l) (rw e)
 
-    pub list_colon_wrong : is_in (get_or s (from.at + 4) 0) (text "-=?+") ≡ false → (n : Refusal) → wrong bad_syntax (get_or s (from.at + 4) 0 ∷ []) ≡ fault (refusal_number n)
+    pub list_colon_wrong : is_in (get_or s (from.at + 4) 0) (text "-=?+") ≡ false → (n : Refusal)
+        → wrong bad_syntax (get_or s (from.at + 4) 0 ∷ []) ≡ fault (refusal_number n)
         → ListColons s from (Err n)
     unfolding behind_list_colon
     list_colon_wrong e n w =
@@ -158,7 +160,8 @@ module _ (s : Text) (from : Cursor) where
         unfolding behind_list
         list_sign g = list_head ∙ rw (ne_eqb _ _ e, ne_eqb _ _ f, g)
 
-        pub list_wrong : is_in (get_or s (from.at + 3) 0) (text "-=?+%#") ≡ false → (n : Refusal) → wrong bad_syntax (get_or s (from.at + 3) 0 ∷ []) ≡ fault (refusal_number n)
+        pub list_wrong : is_in (get_or s (from.at + 3) 0) (text "-=?+%#") ≡ false → (n : Refusal)
+            → wrong bad_syntax (get_or s (from.at + 3) 0 ∷ []) ≡ fault (refusal_number n)
             → ListNames s from (Err n)
         unfolding behind_list
         list_wrong g n w =

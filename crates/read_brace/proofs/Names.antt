@@ -105,16 +105,22 @@ pub record Coloned (s : Text) (from : Cursor) (p : code-param.Param) : Type 0 wh
   pub ended : Ended s from p
   pub there : p.to + 1 < length s
 
+pub coloned : (s : Text) (from : Cursor) (p : code-param.Param) → (p.from ≡ from.at + 2) × (p.from ≤ p.to) × (p.to < length s) × (0 < from.depth)
+    → p.to + 1 < length s → Coloned s from p
+coloned s from p r l = record { ended = ended s from p r; there = l }
+
 pub colon_end : (s : Text) (from : Cursor) (p : code-param.Param) → length s ≤ p.to + 1 → Colons s from p (Err Unended)
 unfolding behind_colon wrong
 colon_end s from p l = ap (behind_colon (mode_of from.mode) (param_of s p) (p.to + 1 - from.at)) (drop_of_length-le s l)
 
 module _ {s : Text} {from : Cursor} {p : code-param.Param} (h : Coloned s from p) where
-  pub colon_sign : is_in (get_or s (p.to + 1) 0) (text "-=?+") ≡ true → (r : Result code-item.Item Refusal) → Signs s from p true (p.to + 1) r → Colons s from p r
+  pub colon_sign : is_in (get_or s (p.to + 1) 0) (text "-=?+") ≡ true → (r : Result code-item.Item Refusal) → Signs s from p true (p.to + 1) r
+      → Colons s from p r
   unfolding behind_colon
   colon_sign e r q = same_item s from.at from.depth r (rw (drop-cons s (p.to + 1) 0 h.there) (rw e)) q
 
-  pub colon_wrong : is_in (get_or s (p.to + 1) 0) (text "-=?+") ≡ false → (e : Refusal) → wrong bad_syntax (get_or s (p.to + 1) 0 ∷ []) ≡ fault (refusal_number e)
+  pub colon_wrong : is_in (get_or s (p.to + 1) 0) (text "-=?+") ≡ false → (e : Refusal)
+      → wrong bad_syntax (get_or s (p.to + 1) 0 ∷ []) ≡ fault (refusal_number e)
       → Colons s from p (Err e)
   unfolding behind_colon
   colon_wrong f n w =
@@ -253,6 +259,7 @@ module _ (s : Text) (from : Cursor) (p : code-param.Param) where
         shows_count s from.at from.depth (p.to + 1) (p.to - from.at) (omega arith) (omega arith) p o (omega arith) n refl
         (rw (drop-cons s p.to 0 l) (rw (eq-eqb _ _ e)))
 
-    pub length_wrong : (get_or s p.to 0 ≡ 125 → ⊥) → (n : Refusal) → wrong bad_syntax (get_or s p.to 0 ∷ []) ≡ fault (refusal_number n) → Lengths s from p (Err n)
+    pub length_wrong : (get_or s p.to 0 ≡ 125 → ⊥) → (n : Refusal)
+        → wrong bad_syntax (get_or s p.to 0 ∷ []) ≡ fault (refusal_number n) → Lengths s from p (Err n)
     unfolding behind_length
     length_wrong e n w = rw (drop-cons s p.to 0 l) (rw (ne_eqb _ _ e) (wrong_byte bad_syntax (get_or s p.to 0) (drop (suc p.to) s) [] w))

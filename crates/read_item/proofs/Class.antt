@@ -39,6 +39,9 @@ use Rattle.read_item.proofs.Tildes.{Looks}
 pub record Second (s : Text) (from : Cursor) : Type 0 where
   pub there : from.at + 1 < length s
 
+pub second : (s : Text) (from : Cursor) → from.at + 1 < length s → Second s from
+second s from l = record { there = l }
+
 -- After a backslash.
 
 abbrev Escapes : Text → Cursor → Result code-item.Item Refusal → Type 0

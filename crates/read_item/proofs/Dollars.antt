@@ -134,6 +134,9 @@ pub record NoName (s : Text) (from : Cursor) : Type 0 where
   pub second : Second s from
   pub none : is_name_start (get_or s (from.at + 1) 0) ≡ false
 
+pub no_name : (s : Text) (from : Cursor) → from.at + 1 < length s → is_name_start (get_or s (from.at + 1) 0) ≡ false → NoName s from
+no_name s from l e = record { second = record { there = l }; none = e }
+
 module _ (s : Text) (from : Cursor) where
   top : from.at + 1 < length s
       → expansion (mode_of from.mode) from.depth (drop (from.at + 1) s)

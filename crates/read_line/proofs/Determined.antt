@@ -65,7 +65,8 @@ verdict_determined w (Err r) (Err s) p q =
 verdict_determined w (Ok u) (Err s) p q = absurd (let z : ◌≡◌ {A = ℕ} 0 1 = cc in omega arith)
 verdict_determined w (Err r) (Ok u) p q = absurd (let z : ◌≡◌ {A = ℕ} 0 1 = cc in omega arith)
 
-pub read_line_determined : (line : Text) (r s : Result (Unit {0}) Refused) → verdict (read_line line) ≡ verdict_of r → verdict (read_line line) ≡ verdict_of s → r ≡ s
+pub read_line_determined : (line : Text) (r s : Result (Unit {0}) Refused) → verdict (read_line line) ≡ verdict_of r
+    → verdict (read_line line) ≡ verdict_of s → r ≡ s
 read_line_determined line r s p q = verdict_determined (verdict (read_line line)) r s p q
 
 pub read_assignments_determined : (line : Text) (r s : Result (Unit {0}) Refused) → verdict (read_assignments line) ≡ verdict_of r →

@@ -165,7 +165,8 @@ module _ (line : Text) (place : ℕ) (l : place < length line) (e : is_blank (ge
     kind_hash Assignments h = ap verdict (piece_hash an_assignment assignment_of assignment_takes line place l e f h)
 
     module _ (h : get_or line place 0 ≡ 35 → ⊥) where
-      pub word_read : {kind : Pieces} → kind ≡ Words → (got : Result ℕ Refusal) → ReadSays line place (a_word (drop place line)) got → PieceSays kind line place got
+      pub word_read : {kind : Pieces} → kind ≡ Words → (got : Result ℕ Refusal) → ReadSays line place (a_word (drop place line)) got
+          → PieceSays kind line place got
       word_read k (Err n) q = rw k (ap verdict (piece_fault a_word word_of word_takes line place l e f h (refusal_number n) q))
       word_read k (Ok next) q =
           let o = piece_onward a_word word_of word_takes line place l e f h next q in

@@ -1,7 +1,7 @@
 -- The byte after the colon decides.
 use mathlib.Core.Path.{sym, ◌∙◌}
 use native.Mathlib.Omega.{arith}
-use Rattle.read_brace.proofs.Names.{ended, two_more, colon_end, colon_sign, colon_wrong}
+use Rattle.read_brace.proofs.Names.{coloned, two_more, colon_end, colon_sign, colon_wrong}
 use Rattle.read_brace.proofs.behind_colon.Goals as goal
 
 pub returns-then-to-text : goal.returns-then-to-text
@@ -11,15 +11,16 @@ returns-then-to-text c =
 
 pub behind_sign-requires : goal.behind_sign-requires
 behind_sign-requires c =
-    let e = c in
-    let s = e in
-    (s.requires.0, s.requires.1, omega arith, two_more s.args.param.to, omega (arith, e.if-to-text.false), s.requires.3)
+    (c.requires.0, c.requires.1, omega arith, two_more c.args.param.to, c.if-to-text.false, c.requires.3)
 
 pub returns-then-is_in : goal.returns-then-is_in
 returns-then-is_in c =
-    colon_sign (record { ended = ended c.args.text.now c.args.from c.args.param c.requires; there = omega (arith, c.if-to-text.false) }) (sym c.is_in.ensures ∙ c.if-is_in.true) c.behind_sign.result
-    c.behind_sign.ensures
+    let a = c.args in
+    colon_sign (coloned a.text.now a.from a.param c.requires c.if-to-text.false) (sym c.is_in.ensures ∙ c.if-is_in.true)
+    c.behind_sign.result c.behind_sign.ensures
 
 pub returns : goal.returns
 returns c =
-    colon_wrong (record { ended = ended c.args.text.now c.args.from c.args.param c.requires; there = omega (arith, c.if-to-text.false) }) (sym c.is_in.ensures ∙ c.if-is_in.false) c.wrong_byte.result c.wrong_byte.ensures
+    let a = c.args in
+    colon_wrong (coloned a.text.now a.from a.param c.requires c.if-to-text.false) (sym c.is_in.ensures ∙ c.if-is_in.false)
+    c.wrong_byte.result c.wrong_byte.ensures

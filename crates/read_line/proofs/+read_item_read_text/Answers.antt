@@ -42,15 +42,22 @@ pub read_text-loop-place-init : goal.read_text-loop-place-init
 read_text-loop-place-init t c = reads_start c.args.text.now c.args.from c.requires.0 c.requires.1
 
 pub read_text-overflow_add-result : goal.read_text-overflow_add-result
-read_text-overflow_add-result t c = let r = reads_close (reads_run c.loop-place.invariant c.behind_literals-place.ensures) (sym c.is_end.ensures ∙ c.if-is_end.true) c.end_length.ensures in omega (arith, r.within)
+read_text-overflow_add-result t c =
+    let r = reads_close (reads_run c.loop-place.invariant c.behind_literals-place.ensures)
+    (sym c.is_end.ensures ∙ c.if-is_end.true) c.end_length.ensures in
+    omega (arith, r.within)
 
 pub read_text-returns-then-is_end : goal.read_text-returns-then-is_end
-read_text-returns-then-is_end t c = reads_close (reads_run c.loop-place.invariant c.behind_literals-place.ensures) (sym c.is_end.ensures ∙ c.if-is_end.true) c.end_length.ensures
+read_text-returns-then-is_end t c =
+    reads_close (reads_run c.loop-place.invariant c.behind_literals-place.ensures)
+    (sym c.is_end.ensures ∙ c.if-is_end.true) c.end_length.ensures
 
 pub read_text-returns-in_err-item : goal.read_text-returns-in_err-item
 read_text-returns-in_err-item t c =
     let p = err_from_is_err_and c.from_residual.result c.from_residual.ensures.1 in
-    rw (p.1, p.2) (reads_fault (reads_run c.loop-place.invariant c.behind_literals-place.ensures) (fault_read c.args.text.now c.behind_literals-place.result c.in_err-item.field-0.0 c.in_err-item.ensures))
+    rw (p.1, p.2)
+    (reads_fault (reads_run c.loop-place.invariant c.behind_literals-place.ensures)
+    (fault_read c.args.text.now c.behind_literals-place.result c.in_err-item.field-0.0 c.in_err-item.ensures))
 
 pub read_text-returns-in_err-next : goal.read_text-returns-in_err-next
 read_text-returns-in_err-next t c =
