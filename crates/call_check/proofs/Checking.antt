@@ -1,7 +1,7 @@
 -- The order of the checks: each refusal is the stage's where those before it are passed.
 use Prim.Native.Nat.{ℕ, ◌+◌, ◌≤◌}
 use native.Mathlib.Omega.{arith}
-use mathlib.Core.Path.{◌≡◌, refl, sym, ap, ◌∙◌, subst}
+use mathlib.Core.Path.{◌≡◌, refl, sym, ap, ◌∙◌}
 use mathlib.Core.Bool.{Bool, true, false, not, ◌&&◌, and-false}
 use mathlib.Core.List.{List, [], ◌∷◌, ◌++◌}
 use lib.Dec.{leb}
@@ -27,12 +27,11 @@ use Rattle.table.specs.Places.{Listed}
 use Rattle.table.specs.Around.{lent_of}
 use Rattle.read_line.specs.Says.{verdict, verdict_of}
 use Rattle.std.specs.Prelude.{Result, Ok, Err}
-use Rattle.text.specs.Refusals.{refusal_number}
 use Rattle.text.specs.declared.refusal.Refused.{Refused}
 use Rattle.read_line.proofs.Lines.{Accepted, passed, refused_of}
 use Rattle.call_check.specs.Calls.{room_of, worked}
-use Rattle.call_check.specs.Checks.{room_in, around, Lends, Unlent, small_area, used_beyond, vars_bad, homes_bad, LendSays}
-use Rattle.call_check.specs.Checks.{Plain, Unplain, too_long, has_zero, PlainSays, Tabled, Passed, Stopped, Checks}
+use Rattle.call_check.specs.Checks.{room_in, around, Lends, Unlent, small_area, used_beyond, vars_bad, homes_bad}
+use Rattle.call_check.specs.Checks.{Plain, Unplain, too_long, has_zero, Tabled, Passed, Stopped}
 use Rattle.call_check.specs.Checks.{AssignPassed, AssignStopped, AssignChecks}
 use Rattle.call_check.specs.declared.Job.{Job}
 

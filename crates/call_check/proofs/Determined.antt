@@ -1,6 +1,6 @@
 -- The contracts determine every answer. For `check` and `check_assignments`: a call passes the checks or is stopped by one of them, never both.
 use Prim.Native.Nat.{ℕ}
-use mathlib.Core.Path.{◌≡◌, refl, sym, ap, ◌∙◌}
+use mathlib.Core.Path.{◌≡◌, refl, ap, ◌∙◌}
 use Rattle.stages.specs.Outcome.{Placed, refused_at}
 use mathlib.Core.Bool.{Bool, false}
 use mathlib.Core.List.{[]}

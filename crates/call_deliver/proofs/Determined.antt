@@ -6,12 +6,14 @@ use Rattle.stages.specs.Bytes.{Text}
 use Rattle.stages.specs.Call.{over}
 use Rattle.stages.specs.Call as stage
 use Rattle.quote.specs.Answers.{quoting_of}
-use Rattle.quote.specs.declared.Quoted.{Quoted}
+use Rattle.std.specs.Prelude.{Result}
+use Rattle.quote.specs.declared.QuoteError.{QuoteError}
 use Rattle.quote.proofs.Determined.{quoted_determined}
 use Rattle.call_check.specs.declared.Job.{Job}
 use Rattle.text.proofs.Determined.{one_answer}
 use Rattle.call_deliver.specs.Hands.{Gives, Accepts, refused_as, writing_of}
-use Rattle.call_deliver.specs.Awaits.{refused_with, HandsOver}
+use Rattle.call_deliver.specs.Awaits.{refused_with, stopped_as, HandsOver}
+use Rattle.expand_add.specs.declared.answers.LineStop.{LineStop}
 use Rattle.call_deliver.specs.declared.Answer.{Answer}
 use Rattle.call_deliver.specs.declared.Draft.{Draft}
 
@@ -27,7 +29,7 @@ pub accept_determined : (n used : ℕ) (image old : Text) (r s : Answer) (vars v
     → (r ≡ s) × (vars ≡ vars')
 accept_determined n used image old r s vars vars' g h = (g.is ∙ sym h.is, g.variables ∙ sym h.variables)
 
-pub deliver_determined : (job : Job) (image old left left' : Text) (r s : Quoted) → quoting_of r left ≡ writing_of job image old
+pub deliver_determined : (job : Job) (image old left left' : Text) (r s : Result ℕ QuoteError) → quoting_of r left ≡ writing_of job image old
     → quoting_of s left' ≡ writing_of job image old → (r ≡ s) × (left ≡ left')
 deliver_determined job image old = quoted_determined (writing_of job image old)
 
@@ -37,6 +39,9 @@ tell_determined text old left left' r s g h = (g.0 ∙ sym h.0, g.1 ∙ sym h.1)
 
 pub refuse_with_determined : (n place used at len : ℕ) (r s : Draft) → r ≡ refused_with n place used at len → s ≡ refused_with n place used at len → r ≡ s
 refuse_with_determined n place used at len r s = one_answer
+
+pub stop_determined : (why : LineStop) (used : ℕ) (r s : Draft) → r ≡ stopped_as why used → s ≡ stopped_as why used → r ≡ s
+stop_determined why used r s = one_answer
 
 pub hand_over_determined : (d : Draft) (work message : Text) (r s : Answer) (area area' told told' : Text) → HandsOver d work message r area told
     → HandsOver d work message s area' told' → (r ≡ s) × (area ≡ area') × (told ≡ told')

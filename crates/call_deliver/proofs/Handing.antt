@@ -6,17 +6,12 @@ use lib.ListN.{length, take, drop}
 use Rattle.std.proofs.lemmas.List.{length-take, take_min}
 use Rattle.stages.specs.Bytes.{Text}
 use Rattle.stages.specs.Outcome.{done_at}
-use Rattle.stages.specs.Call.{Quoting, over, quoting}
+use Rattle.stages.specs.Call.{over, quoting}
 use Rattle.quote.specs.Answers.{quoting_of}
-use Rattle.quote.specs.declared.Quoted.{Quoted}
-use Rattle.quote.specs.declared.Quoted.TheVariants.{Len}
-
--- the quoter's answer once its case is known
-pub quoted_as : (left : Text) {q : Quoting} {r s : Quoted} → quoting_of r left ≡ q → r ≡ s → quoting_of s left ≡ q
-quoted_as left h e = ap (λ (x : Quoted). quoting_of x left) (sym e) ∙ h
+use Rattle.std.specs.Prelude.{Ok}
 
 -- an image copied to the front of the output
-pub copied_over : (t old left : Text) → left ≡ t ++ drop (length t) old → quoting_of (Len (length t)) left ≡ quoting old (done_at t)
+pub copied_over : (t old left : Text) → left ≡ t ++ drop (length t) old → quoting_of (Ok (length t)) left ≡ quoting old (done_at t)
 unfolding quoting over
 copied_over t old left e = rw e
 

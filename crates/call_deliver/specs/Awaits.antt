@@ -3,6 +3,11 @@ use Rattle.std.specs.Prelude.{ℕ, ◌+◌, ◌≤◌, ◌≡◌, length, take, 
 use Rattle.stages.specs.Bytes.{Text}
 use Rattle.stages.specs.Call.{over, cleared}
 use Rattle.stages.specs.Call as stage
+use Rattle.stages.specs.Numbers.{demanded}
+use Rattle.text.specs.Refusals.{refusal_number}
+use Rattle.expand_add.specs.declared.answers.Stop.{Stop}
+use Rattle.expand_add.specs.declared.answers.Stop.TheVariants.{Refused, Demanded}
+use Rattle.expand_add.specs.declared.answers.LineStop.{LineStop}
 use Rattle.call_deliver.specs.Hands.{Hands, refused_as}
 use Rattle.call_deliver.specs.declared.Answer.{Answer}
 use Rattle.call_deliver.specs.declared.Draft.{Draft}
@@ -14,6 +19,14 @@ untold r = record { answer = r; at = 0; len = 0 }
 -- a refusal, and where its message waits
 abbrev pub refused_with : ℕ → ℕ → ℕ → ℕ → ℕ → Draft
 refused_with n place vars_used at len = record { answer = refused_as n place vars_used; at = at; len = len }
+
+-- the refusal of a line that stopped: its message waits where it is demanded
+abbrev pub stopped_by : Stop → ℕ → ℕ → Draft
+stopped_by (Refused why) place vars_used = refused_with (refusal_number why) place vars_used 0 0
+stopped_by (Demanded at len) place vars_used = refused_with demanded place vars_used at len
+
+abbrev pub stopped_as : LineStop → ℕ → Draft
+stopped_as why vars_used = stopped_by why.stop why.place vars_used
 
 -- the message that waits in the work area, "cut to the buffer"
 abbrev pub told_to : Text → Draft → Text → Text

@@ -10,11 +10,14 @@ ghost use Rattle.stages.specs.Images.{fields_of, held_texts};
 ghost use Rattle.quote.specs.Answers.{quoting_of};
 ghost use Rattle.call_check.specs.Calls.{room_of};
 ghost use Rattle.call_deliver.specs.Hands.{refused_as, writing_of, Accepts};
-ghost use Rattle.call_deliver.specs.Awaits.{refused_with, HandsOver};
+ghost use Rattle.call_deliver.specs.Awaits.{refused_with, stopped_as, HandsOver};
+ghost use Rattle.text.specs.Refusals.{refusal_number};
 
 use call_check::Job;
-use quote::Quoted;
+use expand_add::answers::{LineStop, Stop};
+use quote::QuoteError;
 use text::numbers;
+use text::refusal::Refusal;
 
 // "The answer is a number, a place, the output length and the variables' used length."; E7: "the answer gives the length written" of the message. Laid out as
 // C lays it out, so that the jobs for C hand it on.
@@ -37,11 +40,11 @@ pub struct Draft {
 }
 
 // A refusal: "the output length is 0, the used length is the one given"; no message is written yet.
-pub fn refuse(number: u8, place: usize, vars_used: usize) -> Answer
-    ensures { result ≡ refused_as number place vars_used }
+pub fn refuse(why: Refusal, place: usize, vars_used: usize) -> Answer
+    ensures { result ≡ refused_as (refusal_number why) place vars_used }
 {
     Answer {
-        number,
+        number: why.number(),
         place,
         out_len: 0,
         vars_used,
@@ -50,13 +53,24 @@ pub fn refuse(number: u8, place: usize, vars_used: usize) -> Answer
 }
 
 // A refusal with a message: the work area's `len` bytes from `at` on.
-pub fn refuse_with(number: u8, place: usize, vars_used: usize, at: usize, len: usize) -> Draft
-    ensures { result ≡ refused_with number place vars_used at len }
+pub fn refuse_with(why: Refusal, place: usize, vars_used: usize, at: usize, len: usize) -> Draft
+    ensures { result ≡ refused_with (refusal_number why) place vars_used at len }
 {
     Draft {
-        answer: refuse(number, place, vars_used),
+        answer: refuse(why, place, vars_used),
         at,
         len,
+    }
+}
+
+// The refusal of a line that stopped: what it demands is its message.
+pub fn stop(why: LineStop, vars_used: usize) -> Draft
+    ensures { result ≡ stopped_as why vars_used }
+{
+    let place = why.place;
+    match why.stop {
+        Stop::Refused(refusal) => refuse_with(refusal, place, vars_used, 0, 0),
+        Stop::Demanded { at, len } => { refuse_with(Refusal::Demanded, place, vars_used, at, len) }
     }
 }
 
@@ -81,7 +95,7 @@ pub fn accept(out_len: usize, image: &[u8], vars: &mut [u8], vars_used: usize) -
 }
 
 // Writes what the job gives of a fields image to the output, if it has room.
-pub fn deliver(job: Job, image: &[u8], out: &mut [u8]) -> Quoted
+pub fn deliver(job: Job, image: &[u8], out: &mut [u8]) -> Result<usize, QuoteError>
     requires image_len_bound { length image.now ≤ room_of job (length out.old) }
     requires image_value { fields_of image.now ≡ some (held_texts image.now) }
     ensures { quoting_of result out.new ≡ writing_of job image.now out.old }
@@ -89,7 +103,7 @@ pub fn deliver(job: Job, image: &[u8], out: &mut [u8]) -> Quoted
     match job {
         Job::Expander => {
             text_copy::copy_in(image, out);
-            Quoted::Len(image.len())
+            Ok(image.len())
         }
         Job::Normaliser => quote::quote_known(image, out),
     }

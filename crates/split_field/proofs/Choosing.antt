@@ -21,15 +21,16 @@ use Rattle.pattern_row.proofs.Keeping.{kept_bytes, kept_full, kept_pattern, full
 use Rattle.pattern_row.proofs.Plain.{plain_served, plain_still, plain_kept}
 use Rattle.table.specs.Pieces.{texts_from}
 use Rattle.pattern_paths.specs.Chosen.{Walks, Tells, nothing, path, NextSays}
-use Rattle.pattern_paths.specs.declared.Next.{Next}
-use Rattle.pattern_paths.specs.declared.Next.TheVariants.{Path, Nothing}
+use Rattle.std.specs.Prelude.{Option, Some, None}
+use Rattle.table.specs.declared.Part.{Part}
 use Rattle.pattern_paths.proofs.Walking.{walks_first}
 use Rattle.table_store.specs.Splice.{placed}
 use Rattle.split_field.specs.Answers.{Says, class, no_room}
 use Rattle.table.specs.Places.{Listed}
 use Rattle.split_field.specs.Fields.{field_texts}
-use Rattle.split_field.specs.declared.Written.{Written}
-use Rattle.split_field.specs.declared.Written.TheVariants.{Len, Class, NoRoom}
+use Rattle.std.specs.Prelude.{Result, Ok, Err}
+use Rattle.split_field.specs.declared.WriteError.{WriteError}
+use Rattle.split_field.specs.declared.WriteError.TheVariants.{BadClass, NoRoom}
 use Rattle.split_field.proofs.Placing.{placed_none}
 use Rattle.split_field.proofs.Filling.{Filled, filled_start, filled_length, filled_then, Given, Lacks, says_len, says_full, says_filled}
 
@@ -43,13 +44,13 @@ pub record Found (p : List Element) (t : Text) (at from to : ℕ) : Type 0 where
   pub walks : Walks t to
   pub chooses : chosen p (texts_from t at) ≡ part t from to ∷ chosen p (texts_from t to)
 
-found_of : {p : List Element} {t : Text} {at from to : ℕ} → Tells p t at (Path from to) → Found p t at from to
+found_of : {p : List Element} {t : Text} {at : ℕ} {r : Part} → Tells p t at (Some r) → Found p t at r.from r.to
 found_of (path a l h w e) = record { further = omega arith; low = l; high = h; walks = w; chooses = e }
 
-nothing_of : {p : List Element} {t : Text} {at : ℕ} → Tells p t at Nothing → chosen p (texts_from t at) ≡ []
+nothing_of : {p : List Element} {t : Text} {at : ℕ} → Tells p t at None → chosen p (texts_from t at) ≡ []
 nothing_of (nothing e) = e
 
-pub is_path_lem : {p : List Element} {t : Text} {at : ℕ} {r : Next} → NextSays p t at r → {from to : ℕ} → r ≡ Path from to → Found p t at from to
+pub is_path_lem : {p : List Element} {t : Text} {at : ℕ} {r : Option Part} → NextSays p t at r → {q : Part} → r ≡ Some q → Found p t at q.from q.to
 is_path_lem s e = found_of (rw e at s.tells)
 
 -- the paths met are written
@@ -71,7 +72,7 @@ module _ {p : List Element} {t : Text} {used : ℕ} {old : Text} {at n : ℕ} {o
   abbrev left : ℕ → List Text
   left k = chosen p (texts_from t k)
 
-  pub choosing_end : {r : Next} → NextSays p t at r → r ≡ Nothing → Says (done all) used old out (Len n)
+  pub choosing_end : {r : Option Part} → NextSays p t at r → r ≡ None → Says (done all) used old out (Ok n)
   choosing_end s e =
       let none : left at ≡ [] = nothing_of (rw e at s.tells) in
       says_filled (ap done (g.whole ∙ ap (λ (l : List Text). g.texts ++ l) none ∙ append-nil g.texts)) g.filled
@@ -80,8 +81,8 @@ module _ {p : List Element} {t : Text} {used : ℕ} {old : Text} {at n : ℕ} {o
     split : all ≡ (g.texts ++ (part t from to ∷ [])) ++ left to
     split = g.whole ∙ ap (λ (l : List Text). g.texts ++ l) f.chooses ∙ sym (append_assoc g.texts (part t from to ∷ []) (left to))
 
-    module _ {after : Text} {r : Written} (s : Says (done (part t from to ∷ [])) n out after r) where
-      pub choosing_on : {m : ℕ} → r ≡ Len m → Choosing p t used old to m after
+    module _ {after : Text} {r : Result ℕ WriteError} (s : Says (done (part t from to ∷ [])) n out after r) where
+      pub choosing_on : {m : ℕ} → r ≡ Ok m → Choosing p t used old to m after
       choosing_on {m} e =
           let d : Given (done (part t from to ∷ [])) n out after m = says_len s e in
           let k : part t from to ∷ [] ≡ d.texts = done_same d.gives in
@@ -92,7 +93,7 @@ module _ {p : List Element} {t : Text} {used : ℕ} {old : Text} {at n : ℕ} {o
             filled = filled_then g.filled (rw k d.filled);
           }
 
-      pub choosing_full : r ≡ NoRoom → Says (done all) used old after NoRoom
+      pub choosing_full : r ≡ Err NoRoom → Says (done all) used old after (Err NoRoom)
       unfolding record_bytes
       choosing_full e =
           let d : Lacks (done (part t from to ∷ [])) n out = says_full s e in
@@ -131,12 +132,12 @@ some_bytes [] h = h
 some_bytes (t ∷ l) h = omega arith
 
 module _ (paths : List Text) (r : Row) (p : List Element) {used : ℕ} {old after : Text} where
-  pub own_only : active p ≡ false → {w : Written} → Says (done (bytes r ∷ [])) used old after w → Says (done (paths_for paths r p)) used old after w
+  pub own_only : active p ≡ false → {w : Result ℕ WriteError} → Says (done (bytes r ∷ [])) used old after w → Says (done (paths_for paths r p)) used old after w
   own_only e s = rw (paths_own paths r p e) s
 
-  module _ (e : active p ≡ true) {w : Written} (s : Says (done (chosen p paths)) used old after w) where
+  module _ (e : active p ≡ true) {w : Result ℕ WriteError} (s : Says (done (chosen p paths)) used old after w) where
     -- nothing was written
-    module _ (l : w ≡ Len used) where
+    module _ (l : w ≡ Ok used) where
       d : Given (done (chosen p paths)) used old after used
       d = says_len s l
 
@@ -147,10 +148,10 @@ module _ (paths : List Text) (r : Row) (p : List Element) {used : ℕ} {old afte
       unfolding written
       untouched = d.filled.is ∙ ap (λ (l : List Text). placed used (written l) old) (sym (done_same d.gives) ∙ none) ∙ placed_none used old
 
-      pub own_instead : {last : Text} {v : Written} → Says (done (bytes r ∷ [])) used after last v → Says (done (paths_for paths r p)) used old last v
+      pub own_instead : {last : Text} {v : Result ℕ WriteError} → Says (done (bytes r ∷ [])) used after last v → Says (done (paths_for paths r p)) used old last v
       own_instead t = rw (paths_none paths r p e none, ← untouched) t
 
-    pub paths_written : {n : ℕ} → w ≡ Len n → (n ≡ used → ⊥) → Says (done (paths_for paths r p)) used old after (Len n)
+    pub paths_written : {n : ℕ} → w ≡ Ok n → (n ≡ used → ⊥) → Says (done (paths_for paths r p)) used old after (Ok n)
     paths_written {n} l k =
         let d : Given (done (chosen p paths)) used old after n = says_len s l in
         let c : chosen p paths ≡ d.texts = done_same d.gives in
@@ -161,7 +162,7 @@ module _ (paths : List Text) (r : Row) (p : List Element) {used : ℕ} {old afte
         positive zero h = absurd (h refl)
         positive (suc x) h = omega arith
 
-    pub paths_full : used ≤ length old → w ≡ NoRoom → Says (done (paths_for paths r p)) used old after NoRoom
+    pub paths_full : used ≤ length old → w ≡ Err NoRoom → Says (done (paths_for paths r p)) used old after (Err NoRoom)
     paths_full u l =
         let d : Lacks (done (chosen p paths)) used old = says_full s l in
         no_room d.texts (ap done (paths_some paths r p e d.texts (done_same d.gives) (some_bytes d.texts (omega (arith, d.short))))) d.short
@@ -169,18 +170,18 @@ module _ (paths : List Text) (r : Row) (p : List Element) {used : ℕ} {old afte
 -- a field that is settled: what is looked at has no N, so patterns see each of its units
 
 module _ (paths : List Text) {field : Text} (f : NoEmpty field) {used : ℕ} {old after : Text} where
-  pub settled_class : has_class true 0 (signs_of field) ≡ true → Says (field_texts paths (row_of field)) used old after Class
+  pub settled_class : has_class true 0 (signs_of field) ≡ true → Says (field_texts paths (row_of field)) used old after (Err BadClass)
   unfolding field_texts
   settled_class y = class (rw (full_refused for_paths f y))
 
-  pub settled_texts : has_class true 0 (signs_of field) ≡ false → {r : Written}
+  pub settled_texts : has_class true 0 (signs_of field) ≡ false → {r : Result ℕ WriteError}
       → Says (done (paths_for paths (row_of field) (elements true 0 (signs_of field)))) used old after r →
       Says (field_texts paths (row_of field)) used old after r
   unfolding field_texts
   settled_texts n s = rw (full_done for_paths f n) s
 
   -- among the signs of a plain one is none that is special
-  plain_full : plain field ≡ true → {r : Written} → Says (done (bytes (row_of field) ∷ [])) used old after r
+  plain_full : plain field ≡ true → {r : Result ℕ WriteError} → Says (done (bytes (row_of field) ∷ [])) used old after r
       → Says (field_texts paths (row_of field)) used old after r
   plain_full e s =
       settled_texts (plain_served true field e)
@@ -188,7 +189,7 @@ module _ (paths : List Text) {field : Text} (f : NoEmpty field) {used : ℕ} {ol
 
 -- `put_pattern`: a try that touched nothing is as none
 
-pub says_again : (paths : List Text) {field spent : Text} {used : ℕ} {old left after : Text} {r : Written} → left ≡ old → spent ≡ field
+pub says_again : (paths : List Text) {field spent : Text} {used : ℕ} {old left after : Text} {r : Result ℕ WriteError} → left ≡ old → spent ≡ field
     → Says (field_texts paths (row_of spent)) used left after r → Says (field_texts paths (row_of field)) used old after r
 says_again paths e f s = rw (← e, ← f) s
 
@@ -214,12 +215,12 @@ module _ (paths : List Text) (field : Text) where
   same_texts = rw (kept_pattern for_paths field) (texts_of_lem (pattern for_paths (row_of field)))
 
   -- a plain field is plain without its N
-  pub plain_own : plain field ≡ true → {used : ℕ} {old after : Text} {r : Written} → Says (done (bytes (row_of field) ∷ [])) used old after r
+  pub plain_own : plain field ≡ true → {used : ℕ} {old after : Text} {r : Result ℕ WriteError} → Says (done (bytes (row_of field) ∷ [])) used old after r
       → Says (field_texts paths (row_of field)) used old after r
   plain_own e s = rw (← same_texts) (plain_full paths (kept_full field) (plain_kept field e) (rw (kept_bytes field) s))
 
 module _ (paths : List Text) {field row : Text} {n : ℕ} (d : Dropped field row n) where
-  pub dropped_says : {used : ℕ} {old after : Text} {r : Written} → Says (field_texts paths (row_of (take n row))) used old after r
+  pub dropped_says : {used : ℕ} {old after : Text} {r : Result ℕ WriteError} → Says (field_texts paths (row_of (take n row))) used old after r
       → Says (field_texts paths (row_of field)) used old after r
   dropped_says s = rw (← same_texts paths field, ← dropped_front d) s
 

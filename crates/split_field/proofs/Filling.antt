@@ -2,7 +2,7 @@
 -- put together again.
 use Prim.Native.Nat.{ℕ, ◌+◌, ◌≤◌, ◌<◌}
 use native.Mathlib.Omega.{arith}
-use mathlib.Core.Path.{◌≡◌, sym, ap, ◌∙◌, subst}
+use mathlib.Core.Path.{◌≡◌, sym, ap, ◌∙◌}
 use mathlib.Core.List.{List, [], ◌++◌}
 use lib.ListN.{length}
 use Rattle.stages.specs.Numbers.{bracket_class}
@@ -11,10 +11,10 @@ use Rattle.stages.specs.Outcome.{Outcome, refused, done}
 use Rattle.stages.specs.Images.{written, record_bytes}
 use Rattle.stages.proofs.Images.{length_written, written_append, record_bytes_append}
 use Rattle.table_store.specs.Splice.{placed}
-use Rattle.table_store.specs.declared.Put.{Put}
-use Rattle.split_field.specs.Answers.{answered, Says, len, class, no_room}
-use Rattle.split_field.specs.declared.Written.{Written}
-use Rattle.split_field.specs.declared.Written.TheVariants.{Len, Class, NoRoom}
+use Rattle.split_field.specs.Answers.{Says, len, class, no_room}
+use Rattle.std.specs.Prelude.{Result, Ok, Err}
+use Rattle.split_field.specs.declared.WriteError.{WriteError}
+use Rattle.split_field.specs.declared.WriteError.TheVariants.{BadClass, NoRoom}
 use Rattle.table_store.proofs.Placed.{placed_length}
 use Rattle.split_field.proofs.Placing.{placed_none, placed_then}
 
@@ -61,30 +61,25 @@ pub record Lacks (o : Outcome (List Text)) (used : ℕ) (old : Text) : Type 0 wh
   pub gives : o ≡ done texts
   pub short : length old < used + record_bytes texts
 
-given_of : {o : Outcome (List Text)} {used : ℕ} {old left : Text} {n : ℕ} → Says o used old left (Len n) → Given o used old left n
+given_of : {o : Outcome (List Text)} {used : ℕ} {old left : Text} {n : ℕ} → Says o used old left (Ok n) → Given o used old left n
 given_of (len l e k h q) = record { texts = l; gives = e; filled = record { long = k; room = h; is = q } }
 
-class_of : {o : Outcome (List Text)} {used : ℕ} {old left : Text} → Says o used old left Class → o ≡ refused bracket_class
+class_of : {o : Outcome (List Text)} {used : ℕ} {old left : Text} → Says o used old left (Err BadClass) → o ≡ refused bracket_class
 class_of (class e) = e
 
-lacks_of : {o : Outcome (List Text)} {used : ℕ} {old left : Text} → Says o used old left NoRoom → Lacks o used old
+lacks_of : {o : Outcome (List Text)} {used : ℕ} {old left : Text} → Says o used old left (Err NoRoom) → Lacks o used old
 lacks_of (no_room l e h) = record { texts = l; gives = e; short = h }
 
-module _ {o : Outcome (List Text)} {used : ℕ} {old left : Text} {r : Written} (s : Says o used old left r) where
-  pub says_len : {n : ℕ} → r ≡ Len n → Given o used old left n
+module _ {o : Outcome (List Text)} {used : ℕ} {old left : Text} {r : Result ℕ WriteError} (s : Says o used old left r) where
+  pub says_len : {n : ℕ} → r ≡ Ok n → Given o used old left n
   says_len e = given_of (rw e at s)
 
-  pub says_class : r ≡ Class → o ≡ refused bracket_class
+  pub says_class : r ≡ Err BadClass → o ≡ refused bracket_class
   says_class e = class_of (rw e at s)
 
-  pub says_full : r ≡ NoRoom → Lacks o used old
+  pub says_full : r ≡ Err NoRoom → Lacks o used old
   says_full e = lacks_of (rw e at s)
 
--- an answer that looks at no pattern, once its case is known
-pub says_shown : {o : Outcome (List Text)} {used : ℕ} {old left : Text} {r s : Put} → Says o used old left (answered r) → r ≡ s → Says o used old
-    left (answered s)
-says_shown {o} {used} {old} {left} h e = subst (λ (p : Put). Says o used old left (answered p)) e h
-
 pub says_filled : {o : Outcome (List Text)} {used : ℕ} {old : Text} {l : List Text} {n : ℕ} {out : Text} → o ≡ done l → Filled used old l n
-    out → Says o used old out (Len n)
+    out → Says o used old out (Ok n)
 says_filled {o} {used} {old} {l} {n} e f = len {n = n} l e f.long f.room f.is

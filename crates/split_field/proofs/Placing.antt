@@ -20,14 +20,15 @@ use Rattle.text.specs.Rows.{row_of}
 use Rattle.text.proofs.Parts.{rest_is, rest_length, rest_back}
 use Rattle.row.specs.Stands.{Stripped}
 use Rattle.row.proofs.Laws.{bytes_half}
+use Rattle.stages.proofs.Outcomes.{never}
 use Rattle.table_store.specs.Answers.{put_outcome, text_limit, record_in, Writes}
-use Rattle.table_store.specs.declared.Put.{Put}
-use Rattle.table_store.specs.declared.Put.TheVariants.{Len as PutLen, NoRoom as PutNoRoom}
+use Rattle.table_store.specs.declared.NoRoom as store
 use Rattle.table_store.proofs.Callers.{put_len, put_none}
 use Rattle.table_store.specs.Splice.{placed}
-use Rattle.split_field.specs.Answers.{written_outcome, answered, length_with, Says, len, class, no_room, Spares, Puts}
-use Rattle.split_field.specs.declared.Written.{Written}
-use Rattle.split_field.specs.declared.Written.TheVariants.{Len, NoRoom}
+use Rattle.split_field.specs.Answers.{written_outcome, length_with, Says, len, class, no_room, Spares, Puts}
+use Rattle.std.specs.Prelude.{Result, Ok, Err}
+use Rattle.split_field.specs.declared.WriteError.{WriteError}
+use Rattle.split_field.specs.declared.WriteError.TheVariants.{NoRoom}
 
 -- a text in its place
 
@@ -75,19 +76,19 @@ lent used old t ys e =
 
 -- `put_text`
 
-module _ (t : Text) (used : ℕ) (old ys : Text) (r : Put) (h : used ≤ length old) (small : length old ≤ image_limit)
+module _ (t : Text) (used : ℕ) (old ys : Text) (r : Result ℕ store.NoRoom) (h : used ≤ length old) (small : length old ≤ image_limit)
     (w : Writes (record_in (length (mid_of used (length old - used) old)) t) (mid_of used (length old - used) old) ys (put_outcome r)) where
   abbrev after : Text
   after = put_mid used (length old - used) old ys
 
-  pub text_fits : {n : ℕ} → r ≡ PutLen n → used + n ≤ length old
+  pub text_fits : {n : ℕ} → r ≡ Ok n → used + n ≤ length old
   text_fits {n} e =
       let d : (n ≡ length t + 2) × (ys ≡ over (framed t) (mid_of used (length old - used) old)) ×
       (length t + 2 ≤ length (mid_of used (length old - used) old)) =
       put_len t (mid_of used (length old - used) old) ys r w n e in
       omega (arith, d.0, d.2, rest_length used old)
 
-  pub text_put : {n : ℕ} → r ≡ PutLen n → Says (done (t ∷ [])) used old after (Len (used + n))
+  pub text_put : {n : ℕ} → r ≡ Ok n → Says (done (t ∷ [])) used old after (Ok (used + n))
   unfolding written record_bytes
   text_put {n} e =
       let d : (n ≡ length t + 2) × (ys ≡ over (framed t) (mid_of used (length old - used) old)) ×
@@ -96,7 +97,7 @@ module _ (t : Text) (used : ℕ) (old ys : Text) (r : Put) (h : used ≤ length 
       len {n = used + n} (t ∷ []) refl (omega (arith, d.0)) (text_fits e)
       (lent used old (framed t) ys d.1 ∙ ap (λ (x : Text). placed used x old) (sym (append-nil (framed t))))
 
-  pub text_full : r ≡ PutNoRoom → Says (done (t ∷ [])) used old after NoRoom
+  pub text_full : {e : store.NoRoom} → r ≡ Err e → Says (done (t ∷ [])) used old after (Err NoRoom)
   unfolding record_bytes
   text_full e = no_room (t ∷ []) refl (go (leb (length t) text_limit) refl)
     where
@@ -109,19 +110,20 @@ module _ (t : Text) (used : ℕ) (old ys : Text) (r : Put) (h : used ≤ length 
 
 -- what is answered, in document 01's numbers
 
--- a writer that looks at no pattern never answers 19
-pub spares_put : (p : Put) (old left : Text) → Spares (answered p) old left
-spares_put (PutLen n) old left = tt
-spares_put PutNoRoom old left = tt
+-- where a stage gives texts, 19 is not answered
+pub spares_done : {l : List Text} {used : ℕ} {old left : Text} {r : Result ℕ WriteError} → Says (done l) used old left r → Spares r old left
+spares_done (len l e m h q) = tt
+spares_done (class e) = absurd (never e)
+spares_done (no_room l e h) = tt
 
-pub says_answers : {o : Outcome (List Text)} {used : ℕ} {old left : Text} {r : Written} → Says o used old left r → written_outcome r ≡
+pub says_answers : {o : Outcome (List Text)} {used : ℕ} {old left : Text} {r : Result ℕ WriteError} → Says o used old left r → written_outcome r ≡
     length_with (length old) used o
 unfolding length_with
 says_answers {o} {used} {old} (len l e m h q) = sym (rw (e, le-leb (used + record_bytes l) (length old) (omega (arith, m)), m))
 says_answers (class e) = sym (rw e)
 says_answers {o} {used} {old} (no_room l e h) = sym (rw (e, lt-leb (used + record_bytes l) (length old) h))
 
-pub puts_says : {o : Outcome (List Text)} {used : ℕ} {old left : Text} {r : Written} → Says o used old left r → Puts o used old left r
+pub puts_says : {o : Outcome (List Text)} {used : ℕ} {old left : Text} {r : Result ℕ WriteError} → Says o used old left r → Puts o used old left r
 puts_says h = record { answers = says_answers h; says = h }
 
 -- `put_own`: a field's bytes without marks stand at its front
@@ -136,6 +138,6 @@ module _ {field left : Text} {n : ℕ} (s : Stripped field left n) where
   own_is : take n left ≡ bytes (row_of field)
   own_is = ap (take n) s.leaves ∙ take_at (bytes (row_of field)) _ n (sym s.counts)
 
-  pub own_put : {used : ℕ} {old after : Text} {r : Written} → Says (done (take n left ∷ [])) used old after r → Says
+  pub own_put : {used : ℕ} {old after : Text} {r : Result ℕ WriteError} → Says (done (take n left ∷ [])) used old after r → Says
       (done (bytes (row_of field) ∷ [])) used old after r
   own_put h = rw (← own_is) h

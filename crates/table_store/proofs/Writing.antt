@@ -5,9 +5,9 @@ use mathlib.Core.Path.{◌≡◌, refl, sym, ap, ◌∙◌}
 use mathlib.Core.Bool.{Bool, true, false, ◌&&◌}
 use mathlib.Core.List.{[], ◌∷◌, ◌++◌, append-nil}
 use lib.Dec.{leb}
-use lib.ListN.{length, drop, set, length-set}
+use lib.ListN.{length, drop, set}
 use lib.Seq.{take_all, drop-length}
-use borrow.Rule.Slice.PartMut.{put_mid, mid_of, same_len_mid}
+use borrow.Rule.Slice.PartMut.{put_mid, mid_of}
 use borrow.Author.Tests.{le-leb, lt-leb}
 use Rattle.stages.specs.Numbers.{output_room}
 use Rattle.stages.specs.Bytes.{Text}
@@ -18,6 +18,8 @@ use Rattle.stages.proofs.Bools.{and_both}
 use Rattle.stages.proofs.Outcomes.{never}
 use Rattle.std.specs.Prelude.{Result, Ok, Err}
 use Rattle.std.specs.Result.{is_ok}
+use Rattle.std.specs.Int.{to_be_bytes}
+use Rattle.std.proofs.Common.{w16, get_or, List}
 use Rattle.table_store.specs.declared.NoRoom.{NoRoom}
 use Rattle.table_store.specs.Answers.{put_outcome, text_limit, record_in, length_of, left_by, Writes}
 
@@ -53,20 +55,11 @@ put_fits room t (Ok n) h k w = refl
 put_fits room t (Err e) h k w = absurd (never (sym (ap length_of (record_fits room t h k)) ∙ sym w.answers))
 
 -- `put_record`: the length's two bytes stand, and the text is copied behind them
-module _ (t : Text) where
-  abbrev pub headed : Text → Text
-  headed out = set (set out 0 (length t / 256)) 1 (length t % 256)
+module _ (t : Text) (high low : ℕ) (a : high ≡ length t / 256) (b : low ≡ length t % 256) where
+  abbrev headed : Text → Text
+  headed out = set (set out 0 high) 1 low
 
-  pub part_fits : (out : Text) → length t + 2 ≤ length out → length t ≤ length (mid_of 2 (length (headed out) - 2) (headed out))
-  part_fits (x ∷ y ∷ o) h = let k : suc (suc (length o)) - 2 ≡ length o = omega arith in rw (k, take_all (length o) o (omega arith)) (omega arith)
-  part_fits (x ∷ []) h = absurd (omega arith)
-  part_fits [] h = absurd (omega arith)
-
-  pub put_length : (out ys : Text) → length ys ≡ length (mid_of 2 (length (headed out) - 2) (headed out)) → length
-      (put_mid 2 (length (headed out) - 2) (headed out) ys) ≡ length out
-  put_length out ys e = same_len_mid 2 (length (headed out) - 2) (headed out) ys e ∙ simp length-set
-
-  pub put_is : (out ys : Text) → 2 ≤ length out → ys ≡ t ++ drop (length t) (mid_of 2 (length (headed out) - 2) (headed out))
+  put_is : (out ys : Text) → 2 ≤ length out → ys ≡ t ++ drop (length t) (mid_of 2 (length (headed out) - 2) (headed out))
       → put_mid 2 (length (headed out) - 2) (headed out) ys ≡ over (framed t) out
   unfolding over
   put_is [] ys h e = absurd (omega arith)
@@ -74,9 +67,16 @@ module _ (t : Text) where
   put_is (x ∷ y ∷ o) ys h e =
       let k : suc (suc (length o)) - 2 ≡ length o = omega arith in
       let q : ys ≡ t ++ drop (length t) o = e ∙ rw (k, take_all (length o) o (omega arith)) in
-      rw (k, drop-length o, append-nil ys, q)
+      rw (k, drop-length o, append-nil ys, q, a, b)
 
   pub put_wrote : (out ys : Text) → length t ≤ text_limit → length t + 2 ≤ length out → ys ≡ t ++ drop (length t)
       (mid_of 2 (length (headed out) - 2) (headed out))
       → Writes (record_in (length out) t) out (put_mid 2 (length (headed out) - 2) (headed out) ys) (done (length t + 2))
   put_wrote out ys h k e = writes_done (framed t) out (record_fits (length out) t h k) (omega arith) (put_is out ys (omega arith) e)
+
+-- the two bytes of a length
+pub high_byte : (n : ℕ) {bytes : List ℕ} → n ≤ text_limit → bytes ≡ to_be_bytes w16 n → get_or bytes 0 0 ≡ n / 256
+high_byte n h e = rw e (omega arith)
+
+pub low_byte : (n : ℕ) {bytes : List ℕ} → n ≤ text_limit → bytes ≡ to_be_bytes w16 n → get_or bytes 1 0 ≡ n % 256
+low_byte n h e = rw e (omega arith)

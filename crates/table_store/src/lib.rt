@@ -25,8 +25,9 @@ pub fn put_record(out: &mut [u8], text: &[u8]) -> Result<usize, NoRoom>
     if numbers::TEXT_LIMIT < n || out.len() < n + 2 {
         return Err(NoRoom);
     }
-    out[0] = (n / 256) as u8;
-    out[1] = (n % 256) as u8;
+    let [high, low] = (n as u16).to_be_bytes();
+    out[0] = high;
+    out[1] = low;
     text_copy::copy_in(text, &mut out[2..]);
     Ok(n + 2)
 }

@@ -49,7 +49,8 @@ returns-then-limit-image c =
 
 pub loop-end-init : goal.loop-end-init
 loop-end-init c =
-    begins _ _ (omega (arith, c.limit.ensures, c.if-limit-image.false)) (eqb-false _ _ (sym c.is_empty.ensures ∙ c.if-is_empty.false)) c.if-image-ne-VERSION.false
+    let n = eqb-false _ _ (sym c.is_empty.ensures ∙ c.if-is_empty.false) in
+    begins _ _ (omega (arith, c.limit.ensures, c.if-limit-image.false)) n c.if-image-ne-VERSION.false
 
 pub returns-in-Ok-None : goal.returns-in-Ok-None
 returns-in-Ok-None c = no_key c.loop-end.invariant c.key_at.ensures (c.in-Ok-None.is ∙ ap Ok c.in-Ok-None.field-0-is)

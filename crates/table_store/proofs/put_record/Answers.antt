@@ -1,7 +1,7 @@
 -- `table_store::put_record` meets its contract: by the two tests the record has room or not, and `copy_in` puts the text behind its length.
-use Rattle.std.proofs.Common.{arith}
+use Rattle.std.proofs.Common.{length, arith}
 use Rattle.stages.specs.Numbers.{output_room}
-use Rattle.table_store.proofs.Writing.{writes_refused, record_long, record_full, put_wrote}
+use Rattle.table_store.proofs.Writing.{writes_refused, record_long, record_full, high_byte, low_byte, put_wrote}
 use Rattle.table_store.proofs.put_record.Goals as goal
 use Rattle.table_store.proofs.put_record.Goals.{then-n-gt-TEXT_LIMIT-via-then-n-gt-TEXT_LIMIT, then-n-gt-TEXT_LIMIT-via-else-n-gt-TEXT_LIMIT+then-out-n}
 
@@ -14,4 +14,6 @@ returns-then-n-gt-TEXT_LIMIT c =
 
 pub returns : goal.returns
 returns c =
-    put_wrote c.args.text.now c.args.out.now c.copy_in.new.to (omega arith) (omega arith) c.copy_in.ensures
+    let t = c.args.text.now in
+    put_wrote t _ _ (high_byte (length t) (omega arith) c.to_be_bytes.ensures) (low_byte (length t) (omega arith) c.to_be_bytes.ensures) c.args.out.now
+    c.copy_in.new.to (omega arith) (omega arith) c.copy_in.ensures

@@ -12,5 +12,5 @@ store-requires-clause-table c = table_held c.args.vars_room c.args.vars.now c.ar
 pub returns : goal.returns
 returns c =
     let a = c.args in
-    stores_within a.vars_room a.vars_used a.name.now a.value.now a.vars.now _ c.requires.1 c.requires.0 (c.min-limit.ensures ∙ limit_min a.vars_room) c.store.result c.store.ensures
-    c.store.auto.vars
+    stores_within a.vars_room a.vars_used a.name.now a.value.now a.vars.now _ c.requires.1 c.requires.0 (c.min-limit.ensures ∙ limit_min a.vars_room)
+    c.store.result c.store.ensures c.store.auto.vars
