@@ -27,53 +27,44 @@ use Rattle.stages.proofs.Rooms.{over_front, over_length}
 use Rattle.text.specs.Classes.{Runs}
 use Rattle.text.specs.declared.Class.TheVariants.{BareByte}
 use Rattle.text.proofs.Parts.{part_length}
-use Rattle.read_still.specs.Walks.{Leaves, PutsStill}
-use Rattle.read_still.specs.declared.Still.{Still}
-use Rattle.read_still.specs.declared.Still.TheVariants as still
+use Rattle.read_still.specs.Walks.{Leaves}
 use Rattle.read_still.proofs.Reading.{Reads, walk_reads}
 use Rattle.read_still.proofs.Fields.{still_becomes}
 use Rattle.read_mode.specs.declared.Mode.TheVariants as mode
 use Rattle.expand_add.specs.Answers.{Ready}
 use Rattle.table.specs.Around.{among}
 use Rattle.table_store.specs.Splice.{placed}
-use Rattle.table_store.specs.declared.Put.{Put}
-use Rattle.table_store.specs.declared.Put.TheVariants as put
-use Rattle.split_field.specs.Answers.{Says, answered}
-use Rattle.expand_line.specs.Answers.{word_outcome, BareTo, CopiesStill, PutsBare, WordReady, WordOf, WordSays}
-use Rattle.expand_line.specs.declared.WordExpanded.{WordExpanded}
-use Rattle.expand_line.specs.declared.WordExpanded.TheVariants as word
+use Rattle.std.specs.Prelude.{Result, Ok, Err}
+use Rattle.text.specs.declared.refusal.Refusal.TheVariants.{OutputRoom}
+use Rattle.text.specs.Refusals.{refusal_number}
+use Rattle.expand_add.specs.declared.answers.Stop.{Stop}
+use Rattle.expand_add.specs.declared.answers.Stop.TheVariants.{Refused, Demanded}
+use Rattle.split_field.specs.Answers.{Says}
+use Rattle.split_field.specs.declared.WriteError.TheVariants.{NoRoom}
+use Rattle.expand_line.specs.Answers.{word_outcome, BareTo, CopiesTo, PutsBare, WordReady, WordOf, WordSays}
+use Rattle.expand_line.specs.declared.WordDone.{WordDone}
 use Rattle.expand_line.proofs.Wording.{full_of, len_of}
 
 -- Where a bare word ends.
 
-module _ {line : Text} {at : ℕ} where
-  pub bare_none : at ≤ length line → BareTo line at at
-  bare_none h = record {
-    onward = omega arith;
-    within = h;
-    few = omega arith;
-    bare = rw (sub_self at);
-    ends = λ l. absurd (omega arith);
-  }
-
-  pub bare_some : {r : ℕ} → Runs line at BareByte r → r - at ≤ line_limit → (r ≡ length line) ⊎ ((r < length line) × (get_or line r 0 ≡ code " "))
-      → BareTo line at r
-  bare_some {r} u f e =
-      let o = u.onward in
-      record {
-        onward = u.onward;
-        within = u.within;
-        few = omega arith;
-        bare = ap (λ (s : Text × Text). all is_bare_byte s.0) (sym u.is) ∙ span_all is_bare_byte (drop at line);
-        ends = λ l. e;
-      }
+pub bare_some : {line : Text} {at r : ℕ} → Runs line at BareByte r → at < r → r - at ≤ line_limit
+    → (r ≡ length line) ⊎ ((r < length line) × (get_or line r 0 ≡ code " ")) → BareTo line at r
+bare_some {line} {at} {r} u l f e =
+    record {
+      some = l;
+      within = u.within;
+      few = omega arith;
+      bare = ap (λ (s : Text × Text). all is_bare_byte s.0) (sym u.is) ∙ span_all is_bare_byte (drop at line);
+      ends = e;
+    }
 
 -- What a bare word's writer answers.
 
-module _ {t : Text} (next vars_used : ℕ) {used : ℕ} {old out : Text} {r : Put} (s : Says (done (t ∷ [])) used old out (answered r)) where
-  pub bare_written : {n : ℕ} → r ≡ put.Len n → PutsBare t next vars_used used old out (word.Fields n next vars_used)
-  bare_written e =
-      let f = len_of s (ap answered e) in
+module _ {t : Text} (next vars_used : ℕ) {used : ℕ} {old out : Text} where
+  pub bare_written : {n : ℕ} → Says (done (t ∷ [])) used old out (Ok n)
+      → PutsBare t next vars_used used old out (Ok (record { used = n; next = next; vars_used = vars_used }))
+  bare_written s =
+      let f = len_of s refl in
       let k : f.fields ≡ t ∷ [] = sym (done_same f.is) in (
         f.long ∙ ap (λ (l : Fields). used + record_bytes l) k,
         f.fits,
@@ -82,9 +73,9 @@ module _ {t : Text} (next vars_used : ℕ) {used : ℕ} {old out : Text} {r : Pu
         refl,
       )
 
-  pub bare_full : r ≡ put.NoRoom → PutsBare t next vars_used used old out (word.Refused output_room)
-  bare_full e =
-      let f = full_of s (ap answered e) in
+  pub bare_full : Says (done (t ∷ [])) used old out (Err NoRoom) → PutsBare t next vars_used used old out (Err (Refused OutputRoom))
+  bare_full s =
+      let f = full_of s refl in
       let k : f.fields ≡ t ∷ [] = sym (done_same f.is) in
       (refl, subst (λ (l : Fields). length old < used + record_bytes l) k f.full)
 
@@ -102,7 +93,7 @@ module _ (a : Around) (tree : Parts) (n : ℕ) (v u : Pairs) (l : Fields) (h : w
 -- A word that becomes one field, whatever the tables are.
 
 module _ {line : Text} {at : ℕ} {vars : Text} {vars_used room : ℕ} {houses params paths work old : Text} {used : ℕ} (shouts : Bool)
-    (w : WordReady line at vars vars_used room houses params paths work old used) {end : ℕ} (tree : Parts) (t : Text)
+    (ready : WordReady line at vars vars_used room houses params paths work old used) {end : ℕ} (tree : Parts) (t : Text)
     (reads : parts (words fresh) depth_limit (drop at line) ≡ done (tree, drop end line))
     (becomes : word_fields (among room shouts houses params paths (length old)) tree (held (take vars_used vars)) ≡ done (t ∷ [], held (take vars_used vars)))
     (onward : at ≤ end) (within : end ≤ length line) where
@@ -112,21 +103,21 @@ module _ {line : Text} {at : ℕ} {vars : Text} {vars_used room : ℕ} {houses p
   abbrev before : Pairs
   before = held (take vars_used vars)
 
-  word_of : (out work' : Text) (r : WordExpanded) → PutsBare t end vars_used used old out r
+  word_of : (out work' : Text) (r : Result WordDone Stop) → PutsBare t end vars_used used old out r
       → WordOf around (word_outcome around tree used before) (drop end line) line at used vars old out work' r
-  word_of out work' (word.Refused e) h = fields_full around tree used before before (t ∷ []) becomes h.1 ∙ ap refused (sym h.0)
-  word_of out work' (word.Demanded from len) h = absurd h
-  word_of out work' (word.Fields len next left) h = rw (h.3, h.4) (record {
+  word_of out work' (Err (Refused e)) h = fields_full around tree used before before (t ∷ []) becomes h.1 ∙ ap refused (sym h.0)
+  word_of out work' (Err (Demanded from len)) h = absurd h
+  word_of out work' (Ok w) h = rw (h.3, h.4) (record {
     fields = t ∷ [];
-    is = fields_done around tree used before before (t ∷ []) becomes (omega (arith, h.0, h.1)) w.few;
+    is = fields_done around tree used before before (t ∷ []) becomes (omega (arith, h.0, h.1)) ready.few;
     long = h.0;
     fits = h.1;
     stands = h.2;
-    holds = w.holds;
+    holds = ready.holds;
     ends = record { ends = refl; onward = onward; within = within };
   })
 
-  one_word_says : {out work' : Text} (r : WordExpanded) → PutsBare t end vars_used used old out r
+  one_word_says : {out work' : Text} (r : Result WordDone Stop) → PutsBare t end vars_used used old out r
       → WordSays around (parts (words fresh) depth_limit (drop at line)) line at used before vars old out work' r
   one_word_says {out} {work'} r h =
       record {
@@ -145,7 +136,7 @@ not_empty_lem [] h e = absurd (omega arith)
 not_empty_lem (b ∷ t) h e = e
 
 module _ {line : Text} {at : ℕ} {vars : Text} {vars_used room : ℕ} {houses params paths work old : Text} {used : ℕ} (shouts : Bool)
-    (w : WordReady line at vars vars_used room houses params paths work old used) {end : ℕ} (b : BareTo line at end) (some : at < end) where
+    (w : WordReady line at vars vars_used room houses params paths work old used) {end : ℕ} (b : BareTo line at end) where
   abbrev a : Around
   a = among room shouts houses params paths (length old)
 
@@ -156,14 +147,14 @@ module _ {line : Text} {at : ℕ} {vars : Text} {vars_used room : ℕ} {houses p
   t = part line at end
 
   size : length t ≡ end - at
-  size = part_length line at end b.onward b.within
+  size = let k = b.some in part_length line at end (omega arith) b.within
 
   is_bare_lem : is_bare t ≡ true
-  is_bare_lem = not_empty_lem t (omega (arith, size, some)) b.bare
+  is_bare_lem = not_empty_lem t (omega (arith, size, b.some)) b.bare
 
   cut : drop at line ≡ t ++ drop end line
   cut =
-      let k = b.onward in
+      let k = b.some in
       let e : at + (end - at) ≡ end = omega arith in
       sym (take-append-drop (end - at) (drop at line)) ∙ ap (λ (u : Text). t ++ u) (drop-drop (end - at) at line ∙ ap (λ (n : ℕ). drop n line) e)
 
@@ -173,7 +164,7 @@ module _ {line : Text} {at : ℕ} {vars : Text} {vars_used room : ℕ} {houses p
       (λ e. subst (λ (u : Text). EndsField u) (sym (drop_of_length-le line {i = end} (omega (arith, e)))) line_ends)
       (λ e. subst (λ (u : Text). EndsField u) (sym (drop-cons line end 0 e.0 ∙ ap (λ (c : ℕ). c ∷ drop (suc end) line) e.1))
       (blank (drop (suc end) line)))
-      (b.ends some)
+      b.ends
 
   reads : parts (words fresh) depth_limit (drop at line) ≡ done (way_parts bare t, drop end line)
   unfolding quoting.written
@@ -181,11 +172,11 @@ module _ {line : Text} {at : ℕ} {vars : Text} {vars_used room : ℕ} {houses p
 
   becomes : word_fields a (way_parts bare t) v ≡ done (t ∷ [], v)
   unfolding quoting.written
-  becomes = (one_field (as_bare is_bare_lem)).expands a v (omega (arith, size, b.few, b.onward))
+  becomes = (one_field (as_bare is_bare_lem)).expands a v (omega (arith, size, b.few, b.some))
 
-  pub bare_word : {out work' : Text} (r : WordExpanded) → PutsBare t end vars_used used old out r
+  pub bare_word : {out work' : Text} (r : Result WordDone Stop) → PutsBare t end vars_used used old out r
       → WordSays a (parts (words fresh) depth_limit (drop at line)) line at used v vars old out work' r
-  bare_word r h = one_word_says shouts w (way_parts bare t) t reads becomes b.onward b.within r h
+  bare_word r h = let k = b.some in one_word_says shouts w (way_parts bare t) t reads becomes (omega arith) b.within r h
 
 -- A word in which nothing is expanded, whose bytes stand at the front of the work area.
 
@@ -205,7 +196,7 @@ module _ {line : Text} {at : ℕ} {vars : Text} {vars_used room : ℕ} {houses p
   front : take len left ≡ p.text
   front = ap (λ (n : ℕ). take n left) p.counts ∙ ap (take (length p.text)) p.is ∙ over_front p.text work
 
-  pub still_word : {out work' : Text} (r : WordExpanded) → PutsBare (take len left) end vars_used used old out r
+  pub still_word : {out work' : Text} (r : Result WordDone Stop) → PutsBare (take len left) end vars_used used old out r
       → WordSays (among room shouts houses params paths (length old)) (parts (words fresh) depth_limit (drop at line)) line at used (held (take vars_used vars))
       vars old out work' r
   still_word {out} r h =
@@ -235,12 +226,6 @@ still_ready {line} {at} left e w = record {
 
 -- What the copy answers.
 
-module _ {line : Text} {at : ℕ} {old left : Text} where
-  pub copied_none : CopiesStill line at old left (record { len = 0; next = at })
-  copied_none = record { is = λ h. absurd (omega arith); few = omega arith }
-
-  pub copied_word : {r : Still} {len next : ℕ} → PutsStill line at old left r → r ≡ still.Word len next → length line - at ≤ line_limit
-      → CopiesStill line at old left (record { len = len; next = next })
-  copied_word {len = len} {next = next} p e h =
-      let q : Leaves line at old left len next = subst (λ (x : Still). PutsStill line at old left x) e p in
-      record { is = λ _. q; few = omega (arith, q.within, q.onward) }
+pub copied : {line : Text} {at : ℕ} {old left : Text} {len next : ℕ} → Leaves line at old left len next → length line - at ≤ line_limit → at < next
+    → CopiesTo line at old left len next
+copied q h l = record { some = l; is = q; few = omega (arith, q.within, q.onward) }

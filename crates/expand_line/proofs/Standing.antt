@@ -21,10 +21,12 @@ use Rattle.read_line.proofs.Lines.{good_left}
 use Rattle.table_store.specs.Holding.{Holds}
 use Rattle.table_store.specs.Splice.{placed}
 use Rattle.table.specs.Around.{among}
-use Rattle.expand_line.specs.Answers.{word_outcome, line_outcome, WordReady, IsFields, WordDemands, WordOf, WordSays, LineReady, LineSays}
-use Rattle.expand_line.specs.declared.WordExpanded.{WordExpanded}
-use Rattle.expand_line.specs.declared.WordExpanded.TheVariants as word
-use Rattle.expand_line.specs.declared.LineExpanded.TheVariants as line
+use Rattle.expand_line.specs.Answers.{word_outcome, line_outcome, WordReady, IsFields, WordOf, WordSays, LineReady, LineStops, LineSays}
+use Rattle.std.specs.Prelude.{Result, Ok, Err}
+use Rattle.text.specs.Refusals.{refusal_number}
+use Rattle.expand_add.specs.declared.answers.Stop.{Stop}
+use Rattle.expand_add.specs.declared.answers.Stop.TheVariants.{Refused, Demanded}
+use Rattle.expand_line.specs.declared.WordDone.{WordDone}
 use Rattle.expand_line.proofs.Going.{Goes, goes_start, goes_end, first, goes_refused, goes_demanded, goes_on}
 
 -- a word has a byte, so the line goes on behind its place
@@ -75,7 +77,7 @@ module _ {text vars : Text} {vars_used room : ℕ} {houses params paths work out
     unfolding image
     some_byte = omega arith
 
-    pub state_end : NextNone text at → LineSays room outside vars' out out' work' (line.Done len left)
+    pub state_end : NextNone text at → LineSays room outside vars' out out' work' (Ok (record { used = len; vars_used = left }))
     unfolding over
     state_end n =
         let k : 0 < len = omega (arith, some_byte, s.goes.long) in
@@ -116,33 +118,31 @@ module _ {text vars : Text} {vars_used room : ℕ} {houses params paths work out
           }
 
       -- the word's answer, by its parts and for the output as it was where the loop began
-      module _ {vars₂ out₂ work₂ : Text} {got : WordExpanded}
-          (h : WordSays (among room shouts houses params paths (length out')) (parts (words fresh) depth_limit (drop place text)) text place len
-          (held (take left vars')) vars₂ out' out₂ work₂ got) where
-        abbrev a : Around
-        a = among room shouts houses params paths (length first_out)
+      abbrev a : Around
+      a = among room shouts houses params paths (length first_out)
 
-        word_of : {x : WordExpanded} → got ≡ x → WordOf a (word_outcome a own.tree len (held (take left vars'))) own.rest text place len
-            vars₂ out' out₂ work₂ x
-        word_of e =
-            subst
-            (λ (y : WordExpanded). WordOf a (word_outcome a own.tree len (held (take left vars'))) own.rest text place len vars₂ out' out₂ work₂ y) e
-            ((subst
-            (λ (n : ℕ). WordSays (among room shouts houses params paths n) (parts (words fresh) depth_limit (drop place text)) text place len
-            (held (take left vars')) vars₂ out' out₂ work₂ got)
-            s.same h).says (own.tree, own.rest) own.read)
+      abbrev Says : ℕ → Text → Text → Text → Result WordDone Stop → Type 0
+      Says n vars₂ out₂ work₂ got =
+          WordSays (among room shouts houses params paths n) (parts (words fresh) depth_limit (drop place text)) text place len
+          (held (take left vars')) vars₂ out' out₂ work₂ got
 
-        pub state_refused : {e : ℕ} → got ≡ word.Refused e → LineSays room outside vars₂ out out₂ work₂ (line.Refused e place)
-        state_refused e = both ∙ goes_refused s.goes p (word_of e)
+      stopped : (vars₂ out₂ work₂ : Text) (stop : Stop) → WordOf a (word_outcome a own.tree len (held (take left vars'))) own.rest text place len vars₂ out' out₂ work₂ (Err stop)
+          → LineStops outside work₂ stop place
+      stopped vars₂ out₂ work₂ (Refused e) h = both ∙ goes_refused s.goes p h
+      stopped vars₂ out₂ work₂ (Demanded from n) d = record { message = d.message; is = both ∙ goes_demanded s.goes p d.is; waits = d.waits }
 
-        pub state_demanded : {from n : ℕ} → got ≡ word.Demanded from n → LineSays room outside vars₂ out out₂ work₂ (line.Demanded from n place)
-        state_demanded {from} {n} e =
-            let d : WordDemands (word_outcome a own.tree len (held (take left vars'))) work₂ from n = word_of e in
-            record { message = d.message; is = both ∙ goes_demanded s.goes p d.is; waits = d.waits }
+      module _ {vars₂ out₂ work₂ : Text} where
+        word_of : {got : Result WordDone Stop} → Says (length out') vars₂ out₂ work₂ got → WordOf a (word_outcome a own.tree len (held (take left vars'))) own.rest text place len
+            vars₂ out' out₂ work₂ got
+        word_of {got} h = (subst (λ (n : ℕ). Says n vars₂ out₂ work₂ got) s.same h).says (own.tree, own.rest) own.read
 
-        module _ {len₂ next left₂ : ℕ} (e : got ≡ word.Fields len₂ next left₂) where
+        pub state_stopped : {stop : Stop} → Says (length out') vars₂ out₂ work₂ (Err stop)
+            → LineSays room outside vars₂ out out₂ work₂ (Err (record { stop = stop; place = place }))
+        state_stopped {stop} h = stopped vars₂ out₂ work₂ stop (word_of h)
+
+        module _ {len₂ next left₂ : ℕ} (h : Says (length out') vars₂ out₂ work₂ (Ok (record { used = len₂; next = next; vars_used = left₂ }))) where
           made : IsFields a (word_outcome a own.tree len (held (take left vars'))) own.rest text place len vars₂ out' out₂ len₂ next left₂
-          made = word_of e
+          made = word_of h
 
           pub state_further : (at < next) × (next ≤ length text)
           state_further =

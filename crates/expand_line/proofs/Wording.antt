@@ -1,7 +1,7 @@
 -- One word: its row, then its fields or the number that refuses them.
 use Prim.Native.Nat.{ℕ, ◌+◌, ◌*◌, ◌≤◌, ◌<◌}
 use native.Mathlib.Omega.{arith}
-use mathlib.Core.Path.{◌≡◌, sym, ap, ◌∙◌, subst}
+use mathlib.Core.Path.{◌≡◌, refl, sym, ap, ◌∙◌, subst}
 use mathlib.Core.Bool.{Bool}
 use lib.ListN.{length, take, drop, length-append}
 use lib.Seq.{take_at}
@@ -20,16 +20,20 @@ use Rattle.stages.specs.Line.{Around, Fields, word_fields, out_fits}
 use Rattle.text.specs.Rows.{row_bytes, row_of}
 use Rattle.text.proofs.Rows.{row_of_row_bytes, length_row_bytes}
 use Rattle.expand_add.specs.Answers.{IsRow, IsDemand, Answers as RowOf, Says as Expands}
-use Rattle.expand_add.specs.declared.answers.Expanded.{Expanded}
-use Rattle.expand_add.specs.declared.answers.Expanded.TheVariants as expanded
+use Rattle.text.specs.Refusals.{refusal_number}
+use Rattle.expand_add.specs.declared.answers.Stop.{Stop}
+use Rattle.expand_add.specs.declared.answers.Stop.TheVariants.{Refused, Demanded}
+use Rattle.expand_add.specs.declared.answers.Row as code
+use Rattle.expand_add.specs.Expanded.{Expanded}
+use Rattle.text.specs.declared.refusal.Refusal.TheVariants.{BracketClass, OutputRoom}
 use Rattle.table_store.specs.Splice.{placed}
 use Rattle.split_field.specs.Answers.{Says, len, class, no_room, Puts}
-use Rattle.split_field.specs.declared.Written.{Written}
-use Rattle.split_field.specs.declared.Written.TheVariants.{Len, Class, NoRoom}
+use Rattle.std.specs.Prelude.{Result, Ok, Err}
+use Rattle.split_field.specs.declared.WriteError.{WriteError}
+use Rattle.split_field.specs.declared.WriteError.TheVariants.{BadClass, NoRoom}
 use Rattle.table.specs.Around.{among, lent_of}
 use Rattle.expand_line.specs.Answers.{word_outcome, WordReady, WordOf, WordSays}
-use Rattle.expand_line.specs.declared.WordExpanded.{WordExpanded}
-use Rattle.expand_line.specs.declared.WordExpanded.TheVariants as word
+use Rattle.expand_line.specs.declared.WordDone.{WordDone}
 
 -- what the splitter's answer says, once its case is known
 
@@ -46,17 +50,17 @@ pub record Lacks (o : Outcome Fields) (used : ℕ) (old : Text) : Type 0 where
   pub full : length old < used + record_bytes fields
 
 module _ {o : Outcome Fields} {used : ℕ} {old left : Text} where
-  pub class_of : {r : Written} → Says o used old left r → r ≡ Class → o ≡ refused bracket_class
+  pub class_of : {r : Result ℕ WriteError} → Says o used old left r → r ≡ Err BadClass → o ≡ refused bracket_class
   class_of (len l e n f d) c = absurd (let z : ◌≡◌ {A = ℕ} 0 1 = cc in omega arith)
   class_of (class e) c = e
   class_of (no_room l e f) c = absurd (let z : ◌≡◌ {A = ℕ} 0 1 = cc in omega arith)
 
-  pub full_of : {r : Written} → Says o used old left r → r ≡ NoRoom → Lacks o used old
+  pub full_of : {r : Result ℕ WriteError} → Says o used old left r → r ≡ Err NoRoom → Lacks o used old
   full_of (len l e n f d) c = absurd (let z : ◌≡◌ {A = ℕ} 0 1 = cc in omega arith)
   full_of (class e) c = absurd (let z : ◌≡◌ {A = ℕ} 0 1 = cc in omega arith)
   full_of (no_room l e f) c = record { fields = l; is = e; full = f }
 
-  pub len_of : {r : Written} {n : ℕ} → Says o used old left r → r ≡ Len n → Writes o used old left n
+  pub len_of : {r : Result ℕ WriteError} {n : ℕ} → Says o used old left r → r ≡ Ok n → Writes o used old left n
   len_of {n = n} (len {n = m} l e k f d) c = let h : m ≡ n = cc in record { fields = l; is = e; long = sym h ∙ k; fits = omega (arith, f, h); stands = d }
   len_of (class e) c = absurd (let z : ◌≡◌ {A = ℕ} 0 1 = cc in omega arith)
   len_of (no_room l e f) c = absurd (let z : ◌≡◌ {A = ℕ} 0 1 = cc in omega arith)
@@ -116,7 +120,7 @@ module _ {line : Text} {at : ℕ} {vars : Text} {vars_used room : ℕ} {houses p
   abbrev rest : Text
   rest = w.ready.rest
 
-  said : (vars' out work' : Text) (r : WordExpanded) → WordOf a (word_outcome a tree used v) rest line at used vars' old out work' r
+  said : (vars' out work' : Text) (r : Result WordDone Stop) → WordOf a (word_outcome a tree used v) rest line at used vars' old out work' r
       → WordSays a (parts (words fresh) depth_limit (drop at line)) line at used v vars' old out work' r
   said vars' out work' r h =
       record {
@@ -126,50 +130,57 @@ module _ {line : Text} {at : ℕ} {vars : Text} {vars_used room : ℕ} {houses p
             subst (λ (x : Parts × Text). WordOf a (word_outcome a x.0 used v) x.1 line at used vars' old out work' r) k h;
       }
 
-  module _ (area vars' : Text) (got : Expanded)
-      (h : Expands room line at 0 (λ t. expand (lent_of room shouts houses params) t L 0 v)
-      (parts (words fresh) depth_limit (drop at line)) area vars' got) where
-    pub row_of_lem : {s : Expanded} → got ≡ s → RowOf room line at 0 (expand (lent_of room shouts houses params) tree L 0 v) rest area vars' s
-    row_of_lem e =
-        subst (λ (x : Expanded). RowOf room line at 0 (expand (lent_of room shouts houses params) tree L 0 v) rest area vars' x) e
-        (subst (λ (o : Taken). Expands room line at 0 (λ t. expand (lent_of room shouts houses params) t L 0 v) o area vars' got) w.ready.is h)
+  module _ (area vars' : Text) where
+    abbrev made : Made
+    made = expand (lent_of room shouts houses params) tree L 0 v
 
-    pub word_refused : {e : ℕ} {out work' : Text} → got ≡ expanded.Refused e → WordSays a (parts (words fresh) depth_limit (drop at line)) line at used v
-        vars' old out work' (word.Refused e)
-    word_refused {e = e} {out = out} {work' = work'} g = said vars' out work' (word.Refused e) (outcome_refused a tree used v (row_of_lem g))
+    abbrev Gives : Expanded → Type 0
+    Gives got =
+        Expands room line at 0 (λ t. expand (lent_of room shouts houses params) t L 0 v) (parts (words fresh) depth_limit (drop at line)) area vars' got
 
-    pub word_demanded : {from count : ℕ} {out : Text} → got ≡ expanded.Demanded from count
-        → WordSays a (parts (words fresh) depth_limit (drop at line)) line at used v vars' old out area (word.Demanded from count)
-    word_demanded {from = from} {count = count} {out = out} g =
-        let d : IsDemand (expand (lent_of room shouts houses params) tree L 0 v) area from count = row_of_lem g in
-        said vars' out area (word.Demanded from count)
-        (record { message = d.message; is = outcome_demands a tree used v d.is; waits = d.waits })
+    row_of_lem : (got : Expanded) → Gives got → RowOf room line at 0 made rest area vars' got
+    row_of_lem got h =
+        subst (λ (o : Taken). Expands room line at 0 (λ t. expand (lent_of room shouts houses params) t L 0 v) o area vars' got) w.ready.is h
 
-    module _ {units next left : ℕ} {came : Bool} (g : got ≡ expanded.Row units next left came) where
-      pub there : IsRow room 0 (expand (lent_of room shouts houses params) tree L 0 v) area vars' units left came
-      there = (row_of_lem g).0
+    stopped : (out : Text) (stop : Stop) → RowOf room line at 0 made rest area vars' (Err stop)
+        → WordOf a (word_outcome a tree used v) rest line at used vars' old out area (Err stop)
+    stopped out (Refused e) h = outcome_refused a tree used v h
+    stopped out (Demanded from count) d = record { message = d.message; is = outcome_demands a tree used v d.is; waits = d.waits }
 
-      module _ {out : Text} {r : Written}
-          (p : Puts (texts_of_fields (held_texts paths) (fields_of_row (held (take left vars')) (row_of (take (2 * units) area)))) used old out r) where
-        split : Says (texts_of_fields (held_texts paths) (fields_of_row (held (take left vars')) there.row)) used old out r
-        split = subst (λ (x : Row). Says (texts_of_fields (held_texts paths) (fields_of_row (held (take left vars')) x)) used old out r)
-            (row_there there) p.says
+    pub word_stopped : (stop : Stop) {out : Text} → Gives (Err stop)
+        → WordSays a (parts (words fresh) depth_limit (drop at line)) line at used v vars' old out area (Err stop)
+    word_stopped stop {out} h = said vars' out area (Err stop) (stopped out stop (row_of_lem (Err stop) h))
 
-        pub word_class : {work' : Text} → r ≡ Class → WordSays a (parts (words fresh) depth_limit (drop at line)) line at used v vars' old out work'
-            (word.Refused bracket_class)
-        word_class {work' = work'} c = said vars' out work' (word.Refused bracket_class) (outcome_class a tree used v there.is (class_of split c))
+    module _ (r : code.Row) (h : Gives (Ok r)) where
+      pub there : IsRow room 0 made area vars' r.units r.vars_used r.of_none
+      there = (row_of_lem (Ok r) h).0
 
-        pub word_full : {work' : Text} → r ≡ NoRoom → WordSays a (parts (words fresh) depth_limit (drop at line)) line at used v vars' old out work'
-            (word.Refused output_room)
-        word_full {work' = work'} c =
-            let f = full_of split c in
-            said vars' out work' (word.Refused output_room) (outcome_full a tree used v there.is f.is f.full)
+      abbrev Splits : Text → Result ℕ WriteError → Type 0
+      Splits out s =
+          Puts (texts_of_fields (held_texts paths) (fields_of_row (held (take r.vars_used vars')) (row_of (take (2 * r.units) area)))) used old out s
 
-        pub word_written : {work' : Text} {n : ℕ} → r ≡ Len n → WordSays a (parts (words fresh) depth_limit (drop at line)) line at used v vars' old out work'
-            (word.Fields n next left)
-        word_written {work' = work'} {n = n} c =
-            let f = len_of split c in
-            said vars' out work' (word.Fields n next left)
+      split : {out : Text} (s : Result ℕ WriteError) → Splits out s
+          → Says (texts_of_fields (held_texts paths) (fields_of_row (held (take r.vars_used vars')) there.row)) used old out s
+      split {out} s p =
+          subst (λ (x : Row). Says (texts_of_fields (held_texts paths) (fields_of_row (held (take r.vars_used vars')) x)) used old out s)
+          (row_there there) p.says
+
+      module _ {out work' : Text} where
+        pub word_class : Splits out (Err BadClass)
+            → WordSays a (parts (words fresh) depth_limit (drop at line)) line at used v vars' old out work' (Err (Refused BracketClass))
+        word_class p = said vars' out work' (Err (Refused BracketClass)) (outcome_class a tree used v there.is (class_of (split (Err BadClass) p) refl))
+
+        pub word_full : Splits out (Err NoRoom)
+            → WordSays a (parts (words fresh) depth_limit (drop at line)) line at used v vars' old out work' (Err (Refused OutputRoom))
+        word_full p =
+            let f = full_of (split (Err NoRoom) p) refl in
+            said vars' out work' (Err (Refused OutputRoom)) (outcome_full a tree used v there.is f.is f.full)
+
+        pub word_written : {n : ℕ} → Splits out (Ok n) → WordSays a (parts (words fresh) depth_limit (drop at line)) line at used v vars' old out work'
+            (Ok (record { used = n; next = r.next; vars_used = r.vars_used }))
+        word_written {n} p =
+            let f = len_of (split (Ok n) p) refl in
+            said vars' out work' (Ok (record { used = n; next = r.next; vars_used = r.vars_used }))
             (record {
               fields = f.fields;
               is = outcome_done a tree used v there.is f.is (omega (arith, f.long, f.fits)) w.few;
@@ -177,5 +188,5 @@ module _ {line : Text} {at : ℕ} {vars : Text} {vars_used room : ℕ} {houses p
               fits = f.fits;
               stands = f.stands;
               holds = there.holds;
-              ends = (row_of_lem g).1;
+              ends = (row_of_lem (Ok r) h).1;
             })

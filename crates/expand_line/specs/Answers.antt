@@ -1,5 +1,5 @@
 -- What a word and a line give: by cases on the code's answer, an equation with the stage, and what stands in the lent bytes then.
-use Rattle.std.specs.Prelude.{ℕ, ◌+◌, ◌≤◌, ◌<◌, ◌≡◌, true, List, [], ◌∷◌, ◌⊎◌, length, take, get_or}
+use Rattle.std.specs.Prelude.{ℕ, ◌+◌, ◌≤◌, ◌<◌, ◌≡◌, true, List, [], ◌∷◌, ◌⊎◌, length, take, get_or, Option, Some, None, Result, Ok, Err}
 use Prim.Native.Char.{code}
 use Rattle.stages.specs.Numbers.{depth_limit, line_limit, work_least, image_limit, output_room}
 use Rattle.stages.specs.Bytes.{Text, part, all, not_zero, is_bare_byte}
@@ -14,11 +14,13 @@ use Rattle.read_still.specs.Walks.{Leaves}
 use Rattle.table_store.specs.Holding.{Holds}
 use Rattle.expand_add.specs.Answers.{Ready, Waits, Ends}
 use Rattle.table_store.specs.Splice.{placed}
-use Rattle.expand_line.specs.declared.Copied.{Copied}
-use Rattle.expand_line.specs.declared.WordExpanded.{WordExpanded}
-use Rattle.expand_line.specs.declared.WordExpanded.TheVariants as word
-use Rattle.expand_line.specs.declared.LineExpanded.{LineExpanded}
-use Rattle.expand_line.specs.declared.LineExpanded.TheVariants as line
+use Rattle.text.specs.Refusals.{refusal_number}
+use Rattle.expand_add.specs.declared.answers.Stop.{Stop}
+use Rattle.expand_add.specs.declared.answers.Stop.TheVariants.{Refused, Demanded}
+use Rattle.expand_add.specs.declared.answers.LineStop.{LineStop}
+use Rattle.read_still.specs.declared.StillWord.{StillWord}
+use Rattle.expand_line.specs.declared.WordDone.{WordDone}
+use Rattle.expand_line.specs.declared.LineDone.{LineDone}
 
 -- a word's fields behind an image of n bytes, and the variables behind its stores: 21 if there is no room for them
 unfoldable pub word_outcome : Around → Parts → ℕ → Pairs → Outcome (Fields × Pairs)
@@ -38,25 +40,35 @@ pub record WordReady (text : Text) (at : ℕ) (vars : Text) (vars_used room : �
   pub low : used ≤ length out
   pub few : length out ≤ image_limit
 
--- the word from `at` to r is bare, and a blank or the line's end stands behind it; or r is `at`
+-- the word from `at` to r is bare, and a blank or the line's end stands behind it
 pub record BareTo (line : Text) (at r : ℕ) : Type 0 where
-  pub onward : at ≤ r
+  pub some : at < r
   pub within : r ≤ length line
   pub few : r ≤ at + line_limit
   pub bare : all is_bare_byte (part line at r) ≡ true
-  pub ends : at < r → (r ≡ length line) ⊎ ((r < length line) × (get_or line r 0 ≡ code " "))
+  pub ends : (r ≡ length line) ⊎ ((r < length line) × (get_or line r 0 ≡ code " "))
 
--- the bytes of a word in which nothing is expanded stand at the front of the work area; or the line goes on where it was
-pub record CopiesStill (line : Text) (at : ℕ) (old left : Text) (r : Copied) : Type 0 where
-  pub is : at < r.next → Leaves line at old left r.len r.next
-  pub few : r.next ≤ at + line_limit
+abbrev pub BareSays : Text → ℕ → Option ℕ → Type 0
+BareSays line at (Some r) = BareTo line at r
+BareSays line at None = Unit {0}
+
+-- the bytes of a word in which nothing is expanded stand at the front of the work area
+pub record CopiesTo (line : Text) (at : ℕ) (old left : Text) (len next : ℕ) : Type 0 where
+  pub some : at < next
+  pub is : Leaves line at old left len next
+  pub few : next ≤ at + line_limit
+
+abbrev pub CopiesStill : Text → ℕ → Text → Text → Option StillWord → Type 0
+CopiesStill line at old left (Some w) = CopiesTo line at old left w.len w.next
+CopiesStill line at old left None = Unit {0}
 
 -- a bare word is written behind the first `used` bytes, or there is no room for it
-abbrev pub PutsBare : Text → ℕ → ℕ → ℕ → Text → Text → WordExpanded → Type 0
-PutsBare t next vars_used used old out (word.Refused e) = (e ≡ output_room) × (length old < used + record_bytes (t ∷ []))
-PutsBare t next vars_used used old out (word.Demanded from len) = ⊥
-PutsBare t next vars_used used old out (word.Fields len to left) =
-    (len ≡ used + record_bytes (t ∷ [])) × (len ≤ length old) × (out ≡ placed used (written (t ∷ [])) old) × (to ≡ next) × (left ≡ vars_used)
+abbrev pub PutsBare : Text → ℕ → ℕ → ℕ → Text → Text → Result WordDone Stop → Type 0
+PutsBare t next vars_used used old out (Ok w) =
+    (w.used ≡ used + record_bytes (t ∷ [])) × (w.used ≤ length old) × (out ≡ placed used (written (t ∷ [])) old) × (w.next ≡ next) ×
+    (w.vars_used ≡ vars_used)
+PutsBare t next vars_used used old out (Err (Refused e)) = (refusal_number e ≡ output_room) × (length old < used + record_bytes (t ∷ []))
+PutsBare t next vars_used used old out (Err (Demanded from len)) = ⊥
 
 -- a word's fields are written, and behind it stands `rest`
 pub record IsFields (a : Around) (made : Outcome (Fields × Pairs)) (rest text : Text) (at used : ℕ) (vars old out : Text) (len next vars_used : ℕ) :
@@ -75,13 +87,13 @@ pub record WordDemands (made : Outcome (Fields × Pairs)) (work : Text) (from le
   pub is : made ≡ demands message
   pub waits : Waits message work from len
 
-abbrev pub WordOf : Around → Outcome (Fields × Pairs) → Text → Text → ℕ → ℕ → Text → Text → Text → Text → WordExpanded → Type 0
-WordOf a made rest text at used vars old out work (word.Refused e) = made ≡ refused e
-WordOf a made rest text at used vars old out work (word.Demanded from len) = WordDemands made work from len
-WordOf a made rest text at used vars old out work (word.Fields len next vars_used) = IsFields a made rest text at used vars old out len next vars_used
+abbrev pub WordOf : Around → Outcome (Fields × Pairs) → Text → Text → ℕ → ℕ → Text → Text → Text → Text → Result WordDone Stop → Type 0
+WordOf a made rest text at used vars old out work (Ok w) = IsFields a made rest text at used vars old out w.used w.next w.vars_used
+WordOf a made rest text at used vars old out work (Err (Refused e)) = made ≡ refused (refusal_number e)
+WordOf a made rest text at used vars old out work (Err (Demanded from len)) = WordDemands made work from len
 
 -- the answer of a word, whatever it is read as
-pub record WordSays (a : Around) (o : Taken) (text : Text) (at used : ℕ) (v : Pairs) (vars old out work : Text) (r : WordExpanded) : Type 0 where
+pub record WordSays (a : Around) (o : Taken) (text : Text) (at used : ℕ) (v : Pairs) (vars old out work : Text) (r : Result WordDone Stop) : Type 0 where
   pub says : (p : Parts × Text) → o ≡ done p → WordOf a (word_outcome a p.0 used v) p.1 text at used vars old out work r
 
 -- the line is read and no byte of it is zero; the tables are well formed; the empty fields image has room
@@ -112,7 +124,10 @@ pub record LineDemands (o : Placed (Fields × Pairs)) (work : Text) (from len pl
   pub is : o ≡ demands_at message place
   pub waits : Waits message work from len
 
-abbrev pub LineSays : ℕ → Placed (Fields × Pairs) → Text → Text → Text → Text → LineExpanded → Type 0
-LineSays room o vars old out work (line.Refused n place) = o ≡ refused_at n place
-LineSays room o vars old out work (line.Demanded from len place) = LineDemands o work from len place
-LineSays room o vars old out work (line.Done len vars_used) = IsLine room o vars old out len vars_used
+abbrev pub LineStops : Placed (Fields × Pairs) → Text → Stop → ℕ → Type 0
+LineStops o work (Refused e) place = o ≡ refused_at (refusal_number e) place
+LineStops o work (Demanded from len) place = LineDemands o work from len place
+
+abbrev pub LineSays : ℕ → Placed (Fields × Pairs) → Text → Text → Text → Text → Result LineDone LineStop → Type 0
+LineSays room o vars old out work (Ok d) = IsLine room o vars old out d.used d.vars_used
+LineSays room o vars old out work (Err e) = LineStops o work e.stop e.place

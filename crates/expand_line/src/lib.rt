@@ -8,24 +8,22 @@ ghost use Rattle.stages.specs.Images.{held};
 ghost use Rattle.stages.specs.Syntax.{fresh, word};
 ghost use Rattle.stages.specs.Read.{parts};
 ghost use Rattle.table.specs.Around.{among};
-ghost use Rattle.expand_line.specs.Answers.{line_outcome, BareTo, CopiesStill, PutsBare, WordReady, WordSays, LineReady, LineSays};
+ghost use Rattle.expand_line.specs.Answers.{line_outcome, BareSays, CopiesStill, PutsBare, WordReady, WordSays, LineReady, LineSays};
 
-use expand_add::answers::{Expanded, Extent};
-use read_line::NextWord;
+use expand_add::answers::{Extent, LineStop, Stop};
 use read_mode::{Cursor, Mode};
-use read_still::Still;
+use read_still::StillWord;
 use row::{Mark, RowEnd};
-use split_field::Written;
-use table_store::Put;
+use split_field::WriteError;
+use table_store::NoRoom;
+use text::refusal::Refusal;
 use text::{Class, numbers};
 
-// What a line's words give: the fields' image is the first `used` bytes of the output, and the variables' the first `vars_used` of their buffer; or the
-// number that refuses a word, and that word's place; or the message that a word demands, which is the work area's `len` bytes from `at` on, and its place.
+// What a line's words give: the fields' image is the first `used` bytes of the output, and the variables' the first `vars_used` of their buffer.
 #[derive(Clone, Copy)]
-pub enum LineExpanded {
-    Done { used: usize, vars_used: usize },
-    Refused { number: u8, place: usize },
-    Demanded { at: usize, len: usize, place: usize },
+pub struct LineDone {
+    pub used: usize,
+    pub vars_used: usize,
 }
 
 // Where the line is read next, and how many bytes of the output are written.
@@ -35,79 +33,59 @@ struct Progress {
     used: usize,
 }
 
-// What one word gives: the same lengths, and where the line goes on; or the number that refuses it, or where the message waits that it demands.
+// What one word gives: the same lengths, and where the line goes on.
 #[derive(Clone, Copy)]
-enum WordExpanded {
-    Fields {
-        used: usize,
-        next: usize,
-        vars_used: usize,
-    },
-    Refused(u8),
-    Demanded {
-        at: usize,
-        len: usize,
-    },
-}
-
-// The work area's first `len` bytes are those of a word, and the line goes on at `next`.
-#[derive(Clone, Copy)]
-struct Copied {
-    len: usize,
+struct WordDone {
+    used: usize,
     next: usize,
+    vars_used: usize,
 }
 
-// Where the word at a place ends, if it is one that the quoter would write bare, and a blank or the line's end stands behind it; else the place itself.
-fn bare_end(line: &[u8], at: usize) -> usize
+// Where the word at a place ends, if it is one that the quoter would write bare, and a blank or the line's end stands behind it.
+fn bare_end(line: &[u8], at: usize) -> Option<usize>
     requires { at ≤ length line.now }
-    ensures { BareTo line.now at result }
+    ensures { BareSays line.now at result }
 {
     let end = text::run_end(line, at, Class::BareByte);
-    if end - at > numbers::LINE_LIMIT {
-        return at;
+    if at < end && end - at <= numbers::LINE_LIMIT && (end == line.len() || line[end] == b' ') {
+        Some(end)
+    } else {
+        None
     }
-    if end == line.len() {
-        return end;
-    }
-    if line[end] == b' ' {
-        return end;
-    }
-    at
 }
 
 // A bare word: its bytes are its one field, whatever the tables are. The line goes on at `next`.
-fn put_bare(word: &[u8], next: usize, vars_used: usize, out: &mut [u8], used: usize) -> WordExpanded
+fn put_bare(
+    word: &[u8],
+    next: usize,
+    vars_used: usize,
+    out: &mut [u8],
+    used: usize,
+) -> Result<WordDone, Stop>
     requires { (used ≤ length out.old) × (length out.old ≤ image_limit) }
     ensures { PutsBare word.now next vars_used used out.old out.new result }
 {
-    let put = split_field::put_text(word, out, used);
-    match put {
-        Put::Len(len) => WordExpanded::Fields {
-            used: len,
-            next: next,
-            vars_used: vars_used,
-        },
-        Put::NoRoom => WordExpanded::Refused(numbers::REFUSED_OUTPUT),
+    match split_field::put_text(word, out, used) {
+        Ok(used) => Ok(WordDone {
+            used,
+            next,
+            vars_used,
+        }),
+        Err(NoRoom) => Err(Stop::Refused(Refusal::OutputRoom)),
     }
 }
 
-// The bytes of the word at a place, if nothing is expanded in it and it is no longer than a line may be: they stand at the front of the work area. Else the
-// line goes on at the place itself.
-fn copy_still(line: &[u8], at: usize, work: &mut [u8]) -> Copied
+// The word at a place, if nothing is expanded in it and it is no longer than a line may be: its bytes stand at the front of the work area.
+fn copy_still(line: &[u8], at: usize, work: &mut [u8]) -> Option<StillWord>
     requires { (at ≤ length line.now) × (line_limit ≤ length work.old) }
     ensures { CopiesStill line.now at work.old work.new result }
 {
-    let none = Copied { len: 0, next: at };
     if line.len() - at > numbers::LINE_LIMIT {
-        return none;
+        return None;
     }
-    let put = read_still::put_still(line, at, work);
-    match put {
-        Still::Nothing => none,
-        Still::Word { len, next } => Copied {
-            len: len,
-            next: next,
-        },
+    match read_still::put_still(line, at, work) {
+        Some(word) if at < word.next => Some(word),
+        _ => None,
     }
 }
 
@@ -123,7 +101,7 @@ fn put_expanded(
     paths: &[u8],
     work: &mut [u8],
     out: &mut [u8],
-) -> WordExpanded
+) -> Result<WordDone, Stop>
     requires { WordReady line.now from.at vars.old extent.vars_used extent.vars_room homes.now params.now paths.now work.old
         out.old from.used }
     ensures { WordSays
@@ -140,35 +118,22 @@ fn put_expanded(
         mark: Mark::L,
         units: 0,
     };
-    let got = expand_text::expand_text(line, word, start, vars, extent, homes, params, work);
-    match got {
-        Expanded::Refused(e) => WordExpanded::Refused(e),
-        Expanded::Demanded { at, len } => WordExpanded::Demanded { at: at, len: len },
-        Expanded::Row {
-            units,
-            next,
-            vars_used,
-            of_none: _,
-        } => {
-            let end = 2 * units;
-            let put = split_row::put_word_fields(
-                &mut work[..end],
-                vars,
-                vars_used,
-                paths,
-                out,
-                from.used,
-            );
-            match put {
-                Written::Class => WordExpanded::Refused(numbers::REFUSED_CLASS),
-                Written::NoRoom => WordExpanded::Refused(numbers::REFUSED_OUTPUT),
-                Written::Len(longer) => WordExpanded::Fields {
-                    used: longer,
-                    next: next,
-                    vars_used: vars_used,
-                },
-            }
-        }
+    let row = expand_text::expand_text(line, word, start, vars, extent, homes, params, work)?;
+    match split_row::put_word_fields(
+        &mut work[..2 * row.units],
+        vars,
+        row.vars_used,
+        paths,
+        out,
+        from.used,
+    ) {
+        Ok(used) => Ok(WordDone {
+            used,
+            next: row.next,
+            vars_used: row.vars_used,
+        }),
+        Err(WriteError::BadClass) => Err(Stop::Refused(Refusal::BracketClass)),
+        Err(WriteError::NoRoom) => Err(Stop::Refused(Refusal::OutputRoom)),
     }
 }
 
@@ -184,7 +149,7 @@ fn put_word(
     paths: &[u8],
     work: &mut [u8],
     out: &mut [u8],
-) -> WordExpanded
+) -> Result<WordDone, Stop>
     requires { WordReady line.now from.at vars.old extent.vars_used extent.vars_room homes.now params.now paths.now work.old
         out.old from.used }
     ensures { WordSays
@@ -193,14 +158,17 @@ fn put_word(
         (held (take extent.vars_used vars.old)) vars.new out.old out.new work.new result }
 {
     let at = from.at;
-    let end = bare_end(line, at);
-    if at < end {
+    if let Some(end) = bare_end(line, at) {
         return put_bare(&line[at..end], end, extent.vars_used, out, from.used);
     }
-    let still = copy_still(line, at, work);
-    if at < still.next {
-        let len = still.len;
-        return put_bare(&work[..len], still.next, extent.vars_used, out, from.used);
+    if let Some(word) = copy_still(line, at, work) {
+        return put_bare(
+            &work[..word.len],
+            word.next,
+            extent.vars_used,
+            out,
+            from.used,
+        );
     }
     put_expanded(line, from, vars, extent, homes, params, paths, work, out)
 }
@@ -216,7 +184,7 @@ pub fn expand_line(
     paths: &[u8],
     work: &mut [u8],
     out: &mut [u8],
-) -> LineExpanded
+) -> Result<LineDone, LineStop>
     requires { LineReady line.now vars.old extent.vars_used extent.vars_room homes.now params.now paths.now work.old out.old }
     ensures { LineSays extent.vars_room
         (line_outcome (among extent.vars_room extent.shouts homes.now params.now paths.now (length out.old))
@@ -227,51 +195,20 @@ pub fn expand_line(
     let mut at: usize = 0;
     let mut used: usize = 1;
     let mut vars_used = extent.vars_used;
-    loop {
-        let found = read_line::next_word(line, at);
-        match found {
-            NextWord::Nothing => {
-                return LineExpanded::Done {
-                    used: used,
-                    vars_used: vars_used,
-                };
-            }
-            NextWord::At(place) => {
-                let from = Progress {
-                    at: place,
-                    used: used,
-                };
-                let reached = Extent {
-                    vars_used: vars_used,
-                    vars_room: extent.vars_room,
-                    shouts: extent.shouts,
-                };
-                let got = put_word(line, from, vars, reached, homes, params, paths, work, out);
-                match got {
-                    WordExpanded::Refused(e) => {
-                        return LineExpanded::Refused {
-                            number: e,
-                            place: place,
-                        };
-                    }
-                    WordExpanded::Demanded { at: message, len } => {
-                        return LineExpanded::Demanded {
-                            at: message,
-                            len: len,
-                            place: from.at,
-                        };
-                    }
-                    WordExpanded::Fields {
-                        used: more,
-                        next,
-                        vars_used: left,
-                    } => {
-                        at = next;
-                        used = more;
-                        vars_used = left;
-                    }
-                }
+    while let Some(place) = read_line::next_word(line, at) {
+        let from = Progress { at: place, used };
+        let reached = Extent {
+            vars_used,
+            ..extent
+        };
+        match put_word(line, from, vars, reached, homes, params, paths, work, out) {
+            Err(stop) => return Err(LineStop { stop, place }),
+            Ok(word) => {
+                at = word.next;
+                used = word.used;
+                vars_used = word.vars_used;
             }
         }
     }
+    Ok(LineDone { used, vars_used })
 }
