@@ -43,8 +43,7 @@ pub fn expanded_mark(mark: Mark) -> Mark
 {
     match mark {
         Mark::L => Mark::E,
-        Mark::E => Mark::E,
-        Mark::Q => Mark::Q,
+        other => other,
     }
 }
 
