@@ -14,10 +14,12 @@ use Rattle.stages.proofs.Pieces.{FirstPiece}
 use Rattle.table.specs.Around.{lent_of}
 use Rattle.read_line.specs.Says.{NextAt, NextNone}
 use Rattle.table_store.specs.Holding.{Holds}
-use Rattle.assign_line.specs.Answers.{line_outcome, AssignmentReady, IsStored, WordDemands, AssignmentOf, AssignmentSays, LineReady, LineSays}
-use Rattle.assign_line.specs.declared.WordAssigned.{WordAssigned}
-use Rattle.assign_line.specs.declared.WordAssigned.TheVariants as word
-use Rattle.assign_line.specs.declared.LineAssigned.TheVariants as line
+use Rattle.assign_line.specs.Answers.{line_outcome, AssignmentReady, IsStored, AssignmentOf, AssignmentSays, LineReady, LineStops, LineSays}
+use Rattle.std.specs.Prelude.{Result, Ok, Err}
+use Rattle.text.specs.Refusals.{refusal_number}
+use Rattle.expand_add.specs.declared.answers.Stop.{Stop}
+use Rattle.expand_add.specs.declared.answers.Stop.TheVariants.{Refused, Demanded}
+use Rattle.assign_line.specs.declared.Assigned.{Assigned}
 use Rattle.assign_line.proofs.Going.{Goes, goes_start, goes_end, first, goes_refused, goes_demanded, goes_on}
 
 pub record State (text houses params : Text) (room : ℕ) (shouts : Bool) (o : Placed Pairs) (at left : ℕ) (vars work : Text) : Type 0 where
@@ -37,7 +39,7 @@ module _ {text vars : Text} {vars_used room : ℕ} {houses params work : Text} (
   state_start = record { goes = goes_start a text (held (take vars_used vars)) r.words r.read; holds = r.holds; area = r.area }
 
   module _ {at left : ℕ} {vars' work' : Text} (s : State text houses params room shouts whole at left vars' work') where
-    pub state_end : NextNone text at → LineSays room whole vars' work' (line.Done left)
+    pub state_end : NextNone text at → LineSays room whole vars' work' (Ok left)
     state_end n = record { is = goes_end s.goes n; holds = s.holds }
 
     module _ {place : ℕ} (p : NextAt text at place) where
@@ -62,23 +64,23 @@ module _ {text vars : Text} {vars_used room : ℕ} {houses params work : Text} (
             area = s.area;
           }
 
-      module _ {vars₂ work₂ : Text} {got : WordAssigned}
-          (h : AssignmentSays a (an_assignment (drop place text)) text place (held (take left vars')) vars₂ work₂ got) where
-        word_of : {x : WordAssigned} → got ≡ x → AssignmentOf room made own.rest text place vars₂ work₂ x
-        word_of e =
-            subst (λ (y : WordAssigned). AssignmentOf room made own.rest text place vars₂ work₂ y) e (h.says (own.tree, own.rest) own.read)
+      abbrev Says : Text → Text → Result Assigned Stop → Type 0
+      Says vars₂ work₂ got = AssignmentSays a (an_assignment (drop place text)) text place (held (take left vars')) vars₂ work₂ got
 
-        pub state_refused : {e : ℕ} → got ≡ word.Refused e → LineSays room whole vars₂ work₂ (line.Refused e place)
-        state_refused e = goes_refused s.goes p (word_of e)
+      stopped : (vars₂ work₂ : Text) (stop : Stop) → AssignmentOf room made own.rest text place vars₂ work₂ (Err stop) → LineStops whole work₂ stop place
+      stopped vars₂ work₂ (Refused e) h = goes_refused s.goes p h
+      stopped vars₂ work₂ (Demanded from n) d = record { message = d.message; is = goes_demanded s.goes p d.is; waits = d.waits }
 
-        pub state_demanded : {from n : ℕ} → got ≡ word.Demanded from n → LineSays room whole vars₂ work₂ (line.Demanded from n place)
-        state_demanded {from} {n} e =
-            let d : WordDemands made work₂ from n = word_of e in
-            record { message = d.message; is = goes_demanded s.goes p d.is; waits = d.waits }
+      module _ {vars₂ work₂ : Text} where
+        word_of : {got : Result Assigned Stop} → Says vars₂ work₂ got → AssignmentOf room made own.rest text place vars₂ work₂ got
+        word_of h = h.says (own.tree, own.rest) own.read
 
-        module _ {next left₂ : ℕ} (e : got ≡ word.Stored next left₂) where
+        pub state_stopped : {stop : Stop} → Says vars₂ work₂ (Err stop) → LineSays room whole vars₂ work₂ (Err (record { stop = stop; place = place }))
+        state_stopped {stop} h = stopped vars₂ work₂ stop (word_of h)
+
+        module _ {next left₂ : ℕ} (h : Says vars₂ work₂ (Ok (record { next = next; vars_used = left₂ }))) where
           kept : IsStored room made own.rest text place vars₂ next left₂
-          kept = word_of e
+          kept = word_of h
 
           pub state_further : (at < next) × (next ≤ length text)
           state_further = (omega (arith, p.onward, kept.onward), kept.within)

@@ -18,21 +18,23 @@ use Rattle.stages.proofs.Tables.{fields_of_lem}
 use Rattle.stages.proofs.Assignments.{not_assignment, assigns_name}
 use Rattle.table.specs.Around.{lent_of}
 use Rattle.table.proofs.Tables.{homes_table}
-use Rattle.table_store.specs.declared.Stored.{Stored}
-use Rattle.table_store.specs.declared.Stored.TheVariants as stored
+use Rattle.std.specs.Prelude.{Result, Ok, Err}
+use Rattle.table_store.specs.declared.NoRoom.{NoRoom}
+use Rattle.text.specs.declared.refusal.Refusal.TheVariants.{VariableRoom}
 use Rattle.read_line.specs.Says.{AssignmentTo}
 use Rattle.read_line.proofs.Naming.{named_as, reads_value}
 use Rattle.expand_add.specs.Answers.{IsRow, IsDemand, Answers, Says}
-use Rattle.expand_add.specs.declared.answers.Expanded.{Expanded}
-use Rattle.expand_add.specs.declared.answers.Expanded.TheVariants as expanded
-use Rattle.expand_add.proofs.Holding.{says_known, answers_known}
+use Rattle.text.specs.Refusals.{refusal_number}
+use Rattle.expand_add.specs.declared.answers.Stop.{Stop}
+use Rattle.expand_add.specs.declared.answers.Stop.TheVariants.{Refused, Demanded}
+use Rattle.expand_add.specs.declared.answers.Row as code
+use Rattle.expand_add.specs.Expanded.{Expanded}
+use Rattle.expand_add.proofs.Holding.{says_known}
 use Rattle.table_store.specs.Holding.{StoresIn}
-use Rattle.table_store.proofs.Holding.{stored_known}
 use Rattle.expand_operand.specs.Operands.{Storable, row_at}
 use Rattle.expand_text.proofs.Inside.{lending, row_at_lem, row_storable}
 use Rattle.assign_line.specs.Answers.{Named, AssignmentReady, ValueReady, AssignmentOf, AssignmentSays}
-use Rattle.assign_line.specs.declared.WordAssigned.{WordAssigned}
-use Rattle.assign_line.specs.declared.WordAssigned.TheVariants as word
+use Rattle.assign_line.specs.declared.Assigned.{Assigned}
 
 -- READ
 
@@ -114,10 +116,10 @@ module _ {line : Text} {place equals : ℕ} {vars : Text} {vars_used room : ℕ}
   taken : an_assignment (drop place line) ≡ done ((name, w.ready.tree), w.ready.rest)
   taken = reads_value line place equals w.named ∙ ap (named_as line place equals w.named) w.ready.is
 
-  abbrev Says-of : Text → Text → WordAssigned → Type 0
+  abbrev Says-of : Text → Text → Result Assigned Stop → Type 0
   Says-of vars' work' r = AssignmentSays a (an_assignment (drop place line)) line place v vars' work' r
 
-  said : (vars' work' : Text) (r : WordAssigned) → AssignmentOf room (assign a own v) w.ready.rest line place vars' work' r → Says-of vars' work' r
+  said : (vars' work' : Text) (r : Result Assigned Stop) → AssignmentOf room (assign a own v) w.ready.rest line place vars' work' r → Says-of vars' work' r
   said vars' work' r h =
       record {
         says = λ p e.
@@ -126,47 +128,50 @@ module _ {line : Text} {place equals : ℕ} {vars : Text} {vars_used room : ℕ}
             subst (λ (x : Named). AssignmentOf room (assign a (assignment_of place x.0) v) x.1 line place vars' work' r) k h;
       }
 
-  module _ (area vars' : Text) (got : Expanded)
-      (h : Says room line (equals + 1) 0 (λ t. expand a t L 0 v) (parts (value fresh) depth_limit (drop (equals + 1) line)) area vars' got) where
-    row_of_lem : {s : Expanded} → got ≡ s → Answers room line (equals + 1) 0 (expand a w.ready.tree L 0 v) w.ready.rest area vars' s
-    row_of_lem e =
-        answers_known room line (equals + 1) 0 (expand a w.ready.tree L 0 v) w.ready.rest area vars'
-        (says_known room line (equals + 1) 0 (λ t. expand a t L 0 v) area vars' got h w.ready.is) e
+  module _ (area vars' : Text) where
+    abbrev Gives : Expanded → Type 0
+    Gives got =
+        Says room line (equals + 1) 0 (λ t. expand a t L 0 v) (parts (value fresh) depth_limit (drop (equals + 1) line)) area vars' got
 
-    pub value_refused : {e : ℕ} {work' : Text} → got ≡ expanded.Refused e → Says-of vars' work' (word.Refused e)
-    value_refused {e} {work'} g = said vars' work' (word.Refused e) (outcome_refused a own v (row_of_lem g))
+    row_of_lem : (got : Expanded) → Gives got → Answers room line (equals + 1) 0 (expand a w.ready.tree L 0 v) w.ready.rest area vars' got
+    row_of_lem got h = says_known room line (equals + 1) 0 (λ t. expand a t L 0 v) area vars' got h w.ready.is
 
-    pub value_demanded : {from len : ℕ} → got ≡ expanded.Demanded from len → Says-of vars' area (word.Demanded from len)
-    value_demanded {from} {len} g =
-        let d : IsDemand (expand a w.ready.tree L 0 v) area from len = row_of_lem g in
-        said vars' area (word.Demanded from len) (record { message = d.message; is = outcome_demands a own v d.is; waits = d.waits })
+    stopped : (stop : Stop) → Answers room line (equals + 1) 0 (expand a w.ready.tree L 0 v) w.ready.rest area vars' (Err stop)
+        → AssignmentOf room (assign a own v) w.ready.rest line place vars' area (Err stop)
+    stopped (Refused e) h = outcome_refused a own v h
+    stopped (Demanded from len) d = record { message = d.message; is = outcome_demands a own v d.is; waits = d.waits }
 
-    module _ {units next left : ℕ} {came : Bool} (g : got ≡ expanded.Row units next left came) where
-      pub there : IsRow room 0 (expand a w.ready.tree L 0 v) area vars' units left came
-      there = (row_of_lem g).0
+    pub value_stopped : (stop : Stop) → Gives (Err stop) → Says-of vars' area (Err stop)
+    value_stopped stop h = said vars' area (Err stop) (stopped stop (row_of_lem (Err stop) h))
 
-      pub value_storable : Storable (var (part line place equals)) area units
+    module _ (r : code.Row) (h : Gives (Ok r)) where
+      pub there : IsRow room 0 (expand a w.ready.tree L 0 v) area vars' r.units r.vars_used r.of_none
+      there = (row_of_lem (Ok r) h).0
+
+      pub value_storable : Storable (var (part line place equals)) area r.units
       value_storable =
           row_storable w.ready (lending params w.holds (homes_table houses w.housed) (fields_of_lem params w.handed).table) L there
           (var (part line place equals)) (ap is_name (sym w.named.name) ∙ assigns_name (drop place line) w.named.is)
 
-      module _ (vars₂ : Text) (r : Stored) (p : StoresIn room (part line place equals) (bytes (row_at area units)) (held (take left vars')) vars₂ r) where
-        -- the store by its answer, with the name and the row as the stage has them
-        stored_as : {s : Stored} → r ≡ s → StoresIn room name (bytes there.row) (held (take left vars')) vars₂ s
-        stored_as {s} e =
-            subst (λ (x : Text). StoresIn room x (bytes there.row) (held (take left vars')) vars₂ s) (sym w.named.name)
-            (subst (λ (x : Row). StoresIn room (part line place equals) (bytes x) (held (take left vars')) vars₂ s)
-            (row_at_lem there.row area units there.stands there.counts)
-            (stored_known room (part line place equals) (bytes (row_at area units)) (held (take left vars')) vars₂ p e))
+      module _ (vars₂ : Text) where
+        abbrev Stores : Result ℕ NoRoom → Type 0
+        Stores s = StoresIn room (part line place equals) (bytes (row_at area r.units)) (held (take r.vars_used vars')) vars₂ s
 
-        pub value_full : {work' : Text} → r ≡ stored.Full → Says-of vars₂ work' (word.Refused variable_room)
-        value_full {work'} e = said vars₂ work' (word.Refused variable_room) (outcome_stored a own v there.is (stored_as e))
+        -- the store with the name and the row as the stage has them
+        stored_as : (s : Result ℕ NoRoom) → Stores s → StoresIn room name (bytes there.row) (held (take r.vars_used vars')) vars₂ s
+        stored_as s p =
+            subst (λ (x : Text). StoresIn room x (bytes there.row) (held (take r.vars_used vars')) vars₂ s) (sym w.named.name)
+            (subst (λ (x : Row). StoresIn room (part line place equals) (bytes x) (held (take r.vars_used vars')) vars₂ s)
+            (row_at_lem there.row area r.units there.stands there.counts) p)
 
-        pub value_stored : {work' : Text} {longer : ℕ} → r ≡ stored.Used longer → Says-of vars₂ work' (word.Stored next longer)
-        value_stored {work'} {longer} e =
-            let s : StoresIn room name (bytes there.row) (held (take left vars')) vars₂ (stored.Used longer) = stored_as e in
-            let k = (row_of_lem g).1 in
-            said vars₂ work' (word.Stored next longer)
+        pub value_full : (e : NoRoom) {work' : Text} → Stores (Err e) → Says-of vars₂ work' (Err (Refused VariableRoom))
+        value_full e {work'} p = said vars₂ work' (Err (Refused VariableRoom)) (outcome_stored a own v there.is (stored_as (Err e) p))
+
+        pub value_stored : (n : ℕ) {work' : Text} → Stores (Ok n) → Says-of vars₂ work' (Ok (record { next = r.next; vars_used = n }))
+        value_stored n {work'} p =
+            let s : StoresIn room name (bytes there.row) (held (take r.vars_used vars')) vars₂ (Ok n) = stored_as (Ok n) p in
+            let k = (row_of_lem (Ok r) h).1 in
+            said vars₂ work' (Ok (record { next = r.next; vars_used = n }))
             (record {
               is = outcome_stored a own v there.is s.0;
               holds = s.1;

@@ -1,5 +1,5 @@
 -- What an assignment and a line of them leave: by cases on the code's answer, an equation with the stage, and what stands in the lent bytes then.
-use Rattle.std.specs.Prelude.{ℕ, ◌+◌, ◌≤◌, ◌<◌, ◌≡◌, true, List, length, take, drop}
+use Rattle.std.specs.Prelude.{ℕ, ◌+◌, ◌≤◌, ◌<◌, ◌≡◌, true, List, length, take, drop, Result, Ok, Err}
 use Rattle.stages.specs.Numbers.{depth_limit, work_least}
 use Rattle.stages.specs.Bytes.{Text, all, not_zero}
 use Rattle.stages.specs.Outcome.{Outcome, refused, demands, done, Placed, refused_at, demands_at, done_at, ◌then◌}
@@ -11,10 +11,11 @@ use Rattle.read_mode.specs.declared.Mode.TheVariants as mode
 use Rattle.read_line.specs.Says.{AssignmentTo}
 use Rattle.table_store.specs.Holding.{Holds}
 use Rattle.expand_add.specs.Answers.{Ready, Waits}
-use Rattle.assign_line.specs.declared.WordAssigned.{WordAssigned}
-use Rattle.assign_line.specs.declared.WordAssigned.TheVariants as word
-use Rattle.assign_line.specs.declared.LineAssigned.{LineAssigned}
-use Rattle.assign_line.specs.declared.LineAssigned.TheVariants as line
+use Rattle.text.specs.Refusals.{refusal_number}
+use Rattle.expand_add.specs.declared.answers.Stop.{Stop}
+use Rattle.expand_add.specs.declared.answers.Stop.TheVariants.{Refused, Demanded}
+use Rattle.expand_add.specs.declared.answers.LineStop.{LineStop}
+use Rattle.assign_line.specs.declared.Assigned.{Assigned}
 
 -- what a word is read as: its name and its value's parts, and what is behind it
 abbrev pub Named : Type 0
@@ -58,13 +59,13 @@ pub record WordDemands (made : Outcome Pairs) (work : Text) (from len : ℕ) : T
   pub is : made ≡ demands message
   pub waits : Waits message work from len
 
-abbrev pub AssignmentOf : ℕ → Outcome Pairs → Text → Text → ℕ → Text → Text → WordAssigned → Type 0
-AssignmentOf room made rest text place vars work (word.Refused e) = made ≡ refused e
-AssignmentOf room made rest text place vars work (word.Demanded from len) = WordDemands made work from len
-AssignmentOf room made rest text place vars work (word.Stored next vars_used) = IsStored room made rest text place vars next vars_used
+abbrev pub AssignmentOf : ℕ → Outcome Pairs → Text → Text → ℕ → Text → Text → Result Assigned Stop → Type 0
+AssignmentOf room made rest text place vars work (Ok w) = IsStored room made rest text place vars w.next w.vars_used
+AssignmentOf room made rest text place vars work (Err (Refused e)) = made ≡ refused (refusal_number e)
+AssignmentOf room made rest text place vars work (Err (Demanded from len)) = WordDemands made work from len
 
 -- the answer of an assignment, whatever it is read as
-pub record AssignmentSays (a : Lent) (o : Outcome Named) (text : Text) (place : ℕ) (v : Pairs) (vars work : Text) (r : WordAssigned) : Type 0 where
+pub record AssignmentSays (a : Lent) (o : Outcome Named) (text : Text) (place : ℕ) (v : Pairs) (vars work : Text) (r : Result Assigned Stop) : Type 0 where
   pub says : (p : Named) → o ≡ done p → AssignmentOf a.room (assign a (assignment_of place p.0) v) p.1 text place vars work r
 
 -- the line is read as assignments and no byte of it is zero; the tables are well formed
@@ -88,7 +89,10 @@ pub record LineDemands (o : Placed Pairs) (work : Text) (from len place : ℕ) :
   pub is : o ≡ demands_at message place
   pub waits : Waits message work from len
 
-abbrev pub LineSays : ℕ → Placed Pairs → Text → Text → LineAssigned → Type 0
-LineSays room o vars work (line.Refused n place) = o ≡ refused_at n place
-LineSays room o vars work (line.Demanded from len place) = LineDemands o work from len place
-LineSays room o vars work (line.Done vars_used) = IsLeft room o vars vars_used
+abbrev pub LineStops : Placed Pairs → Text → Stop → ℕ → Type 0
+LineStops o work (Refused e) place = o ≡ refused_at (refusal_number e) place
+LineStops o work (Demanded from len) place = LineDemands o work from len place
+
+abbrev pub LineSays : ℕ → Placed Pairs → Text → Text → Result ℕ LineStop → Type 0
+LineSays room o vars work (Ok vars_used) = IsLeft room o vars vars_used
+LineSays room o vars work (Err e) = LineStops o work e.stop e.place

@@ -8,28 +8,18 @@ ghost use Rattle.stages.specs.Assign.{an_assignment};
 ghost use Rattle.table.specs.Around.{lent_of};
 ghost use Rattle.assign_line.specs.Answers.{line_outcome, ValueReady, AssignmentReady, AssignmentSays, LineReady, LineSays};
 
-use expand_add::answers::{Expanded, Extent};
-use read_line::{Assignment, NextWord};
+use expand_add::answers::{Extent, LineStop, Stop};
 use read_mode::{Cursor, Mode};
 use row::{Mark, RowEnd};
-use table_store::Stored;
+use table_store::NoRoom;
 use text::numbers;
+use text::refusal::Refusal;
 
-// What a line's assignments leave: the variables' image is the first `vars_used` bytes of their buffer; or the number that refuses an assignment, and that
-// assignment's place; or the message that one demands, which is the work area's `len` bytes from `at` on, and its place.
+// What one assignment leaves: the variables' image is the first `vars_used` bytes of their buffer, and the line goes on at `next`.
 #[derive(Clone, Copy)]
-pub enum LineAssigned {
-    Done { vars_used: usize },
-    Refused { number: u8, place: usize },
-    Demanded { at: usize, len: usize, place: usize },
-}
-
-// What one assignment leaves: the same length, and where the line goes on; or the number that refuses it, or where the message waits that it demands.
-#[derive(Clone, Copy)]
-enum WordAssigned {
-    Stored { next: usize, vars_used: usize },
-    Refused(u8),
-    Demanded { at: usize, len: usize },
+struct Assigned {
+    next: usize,
+    vars_used: usize,
 }
 
 // The assignment at a place, whose `=` stands at `equals`: its value is expanded as one row, and stored. "a store too long is 20".
@@ -42,7 +32,7 @@ fn put_value(
     homes: &[u8],
     params: &[u8],
     work: &mut [u8],
-) -> WordAssigned
+) -> Result<Assigned, Stop>
     requires { ValueReady line.now place equals vars.old extent.vars_used extent.vars_room homes.now params.now work.old }
     ensures { AssignmentSays (lent_of extent.vars_room extent.shouts homes.now params.now)
         (an_assignment (drop place line.now)) line.now place (held (take extent.vars_used vars.old))
@@ -57,31 +47,18 @@ fn put_value(
         mark: Mark::L,
         units: 0,
     };
-    let got = expand_text::expand_text(line, value, start, vars, extent, homes, params, work);
-    match got {
-        Expanded::Refused(e) => WordAssigned::Refused(e),
-        Expanded::Demanded { at, len } => WordAssigned::Demanded { at: at, len: len },
-        Expanded::Row {
-            units,
-            next,
+    let row = expand_text::expand_text(line, value, start, vars, extent, homes, params, work)?;
+    let name = &line[place..equals];
+    let left = Extent {
+        vars_used: row.vars_used,
+        ..extent
+    };
+    match expand_operand::store_operand(name, row.units, vars, left, work) {
+        Ok(vars_used) => Ok(Assigned {
+            next: row.next,
             vars_used,
-            of_none: _,
-        } => {
-            let name = &line[place..equals];
-            let left = Extent {
-                vars_used: vars_used,
-                vars_room: extent.vars_room,
-                shouts: extent.shouts,
-            };
-            let stored = expand_operand::store_operand(name, units, vars, left, work);
-            match stored {
-                Stored::Full => WordAssigned::Refused(numbers::REFUSED_STORE),
-                Stored::Used(longer) => WordAssigned::Stored {
-                    next: next,
-                    vars_used: longer,
-                },
-            }
-        }
+        }),
+        Err(NoRoom) => Err(Stop::Refused(Refusal::VariableRoom)),
     }
 }
 
@@ -94,23 +71,20 @@ fn put_assignment(
     homes: &[u8],
     params: &[u8],
     work: &mut [u8],
-) -> WordAssigned
+) -> Result<Assigned, Stop>
     requires { AssignmentReady line.now place vars.old extent.vars_used extent.vars_room homes.now params.now work.old }
     ensures { AssignmentSays (lent_of extent.vars_room extent.shouts homes.now params.now)
         (an_assignment (drop place line.now)) line.now place (held (take extent.vars_used vars.old))
         vars.new work.new result }
 {
-    let found = read_line::assignment_at(line, place);
-    match found {
-        Assignment::Bad => WordAssigned::Refused(numbers::REFUSED_SYNTAX),
-        Assignment::Named { equals } => {
-            put_value(line, place, equals, vars, extent, homes, params, work)
-        }
-    }
+    let Some(equals) = read_line::assignment_at(line, place) else {
+        return Err(Stop::Refused(Refusal::BadSyntax));
+    };
+    put_value(line, place, equals, vars, extent, homes, params, work)
 }
 
 // Works out a line of assignments that has been read: "Assignments take effect left to right, each seen by the next". The image of the variables stands at
-// the front of `vars`.
+// the front of `vars`; the answer is its length.
 pub fn assign_line(
     line: &[u8],
     vars: &mut [u8],
@@ -118,7 +92,7 @@ pub fn assign_line(
     homes: &[u8],
     params: &[u8],
     work: &mut [u8],
-) -> LineAssigned
+) -> Result<usize, LineStop>
     requires { LineReady line.now vars.old extent.vars_used extent.vars_room homes.now params.now work.old }
     ensures { LineSays extent.vars_room
         (line_outcome (lent_of extent.vars_room extent.shouts homes.now params.now) line.now
@@ -126,44 +100,18 @@ pub fn assign_line(
 {
     let mut at: usize = 0;
     let mut vars_used = extent.vars_used;
-    loop {
-        let found = read_line::next_word(line, at);
-        match found {
-            NextWord::Nothing => {
-                return LineAssigned::Done {
-                    vars_used: vars_used,
-                };
-            }
-            NextWord::At(place) => {
-                let reached = Extent {
-                    vars_used: vars_used,
-                    vars_room: extent.vars_room,
-                    shouts: extent.shouts,
-                };
-                let got = put_assignment(line, place, vars, reached, homes, params, work);
-                match got {
-                    WordAssigned::Refused(e) => {
-                        return LineAssigned::Refused {
-                            number: e,
-                            place: place,
-                        };
-                    }
-                    WordAssigned::Demanded { at: message, len } => {
-                        return LineAssigned::Demanded {
-                            at: message,
-                            len: len,
-                            place: place,
-                        };
-                    }
-                    WordAssigned::Stored {
-                        next,
-                        vars_used: left,
-                    } => {
-                        at = next;
-                        vars_used = left;
-                    }
-                }
+    while let Some(place) = read_line::next_word(line, at) {
+        let reached = Extent {
+            vars_used,
+            ..extent
+        };
+        match put_assignment(line, place, vars, reached, homes, params, work) {
+            Err(stop) => return Err(LineStop { stop, place }),
+            Ok(left) => {
+                at = left.next;
+                vars_used = left.vars_used;
             }
         }
     }
+    Ok(vars_used)
 }
