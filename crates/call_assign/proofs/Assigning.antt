@@ -2,6 +2,7 @@
 use Prim.Native.Nat.{ℕ, ◌+◌, ◌≤◌}
 use native.Mathlib.Omega.{arith}
 use mathlib.Core.Path.{◌≡◌, refl, sym, ap, ◌∙◌, subst}
+use mathlib.Core.Bool.{Bool}
 use mathlib.Core.List.{List, [], ◌++◌}
 use lib.ListN.{length, take, drop}
 use lib.Seq.{length-take-le}
@@ -15,15 +16,20 @@ use Rattle.stages.specs.Call.{Given, over, cleared, assigned, settled, assigner}
 use Rattle.stages.proofs.Images.{Bytes, bytes_take}
 use Rattle.stages.proofs.Tables.{vars_of, table_canonical}
 use Rattle.table.specs.Around.{lent_of}
-use Rattle.assign_line.specs.Answers.{line_outcome, LineReady, LineDemands, IsLeft, LineSays}
-use Rattle.assign_line.specs.declared.LineAssigned.{LineAssigned}
-use Rattle.assign_line.specs.declared.LineAssigned.TheVariants as line
+use Rattle.assign_line.specs.Answers.{line_outcome, LineReady, LineDemands, IsLeft, LineStops, LineSays}
+use Rattle.std.specs.Prelude.{Result, Ok, Err}
+use Rattle.text.specs.Refusals.{refusal_number}
+use Rattle.text.specs.declared.refusal.Refusal.{Refusal}
+use Rattle.expand_add.specs.declared.answers.Stop.{Stop}
+use Rattle.expand_add.specs.declared.answers.Stop.TheVariants.{Refused, Demanded}
+use Rattle.expand_add.specs.declared.answers.LineStop.{LineStop}
 use Rattle.call_check.specs.Checks.{AssignPassed}
 use Rattle.call_deliver.specs.Hands.{Hands, Accepts, refused_as}
-use Rattle.call_deliver.specs.Awaits.{telling}
+use Rattle.call_deliver.specs.Awaits.{telling, stopped_by, stopped_as, Awaits}
+use Rattle.call_check.specs.Calls as calls
 use Rattle.call_deliver.specs.declared.Answer.{Answer}
 use Rattle.call_deliver.proofs.Copying.{used_low, copied, copy_long}
-use Rattle.call_deliver.proofs.Awaiting.{answered_clear, refused_hands, demanded_hands, accepted_hands}
+use Rattle.call_deliver.proofs.Awaiting.{answered_clear, refused_hands, demanded_hands, accepted_hands, untold_awaits}
 
 -- THE STAGE'S ANSWER
 
@@ -88,34 +94,39 @@ module _ {g : Given} (p : AssignPassed g) {room : ℕ} (same : room ≡ length g
         area = p.tables.area;
       })
 
-  module _ (copy₂ work₂ : Text) (got : LineAssigned) (h : LineSays room (given room) copy₂ work₂ got) where
-    line_of : {x : LineAssigned} → got ≡ x → LineSays (length g.vars) (assigned g) copy₂ work₂ x
-    line_of {x} k =
+  module _ (copy₂ work₂ : Text) where
+    line_of : (x : Result ℕ LineStop) → LineSays room (given room) copy₂ work₂ x → LineSays (length g.vars) (assigned g) copy₂ work₂ x
+    line_of x h =
         subst (λ (o : Placed Pairs). LineSays (length g.vars) o copy₂ work₂ x) (sym assigned_given)
-        (subst (λ (n : ℕ). LineSays n (given n) copy₂ work₂ x) same (subst (λ (y : LineAssigned). LineSays room (given room) copy₂ work₂ y) k h))
+        (subst (λ (n : ℕ). LineSays n (given n) copy₂ work₂ x) same h)
 
-    pub call_refused : {n place : ℕ} {r : Answer} → got ≡ line.Refused n place → r ≡ refused_as n place g.vars_used
-        → Hands (assigner g) r g.vars g.out g.message
-    call_refused k e = answer_refused g (line_of k) e
+    abbrev Stops : Stop → ℕ → Type 0
+    Stops stop place = LineStops (given room) work₂ stop place
 
-    module _ {at len place : ℕ} (k : got ≡ line.Demanded at len place) where
+    call_refused : (e : Refusal) (place : ℕ) → Stops (Refused e) place
+        → Hands (assigner g) (refused_as (refusal_number e) place g.vars_used) g.vars g.out g.message
+    call_refused e place h = answer_refused g (line_of (Err (record { stop = Refused e; place = place })) h) refl
+
+    module _ (at len place : ℕ) (h : Stops (Demanded at len) place) where
       asked : LineDemands (assigned g) work₂ at len place
-      asked = line_of k
+      asked = line_of (Err (record { stop = Demanded at len; place = place })) h
 
-      pub message_within : at + len ≤ length work₂
+      message_within : at + len ≤ length work₂
       message_within = asked.waits.fits
 
-      pub call_demands : {r : Answer} → r ≡ refused_as demanded place g.vars_used →
+      call_demands :
           let t = take (length g.message) (take len (drop at work₂)) in
+          let r = refused_as demanded place g.vars_used in
           Hands (assigner g) (telling r (length t)) g.vars g.out (over t g.message)
-      call_demands {r} e =
+      call_demands =
+          let r = refused_as demanded place g.vars_used in
           subst
           (λ (t : Text). Hands (assigner g) (telling r (length (take (length g.message) t))) g.vars g.out
-          (over (take (length g.message) t) g.message)) asked.waits.is (answer_demands g asked.is e)
+          (over (take (length g.message) t) g.message)) asked.waits.is (answer_demands g asked.is refl)
 
-    module _ {left : ℕ} (k : got ≡ line.Done left) where
+    module _ {left : ℕ} (h : IsLeft room (given room) copy₂ left) where
       stands : IsLeft (length g.vars) (assigned g) copy₂ left
-      stands = line_of k
+      stands = line_of (Ok left) h
 
       pub left_within : left ≤ length copy₂
       left_within = stands.holds.inside
@@ -128,3 +139,23 @@ module _ {g : Given} (p : AssignPassed g) {room : ℕ} (same : room ≡ length g
       call_accepted b a =
           answer_accepted g stands.is a
           (table_canonical is_name (take left copy₂) (vars_of (take left copy₂) stands.holds.formed) (bytes_take left copy₂ b))
+
+-- a call that stopped awaits its message, if it demands one, whatever buffer is lent for that
+module _ (line vars : Text) (used : ℕ) (shouts : Bool) (houses params work : Text) where
+  abbrev called : Text → Given
+  called = calls.given line vars used shouts houses params [] work []
+
+  module _ (p : (message : Text) → AssignPassed (called message)) {room : ℕ} (same : room ≡ length vars) (copy : Text)
+      (lc : length copy ≡ image_limit) (copy₁ : Text) (d : copy₁ ≡ take used vars ++ drop (length (take used vars)) copy) (copy₂ work₂ : Text) where
+    abbrev Halts : Stop → ℕ → Type 0
+    Halts stop place = LineStops (line_outcome (lent_of room shouts houses params) line (held (take used copy₁))) work₂ stop place
+
+    halted : (stop : Stop) (place : ℕ) → Halts stop place → Awaits (λ m. assigner (called m)) (stopped_by stop place used) vars work₂ []
+    halted (Refused e) place h = untold_awaits refl work₂ _ λ m. call_refused (p m) same copy lc copy₁ d copy₂ work₂ e place h
+    halted (Demanded at len) place h = record {
+      fits = message_within (p []) same copy lc copy₁ d copy₂ work₂ at len place h;
+      hands = λ m. call_demands (p m) same copy lc copy₁ d copy₂ work₂ at len place h;
+    }
+
+    pub call_stopped : (e : LineStop) → Halts e.stop e.place → Awaits (λ m. assigner (called m)) (stopped_as e used) vars work₂ []
+    call_stopped e h = halted e.stop e.place h

@@ -11,8 +11,7 @@ ghost use Rattle.call_check.specs.Checks.{AssignPassed};
 ghost use Rattle.call_deliver.specs.Hands.{Gives};
 ghost use Rattle.call_deliver.specs.Awaits.{Awaits};
 
-use assign_line::LineAssigned;
-use call_check::{Asked, Checked};
+use call_check::Asked;
 use call_deliver::{Answer, Draft};
 use expand_add::answers::Extent;
 use text::numbers;
@@ -36,22 +35,13 @@ fn on_copy(
 {
     let used = extent.vars_used;
     text_copy::copy_in(&vars[..used], copy);
-    let got = assign_line::assign_line(line, copy, extent, homes, params, work);
-    match got {
-        LineAssigned::Refused { number, place } => {
-            call_deliver::refuse_with(number, place, used, 0, 0)
-        }
-        LineAssigned::Demanded { at, len, place } => {
-            call_deliver::refuse_with(numbers::REFUSED_DEMAND, place, used, at, len)
-        }
-        LineAssigned::Done { vars_used } => {
-            let answer = call_deliver::accept(0, &copy[..vars_used], vars, used);
-            Draft {
-                answer: answer,
-                at: 0,
-                len: 0,
-            }
-        }
+    match assign_line::assign_line(line, copy, extent, homes, params, work) {
+        Err(stop) => call_deliver::stop(stop, used),
+        Ok(left) => Draft {
+            answer: call_deliver::accept(0, &copy[..left], vars, used),
+            at: 0,
+            len: 0,
+        },
     }
 }
 
@@ -88,12 +78,15 @@ fn from_checks(
         (λ message. assigner (given line.now vars.old asked.vars_used asked.shouts homes.now params.now []
         work.old [] message)) result vars.new work.new [] }
 {
-    let checked = call_check::check_assignments(line, vars, asked.vars_used, homes, params, work);
-    match checked {
-        Checked::Refused { number, place } => {
-            call_deliver::refuse_with(number, place, asked.vars_used, 0, 0)
-        }
-        Checked::Fine => {
+    match call_check::check_assignments(line, vars, asked.vars_used, homes, params, work) {
+        Err(refused) => call_deliver::refuse_with(
+            refused.why,
+            refused.place,
+            asked.vars_used,
+            0,
+            0,
+        ),
+        Ok(()) => {
             let extent = Extent {
                 vars_used: asked.vars_used,
                 vars_room: vars.len(),

@@ -18,22 +18,24 @@ use Rattle.stages.specs.Quote.{quoted_line}
 use Rattle.stages.specs.Line.{Fields}
 use Rattle.stages.specs.Call.{Quoting, over, or_refused, quoted_in, quoting, quoter}
 use Rattle.stages.proofs.Rooms.{over_front}
-use Rattle.quote.specs.Answers.{quoting_of}
-use Rattle.quote.specs.declared.Quoted.{Quoted}
-use Rattle.quote.specs.declared.Quoted.TheVariants.{Len, Malformed, NoRoom}
+use Rattle.std.specs.Prelude.{Result, Ok, Err}
+use Rattle.quote.specs.Answers.{refusal_of, quoting_of}
+use Rattle.quote.specs.declared.QuoteError.{QuoteError}
+use Rattle.quote.specs.declared.QuoteError.TheVariants.{Malformed, NoRoom}
 use Rattle.table_store.specs.Holding.{Holds}
 use Rattle.table.specs.Around.{among}
-use Rattle.expand_line.specs.Answers.{line_outcome, LineReady, IsLine, LineSays}
-use Rattle.expand_line.specs.declared.LineExpanded.{LineExpanded}
-use Rattle.expand_line.specs.declared.LineExpanded.TheVariants as line
+use Rattle.expand_line.specs.Answers.{line_outcome, LineReady, IsLine, LineStops}
+use Rattle.text.specs.Refusals.{refusal_number}
+use Rattle.expand_add.specs.declared.answers.Stop.{Stop}
+use Rattle.expand_add.specs.declared.answers.Stop.TheVariants.{Refused, Demanded}
+use Rattle.expand_add.specs.declared.answers.LineStop.{LineStop}
 use Rattle.call_check.specs.Calls.{room_of, output_of}
 use Rattle.call_check.specs.Checks.{room_in}
 use Rattle.call_check.specs.declared.Job.{Job}
 use Rattle.call_check.specs.declared.Job.TheVariants.{Expander, Normaliser}
 use Rattle.call_deliver.specs.Hands.{writing_of}
-use Rattle.call_run.specs.Drafts.{worded, draft, Drafting, DraftOf}
+use Rattle.call_run.specs.Drafts.{worded, draft, Drafting, DraftStops, DraftOf}
 use Rattle.call_run.specs.declared.Delivered.{Delivered}
-use Rattle.call_run.specs.declared.Delivered.TheVariants as delivered
 
 -- the lesser of the job's room and 8,192
 lesser_low : (n : ℕ) (x : Bool) → leb n image_limit ≡ x → (pick x n image_limit ≤ image_limit) × (pick x n image_limit ≤ n)
@@ -63,24 +65,23 @@ writing_is Expander l out e = refl
 writing_is Normaliser l out e = rw e
 
 -- the code's answer by the quoter's
-abbrev pub delivered_as : Quoted → ℕ → Delivered
-delivered_as (Len n) left = delivered.Done n left
-delivered_as NoRoom left = delivered.Refused output_room 0
-delivered_as Malformed left = delivered.Refused bad_fields 0
+abbrev pub delivered_as : Result ℕ QuoteError → ℕ → Result Delivered LineStop
+delivered_as (Ok n) left = Ok (record { out_len = n; vars_used = left })
+delivered_as (Err e) left = Err (record { stop = Refused (refusal_of e); place = 0 })
 
 -- what is written, by the stage's numbers: 0 and 21 alone can come
 module _ {room left : ℕ} {copy : Text} (w : Holds room copy left) (work old out : Text) where
-  by_written : (o : Placed Text) → Written o → (q : Quoted) → quoting_of q out ≡ quoting old o
+  by_written : (o : Placed Text) → Written o → (q : Result ℕ QuoteError) → quoting_of q out ≡ quoting old o
       → DraftOf room (o then λ t. done_at (t, held (take left copy))) copy work old out (delivered_as q left)
   unfolding quoting
-  by_written (refused_at n p) full (Len m) e = absurd (omega (arith, ap (λ (x : Quoting). x.number) e))
-  by_written (refused_at n p) full NoRoom e = (refl, ap (λ (x : Quoting). x.out) e)
-  by_written (refused_at n p) full Malformed e = absurd (omega (arith, ap (λ (x : Quoting). x.number) e))
+  by_written (refused_at n p) full (Ok m) e = absurd (omega (arith, ap (λ (x : Quoting). x.number) e))
+  by_written (refused_at n p) full (Err NoRoom) e = (refl, ap (λ (x : Quoting). x.out) e)
+  by_written (refused_at n p) full (Err Malformed) e = absurd (omega (arith, ap (λ (x : Quoting). x.number) e))
   by_written (demands_at n p) w q e = elim w [ ]
-  by_written (done_at t) fine (Len m) e =
+  by_written (done_at t) fine (Ok m) e =
       record { written = t; is = refl; long = ap (λ (x : Quoting). x.out_length) e; stands = ap (λ (x : Quoting). x.out) e; holds = w }
-  by_written (done_at t) fine NoRoom e = absurd (omega (arith, ap (λ (x : Quoting). x.number) e))
-  by_written (done_at t) fine Malformed e = absurd (omega (arith, ap (λ (x : Quoting). x.number) e))
+  by_written (done_at t) fine (Err NoRoom) e = absurd (omega (arith, ap (λ (x : Quoting). x.number) e))
+  by_written (done_at t) fine (Err Malformed) e = absurd (omega (arith, ap (λ (x : Quoting). x.number) e))
 
 module _ {job : Job} {room used : ℕ} {shouts : Bool} {text copy houses params paths work : Text} (out : Text)
     (p : Drafting job room shouts used text copy houses params paths work (length out)) (images : Text) (li : length images ≡ image_limit) (size : ℕ)
@@ -124,25 +125,17 @@ module _ {job : Job} {room used : ℕ} {shouts : Bool} {text copy houses params 
   both : outside ≡ inside
   both = ap (λ (n : ℕ). line_outcome (among room shouts houses params paths n) text (held (take used copy))) (sym (lent_long ∙ e))
 
-  module _ (copy₂ work₁ image₁ : Text) (got : LineExpanded) (same : length image₁ ≡ length lent)
-      (h : LineSays room inside copy₂ lent image₁ work₁ got) where
-    line_of : {x : LineExpanded} → got ≡ x → LineSays room inside copy₂ lent image₁ work₁ x
-    line_of k = subst (λ (x : LineExpanded). LineSays room inside copy₂ lent image₁ work₁ x) k h
-
-    pub line_refused : {n place : ℕ} → got ≡ line.Refused n place → DraftOf room (draft job (length out) outside) copy₂ work₁ out out
-        (delivered.Refused n place)
-    line_refused k = (ap (draft job (length out)) (both ∙ line_of k), refl)
-
-    pub line_demands : {at len place : ℕ} → got ≡ line.Demanded at len place → DraftOf room (draft job (length out) outside) copy₂ work₁ out out
-        (delivered.Demanded at len place)
-    line_demands k =
-        let d = line_of k in
+  module _ (work₁ : Text) where
+    stopped : (stop : Stop) (place : ℕ) → LineStops inside work₁ stop place → DraftStops (draft job (length out) outside) work₁ out out stop place
+    stopped (Refused e) place h = (ap (draft job (length out)) (both ∙ h), refl)
+    stopped (Demanded at len) place d =
         record { message = d.message; is = ap (draft job (length out)) (both ∙ d.is); waits = d.waits; kept = refl }
 
-    module _ {len left : ℕ} (k : got ≡ line.Done len left) where
-      made : IsLine room inside copy₂ lent image₁ len left
-      made = line_of k
+    pub line_stopped : (e : LineStop) → LineStops inside work₁ e.stop e.place → DraftStops (draft job (length out) outside) work₁ out out e.stop e.place
+    line_stopped e h = stopped e.stop e.place h
 
+  module _ (copy₂ work₁ image₁ : Text) (same : length image₁ ≡ length lent) where
+    module _ {len left : ℕ} (made : IsLine room inside copy₂ lent image₁ len left) where
       abbrev whole : Text
       whole = image₁ ++ drop size images
 
@@ -168,13 +161,12 @@ module _ {job : Job} {room used : ℕ} {shouts : Bool} {text copy houses params 
         fields_here (take len whole) (ap is_some (ap fields_of image_there ∙ p.again made.fields (held (take left copy₂)) outside_done)),
       )
 
-      pub line_delivered : (out₁ : Text) {q s : Quoted} → quoting_of q out₁ ≡ writing_of job (take len whole) out → q ≡ s
+      pub line_delivered : (out₁ : Text) (s : Result ℕ QuoteError) → quoting_of s out₁ ≡ writing_of job (take len whole) out
           → DraftOf room (draft job (length out) outside) copy₂ work₁ out out₁ (delivered_as s left)
-      line_delivered out₁ {s = s} w c =
+      line_delivered out₁ s w =
           subst (λ (o : Placed (Text × Pairs)). DraftOf room o copy₂ work₁ out out₁ (delivered_as s left))
           (sym (ap (draft job (length out)) outside_done))
           (by_written made.holds work₁ out out₁ (output_of job (length out) made.fields) (output_written job (length out) made.fields) s
-          (ap (λ (x : Quoted). quoting_of x out₁) (sym c)
-          ∙ w
+          (w
           ∙ ap (λ (t : Text). writing_of job t out) image_there
           ∙ writing_is job made.fields out (p.again made.fields (held (take left copy₂)) outside_done)))

@@ -1,8 +1,9 @@
 -- A call on the copy of its variables, once it has passed the checks.
 use Prim.Native.Nat.{ℕ, ◌+◌, ◌≤◌}
 use native.Mathlib.Omega.{arith}
-use mathlib.Core.Path.{◌≡◌, sym, ap, ◌∙◌, subst}
-use mathlib.Core.List.{List, ◌++◌}
+use mathlib.Core.Path.{◌≡◌, refl, sym, ap, ◌∙◌, subst}
+use mathlib.Core.Bool.{Bool}
+use mathlib.Core.List.{List, [], ◌++◌}
 use mathlib.Core.Option.{some}
 use lib.ListN.{length, take, drop}
 use lib.Seq.{length-take-le}
@@ -23,10 +24,17 @@ use Rattle.call_check.specs.declared.Job.{Job}
 use Rattle.call_deliver.specs.Hands.{Hands, Accepts, refused_as}
 use Rattle.call_deliver.specs.declared.Answer.{Answer}
 use Rattle.call_deliver.proofs.Copying.{used_low, copied, copy_long}
-use Rattle.call_deliver.specs.Awaits.{telling}
-use Rattle.call_run.specs.Drafts.{worded, draft, Drafting, Drafted, Demanding, DraftOf}
+use Rattle.call_deliver.specs.Awaits.{telling, stopped_by, stopped_as, Awaits}
+use Rattle.call_deliver.proofs.Awaiting.{untold_awaits}
+use Rattle.call_check.specs.Calls as calls
+use Rattle.text.specs.declared.refusal.Refusal.{Refusal}
+use Rattle.call_run.specs.Drafts.{worded, draft, Drafting, Drafted, Demanding, DraftStops, DraftOf}
 use Rattle.call_run.specs.declared.Delivered.{Delivered}
-use Rattle.call_run.specs.declared.Delivered.TheVariants as delivered
+use Rattle.std.specs.Prelude.{Result, Ok, Err}
+use Rattle.text.specs.Refusals.{refusal_number}
+use Rattle.expand_add.specs.declared.answers.Stop.{Stop}
+use Rattle.expand_add.specs.declared.answers.Stop.TheVariants.{Refused, Demanded}
+use Rattle.expand_add.specs.declared.answers.LineStop.{LineStop}
 use Rattle.call_run.proofs.Answering.{draft_refused, draft_demands, draft_accepted}
 
 -- what an outcome that is known tells
@@ -78,41 +86,47 @@ module _ {job : Job} {g : Given} (p : Passed job g) {room : ℕ} (same : room �
             fields_are (image l) (fields_image l r.fine r.small) ∙ ap some (held_texts_image l r.fine);
       })
 
-  module _ (copy₂ work₂ out₁ : Text) (got : Delivered) (h : DraftOf room (draft job (length g.out) (given room)) copy₂ work₂ g.out out₁ got) where
-    draft_of : {x : Delivered} → got ≡ x → DraftOf (length g.vars) (draft job (length g.out) (worked job g)) copy₂ work₂ g.out out₁ x
-    draft_of {x} k =
+  module _ (copy₂ work₂ out₁ : Text) where
+    draft_of : (x : Result Delivered LineStop) → DraftOf room (draft job (length g.out) (given room)) copy₂ work₂ g.out out₁ x
+        → DraftOf (length g.vars) (draft job (length g.out) (worked job g)) copy₂ work₂ g.out out₁ x
+    draft_of x h =
         subst (λ (o : Placed (Fields × Pairs)). DraftOf (length g.vars) (draft job (length g.out) o) copy₂ work₂ g.out out₁ x)
         (sym worked_given)
-        (subst (λ (n : ℕ). DraftOf n (draft job (length g.out) (given n)) copy₂ work₂ g.out out₁ x) same
-        (subst (λ (y : Delivered). DraftOf room (draft job (length g.out) (given room)) copy₂ work₂ g.out out₁ y) k h))
+        (subst (λ (n : ℕ). DraftOf n (draft job (length g.out) (given n)) copy₂ work₂ g.out out₁ x) same h)
 
-    pub call_refused : {n place : ℕ} {r : Answer} → got ≡ delivered.Refused n place → r ≡ refused_as n place g.vars_used → Hands (answer_of job g)
-        r g.vars out₁ g.message
-    call_refused {r = r} k f =
-        let q = draft_of k in
-        subst (λ (t : Text). Hands (answer_of job g) r g.vars t g.message) (sym q.1) (draft_refused job g q.0 f)
+    abbrev Stops : Stop → ℕ → Type 0
+    Stops stop place = DraftStops (draft job (length g.out) (given room)) work₂ g.out out₁ stop place
 
-    module _ {at len place : ℕ} (k : got ≡ delivered.Demanded at len place) where
+    pub call_refused : (e : Refusal) (place : ℕ) → Stops (Refused e) place
+        → Hands (answer_of job g) (refused_as (refusal_number e) place g.vars_used) g.vars out₁ g.message
+    call_refused e place h =
+        let q = draft_of (Err (record { stop = Refused e; place = place })) h in
+        subst (λ (t : Text). Hands (answer_of job g) (refused_as (refusal_number e) place g.vars_used) g.vars t g.message) (sym q.1)
+        (draft_refused job g q.0 refl)
+
+    module _ (at len place : ℕ) (h : Stops (Demanded at len) place) where
       asked : Demanding (draft job (length g.out) (worked job g)) work₂ g.out out₁ at len place
-      asked = draft_of k
+      asked = draft_of (Err (record { stop = Demanded at len; place = place })) h
 
       pub message_within : at + len ≤ length work₂
       message_within = asked.waits.fits
 
-      pub call_demands : {r : Answer} → r ≡ refused_as demanded place g.vars_used →
+      pub call_demands :
           let t = take (length g.message) (take len (drop at work₂)) in
+          let r = refused_as demanded place g.vars_used in
           Hands (answer_of job g) (telling r (length t)) g.vars out₁ (over t g.message)
-      call_demands {r} f =
+      call_demands =
+          let r = refused_as demanded place g.vars_used in
           subst
           (λ (t : Text). Hands (answer_of job g) (telling r (length (take (length g.message) t))) g.vars out₁
           (over (take (length g.message) t) g.message)) asked.waits.is
           (subst
           (λ (o : Text). Hands (answer_of job g) (telling r (length (take (length g.message) asked.message))) g.vars o
-          (over (take (length g.message) asked.message) g.message)) (sym asked.kept) (draft_demands job g asked.is f))
+          (over (take (length g.message) asked.message) g.message)) (sym asked.kept) (draft_demands job g asked.is refl))
 
-    module _ {n left : ℕ} (k : got ≡ delivered.Done n left) where
+    module _ {n left : ℕ} (h : Drafted room (draft job (length g.out) (given room)) copy₂ g.out out₁ n left) where
       made : Drafted (length g.vars) (draft job (length g.out) (worked job g)) copy₂ g.out out₁ n left
-      made = draft_of k
+      made = draft_of (Ok (record { out_len = n; vars_used = left })) h
 
       pub left_within : left ≤ length copy₂
       left_within = made.holds.inside
@@ -125,3 +139,24 @@ module _ {job : Job} {g : Given} (p : Passed job g) {room : ℕ} (same : room �
       call_accepted b a =
           draft_accepted job g made.is a made.long made.stands
           (table_canonical is_name (take left copy₂) (vars_of (take left copy₂) made.holds.formed) (bytes_take left copy₂ b))
+
+-- a call that stopped awaits its message, if it demands one, whatever buffer is lent for that
+module _ (line vars : Text) (used : ℕ) (shouts : Bool) (houses params paths work out : Text) where
+  abbrev called : Text → Given
+  called = calls.given line vars used shouts houses params paths work out
+
+  module _ {job : Job} (p : (message : Text) → Passed job (called message)) {room : ℕ} (same : room ≡ length vars) (copy copy₁ : Text)
+      (lc : length copy ≡ image_limit) (d : copy₁ ≡ take used vars ++ drop (length (take used vars)) copy) (copy₂ work₂ out₁ : Text) where
+    abbrev Halts : Stop → ℕ → Type 0
+    Halts stop place =
+        DraftStops (draft job (length out) (worded job room shouts used line copy₁ houses params paths (length out))) work₂ out out₁ stop place
+
+    halted : (stop : Stop) (place : ℕ) → Halts stop place → Awaits (λ m. answer_of job (called m)) (stopped_by stop place used) vars work₂ out₁
+    halted (Refused e) place h = untold_awaits refl work₂ _ λ m. call_refused (p m) same copy copy₁ lc d copy₂ work₂ out₁ e place h
+    halted (Demanded at len) place h = record {
+      fits = message_within (p []) same copy copy₁ lc d copy₂ work₂ out₁ at len place h;
+      hands = λ m. call_demands (p m) same copy copy₁ lc d copy₂ work₂ out₁ at len place h;
+    }
+
+    pub call_stopped : (e : LineStop) → Halts e.stop e.place → Awaits (λ m. answer_of job (called m)) (stopped_as e used) vars work₂ out₁
+    call_stopped e h = halted e.stop e.place h

@@ -16,8 +16,12 @@ use Rattle.expand_line.specs.Answers.{line_outcome}
 use Rattle.call_check.specs.Calls.{output_of}
 use Rattle.call_check.specs.Checks.{room_in}
 use Rattle.call_check.specs.declared.Job.{Job}
+use Rattle.std.specs.Prelude.{Result, Ok, Err}
+use Rattle.text.specs.Refusals.{refusal_number}
+use Rattle.expand_add.specs.declared.answers.Stop.{Stop}
+use Rattle.expand_add.specs.declared.answers.Stop.TheVariants.{Refused, Demanded}
+use Rattle.expand_add.specs.declared.answers.LineStop.{LineStop}
 use Rattle.call_run.specs.declared.Delivered.{Delivered}
-use Rattle.call_run.specs.declared.Delivered.TheVariants as delivered
 
 -- the fields and the variables of a line that is expanded with the copy, for an output of so many bytes
 abbrev pub worded : Job → ℕ → Bool → ℕ → Text → Text → Text → Text → Text → ℕ → Placed (Fields × Pairs)
@@ -56,7 +60,11 @@ pub record Demanding (o : Placed (Text × Pairs)) (work old out : Text) (at len 
   pub waits : Waits message work at len
   pub kept : out ≡ old
 
-abbrev pub DraftOf : ℕ → Placed (Text × Pairs) → Text → Text → Text → Text → Delivered → Type 0
-DraftOf varsRoom o copy work old out (delivered.Refused n place) = (o ≡ refused_at n place) × (out ≡ old)
-DraftOf varsRoom o copy work old out (delivered.Demanded at len place) = Demanding o work old out at len place
-DraftOf varsRoom o copy work old out (delivered.Done out_length vars_used) = Drafted varsRoom o copy old out out_length vars_used
+-- why it stopped: the output holds its old bytes
+abbrev pub DraftStops : Placed (Text × Pairs) → Text → Text → Text → Stop → ℕ → Type 0
+DraftStops o work old out (Refused e) place = (o ≡ refused_at (refusal_number e) place) × (out ≡ old)
+DraftStops o work old out (Demanded at len) place = Demanding o work old out at len place
+
+abbrev pub DraftOf : ℕ → Placed (Text × Pairs) → Text → Text → Text → Text → Result Delivered LineStop → Type 0
+DraftOf varsRoom o copy work old out (Ok d) = Drafted varsRoom o copy old out d.out_len d.vars_used
+DraftOf varsRoom o copy work old out (Err e) = DraftStops o work old out e.stop e.place

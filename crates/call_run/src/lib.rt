@@ -12,12 +12,11 @@ ghost use Rattle.call_deliver.specs.Hands.{Gives};
 ghost use Rattle.call_deliver.specs.Awaits.{Awaits};
 ghost use Rattle.call_run.specs.Drafts.{worded, draft, Drafting, DraftOf};
 
-use call_check::{Asked, Checked, Job};
+use call_check::{Asked, Job};
 use call_deliver::{Answer, Draft};
-use expand_add::answers::Extent;
-use expand_line::LineExpanded;
-use quote::Quoted;
+use expand_add::answers::{Extent, LineStop, Stop};
 use text::numbers;
+use text::refusal::Refusal;
 
 // What holds for a whole call.
 #[derive(Clone, Copy)]
@@ -26,13 +25,11 @@ struct Call {
     extent: Extent,
 }
 
-// What came of a line: so many bytes of the output are written, and so many of the variables' copy are their new image; or the number and the place that
-// refuse the call; or the place of 13, whose message is the work area's `len` bytes from `at` on.
+// What came of a line: so many bytes of the output are written, and so many of the variables' copy are their new image.
 #[derive(Clone, Copy)]
-enum Delivered {
-    Done { out_len: usize, vars_used: usize },
-    Refused { number: u8, place: usize },
-    Demanded { at: usize, len: usize, place: usize },
+struct Delivered {
+    out_len: usize,
+    vars_used: usize,
 }
 
 // The line, once the variables are copied: its fields' image stands in `image`, and what the job gives of it in the output, if the call is accepted.
@@ -46,7 +43,7 @@ fn on_image(
     work: &mut [u8],
     out: &mut [u8],
     image: &mut [u8],
-) -> Delivered
+) -> Result<Delivered, LineStop>
     requires drafting { Drafting call.job call.extent.vars_room call.extent.shouts call.extent.vars_used line.now copy.old homes.now
         params.now paths.now work.old (length out.old) }
     requires image_len { length image.old ≡ image_limit }
@@ -56,46 +53,26 @@ fn on_image(
         homes.now params.now paths.now (length out.old))) copy.new work.new out.old
         out.new result }
 {
-    let job = call.job;
-    let extent = call.extent;
-    let size = call_check::room(job, out.len());
-    let got = expand_line::expand_line(
+    let size = call_check::room(call.job, out.len());
+    let done = expand_line::expand_line(
         line,
         copy,
-        extent,
+        call.extent,
         homes,
         params,
         paths,
         work,
         &mut image[..size],
-    );
-    match got {
-        LineExpanded::Refused { number, place } => Delivered::Refused {
-            number: number,
-            place: place,
-        },
-        LineExpanded::Demanded { at, len, place } => Delivered::Demanded {
-            at: at,
-            len: len,
-            place: place,
-        },
-        LineExpanded::Done { used, vars_used } => {
-            let written = call_deliver::deliver(job, &image[..used], out);
-            match written {
-                Quoted::Len(n) => Delivered::Done {
-                    out_len: n,
-                    vars_used: vars_used,
-                },
-                Quoted::NoRoom => Delivered::Refused {
-                    number: numbers::REFUSED_OUTPUT,
-                    place: 0,
-                },
-                Quoted::Malformed => Delivered::Refused {
-                    number: numbers::REFUSED_FIELDS,
-                    place: 0,
-                },
-            }
-        }
+    )?;
+    match call_deliver::deliver(call.job, &image[..done.used], out) {
+        Ok(out_len) => Ok(Delivered {
+            out_len,
+            vars_used: done.vars_used,
+        }),
+        Err(error) => Err(LineStop {
+            stop: Stop::Refused(Refusal::from(error)),
+            place: 0,
+        }),
     }
 }
 
@@ -109,7 +86,7 @@ fn with_image(
     paths: &[u8],
     work: &mut [u8],
     out: &mut [u8],
-) -> Delivered
+) -> Result<Delivered, LineStop>
     requires { Drafting call.job call.extent.vars_room call.extent.shouts call.extent.vars_used line.now copy.old homes.now
         params.now paths.now work.old (length out.old) }
     ensures { DraftOf call.extent.vars_room
@@ -144,25 +121,15 @@ fn on_copy(
         params.now paths.now work.old out.old message)) result vars.new work.new
         out.new }
 {
-    let extent = call.extent;
-    let used = extent.vars_used;
+    let used = call.extent.vars_used;
     text_copy::copy_in(&vars[..used], copy);
-    let got = with_image(call, line, copy, homes, params, paths, work, out);
-    match got {
-        Delivered::Refused { number, place } => {
-            call_deliver::refuse_with(number, place, used, 0, 0)
-        }
-        Delivered::Demanded { at, len, place } => {
-            call_deliver::refuse_with(numbers::REFUSED_DEMAND, place, used, at, len)
-        }
-        Delivered::Done { out_len, vars_used } => {
-            let answer = call_deliver::accept(out_len, &copy[..vars_used], vars, used);
-            Draft {
-                answer: answer,
-                at: 0,
-                len: 0,
-            }
-        }
+    match with_image(call, line, copy, homes, params, paths, work, out) {
+        Err(stop) => call_deliver::stop(stop, used),
+        Ok(done) => Draft {
+            answer: call_deliver::accept(done.out_len, &copy[..done.vars_used], vars, used),
+            at: 0,
+            len: 0,
+        },
     }
 }
 
@@ -205,7 +172,7 @@ fn from_checks(
         (λ message. answer_of job (given line.now vars.old asked.vars_used asked.shouts homes.now params.now
         paths.now work.old out.old message)) result vars.new work.new out.new }
 {
-    let checked = call_check::check(
+    match call_check::check(
         job,
         line,
         vars,
@@ -215,22 +182,30 @@ fn from_checks(
         paths,
         work,
         out,
-    );
-    match checked {
-        Checked::Refused { number, place } => {
-            call_deliver::refuse_with(number, place, asked.vars_used, 0, 0)
-        }
-        Checked::Fine => {
+    ) {
+        Err(refused) => call_deliver::refuse_with(
+            refused.why,
+            refused.place,
+            asked.vars_used,
+            0,
+            0,
+        ),
+        Ok(()) => {
             let extent = Extent {
                 vars_used: asked.vars_used,
                 vars_room: vars.len(),
                 shouts: asked.shouts,
             };
-            let call = Call {
-                job: job,
-                extent: extent,
-            };
-            with_copy(call, line, vars, homes, params, paths, work, out)
+            with_copy(
+                Call { job, extent },
+                line,
+                vars,
+                homes,
+                params,
+                paths,
+                work,
+                out,
+            )
         }
     }
 }

@@ -12,11 +12,12 @@ ghost use Rattle.stages.specs.Quote.{is_bare, singled, quoted_bytes, enclosed, q
 ghost use Rattle.stages.specs.Call.{quoter};
 ghost use Rattle.text.specs.Putting.{Puts};
 ghost use Rattle.table.specs.Pieces.{texts_from};
-ghost use Rattle.quote.specs.Answers.{has_room, quoting_of};
+ghost use Rattle.quote.specs.Answers.{has_room, refusal_of, quoting_of};
 ghost use Rattle.quote.specs.Ways.{way_is};
 ghost use Rattle.quote.specs.Rests.{Rest};
 
 use table::Kind;
+use text::refusal::Refusal;
 use text::{Class, numbers};
 use ways::{Look, QUOTE, Way};
 
@@ -29,6 +30,17 @@ pub enum QuoteError {
     Malformed,
     // The line is longer than a line may be, or than the buffer.
     NoRoom,
+}
+
+impl From<QuoteError> for Refusal {
+    ghost from_gives = { λ error why. why ≡ refusal_of error };
+
+    fn from(error: QuoteError) -> Refusal {
+        match error {
+            QuoteError::Malformed => Refusal::BadFields,
+            QuoteError::NoRoom => Refusal::OutputRoom,
+        }
+    }
 }
 
 const BLANK: u8 = b' ';
