@@ -1,11 +1,9 @@
 -- What the loop over a run holds: all bytes that were passed are of the run.
 use Prim.Native.Nat.{ℕ, ◌+◌, ◌-◌, ◌≤◌, ◌<◌}
 use native.Mathlib.Omega.{arith}
-use native.Mathlib.Nat.{sub_self}
 use mathlib.Core.Path.{◌≡◌, refl, sym, ap, ◌∙◌, subst}
 use mathlib.Core.Bool.{true, false}
 use mathlib.Core.List.{[], ◌∷◌, ◌++◌}
-use borrow.Author.Tests.{eq-eqb, ne_eqb}
 use lib.ListN.{length, drop, get_or, take-append-drop, drop_of_length-le}
 use lib.Seq.{drop-cons, drop-drop}
 use Rattle.stages.specs.Bytes.{Text, part, span, all}
@@ -13,10 +11,7 @@ use Rattle.stages.specs.Syntax.{Mode}
 use Rattle.stages.proofs.Bools.{and_both}
 use Rattle.stages.proofs.Texts.{Stops, all_append, span_of}
 use Rattle.text.proofs.Scans.{part_more}
-use Rattle.read_mode.specs.Modes.{mode_of, mode_onward}
-use Rattle.read_mode.specs.declared.Cursor.{Cursor}
-use Rattle.read_mode.specs.declared.Mode as code-mode
-use Rattle.read_run.specs.Literals.{literal_in, Literals, Passed}
+use Rattle.read_run.specs.Literals.{literal_in, Literals}
 
 pub record Running (m : Mode) (t : Text) (at i : ℕ) : Type 0 where
   pub onward : at ≤ i
@@ -24,9 +19,6 @@ pub record Running (m : Mode) (t : Text) (at i : ℕ) : Type 0 where
   pub is : all (literal_in m) (part t at i) ≡ true
 
 module _ (m : Mode) (t : Text) (at : ℕ) where
-  pub run_starts : at ≤ length t → Running m t at at
-  run_starts h = record { onward = omega arith; within = h; is = rw (sub_self at) }
-
   module _ (i : ℕ) (p : Running m t at i) where
     -- the run, and what is behind it
     cut : drop at t ≡ part t at i ++ drop i t
@@ -57,13 +49,3 @@ module _ (m : Mode) (t : Text) (at : ℕ) where
       is = rw (part_more t at i p.onward h)
           (all_append (literal_in m) (part t at i) (get_or t i 0 ∷ []) p.is (and_both e refl));
     }
-
--- How the text goes on: as it was, where the run is empty, and else begun.
-
-module _ (text : Text) (from : Cursor) {r : ℕ} (l : Literals text from.at (mode_of from.mode) r) where
-  pub passed_none : r ≡ from.at → Passed text from from
-  passed_none e = record { run = rw e at l; mode = sym (rw (eq-eqb from.at from.at refl)); depth = refl }
-
-  pub passed_some : (r ≡ from.at → ⊥) → {m : code-mode.Mode} → m ≡ mode_onward from.mode
-      → Passed text from (record { at = r; mode = m; depth = from.depth })
-  passed_some e g = record { run = l; mode = g ∙ sym (rw (ne_eqb r from.at e)); depth = refl }
