@@ -18,8 +18,8 @@ use Rattle.stages.proofs.Images.{length_image, written_append, record_bytes_appe
 use Rattle.stages.proofs.Rooms.{over_front}
 use Rattle.text.proofs.Parts.{rest_is, rest_length, rest_back}
 use Rattle.table_store.specs.Answers.{put_outcome, text_limit, record_in, Writes}
-use Rattle.table_store.specs.declared.Put.{Put}
-use Rattle.table_store.specs.declared.Put.TheVariants.{Len, NoRoom}
+use Rattle.std.specs.Prelude.{Result, Ok, Err}
+use Rattle.table_store.specs.declared.NoRoom.{NoRoom}
 use Rattle.table_store.specs.Splice.{placed}
 use Rattle.table_store.proofs.Callers.{Wrote, wrote, unwritten, record_given, record_refused, version_first}
 use Rattle.recipe_arguments.specs.Options.{word_in, Hearing, silent, heard_as, heard, heard_all}
@@ -38,7 +38,7 @@ lent used old t ys e =
     e ∙ ap (λ (x : Text). t ++ drop (length t) x) (rest_is used old) ∙ ap (λ (x : Text). t ++ x) (drop-drop (length t) used old) in
     rw (rest_back used old ys, y)
 
-module _ (t : Text) (used : ℕ) (old ys : Text) (r : Put)
+module _ (t : Text) (used : ℕ) (old ys : Text) (r : Result ℕ NoRoom)
     (w : Writes (record_in (length (mid_of used (length old - used) old)) t) (mid_of used (length old - used) old) ys (put_outcome r)) where
   abbrev room : ℕ
   room = length (mid_of used (length old - used) old)
@@ -49,24 +49,24 @@ module _ (t : Text) (used : ℕ) (old ys : Text) (r : Put)
   same_room : record_in room t ≡ record_in (length old - used) t
   same_room = ap (λ (n : ℕ). record_in n t) (rest_length used old)
 
-  wrote_new : {n : ℕ} → r ≡ Len n → Wrote (record_in room t) (mid_of used (length old - used) old) ys n
+  wrote_new : {n : ℕ} → r ≡ Ok n → Wrote (record_in room t) (mid_of used (length old - used) old) ys n
   wrote_new {n} e = wrote (record_in room t) (mid_of used (length old - used) old) ys n (rw e at w)
 
-  pub put_within : {n : ℕ} → r ≡ Len n → used ≤ length old → used + n ≤ length old
+  pub put_within : {n : ℕ} → r ≡ Ok n → used ≤ length old → used + n ≤ length old
   put_within {n} e h =
       let d = wrote_new e in
       let g : (framed t ≡ d.new) × (length t ≤ text_limit) × (length t + 2 ≤ room) = record_given room t d.new d.gives in
       let k : length (framed t) ≡ length d.new = ap length g.0 in
       omega (arith, d.long, k, g.2, rest_length used old)
 
-  pub appends_put : {n : ℕ} → r ≡ Len n → Appends t used old after (used + n)
+  pub appends_put : {n : ℕ} → r ≡ Ok n → Appends t used old after (used + n)
   appends_put {n} e =
       let d = wrote_new e in
       subst (λ (o : Outcome Text). Adds o used old after (used + n)) (sym d.gives ∙ same_room)
       (ap (λ (k : ℕ). used + k) d.long, lent used old d.new ys d.leaves)
 
   -- the answer is the buffer's length, as it stands when the record writer has given it back
-  pub appends_full : r ≡ NoRoom → Appends t used old after (length after)
+  pub appends_full : {x : NoRoom} → r ≡ Err x → Appends t used old after (length after)
   appends_full e =
       let d = unwritten (record_in room t) (mid_of used (length old - used) old) ys _ (rw e at w) in
       let k : after ≡ old =

@@ -8,7 +8,6 @@ ghost use Rattle.recipe_arguments.specs.Options.{word_in};
 ghost use Rattle.recipe_arguments.specs.Packs.{Appends, Hears, Grows, Gathers, GathersAll};
 
 use std::env::Env;
-use table_store::Put;
 use text::numbers;
 
 // What an argument is.
@@ -40,10 +39,9 @@ pub fn append_argument(image: &mut [u8], used: usize, argument: &[u8]) -> usize
     requires { used ≤ length image.old }
     ensures { Appends argument.now «used» image.old image.new result }
 {
-    let put = table_store::put_record(&mut image[used..], argument);
-    match put {
-        Put::Len(n) => used + n,
-        Put::NoRoom => image.len(),
+    match table_store::put_record(&mut image[used..], argument) {
+        Ok(n) => used + n,
+        Err(_) => image.len(),
     }
 }
 

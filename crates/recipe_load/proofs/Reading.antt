@@ -4,8 +4,6 @@ use native.Mathlib.Omega.{arith}
 use mathlib.Core.Path.{◌≡◌, refl, sym, ap, subst, ◌∙◌}
 use mathlib.Core.List.{[], ◌∷◌, ◌++◌}
 use mathlib.Core.Option.{Option, none}
-use lib.Dec.{eqb}
-use lib.IntN.{ℤ, pos, negsuc}
 use lib.ListN.{length, take, drop, set, replicate, length-replicate}
 use lib.Seq.{length-take-le}
 use borrow.Rule.Slice.PartMut.{put_mid, mid_of}
@@ -14,35 +12,11 @@ use Rattle.stages.specs.Bytes.{Text}
 use Rattle.stages.specs.Images.{image, written}
 use Rattle.stages.specs.Call.{over}
 use Rattle.stages.specs.Program.{table_or}
-use Rattle.stages.proofs.Bools.{either}
 use Rattle.stages.proofs.Files.{zeros_behind}
 use Rattle.text.specs.Putting.{Puts}
 use Rattle.text.proofs.Parts.{rest_length, rest_back}
-use Rattle.recipe_load.specs.Loads.{Fetches, Ends, unopened_by, Settles, Stands, Held, Loads}
-use Rattle.recipe_load.specs.declared.Loaded.{Loaded}
-use Rattle.recipe_load.specs.declared.Loaded.TheVariants.{Length, Failed}
-use Rattle.recipe_load.specs.declared.Fetched.{Fetched}
-use Rattle.recipe_load.specs.declared.Fetched.TheVariants.{File, Absent, Unread}
-
--- `end_of_file`
-pub ends_fetches : {E : Type 0} (room : ℕ) (got : Result ℕ E) (done : ℕ) (r : Fetched) → done ≤ room → Ends got done r → Fetches room r
-ends_fetches room (Ok k) done r h e = subst (Fetches room) (sym e) h
-ends_fetches room (Err x) done r h e = subst (Fetches room) (sym e) tt
-
--- `unopened`
-pub unopened_fetches : (room : ℕ) (error : Perhaps ℤ) (r : Fetched) → r ≡ unopened_by error → Fetches room r
-unopened_fetches room error r e = subst (Fetches room) (sym e) (go error)
-  where
-    go : (z : Perhaps ℤ) → Fetches room (unopened_by z)
-    go (Some (pos k)) = either (eqb k 2) (λ q. rw q tt) (λ q. rw q tt)
-    go (Some (negsuc k)) = tt
-    go None = tt
-
-pub fetches_same : {m n : ℕ} (f : Fetched) → m ≡ n → Fetches m f → Fetches n f
-fetches_same f e h = subst (λ (room : ℕ). Fetches room f) e h
-
-pub file_within : {room n : ℕ} {f : Fetched} → f ≡ File n → Fetches room f → n ≤ room
-file_within {room} e h = subst (Fetches room) e h
+use Rattle.recipe_load.specs.Loads.{Fetched, Fetches, Settles, Stands, Held, Loads}
+use Rattle.recipe_load.specs.declared.Unread.{Unread}
 
 -- `put_no_records`: the version byte in front of zeros
 no_records : (zeros : Text) → 1 ≤ length zeros → set zeros 0 1 ≡ over (1 ∷ []) zeros
@@ -69,23 +43,17 @@ behind_cleared old ys n h e =
     ∙ ap (λ (m : ℕ). drop m (replicate (length old) 0)) (sym (length-take-le n old h)))
 
 -- `settle`, by what was fetched
-module _ (old left : Text) {f : Fetched} where
-  pub settled_file : {n : ℕ} → f ≡ File n → n ≤ length old → left ≡ over (take n old) (replicate (length old) 0) → Settles f old left (Length n)
-  unfolding table_or
-  settled_file {n} e h w =
-      subst (λ (g : Fetched). Settles g old left (Length n)) (sym e)
-      (record { counts = ap Length (sym (length-take-le n old h)); leaves = w })
-
-  pub settled_absent : {n : ℕ} → f ≡ Absent → Puts (table_or none) (replicate (length old) 0) left n → Settles f old left (Length n)
-  settled_absent {n} e p =
-      subst (λ (g : Fetched). Settles g old left (Length n)) (sym e) (record { counts = ap Length p.counts; leaves = p.leaves })
-
-  pub settled_unread : f ≡ Unread → left ≡ old → Settles f old left Failed
-  settled_unread e w = subst (λ (g : Fetched). Settles g old left Failed) (sym e) (refl, w)
+pub settled_file : (old left : Text) {f : Fetched} {o : Perhaps ℕ} {n : ℕ} → f ≡ Ok o → o ≡ Some n → Fetches (length old) f
+    → left ≡ over (take n old) (replicate (length old) 0) → Settles f old left (Ok n)
+unfolding table_or
+settled_file old left {f} {o} {n} e d h w =
+    let q : f ≡ Ok (Some n) = e ∙ ap Ok d in
+    subst (λ (g : Fetched). Settles g old left (Ok n)) (sym q)
+    (record { counts = ap Ok (sym (length-take-le n old (subst (Fetches (length old)) q h))); leaves = w })
 
 -- `load`: whatever was fetched, the table of a file or of none stands in the buffer, or it was not read
 module _ (room : ℕ) (mid left : Text) (l : length mid ≡ room) where
-  stands_loads : {file : Option Text} {r : Loaded} → length (table_or file) ≤ room → Stands file (length mid) left r → Loads room left r
+  stands_loads : {file : Option Text} {r : Result ℕ Unread} → length (table_or file) ≤ room → Stands file (length mid) left r → Loads room left r
   stands_loads {file} h s =
       subst (Loads room left) (sym s.counts) (record {
         file = file;
@@ -94,12 +62,12 @@ module _ (room : ℕ) (mid left : Text) (l : length mid ≡ room) where
         within = h;
       })
 
-  pub settles_loads : (f : Fetched) (r : Loaded) → 1 ≤ room → Fetches room f → Settles f mid left r → Loads room left r
+  pub settles_loads : (f : Fetched) (r : Result ℕ Unread) → 1 ≤ room → Fetches room f → Settles f mid left r → Loads room left r
   unfolding table_or image written
-  settles_loads (File n) r o h s = stands_loads (omega (arith, length-take-le n mid (omega arith))) s
-  settles_loads Absent r o h s = stands_loads {file = none} o s
-  settles_loads Unread r o h s = subst (Loads room left) (sym s.0) tt
+  settles_loads (Ok (Some n)) r o h s = stands_loads (omega (arith, length-take-le n mid (omega arith))) s
+  settles_loads (Ok None) r o h s = stands_loads {file = none} o s
+  settles_loads (Err e) r o h s = subst (Loads room left) (sym s.0) tt
 
 -- what a caller learns of a table that was loaded
-pub loads_held : (room : ℕ) (left : Text) {n : ℕ} {r : Loaded} → r ≡ Length n → Loads room left r → Held room n left
+pub loads_held : (room : ℕ) (left : Text) {n : ℕ} {r : Result ℕ Unread} → r ≡ Ok n → Loads room left r → Held room n left
 loads_held room left e h = subst (Loads room left) e h

@@ -2,7 +2,7 @@
 // system gives is fetched first, and what it stands for is settled then, by what was fetched alone.
 #![tactic(auto)]
 
-ghost use Rattle.std.specs.Prelude.{◌≡◌, ◌≤◌, length, take, replicate};
+ghost use Rattle.std.specs.Prelude.{◌≡◌, ◌≤◌, length, take, replicate, IfOk};
 ghost use Rattle.std.proofs.Math.Option.{none};
 ghost use Rattle.std.specs.IoError.{raw_os_error};
 ghost use Rattle.stages.specs.Call.{over};
@@ -18,39 +18,34 @@ use text::numbers;
 // C's number of the error that there is no such file.
 const NO_SUCH_FILE: i32 = 2;
 
-#[derive(Clone, Copy)]
-pub enum Loaded {
-    // So many bytes of the table stand in the buffer: all, or as many as it takes. Behind them are zeros.
-    Length(usize),
-    // It cannot be read, and standard error says why.
-    Failed,
-}
+// A file cannot be read, and standard error says why.
+#[derive(Clone, Copy, PartialEq, Eq)]
+pub struct Unread;
 
-// What the system gave of a file.
-#[derive(Clone, Copy)]
-enum Fetched {
-    // So many bytes of it stand in the buffer: all, or as many as it takes.
-    File(usize),
-    // There is no such file.
-    Absent,
-    // It cannot be read, and standard error says why.
-    Unread,
-}
-
-// A read that gave no byte was the file's end, or has failed.
-fn end_of_file(rt: &HostRuntime, got: io::Result<usize>, name: &[u8], done: usize) -> Fetched
+// A read that gave no byte was the end of a file of so many bytes, or has failed.
+fn end_of_file(
+    rt: &HostRuntime,
+    got: io::Result<usize>,
+    name: &[u8],
+    done: usize,
+) -> Result<usize, Unread>
     ensures { Ends got done result }
 {
     if let Err(error) = got {
         system::fail(rt, name, error);
-        return Fetched::Unread;
+        return Err(Unread);
     }
-    Fetched::File(done)
+    Ok(done)
 }
 
-// Reads a file to its end, or until the buffer is full.
-fn read_file(rt: &HostRuntime, file: &mut File, name: &[u8], buffer: &mut [u8]) -> Fetched
-    ensures { Fetches (length buffer.old) result }
+// Reads a file to its end, or until the buffer is full, and answers how many of its bytes stand there.
+fn read_file(
+    rt: &HostRuntime,
+    file: &mut File,
+    name: &[u8],
+    buffer: &mut [u8],
+) -> Result<usize, Unread>
+    ensures { IfOk result (λ n. n ≤ length buffer.old) }
 {
     let mut done = 0;
     while done < buffer.len() {
@@ -61,29 +56,30 @@ fn read_file(rt: &HostRuntime, file: &mut File, name: &[u8], buffer: &mut [u8]) 
         }
         done += n;
     }
-    Fetched::File(done)
+    Ok(done)
 }
 
 // A file that cannot be opened is absent, or cannot be read.
-fn unopened(rt: &HostRuntime, error: io::Error, name: &[u8]) -> Fetched
+fn unopened(rt: &HostRuntime, error: io::Error, name: &[u8]) -> Result<Option<usize>, Unread>
     ensures { result ≡ unopened_by (raw_os_error error) }
 {
     if let Some(NO_SUCH_FILE) = error.raw_os_error() {
-        return Fetched::Absent;
+        return Ok(None);
     }
     system::fail(rt, name, error);
-    Fetched::Unread
+    Err(Unread)
 }
 
-// Fetches the file of that name. A path of std is text: a name that is none cannot be read.
-fn fetch(rt: &HostRuntime, name: &[u8], buffer: &mut [u8]) -> Fetched
+// Fetches the file of that name, and answers how many of its bytes stand in the buffer, all or as many as it takes; `None` where there is no such file. A path
+// of std is text: a name that is none cannot be read.
+fn fetch(rt: &HostRuntime, name: &[u8], buffer: &mut [u8]) -> Result<Option<usize>, Unread>
     ensures { Fetches (length buffer.old) result }
 {
     let Ok(path) = str::from_utf8(name) else {
         return unopened(rt, io::Error::from(io::ErrorKind::InvalidFilename), name);
     };
     match File::open(rt, path) {
-        Ok(mut file) => read_file(rt, &mut file, name, buffer),
+        Ok(mut file) => read_file(rt, &mut file, name, buffer).map(Some),
         Err(error) => unopened(rt, error, name),
     }
 }
@@ -107,25 +103,21 @@ fn clear_behind(buffer: &mut [u8], n: usize)
 }
 
 // The table that was fetched: its length, or that it cannot be read. An absent one has no records; zeros stand behind a table.
-fn settle(fetched: Fetched, buffer: &mut [u8]) -> Loaded
+fn settle(fetched: Result<Option<usize>, Unread>, buffer: &mut [u8]) -> Result<usize, Unread>
     requires { (1 ≤ length buffer.old) × Fetches (length buffer.old) fetched }
     ensures { Settles fetched buffer.old buffer.new result }
 {
-    match fetched {
-        Fetched::File(n) => {
+    match fetched? {
+        Some(n) => {
             clear_behind(buffer, n);
-            Loaded::Length(n)
+            Ok(n)
         }
-        Fetched::Absent => {
-            let n = put_no_records(buffer);
-            Loaded::Length(n)
-        }
-        Fetched::Unread => Loaded::Failed,
+        None => Ok(put_no_records(buffer)),
     }
 }
 
-// Reads the table of that name.
-pub fn load(rt: &HostRuntime, name: &[u8], buffer: &mut [u8]) -> Loaded
+// Reads the table of that name, and answers how many of its bytes stand in the buffer, all or as many as it takes. Behind them are zeros.
+pub fn load(rt: &HostRuntime, name: &[u8], buffer: &mut [u8]) -> Result<usize, Unread>
     requires { 1 ≤ length buffer.old }
     ensures { Loads (length buffer.old) buffer.new result }
 {

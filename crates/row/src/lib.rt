@@ -2,7 +2,7 @@
 // its own mark.
 #![tactic(auto)]
 
-ghost use Rattle.std.specs.Prelude.{◌≡◌, ◌∷◌, [], ◌*◌, ◌≤◌, length};
+ghost use Rattle.std.specs.Prelude.{◌≡◌, ◌∷◌, [], ◌*◌, ◌≤◌, length, drop};
 ghost use Rattle.stages.specs.Units.{cell, N, B, marked, bytes, expanded_mark, lit_mark};
 ghost use Rattle.text.specs.Cases.{escape_of};
 ghost use Rattle.text.specs.Rows.{mark_byte, row_bytes};
@@ -43,8 +43,7 @@ pub fn expanded_mark(mark: Mark) -> Mark
 {
     match mark {
         Mark::L => Mark::E,
-        Mark::E => Mark::E,
-        Mark::Q => Mark::Q,
+        other => other,
     }
 }
 
@@ -55,34 +54,41 @@ pub fn literal_mark(quoted: bool, mark: Mark) -> Mark
     if quoted { Mark::Q } else { mark }
 }
 
+// Puts a byte and a mark's byte at the front.
+#[tactic(auto, using(crate::proofs::Laws::two))]
+fn put(area: &mut [u8], b: u8, mark: u8)
+    requires { 2 ≤ length area.old }
+    ensures { area.new ≡ b ∷ mark ∷ drop 2 area.old }
+{
+    area[0] = b;
+    area[1] = mark;
+}
+
 // Puts one unit at the front.
-#[tactic(auto, using(crate::proofs::Laws::two), unfolding(text::specs::Rows::row_bytes))]
+#[tactic(auto, unfolding(text::specs::Rows::row_bytes))]
 pub fn put_unit(area: &mut [u8], b: u8, mark: Mark)
     requires { 2 ≤ length area.old }
     ensures { area.new ≡ fronted (row_bytes (cell (mark_of mark) b ∷ [])) area.old }
 {
-    area[0] = b;
-    area[1] = mark_byte(mark);
+    put(area, b, mark_byte(mark));
 }
 
 // Puts the empty mark at the front.
-#[tactic(auto, using(crate::proofs::Laws::two), unfolding(text::specs::Rows::row_bytes))]
+#[tactic(auto, unfolding(text::specs::Rows::row_bytes))]
 pub fn put_empty(area: &mut [u8])
     requires { 2 ≤ length area.old }
     ensures { area.new ≡ fronted (row_bytes (N ∷ [])) area.old }
 {
-    area[0] = 0;
-    area[1] = 0;
+    put(area, 0, 0);
 }
 
 // Puts the break mark at the front.
-#[tactic(auto, using(crate::proofs::Laws::two), unfolding(text::specs::Rows::row_bytes))]
+#[tactic(auto, unfolding(text::specs::Rows::row_bytes))]
 pub fn put_break(area: &mut [u8])
     requires { 2 ≤ length area.old }
     ensures { area.new ≡ fronted (row_bytes (B ∷ [])) area.old }
 {
-    area[0] = 0;
-    area[1] = marks::BREAK;
+    put(area, 0, marks::BREAK);
 }
 
 // Puts the bytes of a text at the front, each with the mark.

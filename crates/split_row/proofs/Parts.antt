@@ -17,8 +17,9 @@ use Rattle.text.specs.Rows.{row_of}
 use Rattle.split_delimiter.specs.Places.{ahead}
 use Rattle.split_delimiter.proofs.Places.{none_ahead, by_place}
 use Rattle.split_field.specs.Answers.{Says}
-use Rattle.split_field.specs.declared.Written.{Written}
-use Rattle.split_field.specs.declared.Written.TheVariants.{Len, Class, NoRoom}
+use Rattle.std.specs.Prelude.{Result, Ok, Err}
+use Rattle.split_field.specs.declared.WriteError.{WriteError}
+use Rattle.split_field.specs.declared.WriteError.TheVariants.{BadClass, NoRoom}
 use Rattle.split_delimiter.specs.Parts.{behind_break, PartEnds}
 use Rattle.split_row.proofs.Taking.{
   Taking,
@@ -72,24 +73,30 @@ pace_start paths ifs used old row h = record {
 
 module _ {paths : List Text} {ifs : Text} {o : Outcome (List Text)} {used : ℕ} {old : Text} {size : ℕ} {row : Text} {at n : ℕ} {full : Bool} {out : Text}
     (w : Pacing paths ifs o used old size row at n full out) (l : length row ≤ at + 1) where
-  pub pace_full : full ≡ true → {left : Text} → Says o used old left NoRoom
+  pub pace_full : full ≡ true → {left : Text} → Says o used old left (Err NoRoom)
   pace_full = taking_full w.taking (parts_end ifs row at (omega arith))
 
-  pub pace_fits : full ≡ false → Says o used old out (Len n)
+  pub pace_fits : full ≡ false → Says o used old out (Ok n)
   pace_fits = taking_fits w.taking (parts_end ifs row at (omega arith))
 
 -- the part from `at` to `end` was answered with r, and ys are left of its units
 pub record Paced (paths : List Text) (ifs : Text) (o : Outcome (List Text)) (used : ℕ) (old : Text) (size : ℕ) (row : Text) (at n : ℕ)
     (full : Bool) (out : Text)
-    (end : ℕ) (ys after : Text) (r : Written) : Type 0 where
+    (end : ℕ) (ys after : Text) (r : Result ℕ WriteError) : Type 0 where
   pub walk : Pacing paths ifs o used old size row at n full out
   pub ends : PartEnds row at end
   pub says : Says (texts_of_fields paths (split ifs (row_of (part row at end)))) n out after r
   pub units : length ys ≡ length (mid_of at (end - at) row)
   pub kept : length after ≡ length out
 
+pub paced : {paths : List Text} {ifs : Text} {o : Outcome (List Text)} {used : ℕ} {old : Text} {size : ℕ} {row : Text} {at n : ℕ} {full : Bool} {out : Text}
+    {end : ℕ} {ys after : Text} {r : Result ℕ WriteError} → Pacing paths ifs o used old size row at n full out → PartEnds row at end
+    → Says (texts_of_fields paths (split ifs (row_of (part row at end)))) n out after r → length ys ≡ length (mid_of at (end - at) row)
+    → length after ≡ length out → Paced paths ifs o used old size row at n full out end ys after r
+paced w e s k l = record { walk = w; ends = e; says = s; units = k; kept = l }
+
 module _ {paths : List Text} {ifs : Text} {o : Outcome (List Text)} {used : ℕ} {old : Text} {size : ℕ} {row : Text} {at n : ℕ} {full : Bool} {out : Text}
-    {end : ℕ} {ys after : Text} {r : Written} (t : Paced paths ifs o used old size row at n full out end ys after r) where
+    {end : ℕ} {ys after : Text} {r : Result ℕ WriteError} (t : Paced paths ifs o used old size row at n full out end ys after r) where
   abbrev rest : List Row
   rest = split_parts ifs (broken (ahead row (end + 2)))
 
@@ -97,7 +104,7 @@ module _ {paths : List Text} {ifs : Text} {o : Outcome (List Text)} {used : ℕ}
       (texts_of_fields paths rest)
   step = ap (texts_of_fields paths) (parts_step ifs row at end t.ends) ∙ texts_append paths (split ifs (row_of (part row at end))) rest
 
-  pub pace_class : r ≡ Class → {left : Text} → Says o used old left r
+  pub pace_class : r ≡ Err BadClass → {left : Text} → Says o used old left r
   pace_class e = rw e (taking_class t.walk.taking rest step t.says t.kept e)
 
   -- the part's bytes may have changed, those behind it have not
@@ -124,9 +131,9 @@ module _ {paths : List Text} {ifs : Text} {o : Outcome (List Text)} {used : ℕ}
   }
 
   -- the part's fields fit; earlier ones may not have
-  pub pace_on : {m : ℕ} → r ≡ Len m → Pacing paths ifs o used old size left (end + 2) m full after
+  pub pace_on : {m : ℕ} → r ≡ Ok m → Pacing paths ifs o used old size left (end + 2) m full after
   pace_on e = moved (taking_on t.walk.taking rest step t.says t.kept e)
 
   -- they do not fit
-  pub pace_over : r ≡ NoRoom → Pacing paths ifs o used old size left (end + 2) n true after
+  pub pace_over : r ≡ Err NoRoom → Pacing paths ifs o used old size left (end + 2) n true after
   pace_over e = moved (taking_over t.walk.taking rest step t.says t.kept e)

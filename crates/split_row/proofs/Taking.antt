@@ -15,8 +15,9 @@ use Rattle.stages.specs.Paths.{paths_for, texts_of_fields}
 use Rattle.stages.proofs.Images.{record_bytes_append}
 use Rattle.split_field.specs.Answers.{Says, class, no_room}
 use Rattle.split_field.specs.Fields.{field_texts}
-use Rattle.split_field.specs.declared.Written.{Written}
-use Rattle.split_field.specs.declared.Written.TheVariants.{Len, Class, NoRoom}
+use Rattle.std.specs.Prelude.{Result, Ok, Err}
+use Rattle.split_field.specs.declared.WriteError.{WriteError}
+use Rattle.split_field.specs.declared.WriteError.TheVariants.{BadClass, NoRoom}
 use Rattle.split_field.proofs.Filling.{Filled, filled_start, filled_then, Given, Lacks, says_len, says_class, says_full, says_filled}
 
 -- texts in front of those that an outcome gives
@@ -116,19 +117,19 @@ module _ {paths : List Text} {o : Outcome (List Text)} {used : ℕ} {old : Text}
     unfolding texts_of_fields
     over = w.whole ∙ ap (λ (rs : List Row). in_front w.texts (texts_of_fields paths rs)) none ∙ ap done (append-nil w.texts)
 
-    pub taking_full : full ≡ true → {left : Text} → Says o used old left NoRoom
+    pub taking_full : full ≡ true → {left : Text} → Says o used old left (Err NoRoom)
     taking_full e = no_room w.texts over (is_over e)
 
-    pub taking_fits : full ≡ false → Says o used old out (Len n)
+    pub taking_fits : full ≡ false → Says o used old out (Ok n)
     taking_fits e = says_filled over (is_filled e)
 
   -- the first fields, which give x, were answered with r; the rest is left
-  module _ {x : Outcome (List Text)} (rest : List Row) {after : Text} {r : Written}
+  module _ {x : Outcome (List Text)} (rest : List Row) {after : Text} {r : Result ℕ WriteError}
       (cut : texts_of_fields paths fields ≡ first_then x (texts_of_fields paths rest)) (says : Says x n out after r) (kept : length after ≡ length out) where
     step : o ≡ in_front w.texts (first_then x (texts_of_fields paths rest))
     step = w.whole ∙ ap (in_front w.texts) cut
 
-    pub taking_class : r ≡ Class → {left : Text} → Says o used old left Class
+    pub taking_class : r ≡ Err BadClass → {left : Text} → Says o used old left (Err BadClass)
     taking_class e = class (step ∙ ap (λ (y : Outcome (List Text)). in_front w.texts (first_then y (texts_of_fields paths rest))) (says_class says e))
 
     -- with their texts, written or not
@@ -149,7 +150,7 @@ module _ {paths : List Text} {o : Outcome (List Text)} {used : ℕ} {old : Text}
     longer a h = omega (arith, h, record_bytes_append w.texts a)
 
     -- they fit; earlier ones may not have
-    pub taking_on : {m : ℕ} → r ≡ Len m → Taking paths o used old rest m full after
+    pub taking_on : {m : ℕ} → r ≡ Ok m → Taking paths o used old rest m full after
     taking_on {m} e =
         let d : Given x n out after m = says_len says e in
         moved d.texts d.gives (omega (arith, d.filled.room, w.same)) (by_state d w.state)
@@ -159,7 +160,7 @@ module _ {paths : List Text} {o : Outcome (List Text)} {used : ℕ} {old : Text}
         by_state d (exceeding h) = exceeding (longer d.texts h)
 
     -- they do not fit
-    pub taking_over : r ≡ NoRoom → Taking paths o used old rest n true after
+    pub taking_over : r ≡ Err NoRoom → Taking paths o used old rest n true after
     taking_over e =
         let d : Lacks x n out = says_full says e in
         moved d.texts d.gives w.room (exceeding (by_state d w.state))

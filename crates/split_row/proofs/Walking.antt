@@ -16,8 +16,9 @@ use Rattle.text.specs.Rows.{row_of}
 use Rattle.split_delimiter.specs.Places.{ahead, goes_on, Reaches}
 use Rattle.split_field.specs.Answers.{Says}
 use Rattle.split_field.specs.Fields.{field_texts}
-use Rattle.split_field.specs.declared.Written.{Written}
-use Rattle.split_field.specs.declared.Written.TheVariants.{Len, Class, NoRoom}
+use Rattle.std.specs.Prelude.{Result, Ok, Err}
+use Rattle.split_field.specs.declared.WriteError.{WriteError}
+use Rattle.split_field.specs.declared.WriteError.TheVariants.{BadClass, NoRoom}
 use Rattle.split_row.proofs.Runs.{Run, run_further, run_end, walk_end, walk_step, step_falls}
 use Rattle.split_row.proofs.Taking.{
   Taking,
@@ -51,16 +52,16 @@ walk_start paths ifs used old row at h k = record {
 
 module _ {paths : List Text} {ifs : Text} {o : Outcome (List Text)} {used : ℕ} {old : Text} {size : ℕ} {row : Text} {at n : ℕ} {full : Bool} {out : Text}
     (w : Walk paths ifs o used old size row at n full out) (l : length row - at ≤ 1) where
-  pub walk_full : full ≡ true → {left : Text} → Says o used old left NoRoom
+  pub walk_full : full ≡ true → {left : Text} → Says o used old left (Err NoRoom)
   walk_full = taking_full w.taking (walk_end ifs row at l)
 
-  pub walk_fits : full ≡ false → Says o used old out (Len n)
+  pub walk_fits : full ≡ false → Says o used old out (Ok n)
   walk_fits = taking_fits w.taking (walk_end ifs row at l)
 
 -- a field was taken from `at` to `end` and answered with r, ys are left of its units, and the next one begins at `next`
 pub record Taken (paths : List Text) (ifs : Text) (o : Outcome (List Text)) (used : ℕ) (old : Text) (size : ℕ) (row : Text) (at n : ℕ)
     (full : Bool) (out : Text)
-    (end next : ℕ) (ys after : Text) (r : Written) : Type 0 where
+    (end next : ℕ) (ys after : Text) (r : Result ℕ WriteError) : Type 0 where
   pub walk : Walk paths ifs o used old size row at n full out
   pub more : 1 < length row - at
   pub run : Run ifs row at end
@@ -70,8 +71,15 @@ pub record Taken (paths : List Text) (ifs : Text) (o : Outcome (List Text)) (use
   pub units : length ys ≡ length (mid_of at (end - at) row)
   pub kept : length after ≡ length out
 
+pub took : {paths : List Text} {ifs : Text} {o : Outcome (List Text)} {used : ℕ} {old : Text} {size : ℕ} {row : Text} {at n : ℕ} {full : Bool} {out : Text}
+    {end next : ℕ} {ys after : Text} {r : Result ℕ WriteError} → Walk paths ifs o used old size row at n full out → 1 < length row - at → Run ifs row at end
+    → {g : Bool} → g ≡ goes_on ifs (ahead row end) → g ≡ false → Reaches row end next (drop_hard ifs (drop_white ifs (ahead row end)))
+    → Says (field_texts paths (row_of (part row at end))) n out after r → length ys ≡ length (mid_of at (end - at) row) → length after ≡ length out
+    → Taken paths ifs o used old size row at n full out end next ys after r
+took w m u e f b s k l = record { walk = w; more = m; run = u; stops = sym e ∙ f; behind = b; says = s; units = k; kept = l }
+
 module _ {paths : List Text} {ifs : Text} {o : Outcome (List Text)} {used : ℕ} {old : Text} {size : ℕ} {row : Text} {at n : ℕ} {full : Bool} {out : Text}
-    {end next : ℕ} {ys after : Text} {r : Written} (t : Taken paths ifs o used old size row at n full out end next ys after r) where
+    {end next : ℕ} {ys after : Text} {r : Result ℕ WriteError} (t : Taken paths ifs o used old size row at n full out end next ys after r) where
   abbrev w : Walk paths ifs o used old size row at n full out
   w = t.walk
 
@@ -87,7 +95,7 @@ module _ {paths : List Text} {ifs : Text} {o : Outcome (List Text)} {used : ℕ}
   step : texts_of_fields paths (fields_from ifs (ahead row at)) ≡ first_then (field_texts paths field) (texts_of_fields paths rest)
   step = ap (texts_of_fields paths) (walk_step ifs row at end next t.more cut t.behind) ∙ texts_field paths field rest
 
-  pub walk_class : r ≡ Class → {left : Text} → Says o used old left Class
+  pub walk_class : r ≡ Err BadClass → {left : Text} → Says o used old left (Err BadClass)
   walk_class e = taking_class w.taking rest step t.says t.kept e
 
   -- the field's bytes may have changed, those ahead of the next place have not
@@ -121,9 +129,9 @@ module _ {paths : List Text} {ifs : Text} {o : Outcome (List Text)} {used : ℕ}
   }
 
   -- the field fits; an earlier one may not have
-  pub walk_on : {m : ℕ} → r ≡ Len m → Walk paths ifs o used old size left next m full after
+  pub walk_on : {m : ℕ} → r ≡ Ok m → Walk paths ifs o used old size left next m full after
   walk_on e = moved (taking_on w.taking rest step t.says t.kept e)
 
   -- it does not fit
-  pub walk_over : r ≡ NoRoom → Walk paths ifs o used old size left next n true after
+  pub walk_over : r ≡ Err NoRoom → Walk paths ifs o used old size left next n true after
   walk_over e = moved (taking_over w.taking rest step t.says t.kept e)

@@ -14,14 +14,18 @@ ghost use Rattle.table.specs.Places.{Listed, Table};
 ghost use Rattle.split_field.specs.Answers.{Says, Puts};
 ghost use Rattle.split_row.specs.Quiet.{quiet_unit, quiet};
 
-use split_field::Written;
-use table::Found;
-use table_store::Put;
+use split_field::WriteError;
 use text::marks;
 
 // Splits a part of a row into its fields and writes what they become. Each field is taken where it stands, since the walk never comes back to it. All fields
 // are checked for a class before one that does not fit refuses the part, so the walk goes on behind it.
-fn put_fields(row: &mut [u8], ifs: &[u8], paths: &[u8], out: &mut [u8], used: usize) -> Written
+fn put_fields(
+    row: &mut [u8],
+    ifs: &[u8],
+    paths: &[u8],
+    out: &mut [u8],
+    used: usize,
+) -> Result<usize, WriteError>
     requires used_in_bounds { (used ≤ length out.old) × (length out.old ≤ image_limit) }
     requires listed { Listed paths.now × (length row.old ≤ 2 * row_limit) }
     ensures { Says (texts_of_fields (held_texts paths.now) (split ifs.now (row_of row.old))) used out.old
@@ -33,28 +37,33 @@ fn put_fields(row: &mut [u8], ifs: &[u8], paths: &[u8], out: &mut [u8], used: us
     let mut full = false;
     while row.len() - at > 1 {
         let mut end = at;
-        let next = loop {
-            if !split_delimiter::goes_on(row, end, ifs, top) {
-                break split_delimiter::behind_field(row, end, ifs);
-            }
+        while split_delimiter::goes_on(row, end, ifs, top) {
             end += 2;
-        };
+        }
+        let next = split_delimiter::behind_field(row, end, ifs);
         match split_field::put_field(&mut row[at..end], paths, out, len) {
-            Written::Len(n) => len = n,
-            Written::Class => return Written::Class,
-            Written::NoRoom => full = true,
+            Ok(n) => len = n,
+            Err(WriteError::BadClass) => return Err(WriteError::BadClass),
+            Err(WriteError::NoRoom) => full = true,
         }
         at = next;
     }
     if full {
-        return Written::NoRoom;
+        Err(WriteError::NoRoom)
+    } else {
+        Ok(len)
     }
-    Written::Len(len)
 }
 
 // Writes the fields of a row: "each part is split by itself". As with fields, a part that does not fit refuses the row only when the later ones have
 // been checked for a class.
-fn put_parts(row: &mut [u8], ifs: &[u8], paths: &[u8], out: &mut [u8], used: usize) -> Written
+fn put_parts(
+    row: &mut [u8],
+    ifs: &[u8],
+    paths: &[u8],
+    out: &mut [u8],
+    used: usize,
+) -> Result<usize, WriteError>
     requires used_in_bounds { (used ≤ length out.old) × (length out.old ≤ image_limit) }
     requires listed { Listed paths.now × (length row.old ≤ 2 * row_limit) }
     ensures { Says (texts_of_fields (held_texts paths.now) (split_parts ifs.now (broken (row_of row.old)))) used
@@ -68,16 +77,17 @@ fn put_parts(row: &mut [u8], ifs: &[u8], paths: &[u8], out: &mut [u8], used: usi
         let next = end + 2;
         let written = put_fields(&mut row[at..end], ifs, paths, out, to);
         match written {
-            Written::Len(n) => to = n,
-            Written::Class => return written,
-            Written::NoRoom => short = true,
+            Ok(n) => to = n,
+            Err(WriteError::BadClass) => return written,
+            Err(WriteError::NoRoom) => short = true,
         }
         at = next;
     }
     if short {
-        return Written::NoRoom;
+        Err(WriteError::NoRoom)
+    } else {
+        Ok(to)
     }
-    Written::Len(to)
 }
 
 // IFS as it stands in the variables, or what it means where it is unset.
@@ -86,41 +96,30 @@ fn ifs_of<'a>(vars: &'a [u8], unset: &'a [u8]) -> &'a [u8]
     requires unset_value { unset.now ≡ blanks }
     ensures { result.now ≡ ifs_or (lookup (text "IFS") (held vars.now)) }
 {
-    let found = table_find::look_up_ifs(vars);
-    match found {
-        Found::At { from, to } => &vars[from..to],
-        Found::Missing => unset,
+    match table_find::look_up_ifs(vars) {
+        Some(value) => &vars[value.from..value.to],
+        None => unset,
     }
 }
 
 // Is a unit nothing but its byte in every row, or N? A quoted one is, and a literal one that is no `*`, `?` or `[`.
+#[tactic(auto, unfolding(crate::specs::Quiet::quiet_unit))]
 fn is_quiet_unit(b: u8, mark: u8) -> bool
     ensures { result ≡ quiet_unit b mark }
 {
-    if mark == marks::QUOTED {
-        return true;
+    match mark {
+        marks::LITERAL => !text::is_in(b, b"*?["),
+        marks::EXPANDED | marks::BREAK => false,
+        _ => true,
     }
-    if mark == marks::LITERAL {
-        return !text::is_in(b, b"*?[");
-    }
-    if mark == marks::EXPANDED {
-        return false;
-    }
-    mark != marks::BREAK
 }
 
 // Is every unit of a row such a one?
 fn is_quiet(row: &[u8]) -> bool
     ensures { result ≡ quiet row.now }
 {
-    let mut at: usize = 0;
-    while at + 1 < row.len() {
-        if !is_quiet_unit(row[at], row[at + 1]) {
-            return false;
-        }
-        at += 2;
-    }
-    true
+    let (units, _) = row.as_chunks::<2>();
+    units.iter().all(|[b, mark]| is_quiet_unit(*b, *mark))
 }
 
 // Writes the fields of a word's row behind the first `used` bytes of the output, IFS being what it is in the variables now: "IFS as it stands after the
@@ -132,20 +131,15 @@ pub fn put_word_fields(
     paths: &[u8],
     out: &mut [u8],
     used: usize,
-) -> Written
+) -> Result<usize, WriteError>
     requires vars_used_in_bounds { (vars_used ≤ length vars.now) × Table (take vars_used vars.now) }
     requires used_in_bounds { (used ≤ length out.old) × (length out.old ≤ image_limit) }
     requires listed { Listed paths.now × (length row.old ≤ 2 * row_limit) }
     ensures { Puts (texts_of_fields (held_texts paths.now)
         (fields_of_row (held (take vars_used vars.now)) (row_of row.old))) used out.old out.new result }
 {
-    if row.len() > 1 {
-        if is_quiet(row) {
-            return match split_field::put_own(row, out, used) {
-                Put::Len(n) => Written::Len(n),
-                Put::NoRoom => Written::NoRoom,
-            };
-        }
+    if row.len() > 1 && is_quiet(row) {
+        return Ok(split_field::put_own(row, out, used)?);
     }
     let ifs = ifs_of(&vars[..vars_used], b" \t\n");
     put_parts(row, ifs, paths, out, used)

@@ -82,7 +82,7 @@ abbrev Within : Got → ℕ → Type 0
 Within (Err f) n = Unit {0}
 Within (Ok r) n = (r.more < n) × (1 ≤ r.b)
 
-pub by_pick : (P : Got → Type 0) (x : Bool) (a b : Got) → (x ≡ true → P a) → (x ≡ false → P b) → P (pick x a b)
+pub by_pick : {A : Type 0} (P : A → Type 0) (x : Bool) (a b : A) → (x ≡ true → P a) → (x ≡ false → P b) → P (pick x a b)
 by_pick P true a b f g = f refl
 by_pick P false a b f g = g refl
 

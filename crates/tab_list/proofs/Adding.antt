@@ -1,4 +1,6 @@
 -- A field behind others: each way of the code is one of the definition's.
+use Rattle.std.specs.Prelude.{Result, Ok, Err}
+use Rattle.table_store.specs.declared.NoRoom.{NoRoom}
 use Prim.Native.Nat.{ℕ, ◌+◌, ◌-◌, ◌≤◌, ◌<◌}
 use native.Mathlib.Omega.{arith}
 use mathlib.Core.Path.{◌≡◌, refl, sym, ap, ◌∙◌}
@@ -16,16 +18,36 @@ use Rattle.stages.specs.Call.{over}
 use Rattle.stages.proofs.Images.{written_append, record_bytes_append, length_image}
 use Rattle.text.proofs.Parts.{rest_is, rest_length, rest_back}
 use Rattle.table_store.specs.Answers.{put_outcome, text_limit, record_in, Writes}
-use Rattle.table_store.specs.declared.Put.{Put}
-use Rattle.table_store.specs.declared.Put.TheVariants.{Len as PutLen, NoRoom as PutNoRoom}
 use Rattle.table_store.proofs.Callers.{put_len, put_none}
 use Rattle.tab_escape.specs.Escapes.{Reading, good, read_text, Reads, reads, fails}
 use Rattle.tab_escape.specs.declared.Fault.{Fault}
 use Rattle.tab_escape.specs.declared.Fault.TheVariants.{TooLong}
-use Rattle.tab_escape.specs.declared.Read.{Read}
-use Rattle.tab_escape.specs.declared.Read.TheVariants as read
-use Rattle.tab_enter.specs.declared.Entered.TheVariants as answer
 use Rattle.tab_list.specs.Listings.{roomed, lined, Adds, takes, stops}
+
+-- no room for a field is told as an image that is too long
+abbrev pub put_as : Result ℕ NoRoom → Result ℕ Fault
+put_as (Ok n) = Ok n
+put_as (Err e) = Err TooLong
+
+same : {k n : ℕ} → ◌≡◌ {A = Result ℕ Fault} (Ok k) (Ok n) → ◌≡◌ {A = Result ℕ NoRoom} (Ok k) (Ok n)
+same e = cc
+
+apart : {n : ℕ} → ◌≡◌ {A = Result ℕ Fault} (Err TooLong) (Ok n) → ⊥
+apart e = cc
+
+pub put_ok : {r : Result ℕ NoRoom} {n : ℕ} → put_as r ≡ Ok n → r ≡ Ok n
+put_ok {r = Ok k} e = same e
+put_ok {r = Err x} e = absurd (apart e)
+
+err_same : {f g : Fault} → ◌≡◌ {A = Result ℕ Fault} (Err f) (Err g) → f ≡ g
+err_same e = cc
+
+ok_err : {n : ℕ} {f : Fault} → ◌≡◌ {A = Result ℕ Fault} (Ok n) (Err f) → ⊥
+ok_err e = cc
+
+pub not_put : (r : Result ℕ NoRoom) {f : Fault} → put_as r ≡ Err f → (x : NoRoom) × (r ≡ Err x) × (f ≡ TooLong)
+not_put (Ok n) e = absurd (ok_err e)
+not_put (Err x) e = (x, refl, sym (err_same e))
 
 -- one more field
 
@@ -60,24 +82,24 @@ pub record Got (line left : Text) (n : ℕ) : Type 0 where
   pub is : read_text line ≡ good (take n left)
   pub long : n ≤ length left
 
-module _ (line : Text) {area left : Text} {r : Read} (s : Reads (read_text line) area left r) where
-  pub line_bad : (room : ℕ) (l : List Text) (old : Text) (g : Fault) → r ≡ read.Bad g → Adds (lined room (read_text line) l) old old (answer.Bad g)
+module _ (line : Text) {area left : Text} {r : Result ℕ Fault} (s : Reads (read_text line) area left r) where
+  pub line_bad : (room : ℕ) (l : List Text) (old : Text) (g : Fault) → r ≡ Err g → Adds (lined room (read_text line) l) old old (Err g)
   unfolding lined
   line_bad room l old g q = bad_of (rw q at s)
     where
-      bad_of : Reads (read_text line) area left (read.Bad g) → Adds (lined room (read_text line) l) old old (answer.Bad g)
+      bad_of : Reads (read_text line) area left (Err g) → Adds (lined room (read_text line) l) old old (Err g)
       bad_of (fails x k) = stops (ap (λ (y : Reading). lined room y l) x) refl
 
-  pub line_good : (n : ℕ) → r ≡ read.Len n → Got line left n
+  pub line_good : (n : ℕ) → r ≡ Ok n → Got line left n
   unfolding over
   line_good n q = good_of (rw q at s)
     where
-      good_of : Reads (read_text line) area left (read.Len n) → Got line left n
+      good_of : Reads (read_text line) area left (Ok n) → Got line left n
       good_of (reads {t} x z p) =
           let w : take n left ≡ t = ap (take n) p.leaves ∙ take_at t (drop (length t) area) n (sym p.counts) in
           record { is = x ∙ ap good (sym w); long = omega (arith, p.counts, ap length p.leaves, length-append t (drop (length t) area)) }
 
-module _ {line area : Text} {k : ℕ} (g : Got line area k) (used : ℕ) (old ys : Text) (r : Put) (h : used ≤ length old) (small : length old ≤ image_limit)
+module _ {line area : Text} {k : ℕ} (g : Got line area k) (used : ℕ) (old ys : Text) (r : Result ℕ NoRoom) (h : used ≤ length old) (small : length old ≤ image_limit)
     (w : Writes (record_in (length (mid_of used (length old - used) old)) (take k area)) (mid_of used (length old - used) old) ys (put_outcome r)) where
   abbrev t : Text
   t = take k area
@@ -85,7 +107,7 @@ module _ {line area : Text} {k : ℕ} (g : Got line area k) (used : ℕ) (old ys
   abbrev after : Text
   after = put_mid used (length old - used) old ys
 
-  pub line_fits : {n : ℕ} → r ≡ PutLen n → used + n ≤ length old
+  pub line_fits : {n : ℕ} → r ≡ Ok n → used + n ≤ length old
   line_fits {n} e =
       let d : (n ≡ length t + 2) × (ys ≡ over (framed t) (mid_of used (length old - used) old)) ×
       (length t + 2 ≤ length (mid_of used (length old - used) old)) =
@@ -100,7 +122,7 @@ module _ {line area : Text} {k : ℕ} (g : Got line area k) (used : ℕ) (old ys
     unfolding lined
     by_room b e = ap (λ (y : Reading). lined (length old) y l) g.is ∙ ap (λ (x : Bool). roomed x (l ++ (t ∷ []))) e
 
-    pub line_put : {n : ℕ} → r ≡ PutLen n → Adds (lined (length old) (read_text line) l) old after (answer.Used (used + n))
+    pub line_put : {n : ℕ} → r ≡ Ok n → Adds (lined (length old) (read_text line) l) old after (Ok (used + n))
     line_put {n} e =
         let d : (n ≡ length t + 2) × (ys ≡ over (framed t) (mid_of used (length old - used) old)) ×
         (length t + 2 ≤ length (mid_of used (length old - used) old)) =
@@ -109,7 +131,7 @@ module _ {line area : Text} {k : ℕ} (g : Got line area k) (used : ℕ) (old ys
         takes {l = l ++ (t ∷ [])} {n = used + n} (by_room true (le-leb (image_length (l ++ (t ∷ []))) (length old) m))
         (omega (arith, one_more l t, used_is, d.0)) (placed_more used old ys t l q h d.1)
 
-    pub line_full : r ≡ PutNoRoom → Adds (lined (length old) (read_text line) l) old after (answer.Bad TooLong)
+    pub line_full : {x : NoRoom} → r ≡ Err x → Adds (lined (length old) (read_text line) l) old after (Err TooLong)
     line_full e =
         let d : (ys ≡ mid_of used (length old - used) old) × (length t ≤ text_limit → length (mid_of used (length old - used) old) < length t + 2) =
         put_none t (mid_of used (length old - used) old) ys r w e in

@@ -1,4 +1,6 @@
 -- The walk over the lines: the fields of those passed stand in the buffer as an image, and those ahead are left.
+use Rattle.std.specs.Prelude.{Result, Ok, Err}
+use Rattle.tab_pack.specs.declared.BadLine.{BadLine}
 use Prim.Native.Nat.{ℕ, suc, ◌+◌, ◌-◌, ◌≤◌, ◌<◌}
 use native.Mathlib.Omega.{arith}
 use native.Mathlib.Numerals.{add-one}
@@ -18,11 +20,7 @@ use Rattle.stages.proofs.Rooms.{over_length}
 use Rattle.table_store.proofs.Callers.{version_first}
 use Rattle.tab_escape.specs.Escapes.{Reading, bad, good, read_text, up_to}
 use Rattle.tab_escape.specs.declared.Fault.{Fault}
-use Rattle.tab_enter.specs.declared.Entered.{Entered}
-use Rattle.tab_enter.specs.declared.Entered.TheVariants as answer
-use Rattle.tab_pack.specs.declared.Packed.{Packed}
-use Rattle.tab_pack.specs.declared.Packed.TheVariants as told
-use Rattle.tab_pack.proofs.Going.{line_first, up_within, over_over}
+use Rattle.tab_pack.proofs.Going.{line_first, up_within, over_over, told_as}
 use Rattle.tab_list.proofs.Adding.{one_more}
 use Rattle.tab_list.specs.Listings.{Step, stop, go, roomed, lined, Adds, takes, stops, Listing, list_on, listed, Lists, packs, fails}
 
@@ -74,12 +72,12 @@ going_starts text old h = record {
   count = omega arith;
 }
 
-lists_from : {o : Listing} {old left : Text} {r : Packed} → Lists o (set old 0 1) left r → Lists o old left r
+lists_from : {o : Listing} {old left : Text} {r : Result ℕ BadLine} → Lists o (set old 0 1) left r → Lists o old left r
 lists_from {o} {old} (packs {l} e n k) = packs {l = l} e n (k ∙ over_set l old)
 lists_from {o} {old} (fails {l} e k) = fails {l = l} e (k ∙ over_set l old)
 
 -- the walk is over the buffer with the version byte in it
-pub lists_for : (text old : Text) {left : Text} {r : Packed}
+pub lists_for : (text old : Text) {left : Text} {r : Result ℕ BadLine}
     → Lists (listed (length (set old 0 1)) 1 [] (lines_of text)) (set old 0 1) left r → Lists (listed (length old) 1 [] (lines_of text)) old left r
 lists_for text old {left} {r} s =
     lists_from (subst (λ (k : ℕ). Lists (listed k 1 [] (lines_of text)) (set old 0 1) left r) (length-set old 0 1) s)
@@ -94,7 +92,7 @@ module _ {text old out : Text} {used at line : ℕ} (g : Going text old out used
       ap (take used) g.stands
       ∙ take_at (image g.fields) (drop (length (image g.fields)) old) used (length_image g.fields ∙ sym g.long)
 
-  pub going_ends : length text ≤ at → Lists (listed (length old) 1 [] (lines_of text)) old out (told.Len used)
+  pub going_ends : length text ≤ at → Lists (listed (length old) 1 [] (lines_of text)) old out (Ok used)
   unfolding listed lines_of
   going_ends h =
       packs {l = g.fields} (g.is ∙ ap (λ (t : Text). listed (length old) line g.fields (lines_of t)) (drop_of_length-le text h)) g.long g.stands
@@ -104,6 +102,16 @@ pub record Line (text old out : Text) (used at line r : ℕ) : Type 0 where
   pub going : Going text old out used at line
   pub there : at < length text
   pub ends : r ≡ up_to 10 (take (length text - at) (drop at text))
+
+pub line_there : {text old out : Text} {used at line r : ℕ} → Going text old out used at line → at < length text
+    → r ≡ up_to 10 (take (length text - at) (drop at text)) → Line text old out used at line r
+line_there g h e = record { going = g; there = h; ends = e }
+
+ok_same : {n m : ℕ} → ◌≡◌ {A = Result ℕ BadLine} (Ok n) (Ok m) → n ≡ m
+ok_same e = cc
+
+err_not : {x : BadLine} {m : ℕ} → ◌≡◌ {A = Result ℕ BadLine} (Err x) (Ok m) → ⊥
+err_not e = cc
 
 module _ {text old out : Text} {used at line r : ℕ} (l : Line text old out used at line r) where
   abbrev g : Going text old out used at line
@@ -142,29 +150,33 @@ module _ {text old out : Text} {used at line r : ℕ} (l : Line text old out use
       g.is ∙ ap (listed (length old) line g.fields) lines
       ∙ ap (λ (x : Step). list_on x line g.fields (λ w. listed (length old) (suc line) w (lines_of (drop (at + r + 1) text)))) e
 
-  module _ {left : Text} {a : Entered}
+  module _ {left : Text} {a : Result ℕ Fault}
       (s : (m : List Text) → take used out ≡ image m → Adds (lined (length out) (read_text (part text at (at + r))) m) out left a) where
     here : Adds (lined (length old) (read_text (part text at (at + r))) g.fields) out left a
     here = rw (← going_length g) (s g.fields (going_take g))
 
-    pub going_bad : (x : Fault) → a ≡ answer.Bad x → Lists (listed (length old) 1 [] (lines_of text)) old left (told.Bad line x)
-    going_bad x q = bad_of (rw q at here)
+    pub going_bad : {x : BadLine} → told_as line a ≡ Err x → Lists (listed (length old) 1 [] (lines_of text)) old left (Err x)
+    going_bad {x} q = bad_of here q
       where
-        bad_of : Adds (lined (length old) (read_text (part text at (at + r))) g.fields) out left (answer.Bad x)
-            → Lists (listed (length old) 1 [] (lines_of text)) old left (told.Bad line x)
-        bad_of (stops e k) = fails {l = g.fields} (step (stop x) e) (k ∙ g.stands)
+        bad_of : {b : Result ℕ Fault} → Adds (lined (length old) (read_text (part text at (at + r))) g.fields) out left b
+            → told_as line b ≡ Err x → Lists (listed (length old) 1 [] (lines_of text)) old left (Err x)
+        bad_of (stops {f} e k) d =
+            subst (Lists (listed (length old) 1 [] (lines_of text)) old left) d (fails {l = g.fields} (step (stop f) e) (k ∙ g.stands))
+        bad_of (takes e k j) d = absurd (err_not (sym d))
 
-    pub going_more : (n : ℕ) → a ≡ answer.Used n → Going text old left n (at + r + 1) (line + 1)
-    going_more n q = used_of (rw q at here)
+    pub going_more : {n : ℕ} → told_as line a ≡ Ok n → Going text old left n (at + r + 1) (line + 1)
+    going_more {n} q = used_of here q
       where
-        used_of : Adds (lined (length old) (read_text (part text at (at + r))) g.fields) out left (answer.Used n)
-            → Going text old left n (at + r + 1) (line + 1)
-        used_of (takes {l = w} e k j) =
+        used_of : {b : Result ℕ Fault} → Adds (lined (length old) (read_text (part text at (at + r))) g.fields) out left b
+            → told_as line b ≡ Ok n → Going text old left n (at + r + 1) (line + 1)
+        used_of (stops e k) d = absurd (err_not d)
+        used_of (takes {l = w} e k j) d =
             let m : Grown (length old) g.fields w = grown (length old) (read_text (part text at (at + r))) g.fields w e in
+            let p : n ≡ image_length w = sym (ok_same d) ∙ k in
             record {
               fields = w;
-              long = k;
-              room = omega (arith, k, m.fits);
+              long = p;
+              room = omega (arith, p, m.fits);
               stands =
                   j ∙ ap (over (image w)) g.stands
                   ∙ over_over (image g.fields) (image w) old (omega (arith, length_image g.fields, length_image w, m.longer));

@@ -1,4 +1,6 @@
 -- An image of fields that is shown and packed is the same image: each text is shown as one line, and read from it.
+use Rattle.std.specs.Prelude.{Result, Ok}
+use Rattle.tab_pack.specs.declared.BadLine.{BadLine}
 use Prim.Native.Nat.{ℕ, suc, ◌≤◌}
 use native.Mathlib.Omega.{arith}
 use mathlib.Core.Path.{◌≡◌, refl, sym, ap, ◌∙◌}
@@ -18,8 +20,6 @@ use Rattle.table.specs.declared.Kind.TheVariants.{Fields}
 use Rattle.tab_show.specs.Lines.{shown_text, shown_of}
 use Rattle.tab_escape.specs.Escapes.{Reading}
 use Rattle.tab_escape.proofs.Again.{read_shown}
-use Rattle.tab_pack.specs.declared.Packed.{Packed}
-use Rattle.tab_pack.specs.declared.Packed.TheVariants as told
 use Rattle.tab_enter.specs.Records.{alone}
 use Rattle.tab_enter.proofs.Sounds.{keys_alone}
 use Rattle.tab_pack.proofs.Shown.{lines_by, lines_shown}
@@ -64,11 +64,11 @@ module _ (t : Text) (h : Bytes t) (e : Listed t) where
       ∙ lines_listed room 1 [] (held_texts t) (texts_held_fine t e) (image_small t (held_texts t) h e) (omega (arith, k, texts_image_length t (held_texts t) e))
 
   -- what packing the lines of an image of fields answers and leaves
-  pub pack_shown : (old left : Text) (r : Packed) → length t ≤ length old
-      → Lists (listed (length old) 1 [] (lines_of (shown_of Fields (held_texts t)))) old left r → (r ≡ told.Len (length t)) × (left ≡ over t old)
+  pub pack_shown : (old left : Text) (r : Result ℕ BadLine) → length t ≤ length old
+      → Lists (listed (length old) 1 [] (lines_of (shown_of Fields (held_texts t)))) old left r → (r ≡ Ok (length t)) × (left ≡ over t old)
   pack_shown old left r k s =
-      let q : (r ≡ told.Len (image_length (held_texts t))) × (left ≡ over (image (held_texts t)) old) =
+      let q : (r ≡ Ok (image_length (held_texts t))) × (left ≡ over (image (held_texts t)) old) =
       pack_fields_determined s (packs {l = held_texts t} (shown_listed (length old) k) refl refl) in (
-        q.0 ∙ ap told.Len (sym (texts_image_length t (held_texts t) e)),
+        q.0 ∙ ap Ok (sym (texts_image_length t (held_texts t) e)),
         q.1 ∙ ap (λ (u : Text). over u old) (sym (image_canonical t (held_texts t) h e)),
       )

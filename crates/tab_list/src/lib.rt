@@ -10,37 +10,27 @@ ghost use Rattle.stages.specs.Program.{lines_of};
 ghost use Rattle.tab_escape.specs.Escapes.{read_text};
 ghost use Rattle.tab_list.specs.Listings.{lined, Adds, listed, Lists};
 
-use tab_enter::Entered;
-use tab_escape::{Fault, Read};
-use tab_pack::Packed;
-use table_store::Put;
+use tab_escape::Fault;
+use tab_pack::BadLine;
 use text::numbers;
 
 const NEWLINE: u8 = b'\n';
 
 // Writes the field of a line behind the image that the first `used` bytes are, if the buffer has room for it; if not, or if the line is no text, all bytes
-// stay. The work area has room for the line.
-fn add_line(line: &[u8], out: &mut [u8], used: usize, work: &mut [u8]) -> Entered
+// stay. The work area has room for the line. Answers the length of the new image.
+fn add_line(line: &[u8], out: &mut [u8], used: usize, work: &mut [u8]) -> Result<usize, Fault>
     requires { (used ≤ length out.old) × (length out.old ≤ image_limit) × (length line.now ≤ length work.old) }
     ensures { (l : List Text) → take used out.old ≡ image l → Adds
         (lined (length out.old) (read_text line.now) l) out.old out.new result }
 {
-    let got = tab_escape::read_text(line, work);
-    match got {
-        Read::Bad(fault) => Entered::Bad(fault),
-        Read::Len(n) => {
-            let put = table_store::put_record(&mut out[used..], &work[..n]);
-            match put {
-                Put::Len(m) => Entered::Used(used + m),
-                Put::NoRoom => Entered::Bad(Fault::TooLong),
-            }
-        }
-    }
+    let n = tab_escape::read_text(line, work)?;
+    let m = table_store::put_record(&mut out[used..], &work[..n]).map_err(|_| Fault::TooLong)?;
+    Ok(used + m)
 }
 
-// Packs the lines of a text into an image of fields at the front of a buffer, which is as long as the image may become. The bytes behind it stay. At a line
-// that is no field the image of those before it is left. The work area has room for a line.
-pub fn pack_fields(text: &[u8], out: &mut [u8], work: &mut [u8]) -> Packed
+// Packs the lines of a text into an image of fields at the front of a buffer, which is as long as the image may become, and answers its length. The bytes
+// behind it stay. At a line that is no field the image of those before it is left. The work area has room for a line.
+pub fn pack_fields(text: &[u8], out: &mut [u8], work: &mut [u8]) -> Result<usize, BadLine>
     requires { (1 ≤ length out.old) × (length out.old ≤ image_limit) × (length text.now ≤ length work.old) }
     ensures { Lists (listed (length out.old) 1 [] (lines_of text.now)) out.old out.new result }
 {
@@ -50,20 +40,9 @@ pub fn pack_fields(text: &[u8], out: &mut [u8], work: &mut [u8]) -> Packed
     let mut line: usize = 1;
     while at < text.len() {
         let end = at + tab_escape::find(&text[at..], NEWLINE);
-        let added = add_line(&text[at..end], out, used, work);
-        match added {
-            Entered::Bad(fault) => {
-                return Packed::Bad {
-                    line: line,
-                    fault: fault,
-                };
-            }
-            Entered::Used(n) => {
-                used = n;
-                line += 1;
-                at = end + 1;
-            }
-        }
+        used = add_line(&text[at..end], out, used, work).map_err(|fault| BadLine { line, fault })?;
+        line += 1;
+        at = end + 1;
     }
-    Packed::Len(used)
+    Ok(used)
 }

@@ -1,4 +1,5 @@
 -- The walk over the lines: the records of those passed stand in the buffer as an image, and those ahead are left.
+use Rattle.std.specs.Prelude.{Result, Ok, Err}
 use Prim.Native.Nat.{ℕ, suc, ◌+◌, ◌-◌, ◌≤◌, ◌<◌}
 use native.Mathlib.Omega.{arith}
 use native.Mathlib.Numerals.{add-one}
@@ -23,12 +24,9 @@ use Rattle.table_store.proofs.Callers.{version_first}
 use Rattle.tab_escape.specs.Escapes.{up_to}
 use Rattle.tab_enter.specs.Records.{alone, texts_by, records_by, limit_by, TableBy}
 use Rattle.tab_enter.specs.Entries.{entry_of, Step, stop, go, entered, Enters, takes, stops}
-use Rattle.tab_pack.specs.Packings.{Packing, pack_on, packed, Packs, packs, fails}
+use Rattle.tab_pack.specs.declared.BadLine.{BadLine}
+use Rattle.tab_pack.specs.Packings.{bad_line, Packing, pack_on, packed, Packs, packs, fails}
 use Rattle.tab_escape.specs.declared.Fault.{Fault}
-use Rattle.tab_enter.specs.declared.Entered.{Entered}
-use Rattle.tab_enter.specs.declared.Entered.TheVariants as answer
-use Rattle.tab_pack.specs.declared.Packed.{Packed}
-use Rattle.tab_pack.specs.declared.Packed.TheVariants as told
 use Rattle.tab_enter.proofs.Sounds.{Bare, Sound, sound_none, Kept, kept}
 
 -- an image over a shorter one
@@ -122,12 +120,12 @@ going_starts kind text old h = record {
   count = omega arith;
 }
 
-pub packs_from : {two : Bool} {o : Packing} {old left : Text} {r : Packed} → Packs two o (set old 0 1) left r → Packs two o old left r
+pub packs_from : {two : Bool} {o : Packing} {old left : Text} {r : Result ℕ BadLine} → Packs two o (set old 0 1) left r → Packs two o old left r
 packs_from {two} {o} {old} (packs {v} e n k) = packs {v = v} e n (k ∙ over_set (texts_by two v) old)
 packs_from {two} {o} {old} (fails {v} e k) = fails {v = v} e (k ∙ over_set (texts_by two v) old)
 
 module _ {kind : Kind} {text old out : Text} {used at line : ℕ} (g : Going kind text old out used at line) where
-  pub going_ends : length text ≤ at → Packs (in_twos kind) (packed kind 1 [] (lines_of text)) old out (told.Len used)
+  pub going_ends : length text ≤ at → Packs (in_twos kind) (packed kind 1 [] (lines_of text)) old out (Ok used)
   unfolding packed lines_of
   going_ends h =
       packs {v = g.records} (g.is ∙ ap (λ (t : Text). packed kind line g.records (lines_of t)) (drop_of_length-le text h))
@@ -138,6 +136,21 @@ pub record Line (kind : Kind) (text old out : Text) (used at line r : ℕ) : Typ
   pub going : Going kind text old out used at line
   pub there : at < length text
   pub ends : r ≡ up_to 10 (take (length text - at) (drop at text))
+
+pub line_there : {kind : Kind} {text old out : Text} {used at line r : ℕ} → Going kind text old out used at line → at < length text
+    → r ≡ up_to 10 (take (length text - at) (drop at text)) → Line kind text old out used at line r
+line_there g h e = record { going = g; there = h; ends = e }
+
+-- a line's fault is told with its number
+abbrev pub told_as : ℕ → Result ℕ Fault → Result ℕ BadLine
+told_as line (Ok n) = Ok n
+told_as line (Err f) = Err (bad_line line f)
+
+ok_same : {n m : ℕ} → ◌≡◌ {A = Result ℕ BadLine} (Ok n) (Ok m) → n ≡ m
+ok_same e = cc
+
+err_not : {x : BadLine} {m : ℕ} → ◌≡◌ {A = Result ℕ BadLine} (Err x) (Ok m) → ⊥
+err_not e = cc
 
 module _ {kind : Kind} {text old out : Text} {used at line r : ℕ} (l : Line kind text old out used at line r) where
   abbrev g : Going kind text old out used at line
@@ -176,29 +189,32 @@ module _ {kind : Kind} {text old out : Text} {used at line r : ℕ} (l : Line ki
       g.is ∙ ap (packed kind line g.records) lines
       ∙ ap (λ (x : Step). pack_on x line g.records (λ w. packed kind (suc line) w (lines_of (drop (at + r + 1) text)))) e
 
-  module _ {left : Text} {a : Entered}
+  module _ {left : Text} {a : Result ℕ Fault}
       (s : Enters (in_twos kind) (entered (in_twos kind) (entry_of kind (part text at (at + r))) (records_by (in_twos kind) (take used out))) out left a) where
     here : Enters (in_twos kind) (entered (in_twos kind) (entry_of kind (part text at (at + r))) g.records) out left a
     here = subst (λ (v : Pairs). Enters (in_twos kind) (entered (in_twos kind) (entry_of kind (part text at (at + r))) v) out left a)
         (stands_held g.stands) s
 
-    pub going_bad : (x : Fault) → a ≡ answer.Bad x → Packs (in_twos kind) (packed kind 1 [] (lines_of text)) old left (told.Bad line x)
-    going_bad x q = bad_of (rw q at here)
+    pub going_bad : {x : BadLine} → told_as line a ≡ Err x → Packs (in_twos kind) (packed kind 1 [] (lines_of text)) old left (Err x)
+    going_bad {x} q = bad_of here q
       where
-        bad_of : Enters (in_twos kind) (entered (in_twos kind) (entry_of kind (part text at (at + r))) g.records) out left (answer.Bad x)
-            → Packs (in_twos kind) (packed kind 1 [] (lines_of text)) old left (told.Bad line x)
-        bad_of (stops e k) = fails {v = g.records} (step (stop x) e) (k ∙ g.stands.is)
+        bad_of : {b : Result ℕ Fault} → Enters (in_twos kind) (entered (in_twos kind) (entry_of kind (part text at (at + r))) g.records) out left b
+            → told_as line b ≡ Err x → Packs (in_twos kind) (packed kind 1 [] (lines_of text)) old left (Err x)
+        bad_of (stops {f} e k) d = subst (Packs (in_twos kind) (packed kind 1 [] (lines_of text)) old left) d
+            (fails {v = g.records} (step (stop f) e) (k ∙ g.stands.is))
+        bad_of (takes e k j) d = absurd (err_not (sym d))
 
-    pub going_more : (n : ℕ) → a ≡ answer.Used n → Going kind text old left n (at + r + 1) (line + 1)
-    going_more n q = used_of (rw q at here)
+    pub going_more : {n : ℕ} → told_as line a ≡ Ok n → Going kind text old left n (at + r + 1) (line + 1)
+    going_more {n} q = used_of here q
       where
-        used_of : Enters (in_twos kind) (entered (in_twos kind) (entry_of kind (part text at (at + r))) g.records) out left (answer.Used n)
-            → Going kind text old left n (at + r + 1) (line + 1)
-        used_of (takes {w} e k j) = record {
+        used_of : {b : Result ℕ Fault} → Enters (in_twos kind) (entered (in_twos kind) (entry_of kind (part text at (at + r))) g.records) out left b
+            → told_as line b ≡ Ok n → Going kind text old left n (at + r + 1) (line + 1)
+        used_of (stops e k) d = absurd (err_not d)
+        used_of (takes {w} e k j) d = record {
           records = w;
           stands = record {
             sound = keeps.sound g.stands.sound;
-            long = k;
+            long = sym (ok_same d) ∙ k;
             room = g.stands.room;
             is =
                 j ∙ ap (over (image (texts_by (in_twos kind) w))) g.stands.is

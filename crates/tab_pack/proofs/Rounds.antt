@@ -1,5 +1,6 @@
 -- Packing and showing again gives the same records: a table that is shown and packed is the same table, and the records of lines that are packed are
 -- shown as lines that are packed to them.
+use Rattle.std.specs.Prelude.{Result, Ok}
 use Prim.Native.Nat.{ℕ, suc, ◌≤◌}
 use native.Mathlib.Omega.{arith}
 use mathlib.Core.Path.{◌≡◌, refl, sym, ap, ◌∙◌}
@@ -44,10 +45,9 @@ use Rattle.tab_show.specs.Lines.{shown_of, showing}
 use Rattle.tab_escape.specs.Escapes.{good, read_text}
 use Rattle.tab_enter.specs.Records.{alone, texts_by, records_by, limit_by}
 use Rattle.tab_enter.specs.Entries.{Entry, faulty, entry, entry_of, Step, stop, go, entered}
+use Rattle.tab_pack.specs.declared.BadLine.{BadLine}
 use Rattle.tab_pack.specs.Packings.{whole, fault, pack_on, packed, Packs, packs}
 use Rattle.tab_escape.specs.declared.Fault.{Fault}
-use Rattle.tab_pack.specs.declared.Packed.{Packed}
-use Rattle.tab_pack.specs.declared.Packed.TheVariants as told
 use Rattle.tab_enter.proofs.Sounds.{
   key_test,
   Bare,
@@ -250,12 +250,12 @@ module _ (kind : Kind) (t : Text) (k : keyed kind ≡ true) (h : Bytes t) (e : w
   shown_image = sym (image_canonical t (texts_by (in_twos kind) records) h holds.texts_are)
 
   -- what packing the lines of a table answers and leaves
-  pub pack_shown : (old left : Text) (r : Packed) → Packs (in_twos kind) (packed kind 1 [] (lines_of (shown_of kind (held_texts t)))) old left r
-      → (r ≡ told.Len (length t)) × (left ≡ over t old)
+  pub pack_shown : (old left : Text) (r : Result ℕ BadLine) → Packs (in_twos kind) (packed kind 1 [] (lines_of (shown_of kind (held_texts t)))) old left r
+      → (r ≡ Ok (length t)) × (left ≡ over t old)
   pack_shown old left r s =
-      let q : (r ≡ told.Len (length (image (texts_by (in_twos kind) records)))) × (left ≡ over (image (texts_by (in_twos kind) records)) old) =
+      let q : (r ≡ Ok (length (image (texts_by (in_twos kind) records)))) × (left ≡ over (image (texts_by (in_twos kind) records)) old) =
       pack_determined s (packs {v = records} shown_packed refl refl) in
-      (q.0 ∙ ap (λ (u : Text). told.Len (length u)) shown_image, q.1 ∙ ap (λ (u : Text). over u old) shown_image)
+      (q.0 ∙ ap (λ (u : Text). Ok (length u)) shown_image, q.1 ∙ ap (λ (u : Text). over u old) shown_image)
 
 -- PACKED AND SHOWN: the records of lines are sound, and bytes where the lines are
 

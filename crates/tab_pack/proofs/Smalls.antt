@@ -1,23 +1,22 @@
 -- What is read from bytes, cut from them into lines or held by an image of them is bytes.
-use Prim.Native.Nat.{ℕ, zero, suc, ◌+◌, ◌-◌, ◌*◌}
+use Prim.Native.Nat.{ℕ, zero, suc, ◌+◌, ◌-◌, ◌*◌, ◌<◌}
 use native.Mathlib.Omega.{arith}
 use mathlib.Core.Path.{◌≡◌, refl}
 use mathlib.Core.Bool.{Bool, true}
 use mathlib.Core.List.{List, [], ◌∷◌}
 use mathlib.Core.Option.{some}
-use lib.Dec.{eqb, ltb}
+use lib.Dec.{leb, eqb, ltb}
 use lib.ListN.{length, drop, get_or}
-use borrow.Author.Tests.{ltb-true, ltb-false, lt-ltb}
-use Rattle.stages.specs.Bytes.{Text, all}
+use borrow.Author.Tests.{leb-true, ltb-true, lt-ltb}
+use Rattle.stages.specs.Bytes.{Text, all, between}
 use Rattle.stages.specs.Images.{texts_in, texts}
 use Rattle.stages.specs.Program.{longer_line, lines_of}
 use Rattle.stages.proofs.Bools.{either, and_left, and_right, and_both}
 use Rattle.stages.proofs.Texts.{all_take, all_drop}
 use Rattle.stages.proofs.Outcomes.{Each}
 use Rattle.stages.proofs.Images.{Bytes, by_texts, texts_inside}
-use Rattle.tab_escape.specs.Escapes.{hex_value, hex_byte, escape_of, byte_at, good, read_text}
-use Rattle.tab_escape.specs.declared.Byte.{Byte}
-use Rattle.tab_escape.specs.declared.Byte.TheVariants.{Bad, Is}
+use Rattle.tab_escape.specs.Escapes.{Got, hex_value, hex_byte, escape_of, byte_at, good, read_text}
+use Rattle.std.specs.Prelude.{Option, Some, None, Ok, Err}
 use Rattle.tab_escape.proofs.Escaping.{by_pick}
 use Rattle.tab_escape.proofs.Passing.{from_all}
 
@@ -36,22 +35,31 @@ bytes_of [] e i = omega arith
 bytes_of (b ∷ t) e zero = ltb-true b 256 (and_left (is_byte b) (all is_byte t) e)
 bytes_of (b ∷ t) e (suc i) = bytes_of t (and_right (is_byte b) (all is_byte t) e) i
 
-abbrev Lesser : Byte → Type 0
-Lesser (Bad f) = Unit {0}
-Lesser (Is b k) = is_byte b ≡ true
+abbrev Lesser : Got → Type 0
+Lesser (Err f) = Unit {0}
+Lesser (Ok r) = is_byte r.b ≡ true
 
-hex_lesser : (h l : ℕ) → Lesser (hex_byte h l)
-hex_lesser h l =
-    by_pick Lesser (ltb 15 h) _ _ (λ _. tt)
-    (λ e. by_pick Lesser (ltb 15 l) _ _ (λ _. tt)
-    (λ d. by_pick Lesser (eqb (h * 16 + l) 0) _ _ (λ _. tt) (λ _. lt-ltb (h * 16 + l) 256 (omega (arith, ltb-false 15 h e, ltb-false 15 l d)))))
+abbrev Digit : Option ℕ → Type 0
+Digit (Some n) = n < 16
+Digit None = Unit {0}
+
+digit_small : (b : ℕ) → Digit (hex_value b)
+digit_small b =
+    by_pick Digit (between 48 b 57) _ _ (λ e. omega (arith, leb-true b 57 (and_right (leb 48 b) (leb b 57) e)))
+    (λ _. by_pick Digit (between 65 b 70) _ _ (λ e. omega (arith, leb-true b 70 (and_right (leb 65 b) (leb b 70) e)))
+    (λ _. by_pick Digit (between 97 b 102) _ _ (λ e. omega (arith, leb-true b 102 (and_right (leb 97 b) (leb b 102) e))) (λ _. tt)))
+
+hex_lesser : (h l : Option ℕ) → Digit h → Digit l → Lesser (hex_byte h l)
+hex_lesser (Some h) (Some l) p q = by_pick Lesser (eqb (h * 16 + l) 0) _ _ (λ _. tt) (λ _. lt-ltb (h * 16 + l) 256 (omega arith))
+hex_lesser (Some h) None p q = tt
+hex_lesser None l p q = tt
 
 escape_lesser : (n c h l : ℕ) → Lesser (escape_of n c h l)
 escape_lesser n c h l =
     by_pick Lesser (ltb n 2) _ _ (λ _. tt)
     (λ _. by_pick Lesser (eqb c 110) _ _ (λ _. refl)
     (λ _. by_pick Lesser (eqb c 92) _ _ (λ _. refl)
-    (λ _. by_pick Lesser (eqb c 120) _ _ (λ _. by_pick Lesser (ltb n 4) _ _ (λ _. tt) (λ _. hex_lesser (hex_value h) (hex_value l))) (λ _. tt))))
+    (λ _. by_pick Lesser (eqb c 120) _ _ (λ _. by_pick Lesser (ltb n 4) _ _ (λ _. tt) (λ _. hex_lesser (hex_value h) (hex_value l) (digit_small h) (digit_small l))) (λ _. tt))))
 
 byte_lesser : (b : ℕ) (t : Text) → is_byte b ≡ true → Lesser (byte_at (b ∷ t) 0)
 unfolding byte_at

@@ -7,25 +7,22 @@ ghost use Rattle.table.specs.Kinds.{in_twos};
 ghost use Rattle.tab_enter.specs.Records.{limit_by};
 ghost use Rattle.tab_pack.specs.Packings.{packed, Packs};
 
-use tab_enter::Entered;
 use tab_escape::Fault;
 use table::Kind;
 use text::numbers;
 
-// What packing answers.
+// The first line that is no record of the table, and why.
 #[derive(Clone, Copy)]
-pub enum Packed {
-    // The length of the image.
-    Len(usize),
-    // The first line that is no record of the table, and why.
-    Bad { line: usize, fault: Fault },
+pub struct BadLine {
+    pub line: usize,
+    pub fault: Fault,
 }
 
 const NEWLINE: u8 = b'\n';
 
-// Packs the lines of a text into an image of the kind at the front of a buffer. The bytes behind it stay. At a line that is no record the image of those
+// Packs the lines of a text into an image of the kind at the front of a buffer, and answers its length. The bytes behind it stay. At a line that is no record the image of those
 // before it is left. The work area has room for a line.
-pub fn pack(kind: Kind, text: &[u8], image: &mut [u8], work: &mut [u8]) -> Packed
+pub fn pack(kind: Kind, text: &[u8], image: &mut [u8], work: &mut [u8]) -> Result<usize, BadLine>
     requires { (limit_by (in_twos kind) ≤ length image.old) × (length text.now ≤ length work.old) }
     ensures { Packs (in_twos kind) (packed kind 1 [] (lines_of text.now)) image.old image.new result }
 {
@@ -35,20 +32,11 @@ pub fn pack(kind: Kind, text: &[u8], image: &mut [u8], work: &mut [u8]) -> Packe
     let mut line: usize = 1;
     while at < text.len() {
         let end = at + tab_escape::find(&text[at..], NEWLINE);
-        let entered = tab_enter::enter_line(kind, &text[at..end], image, used, work);
-        match entered {
-            Entered::Bad(fault) => {
-                return Packed::Bad {
-                    line: line,
-                    fault: fault,
-                };
-            }
-            Entered::Used(n) => {
-                used = n;
-                line += 1;
-                at = end + 1;
-            }
-        }
+        used = tab_enter::enter_line(kind, &text[at..end], image, used, work).map_err(
+            |fault| BadLine { line, fault },
+        )?;
+        line += 1;
+        at = end + 1;
     }
-    Packed::Len(used)
+    Ok(used)
 }

@@ -8,7 +8,7 @@ use mathlib.Core.Bool.{Bool, true, false, ◌&&◌, ◌||◌}
 use mathlib.Core.List.{[], ◌∷◌, ◌++◌}
 use lib.Dec.{eqb, ltb}
 use lib.ListN.{length, take, drop, get_or, length-drop, take-append-drop}
-use lib.Seq.{drop-drop, take_all, length-take-le}
+use lib.Seq.{drop-drop, length-take-le}
 use borrow.Author.Tests.{lt-ltb, le-ltb, eq-eqb, ne_eqb, ltb-true, ltb-false, eqb-true, eqb-false}
 use Rattle.stages.specs.Bytes.{Text, part, lt_text}
 use Rattle.stages.proofs.Bools.{either}
@@ -116,14 +116,3 @@ module _ {last key : Text} {i : ℕ} (p : Rising last key i) (h : i + 8 ≤ leng
 
   pub words_same : x ≡ y → Rising last key (i + 8)
   words_same l = record { within_last = h; within_key = k; less = by_words ∙ by_same x y _ l }
-
--- `&last[i..]` and `&key[i..]` are compared byte by byte
-module _ {last key : Text} {i : ℕ} (p : Rising last key i) where
-  abbrev rest : Text → Text
-  rest t = take (length t - i) (drop i t)
-
-  rest_all : (t : Text) → rest t ≡ drop i t
-  rest_all t = let n : length (drop i t) ≡ length t - i = length-drop i t in take_all (length t - i) (drop i t) (omega arith)
-
-  by_rests : lt_text last key ≡ lt_text (rest last) (rest key)
-  by_rests = p.less ∙ ap (λ (t : Text). lt_text t (drop i key)) (sym (rest_all last)) ∙ ap (λ (t : Text). lt_text (rest last) t) (sym (rest_all key))

@@ -7,6 +7,7 @@ ghost use Rattle.stages.specs.Bytes.{text};
 ghost use Rattle.stages.specs.Images.{held, held_texts, lookup, or_empty};
 ghost use Rattle.stages.specs.Params.{numbered};
 ghost use Rattle.table.specs.Places.{Listed, Table, Placed, Looked};
+ghost use Rattle.table_find.specs.Bytes.{Within, bytes_of};
 ghost use Rattle.table_find.specs.Numbered.{Numbers};
 
 use std::cmp::Ordering;
@@ -43,15 +44,23 @@ pub fn look_up(image: &[u8], key: &[u8]) -> Option<Part>
     })
 }
 
+// A part of an image, and no bytes of none.
+fn bytes_of(image: &[u8], part: Option<Part>) -> &[u8]
+    requires { Within image.now part }
+    ensures { result.now ≡ bytes_of image.now part }
+{
+    match part {
+        Some(part) => &image[part.from..part.to],
+        None => &[],
+    }
+}
+
 // The value of a key, a part of the image itself; empty if there is none.
 pub fn value_of<'a>(image: &'a [u8], key: &[u8]) -> &'a [u8]
     requires { Table image.now }
     ensures { result.now ≡ or_empty (lookup key.now (held image.now)) }
 {
-    match look_up(image, key) {
-        Some(part) => &image[part.from..part.to],
-        None => &[],
-    }
+    bytes_of(image, look_up(image, key))
 }
 
 // Where the value of IFS is.
@@ -95,10 +104,7 @@ pub fn text_of(image: &[u8], number: usize) -> &[u8]
     requires { Listed image.now }
     ensures { result.now ≡ or_empty (numbered number (held_texts image.now)) }
 {
-    match find_text(image, number) {
-        Some(part) => &image[part.from..part.to],
-        None => &[],
-    }
+    bytes_of(image, find_text(image, number))
 }
 
 // How many texts an image has.

@@ -36,12 +36,12 @@ pub record Wrote (o : Outcome Text) (old left : Text) (n : ℕ) : Type 0 where
 pub wrote : (o : Outcome Text) (old left : Text) (n : ℕ) → Writes o old left (done n) → Wrote o old left n
 wrote (done t) old left n w = record { new = t; gives = refl; long = done_same w.answers; leaves = w.leaves }
 wrote (refused k) old left n w = absurd (never w.answers)
-wrote (demands t) old left n w = absurd (let e : ◌≡◌ {A = Outcome ℕ} (done n) (demands t) = w.answers in let z : ◌≡◌ {A = ℕ} 0 1 = cc in omega arith)
+wrote (demands t) old left n w = cc w.answers
 
 -- and where it is a number: nothing was written
 pub unwritten : (o : Outcome Text) (old left : Text) (k : ℕ) → Writes o old left (refused k) → (o ≡ refused k) × (left ≡ old)
 unwritten (done t) old left k w = absurd (never (sym w.answers))
-unwritten (demands t) old left k w = absurd (let e : ◌≡◌ {A = Outcome ℕ} (refused k) (demands t) = w.answers in let z : ◌≡◌ {A = ℕ} 0 1 = cc in omega arith)
+unwritten (demands t) old left k w = cc w.answers
 unwritten (refused j) old left k w = (refusal w.answers, w.leaves)
   where
     refusal : ◌≡◌ {A = Outcome ℕ} (refused k) (refused j) → ◌≡◌ {A = Outcome Text} (refused j) (refused k)

@@ -1,7 +1,6 @@
 -- The contracts determine every answer and every byte: two outcomes that a contract allows for one input are equal. Open are the bytes that a store within
 -- a room leaves behind the image, and all of them where it is refused.
 use Prim.Native.Nat.{ℕ}
-use native.Mathlib.Omega.{arith}
 use mathlib.Core.Path.{◌≡◌, refl, sym, ap, ◌∙◌}
 use lib.ListN.{length, take}
 use Rattle.stages.specs.Bytes.{Text}
@@ -47,7 +46,7 @@ module _ (varsRoom : ℕ) (x t : Text) (v : Pairs) (vars vars' : Text) where
   one_store n n' h h' = cc
 
   store_clash : {e : ℕ} {u : Pairs} → store varsRoom x t v ≡ refused e → store varsRoom x t v ≡ done u → ⊥
-  store_clash h h' = let z : ◌≡◌ {A = ℕ} 0 1 = cc in omega arith
+  store_clash h h' = cc
 
   pub store_within_determined : (r s : Result ℕ NoRoom) → StoresIn varsRoom x t v vars r → StoresIn varsRoom x t v vars' s → r ≡ s
   store_within_determined (Ok n) (Ok n') h h' =

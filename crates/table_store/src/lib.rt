@@ -42,6 +42,7 @@ fn fits(name: usize, value: usize, room: usize) -> bool
 
 // Puts the two records in the place of the bytes from `at` to `end`, if the first `vars_used` bytes are then at most `limit`. What stands behind them moves
 // first, up or down; the bytes from the new end on stay. Answers the length that the first bytes then have.
+#[tactic(auto, unfolding(crate::specs::Splice::room_for))]
 fn splice(
     vars: &mut [u8],
     vars_used: usize,

@@ -10,24 +10,6 @@ returns-then-not-fits c =
     splice_full a.vars.now a.name.now a.value.now a.vars_used a.at a.end a.limit c.requires
     (lacks_room _ _ _ c.fits.ensures c.if-not-fits.true)
 
-pub overflow_add-size-2 : goal.overflow_add-size-2
-overflow_add-size-2 c = omega (arith, has_room _ _ _ c.fits.ensures c.if-not-fits.false)
-
-pub overflow_add-at : goal.overflow_add-at
-overflow_add-at c = omega (arith, has_room _ _ _ c.fits.ensures c.if-not-fits.false)
-
-pub shift-requires : goal.shift-requires
-shift-requires c = omega (arith, has_room _ _ _ c.fits.ensures c.if-not-fits.false)
-
-pub slice_bounds-put_record-count-2 : goal.slice_bounds-put_record-count-2
-slice_bounds-put_record-count-2 c = omega (arith, c.shift.auto.area, c.put_record.auto.out, has_room _ _ _ c.fits.ensures c.if-not-fits.false)
-
-pub slice_bounds-put_record-start-2 : goal.slice_bounds-put_record-start-2
-slice_bounds-put_record-start-2 c = omega (arith, c.shift.auto.area, c.put_record.auto.out, has_room _ _ _ c.fits.ensures c.if-not-fits.false)
-
-pub overflow_add-result : goal.overflow_add-result
-overflow_add-result c = omega (arith, has_room _ _ _ c.fits.ensures c.if-not-fits.false)
-
 pub returns : goal.returns
 returns c =
     let a = c.args in
