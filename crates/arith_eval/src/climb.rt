@@ -14,6 +14,9 @@ use arith_int::{Op, is_sign};
 use arith_token::{Token, level, token_at};
 use text::refusal::Refusal;
 
+// "More than 32 open parentheses and unary signs, together, is 12."
+const TOO_DEEP: Refusal = Refusal::TooDeep;
+
 // The lowest level of an operator between two operands.
 const LOWEST: usize = 3;
 
@@ -71,7 +74,7 @@ fn signed(
         return Err(Refusal::ArithmeticSyntax);
     }
     if scope.room == 0 {
-        return Err(Refusal::TooDeep);
+        return Err(TOO_DEEP);
     }
     let inner = Scope {
         room: scope.room - 1,
@@ -96,7 +99,7 @@ fn enclosed(
         (enclosedIn grow scope.room (drop at text.now)) vars.new result }
 {
     if scope.room == 0 {
-        return Err(Refusal::TooDeep);
+        return Err(TOO_DEEP);
     }
     let inner = Scope {
         room: scope.room - 1,

@@ -72,8 +72,7 @@ fn constant_at(text: &[u8], at: usize) -> Option<Plain>
         return None;
     }
     let mut n = (first - b'0') as u64;
-    let mut i = from + 1;
-    while i < text.len() {
+    for i in from + 1..text.len() {
         let b = text[i];
         if !text::in_class(Class::Digit, b) {
             if text::in_class(Class::NameByte, b) {
@@ -88,11 +87,10 @@ fn constant_at(text: &[u8], at: usize) -> Option<Plain>
             return None;
         }
         n = n * 10 + (b - b'0') as u64;
-        i += 1;
     }
     Some(Plain {
         value: n as i64,
-        next: i,
+        next: text.len(),
     })
 }
 

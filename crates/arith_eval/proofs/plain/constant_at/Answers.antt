@@ -53,5 +53,7 @@ returns c =
     let text = c.args.text.now in
     let short : c.run_end-from.result < length text = omega (arith, c.run_end-from.ensures.within) in
     let n : length text ≤ c.loop-i.i = omega (arith, c.loop-i-test.false) in
-    number text c.args.at c.run_end-from.result c.loop-i.n c.loop-i.i c.run_end-from.ensures short c.if-first-lt49.false c.if-first-gt57.false
-    c.loop-i.invariant (subst (Stops is_name_byte) (sym (drop_of_length-le text n)) tt)
+    let e : c.loop-i.i ≡ length text = omega (arith, c.loop-i.invariant.within) in
+    subst (λ (i : ℕ). TokenAt text c.args.at (code.Number (to_z w64 c.loop-i.n) i)) e
+    (number text c.args.at c.run_end-from.result c.loop-i.n c.loop-i.i c.run_end-from.ensures short c.if-first-lt49.false c.if-first-gt57.false
+    c.loop-i.invariant (subst (Stops is_name_byte) (sym (drop_of_length-le text n)) tt))
