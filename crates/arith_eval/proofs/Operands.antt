@@ -5,51 +5,37 @@ use mathlib.Core.Path.{◌≡◌, refl, sym, ap, ◌∙◌, subst}
 use mathlib.Core.Bool.{Bool, true, false}
 use mathlib.Core.List.{List}
 use lib.Dec.{eqb}
-use lib.IntN.{ℤ, pos}
+use lib.IntN.{ℤ}
 use lib.ListN.{length, drop}
 use Rattle.stages.specs.Numbers.{too_deep, arithmetic_syntax}
 use Rattle.stages.specs.Bytes.{Text, part}
-use Rattle.stages.specs.Outcome.{Outcome, refused, demands, done, ◌>>=◌}
-use Rattle.stages.specs.Images.{Pairs, lookup}
+use Rattle.stages.specs.Outcome.{refused, demands, done, ◌>>=◌}
+use Rattle.stages.specs.Images.{Pairs}
 use Rattle.stages.specs.Params.{Lent}
-use Rattle.stages.specs.Arith.{whole_level, apply_alone, is_sign, End, shuts, Lexed, ends, num, name, op, opens, query, gets, token, Tree, constant_of}
+use Rattle.stages.specs.Arith.{whole_level, is_sign, End, stop, shuts, Lexed, ends, num, name, op, opens, query, gets, token, Tree, constant_of}
 use Rattle.stages.specs.Arith.{name_of, unary, Grown, grown, operand, expression, rank, ended, up_to, enclosed, sign, operand_at, grow_step, grow, evaluate}
-use Rattle.stages.specs.Arith.{with_variables, name_number}
+use Rattle.stages.specs.Arith.{with_variables}
 use Rattle.stages.proofs.Bools.{no}
 use Rattle.stages.proofs.Arith.{grow_eq}
-use Rattle.stages.proofs.Outcomes.{done_same, never_asks, sure_quiet}
-use Rattle.stages.proofs.SafeSums.{name_sure, alone_sure}
+use Rattle.stages.proofs.Outcomes.{done_same, never_asks}
 use Rattle.table_store.specs.Holding.{Holds}
+use Rattle.std.specs.Prelude.{Result, Ok, Err}
+use Rattle.text.specs.Refusals.{refusal_number}
+use Rattle.text.specs.declared.refusal.Refusal.{Refusal}
 use Rattle.arith_int.specs.Answers.{op_of}
 use Rattle.arith_int.specs.declared.Op.{Op}
 use Rattle.arith_token.specs.Tokens.{lexed, TokenAt}
-use Rattle.arith_token.specs.declared.Setting.{Setting}
 use Rattle.arith_token.specs.declared.Token.{Token}
 use Rattle.arith_token.specs.declared.Token.TheVariants as code
-use Rattle.arith_eval.specs.Climbs.{inside, Ready, climbing, Names, Turned, sign_of, Fails, Worth, Kept, Says}
+use Rattle.arith_eval.specs.Climbs.{inside, Ready, climbed, Names, Turned, sign_of, Fails, Worth, Kept, Says}
 use Rattle.arith_eval.specs.Wholes.{Closes}
 use Rattle.arith_eval.specs.declared.answers.Climbed.{Climbed}
-use Rattle.arith_eval.specs.declared.answers.Climbed.TheVariants as climbed
-use Rattle.arith_eval.specs.declared.answers.Skipped.{Skipped}
-use Rattle.arith_eval.specs.declared.answers.Skipped.TheVariants as skipped
 use Rattle.arith_eval.proofs.Trees.{never, bound, unary_refused, unary_done, name_is, constant_is}
 
 -- An enum's answer, once its case is known.
 
 pub token_shown : {text : Text} {at : ℕ} {r s : Token} → TokenAt text at r → r ≡ s → TokenAt text at s
 token_shown {text} {at} h e = subst (TokenAt text at) e h
-
-pub says_shown : (lent : Lent) (text : Text) (at : ℕ) (vars : Text) (used : ℕ) (counts : Bool) (o : Grown) (left : Text) {r s : Climbed}
-    → Says lent text at vars used counts o left r → r ≡ s → Says lent text at vars used counts o left s
-says_shown lent text at vars used counts o left h e = subst (Says lent text at vars used counts o left) e h
-
-pub closes_shown : (text : Text) (at : ℕ) {r s : Skipped} → Closes text at r → r ≡ s → Closes text at s
-closes_shown text at h e = subst (Closes text at) e h
-
--- where it is known whether it counts
-pub says_counts : (lent : Lent) (text : Text) (at : ℕ) (vars : Text) (used : ℕ) (o : Grown) (left : Text) (r : Climbed) {counts known : Bool} → counts ≡ known
-    → Says lent text at vars used known o left r → Says lent text at vars used counts o left r
-says_counts lent text at vars used o left r e h = subst (λ (b : Bool). Says lent text at vars used b o left r) (sym e) h
 
 -- Further on in the text, with the variables and the room for places as they are then.
 
@@ -62,6 +48,34 @@ ready_with r l w h e = let d = r.deep in record { start = w; few = r.few; holds 
 pub ended_by : (text : Text) (at : ℕ) (e : End) (k : Token) → TokenAt text at k → (l : Tree)
     → (token (drop at text) >>= λ s. ended e l s) ≡ (lexed text k >>= λ s. ended e l s)
 ended_by text at e k t l = ap (λ (o : Lexed). o >>= λ s. ended e l s) t.is
+
+-- a token that is not the end
+pub not_ended : (text : Text) (at : ℕ) (k : Token) → TokenAt text at k → (k ≡ code.Stop → ⊥) → (l : Tree)
+    → (token (drop at text) >>= λ s. ended stop l s) ≡ refused arithmetic_syntax
+unfolding ended
+not_ended text at code.Stop t y l = absurd (y refl)
+not_ended text at (code.Number z n) t y l = ended_by text at stop (code.Number z n) t l
+not_ended text at (code.Name a b) t y l = ended_by text at stop (code.Name a b) t l
+not_ended text at (code.Op o n) t y l = ended_by text at stop (code.Op o n) t l
+not_ended text at (code.Opens n) t y l = ended_by text at stop (code.Opens n) t l
+not_ended text at (code.Shuts n) t y l = ended_by text at stop (code.Shuts n) t l
+not_ended text at (code.Query n) t y l = ended_by text at stop (code.Query n) t l
+not_ended text at (code.Colon n) t y l = ended_by text at stop (code.Colon n) t l
+not_ended text at (code.Gets x n) t y l = ended_by text at stop (code.Gets x n) t l
+
+-- a token that is no `)`
+pub not_closed : (text : Text) (at : ℕ) (k : Token) → TokenAt text at k → ((n : ℕ) → k ≡ code.Shuts n → ⊥) → (l : Tree)
+    → (token (drop at text) >>= λ s. ended shuts l s) ≡ refused arithmetic_syntax
+unfolding ended
+not_closed text at code.Stop t y l = ended_by text at shuts code.Stop t l
+not_closed text at (code.Number z n) t y l = ended_by text at shuts (code.Number z n) t l
+not_closed text at (code.Name a b) t y l = ended_by text at shuts (code.Name a b) t l
+not_closed text at (code.Op o n) t y l = ended_by text at shuts (code.Op o n) t l
+not_closed text at (code.Opens n) t y l = ended_by text at shuts (code.Opens n) t l
+not_closed text at (code.Shuts n) t y l = absurd (y n refl)
+not_closed text at (code.Query n) t y l = ended_by text at shuts (code.Query n) t l
+not_closed text at (code.Colon n) t y l = ended_by text at shuts (code.Colon n) t l
+not_closed text at (code.Gets x n) t y l = ended_by text at shuts (code.Gets x n) t l
 
 -- Refusals.
 
@@ -118,10 +132,10 @@ module _ (lent : Lent) (text : Text) (vars : Text) (used : ℕ) (counts : Bool) 
   abbrev before : Pairs
   before = inside vars used
 
-  pub says_same : (at next : ℕ) (o q : Grown) (left : Text) (r : Climbed) → o ≡ q → at ≤ next → Says lent text next vars used counts q left r
+  pub says_same : (at next : ℕ) (o q : Grown) (left : Text) (r : Result Climbed Refusal) → o ≡ q → at ≤ next → Says lent text next vars used counts q left r
       → Says lent text at vars used counts o left r
-  says_same at next o q left (climbed.Refused e) s l f = fails_same lent before counts s f
-  says_same at next o q left (climbed.Value z n now) s l c =
+  says_same at next o q left (Err e) s l f = fails_same lent before counts s f
+  says_same at next o q left (Ok r) s l c =
       let a = c.0.onward in
       (record { tree = c.0.tree; is = s ∙ c.0.is; worth = c.0.worth; onward = omega arith; within = c.0.within }, c.1)
 
@@ -134,41 +148,37 @@ module _ (lent : Lent) (text : Text) (vars : Text) (used : ℕ) (counts : Bool) 
     unfolding grow_step
     by_token k t = grow_eq (operand false, d, drop at text) ∙ ap (λ (o : Lexed). o >>= λ p. operand_at grow false d p) t.is
 
-    pub operand_refused : (e : ℕ) → TokenAt text at (code.Refused e) → Fails lent before counts here e
-    operand_refused e t = fault lent before counts (by_token (code.Refused e) t)
+    pub operand_refused : (e : ℕ) → token (drop at text) ≡ refused e → Fails lent before counts here e
+    unfolding grow_step
+    operand_refused e t =
+        fault lent before counts (grow_eq (operand false, d, drop at text) ∙ ap (λ (o : Lexed). o >>= λ p. operand_at grow false d p) t)
 
-    pub operand_none : TokenAt text at code.Stop → Fails lent before counts here arithmetic_syntax
+    -- a token that begins no operand
+    pub operand_none : (k : Token) → TokenAt text at k → ((z : ℤ) (n : ℕ) → k ≡ code.Number z n → ⊥) → ((a b : ℕ) → k ≡ code.Name a b → ⊥)
+        → ((o : Op) (n : ℕ) → k ≡ code.Op o n → ⊥) → ((n : ℕ) → k ≡ code.Opens n → ⊥) → Fails lent before counts here arithmetic_syntax
     unfolding operand_at
-    operand_none t = fault lent before counts (by_token code.Stop t)
+    operand_none code.Stop t x y w u = fault lent before counts (by_token code.Stop t)
+    operand_none (code.Number z n) t x y w u = absurd (x z n refl)
+    operand_none (code.Name a b) t x y w u = absurd (y a b refl)
+    operand_none (code.Op o n) t x y w u = absurd (w o n refl)
+    operand_none (code.Opens n) t x y w u = absurd (u n refl)
+    operand_none (code.Shuts n) t x y w u = fault lent before counts (by_token (code.Shuts n) t)
+    operand_none (code.Query n) t x y w u = fault lent before counts (by_token (code.Query n) t)
+    operand_none (code.Colon n) t x y w u = fault lent before counts (by_token (code.Colon n) t)
+    operand_none (code.Gets s n) t x y w u = fault lent before counts (by_token (code.Gets s n) t)
 
-    pub operand_shut : (next : ℕ) → TokenAt text at (code.Shuts next) → Fails lent before counts here arithmetic_syntax
-    unfolding operand_at
-    operand_shut next t = fault lent before counts (by_token (code.Shuts next) t)
-
-    pub operand_query : (next : ℕ) → TokenAt text at (code.Query next) → Fails lent before counts here arithmetic_syntax
-    unfolding operand_at
-    operand_query next t = fault lent before counts (by_token (code.Query next) t)
-
-    pub operand_colon : (next : ℕ) → TokenAt text at (code.Colon next) → Fails lent before counts here arithmetic_syntax
-    unfolding operand_at
-    operand_colon next t = fault lent before counts (by_token (code.Colon next) t)
-
-    pub operand_gets : (s : Setting) (next : ℕ) → TokenAt text at (code.Gets s next) → Fails lent before counts here arithmetic_syntax
-    unfolding operand_at
-    operand_gets s next t = fault lent before counts (by_token (code.Gets s next) t)
-
-    pub operand_sign : (o : Op) (next : ℕ) (left : Text) (r : Climbed) → TokenAt text at (code.Op o next)
+    pub operand_sign : (o : Op) (next : ℕ) (left : Text) (r : Result Climbed Refusal) → TokenAt text at (code.Op o next)
         → Says lent text next vars used counts (sign_of o d (drop next text)) left r → Says lent text at vars used counts here left r
     unfolding operand_at
     operand_sign o next left r t h = let l = t.ends.onward in says_same at next here _ left r (by_token (code.Op o next) t) (omega arith) h
 
-    pub operand_opens : (next : ℕ) (left : Text) (r : Climbed) → TokenAt text at (code.Opens next)
+    pub operand_opens : (next : ℕ) (left : Text) (r : Result Climbed Refusal) → TokenAt text at (code.Opens next)
         → Says lent text next vars used counts (enclosed grow d (drop next text)) left r → Says lent text at vars used counts here left r
     unfolding operand_at
     operand_opens next left r t h = let l = t.ends.onward in says_same at next here _ left r (by_token (code.Opens next) t) (omega arith) h
 
     module _ (holds : Holds lent.room vars used) where
-      pub operand_number : (z : ℤ) (next : ℕ) → TokenAt text at (code.Number z next) → Says lent text at vars used counts here vars (climbed.Value z next used)
+      pub operand_number : (z : ℤ) (next : ℕ) → TokenAt text at (code.Number z next) → Says lent text at vars used counts here vars (Ok (climbed z next used))
       unfolding operand_at
       operand_number z next t = (
         record {
@@ -187,7 +197,7 @@ module _ (lent : Lent) (text : Text) (vars : Text) (used : ℕ) (counts : Bool) 
         name_here = by_token (code.Name from to) t
 
         value_comes : (z : ℤ) → Worth lent before counts (name_of (part text from to)) z before
-            → Says lent text at vars used counts here vars (climbed.Value z to used)
+            → Says lent text at vars used counts here vars (Ok (climbed z to used))
         value_comes z w = (
           record {
             tree = name_of (part text from to);
@@ -199,22 +209,19 @@ module _ (lent : Lent) (text : Text) (vars : Text) (used : ℕ) (counts : Bool) 
           kept_all lent vars used counts holds,
         )
 
-        outcome_says : counts ≡ true → (o : Outcome ℤ) → name_number lent.shouts (lookup (part text from to) before) ≡ o
-            → Says lent text at vars used counts here vars (climbing o to used)
-        outcome_says c (refused e) q =
-            work_fault lent before counts c λ p h.
-            ap (λ (x : Tree × Text). evaluate lent before x.0) (done_same (sym h ∙ name_here))
-            ∙ name_is lent before (part text from to) ∙ ap (with_variables before) q
-        outcome_says c (demands m) q = absurd (sure_quiet (name_sure lent.shouts (lookup (part text from to) before)) q)
-        outcome_says c (done z) q = value_comes z (λ _. name_is lent before (part text from to) ∙ ap (with_variables before) q)
+      pub name_fails : (from to : ℕ) (e : Refusal) → TokenAt text at (code.Name from to) → (b : Bool) → counts ≡ b
+          → Names (part text from to) before lent.shouts b (Err e) → Fails lent before counts here (refusal_number e)
+      name_fails from to e t true c h =
+          work_fault lent before counts c λ p q.
+          ap (λ (x : Tree × Text). evaluate lent before x.0) (done_same (sym q ∙ name_here from to t))
+          ∙ name_is lent before (part text from to) ∙ ap (with_variables before) (sym h)
+      name_fails from to e t false c h = cc
 
-      pub operand_name : (from to : ℕ) (r : Climbed) → TokenAt text at (code.Name from to) → (b : Bool) → counts ≡ b
-          → Names text from to before lent.shouts b used r → Says lent text at vars used counts here vars r
-      operand_name from to r t true c h =
-          subst (Says lent text at vars used counts here vars) (sym h)
-          (outcome_says from to t c (name_number lent.shouts (lookup (part text from to) before)) refl)
-      operand_name from to r t false c h =
-          subst (Says lent text at vars used counts here vars) (sym h) (value_comes from to t (pos 0) (λ k. absurd (no (sym c ∙ k))))
+      pub name_says : (from to : ℕ) (z : ℤ) → TokenAt text at (code.Name from to) → (b : Bool) → counts ≡ b
+          → Names (part text from to) before lent.shouts b (Ok z) → Says lent text at vars used counts here vars (Ok (climbed z to used))
+      name_says from to z t true c h =
+          value_comes from to t z (λ _. name_is lent before (part text from to) ∙ ap (with_variables before) (sym h))
+      name_says from to z t false c h = value_comes from to t z (λ k. absurd (no (sym c ∙ k)))
 
   -- A sign and its operand.
   module _ (at d : ℕ) (o : Op) where
@@ -244,7 +251,7 @@ module _ (lent : Lent) (text : Text) (vars : Text) (used : ℕ) (counts : Bool) 
             ap (λ (x : Tree × Text). evaluate lent before x.0) (sym (done_same h)) ∙ unary_refused lent before (op_of o) q.0 e b)
 
         module _ (left : Text) (z : ℤ) (next now : ℕ)
-            (c : Says lent text at vars used counts (grow (operand false, d - 1, drop at text)) left (climbed.Value z next now)) where
+            (c : Says lent text at vars used counts (grow (operand false, d - 1, drop at text)) left (Ok (climbed z next now))) where
           abbrev behind : Pairs
           behind = inside left now
 
@@ -255,22 +262,22 @@ module _ (lent : Lent) (text : Text) (vars : Text) (used : ℕ) (counts : Bool) 
           signed_is = sign_is ∙ ap (grown (unary (op_of o))) c.0.is
 
           sign_comes : (y : ℤ) → Worth lent before counts (unary (op_of o) inner) y behind
-              → Says lent text at vars used counts sign_here left (climbed.Value y next now)
+              → Says lent text at vars used counts sign_here left (Ok (climbed y next now))
           sign_comes y w =
               (record { tree = unary (op_of o) inner; is = signed_is; worth = w; onward = c.0.onward; within = c.0.within }, c.1)
 
-          sign_outcome : counts ≡ true → (u : Outcome ℤ) → apply_alone (op_of o) z ≡ u → Says lent text at vars used counts sign_here left (climbing u next now)
-          sign_outcome k (refused e) q =
+          pub turn_fails : (e : Refusal) (b : Bool) → counts ≡ b → Turned o z b (Err e) → Fails lent before counts sign_here (refusal_number e)
+          turn_fails e true k q =
               work_fault lent before counts k λ p h.
               ap (λ (x : Tree × Text). evaluate lent before x.0) (done_same (sym h ∙ signed_is))
-              ∙ unary_done lent before (op_of o) inner z behind (c.0.worth k) ∙ ap (with_variables behind) q
-          sign_outcome k (demands m) q = absurd (sure_quiet (alone_sure (op_of o) z) q)
-          sign_outcome k (done y) q =
-              sign_comes y (λ _. unary_done lent before (op_of o) inner z behind (c.0.worth k) ∙ ap (with_variables behind) q)
+              ∙ unary_done lent before (op_of o) inner z behind (c.0.worth k) ∙ ap (with_variables behind) (sym q)
+          turn_fails e false k q = cc
 
-          pub sign_says : (r : Climbed) (b : Bool) → counts ≡ b → Turned o z next b now r → Says lent text at vars used counts sign_here left r
-          sign_says r true k h = subst (Says lent text at vars used counts sign_here left) (sym h) (sign_outcome k (apply_alone (op_of o) z) refl)
-          sign_says r false k h = subst (Says lent text at vars used counts sign_here left) (sym h) (sign_comes z (λ t. absurd (no (sym k ∙ t))))
+          pub sign_says : (y : ℤ) (b : Bool) → counts ≡ b → Turned o z b (Ok y)
+              → Says lent text at vars used counts sign_here left (Ok (climbed y next now))
+          sign_says y true k q =
+              sign_comes y (λ _. unary_done lent before (op_of o) inner z behind (c.0.worth k) ∙ ap (with_variables behind) (sym q))
+          sign_says y false k q = sign_comes y (λ t. absurd (no (sym k ∙ t)))
 
   -- Parentheses.
   module _ (at d : ℕ) where
@@ -299,12 +306,12 @@ module _ (lent : Lent) (text : Text) (vars : Text) (used : ℕ) (counts : Bool) 
         (fails_first lent before counts close f λ q p h b. rw (ended_tree shuts (token q.1) q.0 p h) b)
 
     module _ (left : Text) (z : ℤ) (next now : ℕ) (n : d ≡ 0 → ⊥)
-        (c : Says lent text at vars used counts (expression grow (d - 1) whole_level (drop at text)) left (climbed.Value z next now)) where
-      pub unclosed : (e : ℕ) → Closes text next (skipped.Refused e) → Fails lent before counts enclosed_here e
+        (c : Says lent text at vars used counts (expression grow (d - 1) whole_level (drop at text)) left (Ok (climbed z next now))) where
+      pub unclosed : (e : Refusal) → Closes text next (Err e) → Fails lent before counts enclosed_here (refusal_number e)
       unfolding within close
       unclosed e h = fault lent before counts (enclosed_is n ∙ ap (λ (o : Grown). o >>= close) c.0.is ∙ h c.0.tree)
 
-      pub enclosed_says : (end : ℕ) → Closes text next (skipped.Next end) → Says lent text at vars used counts enclosed_here left (climbed.Value z end now)
+      pub enclosed_says : (end : ℕ) → Closes text next (Ok end) → Says lent text at vars used counts enclosed_here left (Ok (climbed z end now))
       unfolding within close
       enclosed_says end h =
           let a = c.0.onward in

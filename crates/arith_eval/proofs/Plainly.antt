@@ -1,55 +1,37 @@
 -- Laws of the short way: its operators and constants by their tokens, the state of its loop, and a whole text.
 use Prim.Native.Nat.{ℕ, ◌+◌, ◌≤◌, ◌<◌}
 use native.Mathlib.Omega.{arith}
-use mathlib.Core.Path.{◌≡◌, refl, sym, ap, ◌∙◌, subst}
+use mathlib.Core.Path.{◌≡◌, refl, sym, ap, ◌∙◌}
 use mathlib.Core.Bool.{true}
 use mathlib.Core.List.{[], ◌∷◌}
-use mathlib.Core.Option.{Option, none, some}
+use mathlib.Core.Option.{none, some}
+use mathlib.Core.Option as maybe
 use lib.IntN.{ℤ}
 use lib.ListN.{length, drop, get_or}
 use Rattle.stages.specs.Numbers.{open_limit}
 use Rattle.stages.specs.Bytes.{Text, is_blank, is_digit, is_name_start, is_letter}
-use Rattle.stages.specs.Outcome.{Outcome, done, ◌>>=◌, choose}
+use Rattle.stages.specs.Outcome.{done, ◌>>=◌, choose}
 use Rattle.stages.specs.Params.{Lent}
 use Rattle.stages.specs.Arith.{mul, div, rem, add, sub, apply, whole_level, stop, op, gets, written, behind, spelled, token, Tree, Grown}
 use Rattle.stages.specs.Arith.{expression, ended, grow}
 use Rattle.stages.proofs.Ended.{target_other, whole_above}
 use Rattle.stages.proofs.Storeys.{lowest, upstairs}
 use Rattle.table_store.specs.Holding.{Holds}
-use Rattle.arith_int.specs.Answers.{op_of}
+use Rattle.arith_int.specs.Answers.{numbered, op_of}
 use Rattle.arith_int.specs.declared.Op.{Op}
 use Rattle.arith_token.specs.Tokens.{level_of, TokenAt, paired_by}
-use Rattle.arith_token.specs.declared.Setting.TheVariants.{With}
+use Rattle.std.specs.Prelude.{Some, Result, Ok, Err}
+use Rattle.std.specs.Result.{result_ok}
+use Rattle.text.specs.declared.refusal.Refusal.{Refusal}
 use Rattle.arith_token.specs.declared.Token.TheVariants as code
 use Rattle.arith_token.proofs.Lexing.{here, next_place, last_place, without_second}
-use Rattle.arith_eval.specs.Climbs.{turning, unless_decided, Joins, Says}
+use Rattle.arith_eval.specs.Climbs.{climbed, unless_decided, Joins, Says}
 use Rattle.arith_eval.specs.Answers.{ComesTo}
-use Rattle.arith_eval.specs.Plains.{Between, Signs, IsConstant, Reaches, PlainFrom, PlainText}
-use Rattle.arith_eval.specs.declared.Worked.TheVariants as worked
-use Rattle.arith_eval.specs.declared.answers.Climbed.TheVariants as climbed
-use Rattle.arith_eval.specs.declared.answers.Turn.TheVariants as turn
-use Rattle.arith_eval.specs.declared.plain.Plain.{Plain}
-use Rattle.arith_eval.specs.declared.plain.Sign.{Sign}
+use Rattle.arith_eval.specs.Plains.{Between, Reaches}
 use Rattle.arith_eval.proofs.Operands.{ended_by, operand_number}
-use Rattle.arith_eval.proofs.Climbing.{expression_says, last_stop, last_loose, turn_says, Going, going_start, going_last, going_next}
+use Rattle.arith_eval.proofs.Climbing.{expression_says, last_none, last_loose, turn_says, Going, going_start, going_last, going_next}
 use Rattle.arith_eval.proofs.Reading.{bare_up}
 use Rattle.arith_eval.proofs.Texts.{once_says, counted_says}
-
--- An enum's answer, once its case is known.
-
-pub signs_shown : (text : Text) (at : ℕ) {r s : Sign} → Signs text at r → r ≡ s → Signs text at s
-signs_shown text at h e = subst (Signs text at) e h
-
-pub constant_shown : (text : Text) (at : ℕ) {r s : Plain} → IsConstant text at r → r ≡ s → IsConstant text at s
-constant_shown text at h e = subst (IsConstant text at) e h
-
--- .. at the level and behind the value that the code computed
-pub plain_shown : (text : Text) (at : ℕ) {i k : ℕ} {x y : ℤ} {r s : Plain} → i ≡ k → x ≡ y → r ≡ s → PlainFrom text at i x r → PlainFrom text at k y s
-plain_shown text at {i} {k} {x} {y} {r} {s} e q c h =
-    subst (PlainFrom text at k y) c (subst (λ (z : ℤ). PlainFrom text at k z r) q (subst (λ (j : ℕ). PlainFrom text at j x r) e h))
-
-pub text_shown : (text : Text) {r s : Plain} → PlainText text r → r ≡ s → PlainText text s
-text_shown text h e = subst (PlainText text) e h
 
 -- The five operators, by their byte and the one behind it.
 
@@ -78,7 +60,7 @@ pub lone_sign : (text : Text) (at b : ℕ) (o : Op) → at + 1 < length text →
 lone_sign text at b o h e n t =
     let w : at < length text = omega arith in
     let p =
-    without_second text at 61 (code.Op o (at + 1)) (code.Gets (With o) (at + 2))
+    without_second text at 61 (code.Op o (at + 1)) (code.Gets (Some o) (at + 2))
     (record { within = w; one = next_place text at w; two = last_place text at }) h n in
     record {
       is =
@@ -86,6 +68,14 @@ lone_sign text at b o h e n t =
           ∙ sym (p.is (gets (some (op_of o))) refl);
       ends = next_place text at w;
     }
+
+not_stop : (o : Op) (n : ℕ) → code.Stop ≡ code.Op o n → ⊥
+not_stop o n e = cc
+
+-- a number that is given
+pub given_is : (r : Result ℤ Refusal) (x : ℤ) → Some x ≡ result_ok r → numbered r ≡ done x
+given_is (Ok y) x e = cc
+given_is (Err q) x e = cc
 
 -- Behind a left side of the value y.
 
@@ -100,12 +90,12 @@ module _ (text : Text) (at k : ℕ) (y : ℤ) where
   plods_start h = record { onward = omega arith; within = h; going = λ lent vars used d w. going_start lent text vars used true at d k y h w }
 
   module _ {z : ℤ} {i : ℕ} (p : Plods z i) where
-    pub plods_stop : TokenAt text i code.Stop → Reaches text at k y z i
-    plods_stop t = record {
+    pub plods_stop : lowest ≤ k → TokenAt text i code.Stop → Reaches text at k y z i
+    plods_stop h t = record {
       onward = p.onward;
       within = p.within;
       goes = λ lent vars used d w.
-          going_last lent text vars used true at d k y z i vars used (p.going lent vars used d w) vars (last_stop lent text vars used true i d k z t);
+          going_last lent text vars used true at d k y z i vars used (p.going lent vars used d w) vars (last_none lent text vars used true i d k z h code.Stop t (λ o n. not_stop o n));
     }
 
     module _ {o : Op} {next : ℕ} (b : Between text i o next) where
@@ -127,28 +117,26 @@ module _ (text : Text) (at k : ℕ) (y : ℤ) where
           let j = r.onward in
           record { onward = omega arith; within = r.within; going = goes }
         where
-          joins : (used : ℕ) → Joins o z c m true used (turn.Next x m used)
-          joins used =
-              sym (ap (λ (e : Option ℤ). turning (unless_decided e (apply (op_of o) z c)) m used) (b.both z)
-              ∙ ap (λ (s : Outcome ℤ). turning s m used) q)
+          joins : Joins o z c true (Ok x)
+          joins = sym (ap (λ (e : maybe.Option ℤ). unless_decided e (apply (op_of o) z c)) (b.both z) ∙ q)
 
           goes : (lent : Lent) (vars : Text) (used d : ℕ) → Holds lent.room vars used → Going lent text vars used true at d k y x m vars used
           goes lent vars used d w =
               going_next lent text vars used true at d k y z i vars used (p.going lent vars used d w) vars x m used
-              (turn_says lent text vars used true i d k z o next b.token l high true none refl (b.both z) vars c m used
+              (turn_says lent text vars used true i d k z o next b.token l high vars c m used true none refl (b.both z)
               (expression_says lent text vars used true next d (level_of o + 1) (omega arith) vars a n used
-              (operand_number lent text vars used true next d w a n t) vars (climbed.Value c m used) (r.goes lent vars used d w))
-              (turn.Next x m used) (joins used))
+              (operand_number lent text vars used true next d w a n t) vars (Ok (climbed c m used)) (r.goes lent vars used d w))
+              x joins)
 
 -- A whole text: a constant, what is behind it, and the end.
 
 module _ (text : Text) {a : ℤ} {n : ℕ} (t : TokenAt text 0 (code.Number a n)) {z : ℤ} {m : ℕ} (r : Reaches text n lowest a z m)
     (s : TokenAt text m code.Stop) where
   module _ (lent : Lent) (vars : Text) (used : ℕ) (w : Holds lent.room vars used) where
-    storey : Says lent text 0 vars used true (expression grow open_limit lowest text) vars (climbed.Value z m used)
+    storey : Says lent text 0 vars used true (expression grow open_limit lowest text) vars (Ok (climbed z m used))
     storey =
         expression_says lent text vars used true 0 open_limit lowest (omega arith) vars a n used
-        (operand_number lent text vars used true 0 open_limit w a n t) vars (climbed.Value z m used) (r.goes lent vars used open_limit w)
+        (operand_number lent text vars used true 0 open_limit w a n t) vars (Ok (climbed z m used)) (r.goes lent vars used open_limit w)
 
     all_of : expression grow open_limit whole_level text ≡ done (storey.0.tree, drop m text)
     all_of =
@@ -159,10 +147,10 @@ module _ (text : Text) {a : ℤ} {n : ℕ} (t : TokenAt text 0 (code.Number a n)
     unfolding ended
     nothing_behind l = ended_by text m stop code.Stop s l
 
-    pub plain_comes : ComesTo lent text vars used vars (worked.Value z used)
+    pub plain_comes : ComesTo lent text vars used vars (Ok (record { value = z; vars_used = used }))
     plain_comes =
-        counted_says lent text vars used vars z used
-        (once_says lent text vars used true vars z m used (worked.Value z used) (
+        counted_says lent text vars used vars (record { value = z; vars_used = used })
+        (once_says lent text vars used true vars z m used (
           record {
             tree = storey.0.tree;
             is = all_of;
@@ -171,5 +159,4 @@ module _ (text : Text) {a : ℤ} {n : ℕ} (t : TokenAt text 0 (code.Number a n)
             within = storey.0.within;
           },
           storey.1,
-        )
-        (refl, refl, nothing_behind))
+        ) tt nothing_behind)

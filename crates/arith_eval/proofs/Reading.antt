@@ -21,42 +21,26 @@ use Rattle.stages.proofs.Storeys.{lowest, asked, upstairs}
 use Rattle.stages.proofs.Turns.{rest, other, pending, pending_refused, turn_query, turn_colon, turn_gets}
 use Rattle.table_store.specs.Holding.{Holds}
 use Rattle.arith_token.specs.Tokens.{setting_of, TokenAt}
-use Rattle.arith_token.specs.declared.Setting.{Setting}
-use Rattle.arith_token.specs.declared.Token.TheVariants as code
-use Rattle.arith_eval.specs.Climbs.{inside, Fails, Comes, Says}
-use Rattle.arith_eval.specs.Wholes.{is_aside, is_query, Aside, Stands, Marks, Beyond, IsTarget, Sets, Targets, level_at, to_read, Skips, Steps}
-use Rattle.arith_eval.specs.declared.answers.Climbed.TheVariants as climbed
-use Rattle.arith_eval.specs.declared.answers.Skipped.{Skipped}
-use Rattle.arith_eval.specs.declared.answers.Skipped.TheVariants as skipped
-use Rattle.arith_eval.specs.declared.answers.Step.{Step}
-use Rattle.arith_eval.specs.declared.answers.Step.TheVariants as step
+use Rattle.std.specs.Prelude.{Option, Some, None, Ok, Err}
+use Rattle.text.specs.Refusals.{refusal_number}
+use Rattle.text.specs.declared.refusal.Refusal.{Refusal}
+use Rattle.text.specs.declared.refusal.Refusal.TheVariants.{ArithmeticSyntax}
 use Rattle.arith_eval.specs.declared.marks.Mark.{Mark}
+use Rattle.arith_eval.specs.declared.marks.Mark.TheVariants as mark
+use Rattle.arith_int.specs.declared.Op as code-op
+use Rattle.arith_token.specs.declared.Token.TheVariants as code
+use Rattle.arith_eval.specs.Climbs.{inside, climbed, Fails, Comes, Says}
+use Rattle.arith_eval.specs.Wholes.{is_aside, is_query, Aside, Stands, Marks, Beyond, IsTarget, Sets, Targets, level_at, to_read, Skips, Steps}
+use Rattle.arith_eval.specs.declared.answers.Step.TheVariants as step
 use Rattle.arith_eval.specs.declared.marks.Target.{Target}
-use Rattle.arith_eval.specs.declared.marks.Target.TheVariants as target
 use Rattle.arith_eval.proofs.Trees.{never}
 use Rattle.arith_eval.proofs.Operands.{fault}
 
--- Answers, once their case is known.
-
-pub marks_shown : (text : Text) (at : ℕ) {r s : Mark} → Marks text at r → r ≡ s → Marks text at s
-marks_shown text at h e = subst (Marks text at) e h
-
-pub targets_shown : (text : Text) (at : ℕ) (first : Bool) {r s : Target} → Targets text at first r → r ≡ s → Targets text at first s
-targets_shown text at first h e = subst (Targets text at first) e h
-
-pub skips_shown : (text : Text) (at d p : ℕ) (first : Bool) (vars left : Text) {r s : Skipped} → Skips text at d p first vars left r → r ≡ s
-    → Skips text at d p first vars left s
-skips_shown text at d p first vars left h e = subst (Skips text at d p first vars left) e h
-
-pub steps_shown : (text : Text) (at d : ℕ) (z : ℤ) (p : ℕ) (vars left : Text) {r s : Step} → Steps text at d z p vars left r → r ≡ s
-    → Steps text at d z p vars left s
-steps_shown text at d z p vars left h e = subst (Steps text at d z p vars left) e h
-
 -- a name that begins a whole expression, by what is behind it
-pub targets_by : (text : Text) (at : ℕ) (first : Bool) → first ≡ true → {from to : ℕ} → TokenAt text at (code.Name from to) → (r : Target)
+pub targets_by : (text : Text) (at : ℕ) (first : Bool) → first ≡ true → {from to : ℕ} → TokenAt text at (code.Name from to) → (r : Option Target)
     → Sets text from to r → Targets text at first r
-targets_by text at first e {from} {to} t target.Missing h = λ _. target_name (drop at text) (drop to text) (part text from to) t.is h
-targets_by text at first e {from} {to} t (target.At from' to' setting next) h =
+targets_by text at first e {from} {to} t None h = λ _. target_name (drop at text) (drop to text) (part text from to) t.is h
+targets_by text at first e {from} {to} t (Some r) h =
     rw (h.0, h.1)
     (e, record { names = record { is = t.is; behind = t.ends.behind }; sets = h.2; named = t.ends.named; rising = t.ends.rising })
 
@@ -108,15 +92,18 @@ aside_other d (query, u) h = absurd (no h)
 aside_other d (gets o, u) h = refl
 
 -- a side that is not needed ends at its `:`
-pub beyond_refused : (text : Text) (at e : ℕ) → token (drop at text) ≡ refused e → Beyond text at (step.Refused e)
-beyond_refused text at e q d = ap (λ (o : Lexed). o >>= λ s. other d s) q
-
-pub beyond_query : (text : Text) (at n : ℕ) → Stands text at query n → Beyond text at (step.Refused arithmetic_syntax)
+pub beyond_query : (text : Text) (at n : ℕ) → Stands text at query n → Beyond text at (Err ArithmeticSyntax)
 unfolding other
 beyond_query text at n h d = ap (λ (o : Lexed). o >>= λ s. other d s) h.is
 
-pub beyond_aside : (text : Text) (at : ℕ) → Aside text at → Beyond text at (step.Refused arithmetic_syntax)
+pub beyond_aside : (text : Text) (at : ℕ) → Aside text at → Beyond text at (Err ArithmeticSyntax)
 beyond_aside text at h d = ap (λ (o : Lexed). o >>= λ s. other d s) h.is ∙ aside_other d h.here h.other
+
+-- .. behind no mark that is no `:`
+pub beyond_none : (text : Text) (at : ℕ) (m : Mark) → Marks text at (Ok m) → ((n : ℕ) → m ≡ mark.Colon n → ⊥) → Beyond text at (Err ArithmeticSyntax)
+beyond_none text at (mark.Query n) h x = beyond_query text at n h
+beyond_none text at (mark.Colon n) h x = absurd (x n refl)
+beyond_none text at mark.Other h x = beyond_aside text at h
 
 module _ (d : ℕ) where
   -- what begins with no assignment is a storey, and perhaps a `?`
@@ -168,7 +155,7 @@ module _ (text : Text) (at d p : ℕ) (begins : Bool) where
   skipping_start h k = record { is = refl; onward = omega arith; within = h; few = k }
 
   -- a name and its `=` are passed
-  pub skip_target : (q i : ℕ) (first : Bool) → Skipping text at d p begins q i first → {from to : ℕ} {setting : Setting} {n : ℕ} → first ≡ true
+  pub skip_target : (q i : ℕ) (first : Bool) → Skipping text at d p begins q i first → {from to : ℕ} {setting : Option code-op.Op} {n : ℕ} → first ≡ true
       → IsTarget text i from to setting n → Skipping text at d p begins q n first
   skip_target q i true s {from} {to} {setting} {n} e h =
       let a = h.names.behind.onward in
@@ -184,8 +171,8 @@ module _ (text : Text) (at d p : ℕ) (begins : Bool) where
   skip_target q i false s e h = absurd (no e)
 
   module _ (q i : ℕ) (first : Bool) (s : Skipping text at d p begins q i first) (bare : first ≡ true → NoTarget (drop i text)) where
-    pub skip_fails : (lent : Lent) (v : Pairs) (vars left : Text) (e : ℕ) → Fails lent v false (expression grow d lowest (drop i text)) e
-        → Skips text at d p begins vars left (skipped.Refused e)
+    pub skip_fails : (lent : Lent) (v : Pairs) (vars left : Text) (e : Refusal)
+        → Fails lent v false (expression grow d lowest (drop i text)) (refusal_number e) → Skips text at d p begins vars left (Err e)
     skip_fails lent v vars left e f =
         s.is ∙ pending_fails d q (ap rest (storey_above d first (drop i text) bare ∙ ap (λ (o : Grown). o >>= upstairs d) (f.reads refl)))
 
@@ -194,8 +181,8 @@ module _ (text : Text) (at d p : ℕ) (begins : Bool) where
       at_storey =
           ap (λ (o : Grown). pending d q (rest o)) (storey_above d first (drop i text) bare ∙ ap (λ (o : Grown). o >>= upstairs d) c.is)
 
-      pub skip_refused : (vars left : Text) (e : ℕ) → token (drop n text) ≡ refused e → Skips text at d p begins vars left (skipped.Refused e)
-      skip_refused vars left e h = s.is ∙ at_storey ∙ refused_up d q c.tree (drop n text) e h
+      pub skip_refused : (vars left : Text) (e : Refusal) → token (drop n text) ≡ refused (refusal_number e) → Skips text at d p begins vars left (Err e)
+      skip_refused vars left e h = s.is ∙ at_storey ∙ refused_up d q c.tree (drop n text) (refusal_number e) h
 
       pub skip_query : (m : ℕ) → Stands text n query m → Skipping text at d p begins (q + 1) m true
       skip_query m h =
@@ -226,7 +213,7 @@ module _ (text : Text) (at d p : ℕ) (begins : Bool) where
           }
 
       skip_last : (vars left : Text) → left ≡ vars → q ≡ 0 → (k : Token × Text) → token (drop n text) ≡ done k → is_query k.0 ≡ false
-          → Skips text at d p begins vars left (skipped.Next n)
+          → Skips text at d p begins vars left (Ok n)
       skip_last vars left stay z k h b =
           let a = c.onward in
           let g = s.onward in (
@@ -236,13 +223,13 @@ module _ (text : Text) (at d p : ℕ) (begins : Bool) where
           )
 
       pub skip_end_colon : (vars left : Text) → left ≡ vars → (m : ℕ) → q ≡ 0 → Stands text n (ends colon) m
-          → Skips text at d p begins vars left (skipped.Next n)
+          → Skips text at d p begins vars left (Ok n)
       skip_end_colon vars left stay m z h = skip_last vars left stay z (ends colon, drop m text) h.is refl
 
-      pub skip_end : (vars left : Text) → left ≡ vars → q ≡ 0 → Aside text n → Skips text at d p begins vars left (skipped.Next n)
+      pub skip_end : (vars left : Text) → left ≡ vars → q ≡ 0 → Aside text n → Skips text at d p begins vars left (Ok n)
       skip_end vars left stay z h = skip_last vars left stay z h.here h.is (aside_bare h.here.0 h.other)
 
-      pub skip_lacks : (vars left : Text) → (q ≡ 0 → ⊥) → Aside text n → Skips text at d p begins vars left (skipped.Refused arithmetic_syntax)
+      pub skip_lacks : (vars left : Text) → (q ≡ 0 → ⊥) → Aside text n → Skips text at d p begins vars left (Err ArithmeticSyntax)
       skip_lacks vars left k h =
           s.is ∙ at_storey
           ∙ ap (λ (o : Grown). pending d q (rest o)) (bare_up d c.tree (drop n text) h.here h.is (aside_bare h.here.0 h.other))
@@ -250,13 +237,13 @@ module _ (text : Text) (at d p : ℕ) (begins : Bool) where
 
 -- a whole expression that does not count
 module _ (lent : Lent) (text : Text) (at d : ℕ) (vars : Text) (used : ℕ) (left : Text) where
-  pub whole_skipped : (e : ℕ) → Skips text at d 0 true vars left (skipped.Refused e)
-      → Says lent text at vars used false (expression grow d whole_level (drop at text)) left (climbed.Refused e)
+  pub whole_skipped : (e : Refusal) → Skips text at d 0 true vars left (Err e)
+      → Says lent text at vars used false (expression grow d whole_level (drop at text)) left (Err e)
   unfolding pending
-  whole_skipped e h = fault lent (inside vars used) false (rest_refused (expression grow d whole_level (drop at text)) e h)
+  whole_skipped e h = fault lent (inside vars used) false (rest_refused (expression grow d whole_level (drop at text)) (refusal_number e) h)
 
-  pub whole_read : Holds lent.room vars used → (n : ℕ) → Skips text at d 0 true vars left (skipped.Next n)
-      → Says lent text at vars used false (expression grow d whole_level (drop at text)) left (climbed.Value (pos 0) n used)
+  pub whole_read : Holds lent.room vars used → (n : ℕ) → Skips text at d 0 true vars left (Ok n)
+      → Says lent text at vars used false (expression grow d whole_level (drop at text)) left (Ok (climbed (pos 0) n used))
   unfolding pending
   whole_read holds n h =
       let t = rest_done (expression grow d whole_level (drop at text)) (drop n text) h.0 in (
@@ -266,15 +253,15 @@ module _ (lent : Lent) (text : Text) (at d : ℕ) (vars : Text) (used : ℕ) (le
 
 -- BEHIND A VALUE THAT COUNTS
 module _ (text : Text) (at d : ℕ) (z : ℤ) (p : ℕ) (vars left : Text) where
-  pub step_refused : (e : ℕ) → token (drop at text) ≡ refused e → Steps text at d z p vars left (step.Refused e)
-  step_refused e q l = refused_up d p l (drop at text) e q
+  pub step_refused : (e : Refusal) → token (drop at text) ≡ refused (refusal_number e) → Steps text at d z p vars left (Err e)
+  step_refused e q l = refused_up d p l (drop at text) (refusal_number e) q
 
-  pub step_lacks : (p ≡ 0 → ⊥) → Aside text at → Steps text at d z p vars left (step.Refused arithmetic_syntax)
+  pub step_lacks : (p ≡ 0 → ⊥) → Aside text at → Steps text at d z p vars left (Err ArithmeticSyntax)
   step_lacks k h l =
       ap (λ (o : Grown). pending d p (rest o)) (bare_up d l (drop at text) h.here h.is (aside_bare h.here.0 h.other))
       ∙ no_colon_lem d p text at k h
 
-  pub step_end : left ≡ vars → at ≤ length text → p ≡ 0 → Aside text at → Steps text at d z p vars left (step.Last at)
+  pub step_end : left ≡ vars → at ≤ length text → p ≡ 0 → Aside text at → Steps text at d z p vars left (Ok (step.Last at))
   step_end stay w k h = (
     record {
       here = h.here;
@@ -288,7 +275,7 @@ module _ (text : Text) (at d : ℕ) (z : ℤ) (p : ℕ) (vars left : Text) where
   )
 
   module _ (n : ℕ) (h : Stands text at (ends colon) n) where
-    pub step_end_colon : left ≡ vars → p ≡ 0 → Steps text at d z p vars left (step.Last at)
+    pub step_end_colon : left ≡ vars → p ≡ 0 → Steps text at d z p vars left (Ok (step.Last at))
     step_end_colon stay k =
         let a = h.behind.onward in
         let b = h.behind.within in (
@@ -304,10 +291,10 @@ module _ (text : Text) (at d : ℕ) (z : ℤ) (p : ℕ) (vars left : Text) where
         )
 
     module _ (k : p ≡ 0 → ⊥) where
-      pub step_side_fails : (e : ℕ) → Skips text n d (p - 1) false vars left (skipped.Refused e) → Steps text at d z p vars left (step.Refused e)
+      pub step_side_fails : (e : Refusal) → Skips text n d (p - 1) false vars left (Err e) → Steps text at d z p vars left (Err e)
       step_side_fails e q l = colon_turn d p l (drop at text) (drop n text) k h.is ∙ q
 
-      pub step_closed : (m : ℕ) → Skips text n d (p - 1) false vars left (skipped.Next m) → Steps text at d z p vars left (step.Last m)
+      pub step_closed : (m : ℕ) → Skips text n d (p - 1) false vars left (Ok m) → Steps text at d z p vars left (Ok (step.Last m))
       unfolding other
       step_closed m q =
           let a = h.behind.onward in
@@ -327,28 +314,29 @@ module _ (text : Text) (at d : ℕ) (z : ℤ) (p : ℕ) (vars left : Text) where
     query_turn : (l : Tree) → pending d p (rest (upstairs d (l, drop at text))) ≡ pending d (suc p) (rest (expression grow d whole_level (drop n text)))
     query_turn l = turn_query d p l (drop at text) (drop n text) h.is
 
-    pub step_middle_fails : (e : ℕ) → Skips text n d 0 true vars left (skipped.Refused e) → Steps text at d z p vars left (step.Refused e)
+    pub step_middle_fails : (e : Refusal) → Skips text n d 0 true vars left (Err e) → Steps text at d z p vars left (Err e)
     unfolding pending
     step_middle_fails e q l = query_turn l ∙ pending_fails d (suc p) q
 
-    pub step_beyond : (m : ℕ) → is_true z ≡ false → Skips text n d 0 true vars left (skipped.Next m) → (r : Step) → Beyond text m r
-        → Steps text at d z p vars left r
-    unfolding pending
-    step_beyond m f q (step.Refused e) b = λ l. query_turn l ∙ ap (pending d (suc p)) q.0 ∙ pending_fails d p (b d)
-    step_beyond m f q (step.Last k) b = absurd b
-    step_beyond m f q (step.Middle k) b = absurd b
-    step_beyond m f q (step.Behind k) b =
-        let x = h.behind.onward in
-        let y = q.1.onward in
-        let w = b.behind.onward in (
-          f,
-          record {
-            from = n;
-            to = m;
-            asks = h.is;
-            side = q.0;
-            shuts = b.is;
-            behind = record { onward = omega arith; within = b.behind.within };
-          },
-          q.2,
-        )
+    module _ (m : ℕ) (q : Skips text n d 0 true vars left (Ok m)) where
+      pub step_beyond_fails : (e : Refusal) → Beyond text m (Err e) → Steps text at d z p vars left (Err e)
+      unfolding pending
+      step_beyond_fails e b l = query_turn l ∙ ap (pending d (suc p)) q.0 ∙ pending_fails d p (b d)
+
+      pub step_beyond : is_true z ≡ false → (k : ℕ) → Beyond text m (Ok k) → Steps text at d z p vars left (Ok (step.Behind k))
+      unfolding pending
+      step_beyond f k b =
+          let x = h.behind.onward in
+          let y = q.1.onward in
+          let w = b.behind.onward in (
+            f,
+            record {
+              from = n;
+              to = m;
+              asks = h.is;
+              side = q.0;
+              shuts = b.is;
+              behind = record { onward = omega arith; within = b.behind.within };
+            },
+            q.2,
+          )

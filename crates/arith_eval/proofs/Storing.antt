@@ -4,10 +4,9 @@ use native.Mathlib.Omega.{arith}
 use mathlib.Core.Path.{◌≡◌, refl, sym, ap, ◌∙◌, subst}
 use mathlib.Core.Bool.{true}
 use mathlib.Core.List.{List, [], ◌∷◌}
-use mathlib.Core.Option.{Option, none, some}
+use mathlib.Core.Option as maybe
 use lib.IntN.{ℤ}
 use lib.ListN.{take, drop, get_or}
-use Rattle.stages.specs.Numbers.{variable_room}
 use Rattle.stages.specs.Bytes.{Text, part, all, not_zero}
 use Rattle.stages.specs.Outcome.{Outcome, done, ◌>>=◌}
 use Rattle.stages.specs.Images.{Pairs, is_name}
@@ -20,25 +19,17 @@ use Rattle.stages.proofs.Works.{Waiting, storing_all, storing_refused}
 use Rattle.text.specs.Putting as Written
 use Rattle.text.proofs.Filling.{puts_front}
 use Rattle.table_store.specs.Holding.{Holds, Settable, StoresIn}
-use Rattle.table_store.specs.declared.Stored.TheVariants as stored
+use Rattle.table_store.specs.declared.NoRoom.{NoRoom}
 use Rattle.arith_token.specs.Tokens.{setting_of}
-use Rattle.arith_token.specs.declared.Setting.{Setting}
+use Rattle.std.specs.Prelude.{Option, None, Result, Ok, Err}
+use Rattle.text.specs.Refusals.{refusal_number}
+use Rattle.text.specs.declared.refusal.Refusal.{Refusal}
+use Rattle.text.specs.declared.refusal.Refusal.TheVariants.{VariableRoom}
+use Rattle.arith_int.specs.declared.Op as code-op
 use Rattle.arith_int.specs.Answers.{numbered}
-use Rattle.arith_int.specs.declared.Number.{Number}
-use Rattle.arith_int.specs.declared.Number.TheVariants as number
 use Rattle.arith_eval.specs.Climbs.{inside}
-use Rattle.arith_eval.specs.Wholes.{IsTarget, Targets, SetsAt, Stacked, bottom, above, updated_in, Leaves, Puts, Assigns, Stores}
+use Rattle.arith_eval.specs.Wholes.{IsTarget, Targets, SetsAt, Stacked, bottom, above, updated_in, Puts, Assigns, Stores}
 use Rattle.arith_eval.specs.declared.Worked.{Worked}
-use Rattle.arith_eval.specs.declared.Worked.TheVariants as worked
-use Rattle.arith_eval.specs.declared.answers.Climbed.TheVariants as climbed
-use Rattle.arith_eval.specs.declared.marks.Target.TheVariants as target
-
-pub leaves_shown : (room : ℕ) (e : Evaluated) (left : Text) {r s : Worked} → Leaves room e left r → r ≡ s → Leaves room e left s
-leaves_shown room e left h q = subst (Leaves room e left) q h
-
-pub assigns_shown : (lent : Lent) (text : Text) (place : ℕ) (z : ℤ) (v : Pairs) (left : Text) {r s : Worked} → Assigns lent text place z v left r → r ≡ s
-    → Assigns lent text place z v left s
-assigns_shown lent text place z v left h e = subst (Assigns lent text place z v left) e h
 
 -- the decimal text that was written
 pub number_told : {x : ℤ} {old left : Text} {n : ℕ} → Written.Puts (signed x) old left n → {z : ℤ} → x ≡ z → take n left ≡ signed z
@@ -49,18 +40,18 @@ pub number_settable : (x : Text) (z : ℤ) {t : Text} → is_name x ≡ true →
 number_settable x z n e = record { named = n; clean = ap (all not_zero) e ∙ signed_safe z }
 
 module _ (room : ℕ) (x : Text) (z : ℤ) {t : Text} (e : t ≡ signed z) (v : Pairs) (left : Text) where
-  pub put_full : StoresIn room x t v left stored.Full → Puts room x z v left (worked.Refused variable_room)
+  pub put_full : (e : NoRoom) → StoresIn room x t v left (Err e) → Puts room x z v left (Err VariableRoom)
   unfolding keeping store_in
-  put_full h = rw (← e) (rw h)
+  put_full q h = rw (← e) (rw h)
 
-  pub put_used : (n : ℕ) → StoresIn room x t v left (stored.Used n) → Puts room x z v left (worked.Value z n)
+  pub put_used : (n : ℕ) → StoresIn room x t v left (Ok n) → Puts room x z v left (Ok n)
   unfolding keeping store_in
   put_used n h = (rw (← e) (rw h.0), h.1)
 
 -- ONE NAME
 
 -- what stands at a place is one thing
-same_target : (text : Text) (p : ℕ) (g : Option Op × Text) {from to : ℕ} {setting : Setting} {next : ℕ} → IsTarget text p from to setting next → SetsAt text p g
+same_target : (text : Text) (p : ℕ) (g : maybe.Option Op × Text) {from to : ℕ} {setting : Option code-op.Op} {next : ℕ} → IsTarget text p from to setting next → SetsAt text p g
     → (g.0 ≡ setting_of setting) × (g.1 ≡ part text from to)
 same_target text p g {from} {to} {setting} {next} h s = (operator, named)
   where
@@ -77,42 +68,47 @@ same_target text p g {from} {to} {setting} {next} h s = (operator, named)
     operator =
         gets_same (ap (λ (q : Token × Text). q.0) (done_same (sym s.sets ∙ ap token (ap (λ (q : Token × Text). q.1) first) ∙ h.sets.is)))
       where
-        gets_same : {x y : Option Op} → gets x ≡ gets y → x ≡ y
+        gets_same : {x y : maybe.Option Op} → gets x ≡ gets y → x ≡ y
         gets_same e = cc
 
-pub no_target : (text : Text) (p : ℕ) (g : Option Op × Text) → Targets text p true target.Missing → SetsAt text p g → ⊥
+pub no_target : (text : Text) (p : ℕ) (g : maybe.Option Op × Text) → Targets text p true None → SetsAt text p g → ⊥
 no_target text p g h s = h refl g.1 s.behind s.names g.0 s.rest s.sets
 
-storing_by : (lent : Lent) (o : Option Op) (x : Text) (z : ℤ) (v : Pairs)
+storing_by : (lent : Lent) (o : maybe.Option Op) (x : Text) (z : ℤ) (v : Pairs)
     → storing lent o x (z, v) ≡ (updated_in lent.shouts v o x z >>= λ y. keeping lent x v y)
 unfolding storing updated value_of holding
-storing_by lent none x z v = refl
-storing_by lent (some o) x z v = refl
+storing_by lent maybe.none x z v = refl
+storing_by lent (maybe.some o) x z v = refl
 
-module _ (lent : Lent) (text : Text) (place : ℕ) (z : ℤ) (v : Pairs) (left : Text) {from to : ℕ} {setting : Setting} {next : ℕ}
-    (h : IsTarget text place from to setting next) (got : Number)
-    (e : numbered got ≡ updated_in lent.shouts v (setting_of setting) (part text from to) z) where
-  as_told : {k : Number} → got ≡ k → (g : Option Op × Text) → SetsAt text place g
-      → storing lent g.0 g.1 (z, v) ≡ (numbered k >>= λ y. keeping lent (part text from to) v y)
-  as_told q g s =
+module _ (lent : Lent) (text : Text) (place : ℕ) (z : ℤ) (v : Pairs) (left : Text) {from to : ℕ} {setting : Option code-op.Op} {next : ℕ}
+    (h : IsTarget text place from to setting next) where
+  as_told : (k : Result ℤ Refusal) → numbered k ≡ updated_in lent.shouts v (setting_of setting) (part text from to) z
+      → (g : maybe.Option Op × Text) → SetsAt text place g → storing lent g.0 g.1 (z, v) ≡ (numbered k >>= λ y. keeping lent (part text from to) v y)
+  as_told k e g s =
       let t = same_target text place g h s in
-      ap (λ (o : Option Op). storing lent o g.1 (z, v)) t.0
+      ap (λ (o : maybe.Option Op). storing lent o g.1 (z, v)) t.0
       ∙ ap (λ (x : Text). storing lent (setting_of setting) x (z, v)) t.1
       ∙ storing_by lent (setting_of setting) (part text from to) z v
-      ∙ ap (λ (o : Outcome ℤ). o >>= λ y. keeping lent (part text from to) v y) (sym e ∙ ap numbered q)
+      ∙ ap (λ (o : Outcome ℤ). o >>= λ y. keeping lent (part text from to) v y) (sym e)
 
-  pub assign_refused : (n : ℕ) → got ≡ number.Refused n → Assigns lent text place z v left (worked.Refused n)
-  assign_refused n q g s = as_told q g s
+  pub assign_refused : (e : Refusal) → numbered (Err e) ≡ updated_in lent.shouts v (setting_of setting) (part text from to) z
+      → Assigns lent text place z v left (Err e)
+  assign_refused e q g s = as_told (Err e) q g s
 
-  pub assign_puts : (y : ℤ) → got ≡ number.Value y → (r : Worked) → Puts lent.room (part text from to) y v left r → Assigns lent text place z v left r
-  unfolding keeping store_in
-  assign_puts y q (worked.Refused n) p = λ g s. as_told q g s ∙ p
-  assign_puts y q (worked.Value x now) p = (λ g s. as_told q g s ∙ p.0, p.1)
+  module _ (y : ℤ) (q : numbered (Ok y) ≡ updated_in lent.shouts v (setting_of setting) (part text from to) z) where
+    pub assign_full : (e : Refusal) → Puts lent.room (part text from to) y v left (Err e) → Assigns lent text place z v left (Err e)
+    unfolding keeping store_in
+    assign_full e p g s = as_told (Ok y) q g s ∙ p
+
+    pub assign_puts : (now : ℕ) → Puts lent.room (part text from to) y v left (Ok now)
+        → Assigns lent text place z v left (Ok (record { value = y; vars_used = now }))
+    unfolding keeping store_in
+    assign_puts now p = (λ g s. as_told (Ok y) q g s ∙ p.0, p.1)
 
 -- ALL NAMES THAT WAIT
 
 record Popped (text : Text) (places : List ℕ) (k : ℕ) (gs : Waiting) : Type 0 where
-  first : Option Op × Text
+  first : maybe.Option Op × Text
   others : Waiting
   is : gs ≡ first ∷ others
   sets : SetsAt text (get_or places (k - 1) 0) first
@@ -152,23 +148,23 @@ module _ (lent : Lent) (text : Text) (places : List ℕ) (waiting : ℕ) (y : �
   unwinding_start h = record { few = omega arith; holds = h; unwinds = λ gs s. record { names = gs; stacked = s; is = refl } }
 
   module _ (k : ℕ) (z : ℤ) (mid : Text) (now : ℕ) (u : Unwinding lent text places waiting y (inside vars used) k z mid now) where
-    pub unwind_refused : (at : ℕ) (left : Text) (e : ℕ) → 0 < k → Assigns lent text (get_or places (k - 1) 0) z (inside mid now) left (worked.Refused e)
-        → Stores lent text at y waiting places vars used left (climbed.Refused e)
+    pub unwind_refused : (left : Text) (e : Refusal) → 0 < k → Assigns lent text (get_or places (k - 1) 0) z (inside mid now) left (Err e)
+        → Stores lent text y waiting places vars used left (Err e)
     unfolding storing_all
-    unwind_refused at left e h a gs s =
+    unwind_refused left e h a gs s =
         let i = u.unwinds gs s in
         let p = popped text places k i.names h i.stacked in
         i.is ∙ ap (λ (x : Waiting). storing_all lent x (done (z, inside mid now))) p.is
-        ∙ ap (storing_all lent p.others) (a p.first p.sets) ∙ storing_refused lent p.others e
+        ∙ ap (storing_all lent p.others) (a p.first p.sets) ∙ storing_refused lent p.others (refusal_number e)
 
-    pub unwind_next : (left : Text) (x : ℤ) (last : ℕ) → 0 < k → Assigns lent text (get_or places (k - 1) 0) z (inside mid now) left (worked.Value x last)
-        → Unwinding lent text places waiting y (inside vars used) (k - 1) x left last
+    pub unwind_next : (left : Text) (r : Worked) → 0 < k → Assigns lent text (get_or places (k - 1) 0) z (inside mid now) left (Ok r)
+        → Unwinding lent text places waiting y (inside vars used) (k - 1) r.value left r.vars_used
     unfolding storing_all
-    unwind_next left x last h a =
+    unwind_next left r h a =
         let f = u.few in
         record { few = omega arith; holds = a.1; unwinds = λ gs s. one (u.unwinds gs s) }
       where
-        one : {e : Evaluated} → Unwound lent text places e k z (inside mid now) → Unwound lent text places e (k - 1) x (inside left last)
+        one : {e : Evaluated} → Unwound lent text places e k z (inside mid now) → Unwound lent text places e (k - 1) r.value (inside left r.vars_used)
         one i =
             let p = popped text places k i.names h i.stacked in
             record {
@@ -179,15 +175,14 @@ module _ (lent : Lent) (text : Text) (places : List ℕ) (waiting : ℕ) (y : �
                   ∙ ap (storing_all lent p.others) (a.0 p.first p.sets);
             }
 
-    pub unwind_last : (at : ℕ) → k ≤ 0 → Stores lent text at y waiting places vars used mid (climbed.Value z at now)
+    pub unwind_last : k ≤ 0 → Stores lent text y waiting places vars used mid (Ok (record { value = z; vars_used = now }))
     unfolding storing_all
-    unwind_last at h = (
+    unwind_last h = (
       λ gs s.
           let i = u.unwinds gs s in
           let e : k ≡ 0 = omega arith in
           i.is
           ∙ ap (λ (q : Waiting). storing_all lent q (done (z, inside mid now)))
           (none_stacked text places i.names (subst (λ (j : ℕ). Stacked text places j i.names) e i.stacked)),
-      refl,
       u.holds,
     )

@@ -15,17 +15,14 @@ use Rattle.stages.specs.Constants.{signed}
 use Rattle.stages.specs.Arith.{whole_level, stop, token, Tree, Grown, expression, grow, ended, up_to, tree, evaluate, arithmetic_of}
 use Rattle.stages.proofs.Outcomes.{done_same}
 use Rattle.table_store.specs.Holding.{Holds}
-use Rattle.arith_eval.specs.Climbs.{inside, Fails, Says}
+use Rattle.arith_eval.specs.Climbs.{inside, climbed, Fails, Says}
 use Rattle.arith_eval.specs.Answers.{Errs, Answers, Finishes, comes_to, Prevails, ComesTo}
 use Rattle.arith_eval.specs.declared.Worked.{Worked}
-use Rattle.arith_eval.specs.declared.Worked.TheVariants as worked
-use Rattle.arith_eval.specs.declared.answers.Climbed.TheVariants as climbed
+use Rattle.std.specs.Prelude.{Result, Ok, Err}
+use Rattle.text.specs.Refusals.{refusal_number}
+use Rattle.text.specs.declared.refusal.Refusal.{Refusal}
 use Rattle.arith_eval.proofs.Trees.{never, bound, evaluate_alike}
 use Rattle.arith_eval.proofs.Operands.{ended_tree}
-
-pub answers_shown : (lent : Lent) (vars : Text) (used : ℕ) (counts : Bool) (o : Outcome Tree) (left : Text) {r s : Worked}
-    → Answers lent vars used counts o left r → r ≡ s → Answers lent vars used counts o left s
-answers_shown lent vars used counts o left h e = subst (Answers lent vars used counts o left) e h
 
 module _ (lent : Lent) (text : Text) (vars : Text) (used : ℕ) (counts : Bool) where
   abbrev all_of : Grown
@@ -53,23 +50,24 @@ module _ (lent : Lent) (text : Text) (vars : Text) (used : ℕ) (counts : Bool) 
         ∙ f.works b.from b.first;
   }
 
-  pub once_says : (left : Text) (z : ℤ) (next now : ℕ) (r : Worked) → Says lent text 0 vars used counts all_of left (climbed.Value z next now)
-      → Finishes text next z now r → Answers lent vars used counts (tree text) left r
-  unfolding behind only_tree
-  once_says left z next now (worked.Refused e) c h =
-      let q : tree text ≡ refused e =
-      tree_is ∙ ap (λ (o : Grown). (o >>= behind) >>= only_tree) c.0.is ∙ ap (λ (o : Grown). o >>= only_tree) (h c.0.tree) in
-      record { reads = λ _. q; works = λ l k. absurd (never (sym q ∙ k)) }
-  once_says left z next now (worked.Value y last) c h =
-      subst (λ (x : ℤ). Answers lent vars used counts (tree text) left (worked.Value x last)) (sym h.0)
-      (subst (λ (n : ℕ). Answers lent vars used counts (tree text) left (worked.Value z n)) (sym h.1) (
-        record {
-          tree = c.0.tree;
-          is = tree_is ∙ ap (λ (o : Grown). (o >>= behind) >>= only_tree) c.0.is ∙ ap (λ (o : Grown). o >>= only_tree) (h.2 c.0.tree);
-          worth = c.0.worth;
-        },
-        c.1,
-      ))
+  module _ (left : Text) (z : ℤ) (next now : ℕ) (c : Says lent text 0 vars used counts all_of left (Ok (climbed z next now))) where
+    pub once_ends : (e : Refusal) → Finishes text next (Err e) → Errs lent (inside vars used) counts (tree text) (refusal_number e)
+    unfolding behind only_tree
+    once_ends e h =
+        let q : tree text ≡ refused (refusal_number e) =
+        tree_is ∙ ap (λ (o : Grown). (o >>= behind) >>= only_tree) c.0.is ∙ ap (λ (o : Grown). o >>= only_tree) (h c.0.tree) in
+        record { reads = λ _. q; works = λ l k. absurd (never (sym q ∙ k)) }
+
+    pub once_says : (u : Unit {0}) → Finishes text next (Ok u) → Answers lent vars used counts (tree text) left (Ok (record { value = z; vars_used = now }))
+    unfolding behind only_tree
+    once_says u h = (
+      record {
+        tree = c.0.tree;
+        is = tree_is ∙ ap (λ (o : Grown). (o >>= behind) >>= only_tree) c.0.is ∙ ap (λ (o : Grown). o >>= only_tree) (h c.0.tree);
+        worth = c.0.worth;
+      },
+      c.1,
+    )
 
 -- the run that counts, and where it is refused the run that does not
 module _ (lent : Lent) (v : Pairs) (text : Text) where
@@ -81,17 +79,17 @@ module _ (lent : Lent) (v : Pairs) (text : Text) where
   unfolding comes_to
   not_read e q = ap (λ (o : Outcome Tree). o >>= λ l. evaluate lent v l) q
 
-pub counted_says : (lent : Lent) (text : Text) (vars : Text) (used : ℕ) (left : Text) (z : ℤ) (now : ℕ)
-    → Answers lent vars used true (tree text) left (worked.Value z now) → ComesTo lent text vars used left (worked.Value z now)
-counted_says lent text vars used left z now s = (comes lent (inside vars used) text s.0.tree s.0.is ∙ s.0.worth refl, s.1.holds)
+pub counted_says : (lent : Lent) (text : Text) (vars : Text) (used : ℕ) (left : Text) (r : Worked)
+    → Answers lent vars used true (tree text) left (Ok r) → ComesTo lent text vars used left (Ok r)
+counted_says lent text vars used left r s = (comes lent (inside vars used) text s.0.tree s.0.is ∙ s.0.worth refl, s.1.holds)
 
 -- reading faults come first
-module _ (lent : Lent) (text : Text) (vars : Text) (used : ℕ) (left : Text) (e : ℕ) where
-  pub read_refused : (f : ℕ) → Answers lent vars used false (tree text) left (worked.Refused f) → Prevails text e f
-  read_refused f r = λ a v h. not_read a v text f (r.reads refl)
+module _ (lent : Lent) (text : Text) (vars : Text) (used : ℕ) (left : Text) (e : Refusal) where
+  pub read_refused : (f : Refusal) → Answers lent vars used false (tree text) left (Err f) → Prevails text e f
+  read_refused f r = λ a v h. not_read a v text (refusal_number f) (r.reads refl)
 
-  pub read_done : (z : ℤ) (now : ℕ) → Answers lent vars used false (tree text) left (worked.Value z now) → Prevails text e e
-  read_done z now r = λ a v h. comes a v text r.0.tree r.0.is ∙ h.works r.0.tree r.0.is
+  pub read_done : (w : Worked) → Answers lent vars used false (tree text) left (Ok w) → Prevails text e e
+  read_done w r = λ a v h. comes a v text r.0.tree r.0.is ∙ h.works r.0.tree r.0.is
 
 -- a version and no record
 pub none_held : (vars : Text) → image_limit ≤ length vars → Holds 1 (set vars 0 1) 1
@@ -110,9 +108,9 @@ module _ (a b : Lent) (same : a.room ≡ b.room) (alike : a.shouts ≡ b.shouts)
       go (demands t) = refl
       go (done l) = evaluate_alike a b same alike l (inside vars used)
 
-  pub lent_alike : (left : Text) (r : Worked) → ComesTo a text vars used left r → ComesTo b text vars used left r
-  lent_alike left (worked.Refused e) h = sym comes_alike ∙ h
-  lent_alike left (worked.Value z now) h = (sym comes_alike ∙ h.0, subst (λ (n : ℕ). Holds n left now) same h.1)
+  pub lent_alike : (left : Text) (r : Result Worked Refusal) → ComesTo a text vars used left r → ComesTo b text vars used left r
+  lent_alike left (Err e) h = sym comes_alike ∙ h
+  lent_alike left (Ok r) h = (sym comes_alike ∙ h.0, subst (λ (n : ℕ). Holds n left r.vars_used) same h.1)
 
 -- the stage's text is that of the number
 pub arithmetic_is : (a : Lent) (v : Pairs) (t : Text) → arithmetic_of a v t ≡ (comes_to a v t >>= λ p. done (signed p.0, p.1))

@@ -5,13 +5,13 @@ use native.Mathlib.Numerals.{add-one}
 use mathlib.Core.Path.{◌≡◌, refl, sym, ap, ◌∙◌, subst}
 use mathlib.Core.Bool.{Bool, true, false}
 use mathlib.Core.List.{List, [], ◌∷◌}
-use mathlib.Core.Option.{Option}
+use mathlib.Core.Option as maybe
 use lib.IntN.{ℤ}
 use lib.Dec.{eqb}
 use lib.ListN.{length, take, drop, get_or, set}
 use lib.Seq.{get_or-take, get_or-set_same, get_or-set_other}
 use borrow.Author.Tests.{eqb-true, eqb-false}
-use borrow.Rule.Slice.PartMut.{mid_of, put_mid, mid_len, take_put}
+use borrow.Rule.Slice.PartMut.{mid_of, put_mid, mid_len, take_put, same_len_mid}
 use Rattle.stages.specs.Bytes.{Text, part}
 use Rattle.stages.specs.Outcome.{refused, done, ◌>>=◌}
 use Rattle.stages.specs.Images.{Pairs}
@@ -24,12 +24,13 @@ use Rattle.stages.proofs.Turns.{rest, other, pending, turn_query, turn_gets}
 use Rattle.stages.proofs.Works.{Waiting, storing_all, Works, works_all, works_as, works_done, works_gets, works_fails, works_first, works_second}
 use Rattle.table_store.specs.Holding.{Holds}
 use Rattle.arith_token.specs.Tokens.{setting_of}
-use Rattle.arith_token.specs.declared.Setting.{Setting}
-use Rattle.arith_eval.specs.Climbs.{inside, Ready, Fails, Comes, Says}
+use Rattle.std.specs.Prelude.{Option, Ok, Err}
+use Rattle.text.specs.Refusals.{refusal_number}
+use Rattle.text.specs.declared.refusal.Refusal.{Refusal}
+use Rattle.arith_int.specs.declared.Op as code-op
+use Rattle.arith_eval.specs.declared.Worked.{Worked}
+use Rattle.arith_eval.specs.Climbs.{inside, climbed, Ready, Fails, Comes, Says}
 use Rattle.arith_eval.specs.Wholes.{Stands, IsTarget, level_at, to_read, Last, Passes, Steps, SetsAt, Stacked, bottom, above, Stores}
-use Rattle.arith_eval.specs.declared.answers.Climbed.{Climbed}
-use Rattle.arith_eval.specs.declared.answers.Climbed.TheVariants as climbed
-use Rattle.arith_eval.specs.declared.answers.Step.TheVariants as step
 use Rattle.arith_eval.proofs.Trees.{bound}
 use Rattle.arith_eval.proofs.Operands.{fault, work_fault}
 use Rattle.arith_eval.proofs.Reading.{rest_refused, Has, rest_done, storey_above, bare_up}
@@ -61,7 +62,7 @@ stacked_take text ps qs k gs e s =
     stacked_same text ps qs k gs (λ j l. sym (get_or-take k ps j 0 l) ∙ ap (λ (x : List ℕ). get_or x j 0) (sym e) ∙ get_or-take k qs j 0 l) s
 
 -- one more
-pub stacked_more : (text : Text) (ps : List ℕ) (k p : ℕ) (g : Option Op × Text) (gs : Waiting) → k < length ps → SetsAt text p g → Stacked text ps k gs
+pub stacked_more : (text : Text) (ps : List ℕ) (k p : ℕ) (g : maybe.Option Op × Text) (gs : Waiting) → k < length ps → SetsAt text p g → Stacked text ps k gs
     → Stacked text (set ps k p) (k + 1) (g ∷ gs)
 stacked_more text ps k p g gs l h s =
     subst (λ (n : ℕ). Stacked text (set ps k p) n (g ∷ gs)) (sym (add-one k))
@@ -112,7 +113,7 @@ module _ (lent : Lent) (text : Text) (v : Pairs) (at d : ℕ) where
 
   -- a name and its `=`
   pub work_target : (p i : ℕ) (first : Bool) (waiting : ℕ) (places : List ℕ) (w : Pairs) → Working lent text v at d p i first waiting places w
-      → {from to : ℕ} {setting : Setting} {n : ℕ} → first ≡ true → IsTarget text i from to setting n → waiting < length places
+      → {from to : ℕ} {setting : Option code-op.Op} {n : ℕ} → first ≡ true → IsTarget text i from to setting n → waiting < length places
       → Working lent text v at d p n first (waiting + 1) (set places waiting i) w
   work_target p i true waiting places w k {from} {to} {setting} {n} e h l =
       let a = h.names.behind.onward in
@@ -160,8 +161,8 @@ module _ (lent : Lent) (text : Text) (v : Pairs) (at d : ℕ) where
       reads_on : rest all_here ≡ pending d p (rest (upstairs d (c.tree, drop n text)))
       reads_on = k.reads ∙ ap (λ (o : Grown). pending d p (rest o)) (storey_above d first (drop i text) bare ∙ storey_is)
 
-      pub work_refused : (vars left : Text) (e : ℕ) → Steps text n d z p vars left (step.Refused e) → Fails lent v true all_here e
-      work_refused vars left e h = fault lent v true (rest_refused all_here e (reads_on ∙ h c.tree))
+      pub work_refused : (vars left : Text) (e : Refusal) → Steps text n d z p vars left (Err e) → Fails lent v true all_here (refusal_number e)
+      work_refused vars left e h = fault lent v true (rest_refused all_here (refusal_number e) (reads_on ∙ h c.tree))
 
       -- the end: what is read behind it, and the stores
       module _ (m : ℕ) (h : Last text n d p m) where
@@ -249,20 +250,23 @@ module _ (lent : Lent) (text : Text) (v : Pairs) (at d : ℕ) where
             }
 
 -- what the stores make of the answer
-pub work_last : (lent : Lent) (text : Text) (vars : Text) (used : ℕ) (at d p i : ℕ) (first : Bool) (waiting : ℕ) (places : List ℕ) (w : Pairs)
+module _ (lent : Lent) (text : Text) (vars : Text) (used : ℕ) (at d p i : ℕ) (first : Bool) (waiting : ℕ) (places : List ℕ) (w : Pairs)
     (k : Working lent text (inside vars used) at d p i first waiting places w) (bare : first ≡ true → NoTarget (drop i text)) (z : ℤ) (n : ℕ) (mid : Text)
-    (now : ℕ)
-    → Comes lent text (suc i) w true (expression grow d lowest (drop i text)) z n (inside mid now) → (m : ℕ) → Last text n d p m → (left : Text) (r : Climbed)
-    → Stores lent text m z waiting places mid now left r
-    → Says lent text at vars used true (expression grow d whole_level (drop at text)) left r
-work_last lent text vars used at d p i first waiting places w k bare z n mid now c m h left (climbed.Refused e) s =
-    store_fails lent text (inside vars used) at d p i first waiting places w k bare z n (inside mid now) c m h e (s k.names k.stacked)
-work_last lent text vars used at d p i first waiting places w k bare z n mid now c m h left (climbed.Value y next last) s = (
-  subst (λ (j : ℕ). Comes lent text (suc at) (inside vars used) true (expression grow d whole_level (drop at text)) y j (inside left last)) (sym s.1)
-      (store_comes lent text (inside vars used) at d p i first waiting places w k bare z n (inside mid now) c m h y (inside left last)
-      (s.0 k.names k.stacked)),
-  record { holds = s.2; bytes = λ q. absurd (no (sym q)); length = λ q. absurd (no (sym q)) },
-)
+    (now : ℕ) (c : Comes lent text (suc i) w true (expression grow d lowest (drop i text)) z n (inside mid now)) (m : ℕ) (h : Last text n d p m)
+    (left : Text) where
+  pub work_last_fails : (e : Refusal) → Stores lent text z waiting places mid now left (Err e)
+      → Fails lent (inside vars used) true (expression grow d whole_level (drop at text)) (refusal_number e)
+  work_last_fails e s =
+      store_fails lent text (inside vars used) at d p i first waiting places w k bare z n (inside mid now) c m h (refusal_number e)
+      (s k.names k.stacked)
+
+  pub work_last : (r : Worked) → Stores lent text z waiting places mid now left (Ok r)
+      → Says lent text at vars used true (expression grow d whole_level (drop at text)) left (Ok (climbed r.value m r.vars_used))
+  work_last r s = (
+    store_comes lent text (inside vars used) at d p i first waiting places w k bare z n (inside mid now) c m h r.value (inside left r.vars_used)
+        (s.0 k.names k.stacked),
+    record { holds = s.1; bytes = λ q. absurd (no (sym q)); length = λ q. absurd (no (sym q)) },
+  )
 
 -- THE PLACES THAT ARE LENT: those behind the names that wait
 
@@ -282,3 +286,16 @@ pub working_lent : {lent : Lent} {text : Text} {v : Pairs} {at d p i : ℕ} {fir
     → Working lent text v at d p i first waiting (put_mid waiting k places ys) w
 working_lent {lent} {text} {v} {at} {d} {waiting = waiting} {places = places} s h k ys =
     working_take lent text v at d s (put_mid waiting k places ys) (take_put waiting k places ys h)
+
+-- .. as they are behind a call, with their length
+module _ {lent : Lent} {text : Text} {at : ℕ} {vars : Text} {used : ℕ} {all : List ℕ} (r : Ready lent text at vars used all) where
+  abbrev pub Lent_on : Pairs → ℕ → ℕ → ℕ → Bool → ℕ → Pairs → List ℕ → Type 0
+  Lent_on v d p i first waiting w places = Working lent text v at d p i first waiting places w × (length places ≡ length all)
+
+  pub lent_on : {v : Pairs} {d p i : ℕ} {first : Bool} {waiting : ℕ} {w : Pairs} {places : List ℕ} → Working lent text v at d p i first waiting places w
+      → length places ≡ length all → (ys : List ℕ) → length ys ≡ length (mid_of waiting (length places - waiting) places)
+      → Lent_on v d p i first waiting w (put_mid waiting (length places - waiting) places ys)
+  lent_on {i = i} {waiting = waiting} {places = places} k e ys same = (
+    working_lent k (waiting_fits r i waiting k.deep k.within places e) (length places - waiting) ys,
+    same_len_mid waiting (length places - waiting) places ys same ∙ e,
+  )

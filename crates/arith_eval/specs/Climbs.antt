@@ -1,24 +1,23 @@
 -- What the climber's answers say of the tree that the stage reads, and of what it comes to. One statement serves both runs: where a side does not
 -- count, a refusal is one of reading, and the variables' bytes stay; where it counts, a refusal is what the tree that was read comes to, and so are a value
 -- and the variables behind it.
-use Rattle.std.specs.Prelude.{ℕ, suc, ◌+◌, ◌*◌, ◌≤◌, ◌≡◌, Bool, true, false, ◌&&◌, List, [], ℤ, pos, length, take, drop}
-use Rattle.std.proofs.Math.Option.{Option, none, some}
-use Rattle.stages.specs.Numbers.{demanded, row_limit}
-use Rattle.stages.specs.Bytes.{Text, part}
-use Rattle.stages.specs.Outcome.{Outcome, refused, demands, done}
+use Rattle.std.specs.Prelude.{ℕ, suc, ◌+◌, ◌*◌, ◌≤◌, ◌≡◌, Bool, true, false, ◌&&◌, List, [], ℤ, pos, length, take, drop, Option, Some, None, Result, Ok, Err}
+use Rattle.std.proofs.Math.Option as maybe
+use Rattle.stages.specs.Numbers.{row_limit}
+use Rattle.stages.specs.Bytes.{Text}
+use Rattle.stages.specs.Outcome.{Outcome, refused, done}
 use Rattle.stages.specs.Images.{Pairs, held, lookup}
 use Rattle.stages.specs.Params.{Lent}
 use Rattle.stages.specs.Arith.{is_sign, early, apply, apply_alone, Tree, Grown, further, sign, grow, name_number, evaluate}
 use Rattle.stages.proofs.Storeys.{lowest}
 use Rattle.text.specs.Places.{Behind}
 use Rattle.table_store.specs.Holding.{Holds}
-use Rattle.arith_int.specs.Answers.{op_of}
+use Rattle.text.specs.Refusals.{refusal_number}
+use Rattle.text.specs.declared.refusal.Refusal.{Refusal}
+use Rattle.arith_int.specs.Answers.{numbered, op_of}
 use Rattle.arith_int.specs.declared.Op.{Op}
 use Rattle.arith_eval.specs.declared.answers.Climbed.{Climbed}
-use Rattle.arith_eval.specs.declared.answers.Climbed.TheVariants as climbed
 use Rattle.arith_eval.specs.declared.answers.Scope.{Scope}
-use Rattle.arith_eval.specs.declared.answers.Turn.{Turn}
-use Rattle.arith_eval.specs.declared.answers.Turn.TheVariants as turn
 
 -- all that is lent to a text: what its variables' image may grow to, and the switch. No name of it asks for homes or parameters.
 abbrev pub alone : ℕ → Bool → Lent
@@ -43,38 +42,31 @@ pub record Climbable (lent : Lent) (text : Text) (at least : ℕ) (vars : Text) 
   pub ready : Ready lent text at vars used places
   pub between : lowest ≤ least
 
--- an outcome as an answer with a place, where the variables stay; no number demands a message
-abbrev pub climbing : Outcome ℤ → ℕ → ℕ → Climbed
-climbing (refused e) next used = climbed.Refused e
-climbing (demands t) next used = climbed.Refused demanded
-climbing (done z) next used = climbed.Value z next used
-
-abbrev pub turning : Outcome ℤ → ℕ → ℕ → Turn
-turning (refused e) next used = turn.Refused e
-turning (demands t) next used = turn.Refused demanded
-turning (done z) next used = turn.Next z next used
+-- a value, with its place and the variables behind it
+abbrev pub climbed : ℤ → ℕ → ℕ → Climbed
+climbed z next used = record { value = z; next = next; vars_used = used }
 
 -- the leaves: nothing is worked out where it does not count
-abbrev pub Names : Text → ℕ → ℕ → Pairs → Bool → Bool → ℕ → Climbed → Type 0
-Names text from to v shouts true used r = r ≡ climbing (name_number shouts (lookup (part text from to) v)) to used
-Names text from to v shouts false used r = r ≡ climbed.Value (pos 0) to used
+abbrev pub Names : Text → Pairs → Bool → Bool → Result ℤ Refusal → Type 0
+Names x v shouts true r = numbered r ≡ name_number shouts (lookup x v)
+Names x v shouts false r = r ≡ Ok (pos 0)
 
-abbrev pub Turned : Op → ℤ → ℕ → Bool → ℕ → Climbed → Type 0
-Turned o z next true used r = r ≡ climbing (apply_alone (op_of o) z) next used
-Turned o z next false used r = r ≡ climbed.Value z next used
+abbrev pub Turned : Op → ℤ → Bool → Result ℤ Refusal → Type 0
+Turned o z true r = numbered r ≡ apply_alone (op_of o) z
+Turned o z false r = r ≡ Ok z
 
 -- what the left operand decides, or else what comes of both
-abbrev pub unless_decided : Option ℤ → Outcome ℤ → Outcome ℤ
-unless_decided none o = o
-unless_decided (some z) o = done z
+abbrev pub unless_decided : maybe.Option ℤ → Outcome ℤ → Outcome ℤ
+unless_decided maybe.none o = o
+unless_decided (maybe.some z) o = done z
 
-abbrev pub Joins : Op → ℤ → ℤ → ℕ → Bool → ℕ → Turn → Type 0
-Joins o x y next true used r = r ≡ turning (unless_decided (early (op_of o) x) (apply (op_of o) x y)) next used
-Joins o x y next false used r = r ≡ turn.Next x next used
+abbrev pub Joins : Op → ℤ → ℤ → Bool → Result ℤ Refusal → Type 0
+Joins o x y true r = numbered r ≡ unless_decided (early (op_of o) x) (apply (op_of o) x y)
+Joins o x y false r = r ≡ Ok x
 
-abbrev pub is_none : Option ℤ → Bool
-is_none none = true
-is_none (some z) = false
+abbrev pub is_none : maybe.Option ℤ → Bool
+is_none maybe.none = true
+is_none (maybe.some z) = false
 
 -- whether a right side counts
 abbrev pub is_needed : Op → ℤ → Bool → Bool
@@ -108,16 +100,16 @@ pub record Kept (lent : Lent) (vars : Text) (used : ℕ) (counts : Bool) (left :
   pub length : counts ≡ false → now ≡ used
 
 -- the answer of a part whose tree is worked out from the variables v on, of which these bytes are left
-abbrev pub Yields : Lent → Text → ℕ → Pairs → Text → ℕ → Bool → Grown → Text → Climbed → Type 0
-Yields lent text at v vars used counts o left (climbed.Refused e) = Fails lent v counts o e
-Yields lent text at v vars used counts o left (climbed.Value z next now) =
-    Comes lent text at v counts o z next (inside left now) × Kept lent vars used counts left now
+abbrev pub Yields : Lent → Text → ℕ → Pairs → Text → ℕ → Bool → Grown → Text → Result Climbed Refusal → Type 0
+Yields lent text at v vars used counts o left (Err e) = Fails lent v counts o (refusal_number e)
+Yields lent text at v vars used counts o left (Ok r) =
+    Comes lent text at v counts o r.value r.next (inside left r.vars_used) × Kept lent vars used counts left r.vars_used
 
-abbrev pub Says : Lent → Text → ℕ → Text → ℕ → Bool → Grown → Text → Climbed → Type 0
+abbrev pub Says : Lent → Text → ℕ → Text → ℕ → Bool → Grown → Text → Result Climbed Refusal → Type 0
 Says lent text at vars used counts o left r = Yields lent text (suc at) (inside vars used) vars used counts o left r
 
 -- behind any tree that comes to the left value
-abbrev pub Continues : Lent → Text → ℕ → Text → ℕ → Bool → ℕ → ℕ → ℤ → Text → Climbed → Type 0
+abbrev pub Continues : Lent → Text → ℕ → Text → ℕ → Bool → ℕ → ℕ → ℤ → Text → Result Climbed Refusal → Type 0
 Continues lent text at vars used counts d k z left r =
     (v : Pairs) (l : Tree) → Worth lent v counts l z (inside vars used)
     → Yields lent text at v vars used counts (grow (further k l, d, drop at text)) left r
@@ -133,9 +125,10 @@ abbrev pub GrowsOn : Lent → Text → ℕ → Pairs → Bool → ℕ → ℕ �
 GrowsOn lent text at u counts d k y z next w =
     (v : Pairs) (l : Tree) → Worth lent v counts l y u → Grows lent text v counts d k (grow (further k l, d, drop at text)) z next w
 
-abbrev pub Turns : Lent → Text → ℕ → Text → ℕ → Bool → ℕ → ℕ → ℤ → Text → Turn → Type 0
-Turns lent text at vars used counts d k y left (turn.Refused e) =
-    (v : Pairs) (l : Tree) → Worth lent v counts l y (inside vars used) → Fails lent v counts (grow (further k l, d, drop at text)) e
-Turns lent text at vars used counts d k y left turn.Last = ((l : Tree) → grow (further k l, d, drop at text) ≡ done (l, drop at text)) × (left ≡ vars)
-Turns lent text at vars used counts d k y left (turn.Next z next now) =
-    Behind text at next × Kept lent vars used counts left now × GrowsOn lent text at (inside vars used) counts d k y z next (inside left now)
+abbrev pub Turns : Lent → Text → ℕ → Text → ℕ → Bool → ℕ → ℕ → ℤ → Text → Result (Option Climbed) Refusal → Type 0
+Turns lent text at vars used counts d k y left (Err e) =
+    (v : Pairs) (l : Tree) → Worth lent v counts l y (inside vars used) → Fails lent v counts (grow (further k l, d, drop at text)) (refusal_number e)
+Turns lent text at vars used counts d k y left (Ok None) = ((l : Tree) → grow (further k l, d, drop at text) ≡ done (l, drop at text)) × (left ≡ vars)
+Turns lent text at vars used counts d k y left (Ok (Some r)) =
+    Behind text at r.next × Kept lent vars used counts left r.vars_used
+    × GrowsOn lent text at (inside vars used) counts d k y r.value r.next (inside left r.vars_used)

@@ -7,53 +7,51 @@ ghost use Rattle.stages.specs.Arith.{grow, operand as operandTask, enclosed as e
 ghost use Rattle.arith_eval.specs.Climbs.{lent_in, Ready, Climbable, Says, sign_of, Continues, Turns};
 ghost use Rattle.arith_eval.specs.Wholes.{Skippable, Skips, Steps};
 
-use super::answers::{Climbed, Scope, Skipped, Step, Turn};
-use super::marks::{Mark, Target, beyond, closed, mark_at, target_at};
+use super::answers::{Climbed, Scope, Step};
+use super::marks::{Mark, beyond, closed, mark_at, target_at};
 use super::values::{joined, named, needed, stored_all, turned};
 use arith_int::{Op, is_sign};
 use arith_token::{Token, level, token_at};
-use text::numbers;
+use text::refusal::Refusal;
 
 // "More than 32 open parentheses and unary signs, together, is 12."
-const TOO_DEEP: u8 = numbers::REFUSED_DEPTH;
+const TOO_DEEP: Refusal = Refusal::TooDeep;
 
 // The lowest level of an operator between two operands.
 const LOWEST: usize = 3;
 
 // An operand: a constant, a name, one in parentheses or behind a sign.
 #[cycle(enclosed_expression_further_operand_operator_signed_skip_stepped_whole_worked)]
-fn operand(text: &[u8], at: usize, scope: Scope, vars: &mut [u8], places: &mut [u16]) -> Climbed
+fn operand(
+    text: &[u8],
+    at: usize,
+    scope: Scope,
+    vars: &mut [u8],
+    places: &mut [u16],
+) -> Result<Climbed, Refusal>
     requires { Ready (lent_in scope) text.now at vars.old scope.vars_used places.old }
     ensures { Says (lent_in scope) text.now at vars.old scope.vars_used scope.counts
         (grow (operandTask false, scope.room, drop at text.now)) vars.new result }
 {
-    let token = token_at(text, at);
+    let token = token_at(text, at)?;
     match token {
-        Token::Refused(e) => Climbed::Refused(e),
-        Token::Number { value, next } => Climbed::Value {
-            value: value,
-            next: next,
+        Token::Number { value, next } => Ok(Climbed {
+            value,
+            next,
             vars_used: scope.vars_used,
-        },
+        }),
         Token::Name { from, to } => {
             let used = scope.vars_used;
-            named(
-                text,
-                from,
-                to,
-                scope.counts,
-                &vars[..used],
-                used,
-                scope.shouts,
-            )
+            let value = named(&text[from..to], scope.counts, &vars[..used], scope.shouts)?;
+            Ok(Climbed {
+                value,
+                next: to,
+                vars_used: used,
+            })
         }
         Token::Op(op, next) => signed(text, next, op, scope, vars, places),
         Token::Opens(next) => enclosed(text, next, scope, vars, places),
-        Token::Shuts(_) => Climbed::Refused(numbers::REFUSED_ARITHMETIC),
-        Token::Query(_) => Climbed::Refused(numbers::REFUSED_ARITHMETIC),
-        Token::Colon(_) => Climbed::Refused(numbers::REFUSED_ARITHMETIC),
-        Token::Gets(_, _) => Climbed::Refused(numbers::REFUSED_ARITHMETIC),
-        Token::Stop => Climbed::Refused(numbers::REFUSED_ARITHMETIC),
+        _ => Err(Refusal::ArithmeticSyntax),
     }
 }
 
@@ -66,71 +64,61 @@ fn signed(
     scope: Scope,
     vars: &mut [u8],
     places: &mut [u16],
-) -> Climbed
+) -> Result<Climbed, Refusal>
     requires { Ready (lent_in scope) text.now at vars.old scope.vars_used places.old }
     ensures { Says (lent_in scope) text.now at vars.old scope.vars_used scope.counts
         (sign_of op scope.room (drop at text.now)) vars.new result }
 {
     let may = is_sign(op);
     if !may {
-        return Climbed::Refused(numbers::REFUSED_ARITHMETIC);
+        return Err(Refusal::ArithmeticSyntax);
     }
     if scope.room == 0 {
-        return Climbed::Refused(TOO_DEEP);
+        return Err(TOO_DEEP);
     }
     let inner = Scope {
         room: scope.room - 1,
         ..scope
     };
-    let got = operand(text, at, inner, vars, places);
-    match got {
-        Climbed::Refused(e) => Climbed::Refused(e),
-        Climbed::Value {
-            value,
-            next,
-            vars_used,
-        } => turned(op, value, next, scope.counts, vars_used),
-    }
+    let got = operand(text, at, inner, vars, places)?;
+    let value = turned(op, got.value, scope.counts)?;
+    Ok(Climbed { value, ..got })
 }
 
 // Behind a `(`: an expression, and its `)`.
 #[cycle(enclosed_expression_further_operand_operator_signed_skip_stepped_whole_worked)]
-fn enclosed(text: &[u8], at: usize, scope: Scope, vars: &mut [u8], places: &mut [u16]) -> Climbed
+fn enclosed(
+    text: &[u8],
+    at: usize,
+    scope: Scope,
+    vars: &mut [u8],
+    places: &mut [u16],
+) -> Result<Climbed, Refusal>
     requires { Ready (lent_in scope) text.now at vars.old scope.vars_used places.old }
     ensures { Says (lent_in scope) text.now at vars.old scope.vars_used scope.counts
         (enclosedIn grow scope.room (drop at text.now)) vars.new result }
 {
     if scope.room == 0 {
-        return Climbed::Refused(TOO_DEEP);
+        return Err(TOO_DEEP);
     }
     let inner = Scope {
         room: scope.room - 1,
         ..scope
     };
-    let got = whole(text, at, inner, vars, places);
-    match got {
-        Climbed::Refused(e) => Climbed::Refused(e),
-        Climbed::Value {
-            value,
-            next,
-            vars_used,
-        } => {
-            let shut = closed(text, next);
-            match shut {
-                Skipped::Refused(e) => Climbed::Refused(e),
-                Skipped::Next(end) => Climbed::Value {
-                    value: value,
-                    next: end,
-                    vars_used: vars_used,
-                },
-            }
-        }
-    }
+    let got = whole(text, at, inner, vars, places)?;
+    let next = closed(text, got.next)?;
+    Ok(Climbed { next, ..got })
 }
 
 // A whole expression.
 #[cycle(enclosed_expression_further_operand_operator_signed_skip_stepped_whole_worked)]
-pub fn whole(text: &[u8], at: usize, scope: Scope, vars: &mut [u8], places: &mut [u16]) -> Climbed
+pub fn whole(
+    text: &[u8],
+    at: usize,
+    scope: Scope,
+    vars: &mut [u8],
+    places: &mut [u16],
+) -> Result<Climbed, Refusal>
     requires { Ready (lent_in scope) text.now at vars.old scope.vars_used places.old }
     ensures { Says (lent_in scope) text.now at vars.old scope.vars_used scope.counts
         (expressionOf grow scope.room whole_level (drop at text.now)) vars.new result }
@@ -138,15 +126,12 @@ pub fn whole(text: &[u8], at: usize, scope: Scope, vars: &mut [u8], places: &mut
     if scope.counts {
         return worked(text, at, scope, vars, places);
     }
-    let got = skip(text, at, true, 0, scope, vars, places);
-    match got {
-        Skipped::Refused(e) => Climbed::Refused(e),
-        Skipped::Next(next) => Climbed::Value {
-            value: 0,
-            next: next,
-            vars_used: scope.vars_used,
-        },
-    }
+    let next = skip(text, at, true, 0, scope, vars, places)?;
+    Ok(Climbed {
+        value: 0,
+        next,
+        vars_used: scope.vars_used,
+    })
 }
 
 // An expression that does not count, a whole one or what may stand behind a colon, and behind it so many times a colon and a conditional.
@@ -159,7 +144,7 @@ fn skip(
     scope: Scope,
     vars: &mut [u8],
     places: &mut [u16],
-) -> Skipped
+) -> Result<usize, Refusal>
     requires { Skippable (lent_in scope) text.now at colons vars.old scope.vars_used places.old }
     ensures { Skips text.now at scope.room colons begins vars.old vars.new result }
 {
@@ -171,53 +156,30 @@ fn skip(
     let mut first = begins;
     let mut awaited = colons;
     loop {
-        let target = target_at(text, i, first);
-        match target {
-            Target::At {
-                from: _,
-                to: _,
-                setting: _,
-                next,
-            } => {
-                i = next;
-            }
-            Target::Missing => {
-                let got = expression(text, i, LOWEST, idle, vars, places);
-                match got {
-                    Climbed::Refused(e) => {
-                        return Skipped::Refused(e);
+        if let Some(target) = target_at(text, i, first) {
+            i = target.next;
+        } else {
+            let got = expression(text, i, LOWEST, idle, vars, places)?;
+            let mark = mark_at(text, got.next)?;
+            match mark {
+                Mark::Query(n) => {
+                    awaited += 1;
+                    first = true;
+                    i = n;
+                }
+                Mark::Colon(n) => {
+                    if awaited == 0 {
+                        return Ok(got.next);
                     }
-                    Climbed::Value {
-                        value: _,
-                        next,
-                        vars_used: _,
-                    } => {
-                        let mark = mark_at(text, next);
-                        match mark {
-                            Mark::Refused(e) => {
-                                return Skipped::Refused(e);
-                            }
-                            Mark::Query(n) => {
-                                awaited = awaited + 1;
-                                first = true;
-                                i = n;
-                            }
-                            Mark::Colon(n) => {
-                                if awaited == 0 {
-                                    return Skipped::Next(next);
-                                }
-                                awaited = awaited - 1;
-                                first = false;
-                                i = n;
-                            }
-                            Mark::Other => {
-                                if awaited == 0 {
-                                    return Skipped::Next(next);
-                                }
-                                return Skipped::Refused(numbers::REFUSED_ARITHMETIC);
-                            }
-                        }
+                    awaited -= 1;
+                    first = false;
+                    i = n;
+                }
+                Mark::Other => {
+                    if awaited == 0 {
+                        return Ok(got.next);
                     }
+                    return Err(Refusal::ArithmeticSyntax);
                 }
             }
         }
@@ -227,7 +189,13 @@ fn skip(
 // A whole expression that counts: in each `?:` only the side is worked out that its condition asks for, and the names of assignments wait until all else is
 // worked out. Each takes two bytes of the text at the least.
 #[cycle(enclosed_expression_further_operand_operator_signed_skip_stepped_whole_worked)]
-fn worked(text: &[u8], at: usize, scope: Scope, vars: &mut [u8], places: &mut [u16]) -> Climbed
+fn worked(
+    text: &[u8],
+    at: usize,
+    scope: Scope,
+    vars: &mut [u8],
+    places: &mut [u16],
+) -> Result<Climbed, Refusal>
     requires { Ready (lent_in scope) text.now at vars.old scope.vars_used places.old }
     ensures { Says (lent_in scope) text.now at vars.old scope.vars_used true
         (expressionOf grow scope.room whole_level (drop at text.now)) vars.new result }
@@ -238,66 +206,48 @@ fn worked(text: &[u8], at: usize, scope: Scope, vars: &mut [u8], places: &mut [u
     let mut waiting = 0;
     let mut used = scope.vars_used;
     loop {
-        let target = target_at(text, i, first);
-        match target {
-            Target::At {
-                from: _,
-                to: _,
-                setting: _,
-                next,
-            } => {
-                places[waiting] = i as u16;
-                waiting = waiting + 1;
-                i = next;
-            }
-            Target::Missing => {
-                let inner = Scope {
-                    counts: true,
-                    vars_used: used,
-                    ..scope
-                };
-                let got = expression(text, i, LOWEST, inner, vars, &mut places[waiting..]);
-                match got {
-                    Climbed::Refused(e) => {
-                        return Climbed::Refused(e);
-                    }
-                    Climbed::Value {
-                        value,
+        if let Some(target) = target_at(text, i, first) {
+            places[waiting] = i as u16;
+            waiting += 1;
+            i = target.next;
+        } else {
+            let inner = Scope {
+                counts: true,
+                vars_used: used,
+                ..scope
+            };
+            let got = expression(text, i, LOWEST, inner, vars, &mut places[waiting..])?;
+            used = got.vars_used;
+            let after = Scope {
+                vars_used: used,
+                ..scope
+            };
+            let step = stepped(
+                text,
+                got.next,
+                got.value,
+                awaited,
+                after,
+                vars,
+                &mut places[waiting..],
+            )?;
+            match step {
+                Step::Last(next) => {
+                    let all = stored_all(text, got.value, waiting, after, vars, places)?;
+                    return Ok(Climbed {
+                        value: all.value,
                         next,
-                        vars_used,
-                    } => {
-                        used = vars_used;
-                        let after = Scope {
-                            vars_used: vars_used,
-                            ..scope
-                        };
-                        let step = stepped(
-                            text,
-                            next,
-                            value,
-                            awaited,
-                            after,
-                            vars,
-                            &mut places[waiting..],
-                        );
-                        match step {
-                            Step::Refused(e) => {
-                                return Climbed::Refused(e);
-                            }
-                            Step::Last(end) => {
-                                return stored_all(text, end, value, waiting, after, vars, places);
-                            }
-                            Step::Middle(n) => {
-                                awaited = awaited + 1;
-                                first = true;
-                                i = n;
-                            }
-                            Step::Behind(n) => {
-                                first = false;
-                                i = n;
-                            }
-                        }
-                    }
+                        vars_used: all.vars_used,
+                    });
+                }
+                Step::Middle(n) => {
+                    awaited += 1;
+                    first = true;
+                    i = n;
+                }
+                Step::Behind(n) => {
+                    first = false;
+                    i = n;
                 }
             }
         }
@@ -314,38 +264,32 @@ fn stepped(
     scope: Scope,
     vars: &mut [u8],
     places: &mut [u16],
-) -> Step
+) -> Result<Step, Refusal>
     requires { Skippable (lent_in scope) text.now at colons vars.old scope.vars_used places.old }
     ensures { Steps text.now at scope.room value colons vars.old vars.new result }
 {
-    let mark = mark_at(text, at);
+    let mark = mark_at(text, at)?;
     match mark {
-        Mark::Refused(e) => Step::Refused(e),
         Mark::Query(n) => {
             if value != 0 {
-                return Step::Middle(n);
+                return Ok(Step::Middle(n));
             }
-            let got = skip(text, n, true, 0, scope, vars, places);
-            match got {
-                Skipped::Refused(e) => Step::Refused(e),
-                Skipped::Next(next) => beyond(text, next),
-            }
+            let side = skip(text, n, true, 0, scope, vars, places)?;
+            let behind = beyond(text, side)?;
+            Ok(Step::Behind(behind))
         }
         Mark::Colon(n) => {
             if colons == 0 {
-                return Step::Last(at);
+                return Ok(Step::Last(at));
             }
-            let got = skip(text, n, false, colons - 1, scope, vars, places);
-            match got {
-                Skipped::Refused(e) => Step::Refused(e),
-                Skipped::Next(next) => Step::Last(next),
-            }
+            let last = skip(text, n, false, colons - 1, scope, vars, places)?;
+            Ok(Step::Last(last))
         }
         Mark::Other => {
             if colons == 0 {
-                return Step::Last(at);
+                return Ok(Step::Last(at));
             }
-            Step::Refused(numbers::REFUSED_ARITHMETIC)
+            Err(Refusal::ArithmeticSyntax)
         }
     }
 }
@@ -359,26 +303,17 @@ fn expression(
     scope: Scope,
     vars: &mut [u8],
     places: &mut [u16],
-) -> Climbed
+) -> Result<Climbed, Refusal>
     requires { Climbable (lent_in scope) text.now at least vars.old scope.vars_used places.old }
     ensures { Says (lent_in scope) text.now at vars.old scope.vars_used scope.counts
         (expressionOf grow scope.room least (drop at text.now)) vars.new result }
 {
-    let got = operand(text, at, scope, vars, places);
-    match got {
-        Climbed::Refused(e) => Climbed::Refused(e),
-        Climbed::Value {
-            value,
-            next,
-            vars_used,
-        } => {
-            let after = Scope {
-                vars_used: vars_used,
-                ..scope
-            };
-            further(text, next, least, value, after, vars, places)
-        }
-    }
+    let got = operand(text, at, scope, vars, places)?;
+    let after = Scope {
+        vars_used: got.vars_used,
+        ..scope
+    };
+    further(text, got.next, least, got.value, after, vars, places)
 }
 
 // All operators of at least a level behind a left side: "all binary ones from the left".
@@ -391,45 +326,30 @@ fn further(
     scope: Scope,
     vars: &mut [u8],
     places: &mut [u16],
-) -> Climbed
+) -> Result<Climbed, Refusal>
     requires { Climbable (lent_in scope) text.now at least vars.old scope.vars_used places.old }
     ensures { Continues (lent_in scope) text.now at vars.old scope.vars_used scope.counts scope.room least left
         vars.new result }
 {
     let mut value = left;
-    let mut i = at;
-    let mut used = scope.vars_used;
+    let mut next = at;
+    let mut vars_used = scope.vars_used;
     loop {
-        let inner = Scope {
-            vars_used: used,
-            ..scope
-        };
-        let got = operator(text, i, least, value, inner, vars, places);
-        match got {
-            Turn::Refused(e) => {
-                return Climbed::Refused(e);
-            }
-            Turn::Last => {
-                return Climbed::Value {
-                    value: value,
-                    next: i,
-                    vars_used: used,
-                };
-            }
-            Turn::Next {
-                value: z,
+        let inner = Scope { vars_used, ..scope };
+        let Some(more) = operator(text, next, least, value, inner, vars, places)? else {
+            return Ok(Climbed {
+                value,
                 next,
                 vars_used,
-            } => {
-                value = z;
-                i = next;
-                used = vars_used;
-            }
-        }
+            });
+        };
+        value = more.value;
+        next = more.next;
+        vars_used = more.vars_used;
     }
 }
 
-// One operator behind a left side, and its right side.
+// One operator behind a left side, and its right side; nothing where none follows that binds tightly enough.
 #[cycle(enclosed_expression_further_operand_operator_signed_skip_stepped_whole_worked)]
 fn operator(
     text: &[u8],
@@ -439,40 +359,24 @@ fn operator(
     scope: Scope,
     vars: &mut [u8],
     places: &mut [u16],
-) -> Turn
+) -> Result<Option<Climbed>, Refusal>
     requires { Climbable (lent_in scope) text.now at least vars.old scope.vars_used places.old }
     ensures { Turns (lent_in scope) text.now at vars.old scope.vars_used scope.counts scope.room least left
         vars.new result }
 {
-    let token = token_at(text, at);
-    match token {
-        Token::Refused(e) => Turn::Refused(e),
-        Token::Op(op, next) => {
-            let binds = level(op);
-            if binds < least {
-                return Turn::Last;
-            }
-            let inner = Scope {
-                counts: needed(op, left, scope.counts),
-                ..scope
-            };
-            let got = expression(text, next, binds + 1, inner, vars, places);
-            match got {
-                Climbed::Refused(e) => Turn::Refused(e),
-                Climbed::Value {
-                    value,
-                    next,
-                    vars_used,
-                } => joined(op, left, value, next, scope.counts, vars_used),
-            }
-        }
-        Token::Number { value: _, next: _ } => Turn::Last,
-        Token::Name { from: _, to: _ } => Turn::Last,
-        Token::Opens(_) => Turn::Last,
-        Token::Shuts(_) => Turn::Last,
-        Token::Query(_) => Turn::Last,
-        Token::Colon(_) => Turn::Last,
-        Token::Gets(_, _) => Turn::Last,
-        Token::Stop => Turn::Last,
+    let token = token_at(text, at)?;
+    let Token::Op(op, next) = token else {
+        return Ok(None);
+    };
+    let binds = level(op);
+    if binds < least {
+        return Ok(None);
     }
+    let inner = Scope {
+        counts: needed(op, left, scope.counts),
+        ..scope
+    };
+    let right = expression(text, next, binds + 1, inner, vars, places)?;
+    let value = joined(op, left, right.value, scope.counts)?;
+    Ok(Some(Climbed { value, ..right }))
 }

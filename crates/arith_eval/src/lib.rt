@@ -11,11 +11,12 @@ ghost use Rattle.table_store.specs.Holding.{Holds};
 ghost use Rattle.arith_eval.specs.Climbs.{alone};
 ghost use Rattle.arith_eval.specs.Answers.{Finishes, Answers, Prevails, ComesTo};
 
-use answers::{Climbed, Scope};
+use answers::Scope;
 use arith_token::{Token, token_at};
 use climb::whole;
-use plain::{Plain, plain_text};
+use plain::plain_text;
 use text::numbers;
+use text::refusal::Refusal;
 
 mod answers;
 mod climb;
@@ -25,34 +26,23 @@ mod values;
 
 // What a text comes to: a number, and how many bytes the image of variables has then.
 #[derive(Clone, Copy)]
-pub enum Worked {
-    Refused(u8),
-    Value { value: i64, vars_used: usize },
+pub struct Worked {
+    pub value: i64,
+    pub vars_used: usize,
 }
 
 // How many places may wait for a value: each takes two bytes of a text.
 const PLACES: usize = 1024;
 
 // Nothing may stand behind the value of a whole text.
-fn ended(text: &[u8], at: usize, value: i64, vars_used: usize) -> Worked
+fn ended(text: &[u8], at: usize) -> Result<(), Refusal>
     requires { at ≤ length text.now }
-    ensures { Finishes text.now at value vars_used result }
+    ensures { Finishes text.now at result }
 {
-    let token = token_at(text, at);
+    let token = token_at(text, at)?;
     match token {
-        Token::Refused(e) => Worked::Refused(e),
-        Token::Stop => Worked::Value {
-            value: value,
-            vars_used: vars_used,
-        },
-        Token::Number { value: _, next: _ } => Worked::Refused(numbers::REFUSED_ARITHMETIC),
-        Token::Name { from: _, to: _ } => Worked::Refused(numbers::REFUSED_ARITHMETIC),
-        Token::Op(_, _) => Worked::Refused(numbers::REFUSED_ARITHMETIC),
-        Token::Opens(_) => Worked::Refused(numbers::REFUSED_ARITHMETIC),
-        Token::Shuts(_) => Worked::Refused(numbers::REFUSED_ARITHMETIC),
-        Token::Query(_) => Worked::Refused(numbers::REFUSED_ARITHMETIC),
-        Token::Colon(_) => Worked::Refused(numbers::REFUSED_ARITHMETIC),
-        Token::Gets(_, _) => Worked::Refused(numbers::REFUSED_ARITHMETIC),
+        Token::Stop => Ok(()),
+        _ => Err(Refusal::ArithmeticSyntax),
     }
 }
 
@@ -65,42 +55,36 @@ fn once(
     vars_room: usize,
     places: &mut [u16],
     shouts: bool,
-) -> Worked
+) -> Result<Worked, Refusal>
     requires { (length text.now ≤ row_limit) × Holds vars_room vars.old vars_used × (row_limit ≤ 2 * length places.old) }
     ensures { Answers (alone vars_room shouts) vars.old vars_used counts (tree text.now) vars.new result }
 {
     let scope = Scope {
         room: numbers::OPEN_LIMIT,
-        counts: counts,
-        vars_used: vars_used,
-        vars_room: vars_room,
-        shouts: shouts,
+        counts,
+        vars_used,
+        vars_room,
+        shouts,
     };
-    let got = whole(text, 0, scope, vars, places);
-    match got {
-        Climbed::Refused(e) => Worked::Refused(e),
-        Climbed::Value {
-            value,
-            next,
-            vars_used: used,
-        } => ended(text, next, value, used),
-    }
+    let got = whole(text, 0, scope, vars, places)?;
+    ended(text, got.next)?;
+    Ok(Worked {
+        value: got.value,
+        vars_used: got.vars_used,
+    })
 }
 
-// The number of a text that is refused where it counts, with which number being known: that of its reading, if that is refused too. The variables are
+// Why a text is refused of which it is known why it is where it counts: for its reading, if that is refused too. The variables are
 // used up: reading asks for none, so it is lent an image that holds none.
-fn refusal(text: &[u8], worked: u8, vars: &mut [u8], places: &mut [u16]) -> u8
+fn refusal(text: &[u8], worked: Refusal, vars: &mut [u8], places: &mut [u16]) -> Refusal
     requires { (length text.now ≤ row_limit) × (image_limit ≤ length vars.old) × (row_limit ≤ 2 * length places.old) }
     ensures { Prevails text.now worked result }
 {
     vars[0] = numbers::VERSION;
     let read = once(text, false, vars, 1, 1, places, false);
     match read {
-        Worked::Refused(e) => e,
-        Worked::Value {
-            value: _,
-            vars_used: _,
-        } => worked,
+        Err(e) => e,
+        Ok(_) => worked,
     }
 }
 
@@ -112,20 +96,14 @@ fn settled(
     vars_room: usize,
     places: &mut [u16],
     shouts: bool,
-) -> Worked
+) -> Result<Worked, Refusal>
     requires { (length text.now ≤ row_limit) × Holds vars_room vars.old vars_used × (row_limit ≤ 2 * length places.old) }
     ensures { ComesTo (alone vars_room shouts) text.now vars.old vars_used vars.new result }
 {
     let got = once(text, true, vars, vars_used, vars_room, places, shouts);
     match got {
-        Worked::Value {
-            value,
-            vars_used: used,
-        } => Worked::Value {
-            value: value,
-            vars_used: used,
-        },
-        Worked::Refused(e) => Worked::Refused(refusal(text, e, vars, places)),
+        Ok(_) => got,
+        Err(e) => Err(refusal(text, e, vars, places)),
     }
 }
 
@@ -136,7 +114,7 @@ fn with_places(
     vars_used: usize,
     vars_room: usize,
     shouts: bool,
-) -> Worked
+) -> Result<Worked, Refusal>
     requires { (length text.now ≤ row_limit) × Holds vars_room vars.old vars_used }
     ensures { ComesTo (alone vars_room shouts) text.now vars.old vars_used vars.new result }
 {
@@ -152,17 +130,14 @@ pub fn evaluate_text(
     vars_used: usize,
     vars_room: usize,
     shouts: bool,
-) -> Worked
+) -> Result<Worked, Refusal>
     requires { (length text.now ≤ row_limit) × Holds vars_room vars.old vars_used }
     ensures { (homes params : Text) → ComesTo (lent_of vars_room shouts homes params) text.now vars.old vars_used
         vars.new result }
 {
     let got = plain_text(text);
     match got {
-        Plain::Value { value, next: _ } => Worked::Value {
-            value: value,
-            vars_used: vars_used,
-        },
-        Plain::Unknown => with_places(text, vars, vars_used, vars_room, shouts),
+        Some(value) => Ok(Worked { value, vars_used }),
+        None => with_places(text, vars, vars_used, vars_room, shouts),
     }
 }

@@ -4,15 +4,15 @@ ghost use Rattle.std.specs.Prelude.{◌≤◌, length};
 ghost use Rattle.stages.proofs.Storeys.{lowest};
 ghost use Rattle.arith_eval.specs.Plains.{Signs, IsConstant, PlainFrom, PlainText};
 
-use arith_int::{Number, Op};
+use arith_int::Op;
 use arith_token::level;
 use text::Class;
 
-// A value and the place behind it, or nothing that is known.
+// A value and the place behind it.
 #[derive(Clone, Copy)]
-pub enum Plain {
-    Unknown,
-    Value { value: i64, next: usize },
+pub struct Plain {
+    pub value: i64,
+    pub next: usize,
 }
 
 // What stands behind a value: nothing, one of the five operators and the place behind it, or something else.
@@ -55,49 +55,47 @@ fn sign_at(text: &[u8], at: usize) -> Sign
     }
 }
 
-// A decimal constant at a place or behind the blanks there, of so few digits that it is in range.
-fn constant_at(text: &[u8], at: usize) -> Plain
+// A decimal constant at a place or behind the blanks there, of so few digits that it is in range; else nothing that is known.
+fn constant_at(text: &[u8], at: usize) -> Option<Plain>
     requires { at ≤ length text.now }
     ensures { IsConstant text.now at result }
 {
     let from = text::run_end(text, at, Class::Blank);
     if from == text.len() {
-        return Plain::Unknown;
+        return None;
     }
     let first = text[from];
     if first < b'1' {
-        return Plain::Unknown;
+        return None;
     }
     if b'9' < first {
-        return Plain::Unknown;
+        return None;
     }
     let mut n = (first - b'0') as u64;
-    let mut i = from + 1;
-    while i < text.len() {
+    for i in from + 1..text.len() {
         let b = text[i];
         if !text::in_class(Class::Digit, b) {
             if text::in_class(Class::NameByte, b) {
-                return Plain::Unknown;
+                return None;
             }
-            return Plain::Value {
+            return Some(Plain {
                 value: n as i64,
                 next: i,
-            };
+            });
         }
         if ENOUGH < n {
-            return Plain::Unknown;
+            return None;
         }
         n = n * 10 + (b - b'0') as u64;
-        i += 1;
     }
-    Plain::Value {
+    Some(Plain {
         value: n as i64,
-        next: i,
-    }
+        next: text.len(),
+    })
 }
 
 // All operators of at least a level behind a left side, each with a constant on its right and what binds tighter behind that.
-fn plain_from(text: &[u8], at: usize, least: usize, left: i64) -> Plain
+fn plain_from(text: &[u8], at: usize, least: usize, left: i64) -> Option<Plain>
     requires { (at ≤ length text.now) × (lowest ≤ least) }
     ensures { PlainFrom text.now at least left result }
 {
@@ -107,71 +105,33 @@ fn plain_from(text: &[u8], at: usize, least: usize, left: i64) -> Plain
         let sign = sign_at(text, i);
         match sign {
             Sign::Other => {
-                return Plain::Unknown;
+                return None;
             }
             Sign::Stop => {
-                return Plain::Value {
-                    value: value,
-                    next: i,
-                };
+                return Some(Plain { value, next: i });
             }
             Sign::Op(op, next) => {
                 let binds = level(op);
                 if binds < least {
-                    return Plain::Value {
-                        value: value,
-                        next: i,
-                    };
+                    return Some(Plain { value, next: i });
                 }
-                let first = constant_at(text, next);
-                match first {
-                    Plain::Unknown => {
-                        return Plain::Unknown;
-                    }
-                    Plain::Value { value: y, next: n } => {
-                        let right = plain_from(text, n, binds + 1, y);
-                        match right {
-                            Plain::Unknown => {
-                                return Plain::Unknown;
-                            }
-                            Plain::Value { value: z, next: m } => {
-                                let both = arith_int::operate(op, value, z);
-                                match both {
-                                    Number::Refused(_) => {
-                                        return Plain::Unknown;
-                                    }
-                                    Number::Value(x) => {
-                                        value = x;
-                                        i = m;
-                                    }
-                                }
-                            }
-                        }
-                    }
-                }
+                let first = constant_at(text, next)?;
+                let right = plain_from(text, first.next, binds + 1, first.value)?;
+                value = arith_int::operate(op, value, right.value).ok()?;
+                i = right.next;
             }
         }
     }
 }
 
 // A whole text, behind which nothing stands.
-pub fn plain_text(text: &[u8]) -> Plain
+pub fn plain_text(text: &[u8]) -> Option<i64>
     ensures { PlainText text.now result }
 {
-    let first = constant_at(text, 0);
-    match first {
-        Plain::Unknown => Plain::Unknown,
-        Plain::Value { value: y, next: n } => {
-            let all = plain_from(text, n, LOWEST, y);
-            match all {
-                Plain::Unknown => Plain::Unknown,
-                Plain::Value { value: z, next: m } => {
-                    if text::run_end(text, m, Class::Blank) != text.len() {
-                        return Plain::Unknown;
-                    }
-                    Plain::Value { value: z, next: m }
-                }
-            }
-        }
+    let first = constant_at(text, 0)?;
+    let all = plain_from(text, first.next, LOWEST, first.value)?;
+    if text::run_end(text, all.next, Class::Blank) != text.len() {
+        return None;
     }
+    Some(all.value)
 }

@@ -85,7 +85,8 @@ module _ (p t work : Text) where
     module _ {n : ℕ} (c : (class_in p ≡ false) × (n ≡ length (elements_of p))) where
       -- "more than 64 elements or 256 text bytes"
       pub many_refuse : (elements_limit < n) ⊎ (compared_limit < length t) → stage.pairs_of g ≡ placed (Err TooManyUnits)
-      many_refuse (inl m) = too_large g wide (classed c.0) (sized (ap (λ (x : Bool). x && leb (length t) compared_limit) (lt-leb _ elements_limit (omega (arith, c.1)))))
+      many_refuse (inl m) =
+          too_large g wide (classed c.0) (sized (ap (λ (x : Bool). x && leb (length t) compared_limit) (lt-leb _ elements_limit (omega (arith, c.1)))))
       many_refuse (inr m) =
           too_large g wide (classed c.0) (sized (ap (λ (x : Bool). leb (length (elements_of p)) elements_limit && x) (lt-leb _ compared_limit m) ∙ and-false _))
 

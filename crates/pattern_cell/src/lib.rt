@@ -7,7 +7,7 @@ ghost use Rattle.pattern_cell.specs.Cells.{first_set, words_at, LastStar, FirstS
 
 use pattern_set::ByteSet;
 
-// The cell of `?`.
+// The cell of `?`. A cell is a number of two bytes, not an enum: the table of ends stands in the same lent memory before.
 pub const ONE: u16 = 256;
 
 // The cell of `*`.

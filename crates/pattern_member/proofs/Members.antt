@@ -215,7 +215,8 @@ unfolding first_member
 member_first {w} {p} k path h s = rw (unit_at w p k h) at s.says
 
 -- .. the units behind it stand behind the place where it ends ..
-pub member_units : (w : Width) (p : Text) (k : ℕ) (r : Result Member BadClass) → drop (member_length (read_of r)) (behind w p k) ≡ signs_by w (drop (behind_read r k w) p)
+pub member_units : (w : Width) (p : Text) (k : ℕ) (r : Result Member BadClass)
+    → drop (member_length (read_of r)) (behind w p k) ≡ signs_by w (drop (behind_read r k w) p)
 member_units w p k r =
     let n = member_length (read_of r) in
     let e : k + size w + size w * n ≡ behind_read r k w = omega (arith, scale_more w n) in

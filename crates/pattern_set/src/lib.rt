@@ -76,6 +76,7 @@ impl ByteSet {
     pub fn others(self) -> Self
         ensures { (k : ℕ) → k < 256 → has result.words k ≡ not (has self.words k) }
     {
+        // Word by word: from what `map` says of its calls the words were not proved.
         let w = self.words;
         ByteSet {
             words: [w[0] ^ FULL, w[1] ^ FULL, w[2] ^ FULL, w[3] ^ FULL],
@@ -97,7 +98,7 @@ fn members(units: &[u8], width: Width) -> ByteSet
 {
     let size = pattern_unit::unit_size(width);
     let mut set = none();
-    let mut at: usize = 0;
+    let mut at = 0;
     while at + size <= units.len() {
         match pattern_member::member_at(units, at, false, width) {
             Ok(member) => {
@@ -116,10 +117,7 @@ pub fn set_of(units: &[u8], negative: bool, width: Width) -> ByteSet
     ensures { (k : ℕ) → k < 256 → has result.words k ≡ in_set (sense_of negative) (signs_by width units.now) k }
 {
     let set = members(units, width);
-    if negative {
-        return set.others();
-    }
-    set
+    if negative { set.others() } else { set }
 }
 
 // The set whose words stand at a place of a table.
@@ -127,6 +125,7 @@ pub fn set_at(sets: &[u64], at: usize) -> ByteSet
     requires { at + 4 ≤ length sets.now }
     ensures { (k : ℕ) → k < 256 → has result.words k ≡ has (drop at sets.now) k }
 {
+    // `copy_from_slice` would ask for an array of zeros first.
     ByteSet {
         words: [sets[at], sets[at + 1], sets[at + 2], sets[at + 3]],
     }

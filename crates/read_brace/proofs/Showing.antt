@@ -1,4 +1,4 @@
--- What the code's item shows of the stage's, and the byte at a place.
+-- What the code's item shows of the stage's.
 use Rattle.std.specs.Prelude.{Result}
 use Prim.Native.Nat.{ℕ, zero, suc, ◌+◌, ◌-◌, ◌≤◌, ◌<◌}
 use native.Mathlib.Omega.{arith}
@@ -7,8 +7,7 @@ use mathlib.Core.Bool.{Bool, true, false}
 use mathlib.Core.List.{[], ◌∷◌}
 use borrow.Author.Tests.{ne_eqb}
 use lib.Dec.{eqb}
-use lib.ListN.{length, drop, get_or, drop_of_length-le}
-use lib.Seq.{drop-cons}
+use lib.ListN.{length, drop}
 use Rattle.stages.specs.Bytes.{Text, part}
 use Rattle.stages.specs.Outcome.{pick}
 use Rattle.stages.specs.Syntax.{Escape, Form, Mode, Colon, bytes_of, parameters}
@@ -122,14 +121,6 @@ inner_same x k e h = cc
 pub wrong_byte : (n b : ℕ) (t u : Text) {e : ℕ} → wrong n (b ∷ u) ≡ fault e → wrong n (b ∷ t) ≡ fault e
 unfolding wrong
 wrong_byte n b t u h = h
-
--- A byte at a place.
-
-pub at_none : (b : ℕ) (t : Text) (i : ℕ) → length t ≤ i → false ≡ is_at b (drop i t)
-at_none b t i l = sym (ap (is_at b) (drop_of_length-le t l))
-
-pub at_here : (b : ℕ) (t : Text) (i : ℕ) → i < length t → eqb (get_or t i 0) b ≡ is_at b (drop i t)
-at_here b t i l = sym (ap (is_at b) (drop-cons t i 0 l))
 
 -- a byte that stands at a place is in the text
 pub at_within : (b i : ℕ) (t : Text) → is_at b (drop i t) ≡ true → i < length t

@@ -26,8 +26,6 @@ use Rattle.read_mode.specs.declared.Mode as code-mode
 use Rattle.read_mode.specs.declared.Mode.TheVariants as mode
 use Rattle.read_mode.specs.declared.Sort.{Sort}
 use Rattle.read_mode.specs.declared.Sort.TheVariants as sort-of
-use Rattle.read_escape.specs.Says.{SaidAt}
-use Rattle.read_escape.specs.declared.Escaped.{Escaped}
 use Rattle.read_brace.specs.Shows.{Finds, is_at}
 use Rattle.read_brace.specs.declared.Item as code-item
 use Rattle.read_brace.specs.declared.Item.TheVariants.{Stop, Byte, Paren, Quote, Sum}
@@ -143,15 +141,6 @@ module _ (s : Text) (from : Cursor) (n : ℕ) where
 
 abbrev Says : Text → Cursor → Result code-item.Item Refusal → Type 0
 Says s from r = Finds s from.at from.depth r (said_item (escape_at (drop (from.at + 1) s)))
-
-module _ (s : Text) (from : Cursor) where
-  pub said_byte : (r : Escaped) → SaidAt s from.at (Ok r) (escape_at (drop (from.at + 1) s)) → Says s from (Ok (Byte true r.byte r.next))
-  unfolding said_item
-  said_byte r t = (ap said_item t.0, t.1)
-
-  pub said_fault : (e : Refusal) → SaidAt s from.at (Err e) (escape_at (drop (from.at + 1) s)) → Says s from (Err e)
-  unfolding said_item
-  said_fault e t = ap said_item t
 
 -- The item, by the sort of its first byte.
 

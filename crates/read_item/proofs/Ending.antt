@@ -4,8 +4,6 @@ use native.Mathlib.Omega.{arith}
 use mathlib.Core.Path.{◌≡◌, refl, sym, ap, ◌∙◌}
 use mathlib.Core.Bool.{Bool, true, false}
 use mathlib.Core.List.{[], ◌∷◌}
-use denote.Enum.Declared.{tag_of}
-use types.Run.{OneOf, miss}
 use lib.ListN.{length, drop, get_or, length-drop, drop_of_length-le}
 use lib.Seq.{drop-cons}
 use Rattle.stages.specs.Bytes.{Text}
@@ -15,7 +13,6 @@ use Rattle.stages.specs.Items as items
 use Rattle.stages.proofs.Bools.{no}
 use Rattle.read_mode.specs.Modes.{mode_of, ends_line}
 use Rattle.read_mode.specs.declared.Cursor.{Cursor}
-use Rattle.read_mode.specs.contracts.Mode as mode-type
 use Rattle.read_mode.specs.declared.Mode.{Mode}
 use Rattle.read_mode.specs.declared.Mode.TheVariants.{Word, Value, Bare, Single, Double, Operand, Arith}
 use Rattle.read_brace.specs.declared.Item.TheVariants.{Stop}
@@ -110,15 +107,3 @@ pub end_item : (text : Text) (from : Cursor) → from.at ≤ length text → is_
 end_item text from l e =
     shows_stop text from.at from.depth (from.at + closer_length (mode_of from.mode)) (closer_length (mode_of from.mode)) refl
     (stops_within from.mode from.at text l e) (stops from.mode from.depth (drop from.at text) e)
-
--- Where no case of the length is named.
-
-pub one_byte_ends : (m : Mode) → OneOf (2 ∷ 3 ∷ 4 ∷ 5 ∷ 6 ∷ []) (tag_of mode-type.the_type m) → 1 ≡ closer_length (mode_of m)
-unfolding closer_length
-one_byte_ends (Word s) k = absurd (miss (2 ∷ 3 ∷ 4 ∷ 5 ∷ 6 ∷ []) 0 tt k)
-one_byte_ends (Value s) k = absurd (miss (2 ∷ 3 ∷ 4 ∷ 5 ∷ 6 ∷ []) 1 tt k)
-one_byte_ends (Bare s l) k = refl
-one_byte_ends (Single x) k = refl
-one_byte_ends (Double l) k = refl
-one_byte_ends (Operand l) k = refl
-one_byte_ends (Arith n) k = refl

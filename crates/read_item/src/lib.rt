@@ -220,10 +220,7 @@ fn tilde_at(text: &[u8], from: Cursor) -> Item
 {
     let at = from.at;
     let to = text::run_end(text, at + 1, Class::LoginByte);
-    if to >= text.len() {
-        return Item::Home(to);
-    }
-    if read_mode::ends_login(from.mode, text[to]) {
+    if to >= text.len() || read_mode::ends_login(from.mode, text[to]) {
         return Item::Home(to);
     }
     Item::Byte {

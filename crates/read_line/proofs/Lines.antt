@@ -185,9 +185,6 @@ pub record Walks (kind : Pieces) (line : Text) (from : ℕ) : Type 0 where
   pub is : verdict_from kind line 0 ≡ verdict_from kind line from
   pub within : from ≤ length line
 
-pub walks_start : (kind : Pieces) (line : Text) → Walks kind line 0
-walks_start kind line = record { is = refl; within = omega arith }
-
 kind_skipped : (kind : Pieces) (line : Text) (from place : ℕ) → NextAt line from place → verdict_from kind line from ≡ verdict_from kind line place
 kind_skipped Words line from place p = ap verdict (blanks_skipped a_word word_of line from place p.is)
 kind_skipped Assignments line from place p = ap verdict (blanks_skipped an_assignment assignment_of line from place p.is)

@@ -16,7 +16,7 @@ use read_mode::{Cursor, Mode};
 use text::refusal::{Refusal, Refused};
 use text::{Class, numbers};
 
-// What a line is made of.
+// What a line is made of. By name, and not a closure that reads a piece: the contracts state the verdict on a line by it.
 #[derive(Clone, Copy)]
 enum Pieces {
     Words,

@@ -1,4 +1,3 @@
 pub mod Determined
 pub mod Table
-pub mod Running
 pub mod Parts

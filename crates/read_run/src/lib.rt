@@ -55,13 +55,7 @@ pub fn literals_end(text: &[u8], at: usize, mode: Mode) -> usize
     requires { at ≤ length text.now }
     ensures { Literals text.now at (mode_of mode) result }
 {
-    let words = literal_words(mode);
-    for i in at..text.len() {
-        if !text::has_bit(&words, text[i]) {
-            return i;
-        }
-    }
-    text.len()
+    at + text::bits_run(&literal_words(mode), &text[at..])
 }
 
 // Where a text goes on behind that run: behind a byte of it the text has begun.

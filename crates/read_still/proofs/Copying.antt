@@ -1,5 +1,5 @@
 -- What the loop that copies a word holds: what was said so far stands at the area's front.
-use Prim.Native.Nat.{ℕ, ◌+◌, ◌-◌, ◌≤◌, ◌<◌}
+use Prim.Native.Nat.{ℕ, ◌+◌, ◌≤◌, ◌<◌}
 use native.Mathlib.Omega.{arith}
 use mathlib.Core.Path.{◌≡◌, refl, sym, ap, ◌∙◌}
 use mathlib.Core.Bool.{true, false}
@@ -7,24 +7,13 @@ use mathlib.Core.List.{[], ◌++◌, append_assoc}
 use mathlib.Core.Option.{none, some}
 use lib.ListN.{length, take, drop, get_or, length-append}
 use lib.Seq.{drop-drop, take_at, drop_at}
-use borrow.Rule.Slice.PartMut.{put_mid, mid_of}
 use Rattle.stages.specs.Bytes.{Text, part, is_blank}
 use Rattle.stages.specs.Call.{over}
 use Rattle.text.specs.Classes.{Runs}
 use Rattle.text.specs.declared.Class.TheVariants.{BareByte}
-use Rattle.text.proofs.Parts.{part_length, rest_is, rest_back}
+use Rattle.text.proofs.Parts.{part_length}
 use Rattle.read_still.specs.Walks.{quoted_in, Walk, EnclosedAs, PutsBehind, Leaves}
 use Rattle.read_still.proofs.Walking.{Walked, walk_starts, walk_ends, walk_stops, walk_fails, walk_goes}
-
--- what is lent to the copy is the rest of the area
-pub put_behind_is : (used : ℕ) (t area ys : Text) → ys ≡ t ++ drop (length t) (mid_of used (length area - used) area)
-    → PutsBehind used t area (put_mid used (length area - used) area ys) (used + length t)
-put_behind_is used t area ys e = record {
-  counts = refl;
-  is =
-      rest_back used area ys ∙ ap {A = Text} (λ u. take used area ++ u) (e ∙ ap {A = Text} (λ u. t ++ drop (length t) u) (rest_is used area))
-      ∙ ap {A = Text} (λ u. take used area ++ (t ++ u)) (drop-drop (length t) used area);
-}
 
 -- a text put behind those that stand at the front
 module _ (y t old : Text) where

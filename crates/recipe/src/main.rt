@@ -10,7 +10,6 @@ ghost use Rattle.recipe_cut.specs.Said.{written_room};
 ghost use Rattle.recipe.specs.Runs.{Answers, Runs};
 
 use call_check::Asked;
-use recipe_load::Loaded;
 use text::numbers;
 
 // Room for an image and a byte more, which tells a file that is too long.
@@ -85,13 +84,13 @@ fn run(
         × (paths_limit + 1 ≡ length paths.old) }
     ensures { result ≡ true → Runs vars.new homes.new paths.new params.new }
 {
-    let Loaded::Length(vars_used) = recipe_load::load(rt, b"vars.tab", vars) else {
+    let Ok(vars_used) = recipe_load::load(rt, b"vars.tab", vars) else {
         return false;
     };
-    let Loaded::Length(h) = recipe_load::load(rt, b"homes.tab", homes) else {
+    let Ok(h) = recipe_load::load(rt, b"homes.tab", homes) else {
         return false;
     };
-    let Loaded::Length(p) = recipe_load::load(rt, b"paths.tab", paths) else {
+    let Ok(p) = recipe_load::load(rt, b"paths.tab", paths) else {
         return false;
     };
     let heard = recipe_arguments::gather(rt, 1, params);

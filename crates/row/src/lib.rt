@@ -27,13 +27,15 @@ pub struct RowEnd {
 }
 
 // The byte that stands for a mark.
-fn mark_byte(mark: Mark) -> u8
-    ensures { result ≡ mark_byte (mark_of mark) }
-{
-    match mark {
-        Mark::L => marks::LITERAL,
-        Mark::E => marks::EXPANDED,
-        Mark::Q => marks::QUOTED,
+impl From<Mark> for u8 {
+    ghost from_gives = { λ m b. b ≡ mark_byte (mark_of m) };
+
+    fn from(mark: Mark) -> u8 {
+        match mark {
+            Mark::L => marks::LITERAL,
+            Mark::E => marks::EXPANDED,
+            Mark::Q => marks::QUOTED,
+        }
     }
 }
 
@@ -70,7 +72,7 @@ pub fn put_unit(area: &mut [u8], b: u8, mark: Mark)
     requires { 2 ≤ length area.old }
     ensures { area.new ≡ fronted (row_bytes (cell (mark_of mark) b ∷ [])) area.old }
 {
-    put(area, b, mark_byte(mark));
+    put(area, b, mark.into());
 }
 
 // Puts the empty mark at the front.
@@ -96,7 +98,7 @@ pub fn put_marked(text: &[u8], mark: Mark, area: &mut [u8])
     requires { 2 * length text.now ≤ length area.old }
     ensures { area.new ≡ fronted (row_bytes (marked (mark_of mark) text.now)) area.old }
 {
-    let m = mark_byte(mark);
+    let m = mark.into();
     for (at, b) in text.iter().enumerate() {
         area[2 * at] = *b;
         area[2 * at + 1] = m;

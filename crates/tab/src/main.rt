@@ -11,13 +11,10 @@ ghost use Rattle.stages.specs.Numbers.{image_limit, paths_limit};
 
 use call_check::Asked;
 use call_update::Updated;
-use recipe_load::Loaded;
 use std::io::Read;
-use tab_assign::Assigned;
-use tab_pack::Packed;
-use tab_show::Shown;
+use tab_pack::BadLine;
 use table::Kind;
-use telling::{say, say_refusal};
+use telling::say;
 use text::numbers;
 
 // The longest image, and a byte more to see that one is longer.
@@ -89,10 +86,9 @@ fn show_input(rt: &HostRuntime, kind: Kind, image: &mut [u8], out: &mut [u8])
     if !was_read(rt, n, image.len()) {
         return;
     }
-    let shown = tab_show::show(kind, &image[..n], out);
-    match shown {
-        Shown::Len(m) => write_out(rt, out, m),
-        Shown::Malformed => say(rt, b"tab: no image of this kind, or one that is too long\n"),
+    match tab_show::show(kind, &image[..n], out) {
+        Ok(m) => write_out(rt, out, m),
+        Err(_) => say(rt, b"tab: no image of this kind, or one that is too long\n"),
     }
 }
 
@@ -103,7 +99,7 @@ fn show(rt: &HostRuntime, kind: Kind) {
 }
 
 // Packs lines: records by their keys, fields as they stand.
-fn pack_lines(kind: Kind, text: &[u8], image: &mut [u8], work: &mut [u8]) -> Packed
+fn pack_lines(kind: Kind, text: &[u8], image: &mut [u8], work: &mut [u8]) -> Result<usize, BadLine>
     requires { (paths_limit + 1 ≡ length image.old) × (length text.now ≤ length work.old) }
 {
     match kind {
@@ -120,10 +116,9 @@ fn pack_input(rt: &HostRuntime, kind: Kind, text: &mut [u8], image: &mut [u8], w
     if !is_whole(rt, n, text.len()) {
         return;
     }
-    let packed = pack_lines(kind, &text[..n], image, work);
-    match packed {
-        Packed::Len(m) => write_out(rt, image, m),
-        Packed::Bad { line, fault } => telling::say_bad_line(rt, line, kind, fault),
+    match pack_lines(kind, &text[..n], image, work) {
+        Ok(m) => write_out(rt, image, m),
+        Err(bad) => telling::say_bad_line(rt, kind, bad),
     }
 }
 
@@ -145,15 +140,12 @@ fn assign_text(
     work: &mut [u8],
     message: &mut [u8],
 ) {
-    let assigned = tab_assign::assign_lines(text, vars, asked, homes, params, work, message);
-    match assigned {
-        Assigned::Done { vars_used } => write_out(rt, vars, vars_used),
-        Assigned::Refused {
-            line,
-            number,
-            place,
-            message_len,
-        } => say_refusal(rt, line, number, place, &message[..message_len]),
+    match tab_assign::assign_lines(text, vars, asked, homes, params, work, message) {
+        Ok(vars_used) => write_out(rt, vars, vars_used),
+        Err(refused) => {
+            let n = refused.message_len;
+            telling::say_refusal(rt, refused, &message[..n]);
+        }
     }
 }
 
@@ -170,10 +162,10 @@ fn assign_input(
 )
     requires { (image_limit + 1 ≡ length vars.old) × (image_limit + 1 ≡ length homes.old) }
 {
-    let Loaded::Length(used) = recipe_load::load(rt, b"vars.tab", vars) else {
+    let Ok(used) = recipe_load::load(rt, b"vars.tab", vars) else {
         return;
     };
-    let Loaded::Length(h) = recipe_load::load(rt, b"homes.tab", homes) else {
+    let Ok(h) = recipe_load::load(rt, b"homes.tab", homes) else {
         return;
     };
     let n = system::read_full(&mut rt.stdin(), text);

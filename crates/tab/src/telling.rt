@@ -1,7 +1,9 @@
 // What the tool tells on standard error: why a line, a path or a table is not taken, and how it is used.
+use tab_assign::RefusedLine;
 use tab_escape::Fault;
+use tab_pack::BadLine;
 use table::Kind;
-use text::numbers;
+use text::refusal::Refusal;
 
 pub(crate) fn say(rt: &HostRuntime, text: &[u8]) {
     system::tell(rt, text);
@@ -36,25 +38,19 @@ fn say_line(rt: &HostRuntime, line: usize) {
 }
 
 // A line that is no record, and why.
-pub(crate) fn say_bad_line(rt: &HostRuntime, line: usize, kind: Kind, fault: Fault) {
-    say_line(rt, line);
-    say_fault(rt, kind, fault);
+pub(crate) fn say_bad_line(rt: &HostRuntime, kind: Kind, bad: BadLine) {
+    say_line(rt, bad.line);
+    say_fault(rt, kind, bad.fault);
 }
 
 // Why an assignment line is refused, and the message that it demands.
-pub(crate) fn say_refusal(
-    rt: &HostRuntime,
-    line: usize,
-    number: u8,
-    place: usize,
-    demanded: &[u8],
-) {
-    say_line(rt, line);
+pub(crate) fn say_refusal(rt: &HostRuntime, refused: RefusedLine, demanded: &[u8]) {
+    say_line(rt, refused.line);
     say(rt, b": refused with ");
-    system::tell_decimal(rt, number as u64);
+    system::tell_decimal(rt, refused.number as u64);
     say(rt, b" at ");
-    system::tell_decimal(rt, place as u64);
-    if number == numbers::REFUSED_DEMAND {
+    system::tell_decimal(rt, refused.place as u64);
+    if refused.number == Refusal::Demanded.number() {
         say(rt, b": ");
         say(rt, demanded);
     }

@@ -30,12 +30,13 @@ use Rattle.tab_assign.specs.Assignings.{
   assign_on,
   assigning,
   lines_taken,
+  refused_line,
   Assigns,
   passes,
   stops,
 }
-use Rattle.tab_assign.specs.declared.Assigned.{Assigned}
-use Rattle.tab_assign.specs.declared.Assigned.TheVariants.{Done, Refused}
+use Rattle.std.specs.Prelude.{Result, Ok, Err}
+use Rattle.tab_assign.specs.declared.RefusedLine.{RefusedLine}
 
 -- the first line of a text
 taken_first : (t : Text) → lines_taken t ≡ take (up_to 10 t) t ∷ lines_of (drop (suc (up_to 10 t)) t)
@@ -62,6 +63,11 @@ going_starts homes params shouts text first = record { is = refl; within = omega
 pub record Line (homes params : Text) (shouts : Bool) (text : Text) (first left : Buffers) (at line r : ℕ) : Type 0 where
   pub going : Going homes params shouts text first left at line
   pub ends : r ≡ up_to 10 (take (length text - at) (drop at text))
+
+pub line_there : {homes params : Text} {shouts : Bool} {text : Text} {first left : Buffers} {at line r : ℕ}
+    → Going homes params shouts text first left at line → r ≡ up_to 10 (take (length text - at) (drop at text))
+    → Line homes params shouts text first left at line r
+line_there g e = record { going = g; ends = e }
 
 module _ {homes params : Text} {shouts : Bool} {text : Text} {first left : Buffers} {at line r : ℕ}
     (l : Line homes params shouts text first left at line r) where
@@ -100,7 +106,7 @@ module _ {homes params : Text} {shouts : Bool} {text : Text} {first left : Buffe
     same : left_by answer ≡ buffers vars a.vars_used work message
     same = rw (← g.hands.variables, ← g.hands.vars_used, ← g.clears, ← g.hands.message)
 
-    pub going_stops : (a.number ≡ accepted → ⊥) → Assigns all vars work message (Refused line a.number a.place a.message_len)
+    pub going_stops : (a.number ≡ accepted → ⊥) → Assigns all vars work message (Err (refused_line line a.number a.place a.message_len))
     going_stops e =
         stops (step false (ne_eqb answer.number accepted (λ k. e (g.hands.number ∙ k))))
         (record {
@@ -123,7 +129,7 @@ module _ {homes params : Text} {shouts : Bool} {text : Text} {first left : Buffe
           step true (eq-eqb answer.number accepted taken)
           ∙ ap (λ (b : Buffers). assigning homes params shouts (suc line) b (lines_of (drop (at + r + 1) text))) same
 
-    pub going_passes : a.number ≡ accepted → length text ≤ at + r + 1 → Assigns all vars work message (Done a.vars_used)
+    pub going_passes : a.number ≡ accepted → length text ≤ at + r + 1 → Assigns all vars work message (Ok a.vars_used)
     unfolding assigning lines_of
     going_passes e h =
         passes
@@ -140,11 +146,3 @@ module _ {homes params : Text} {shouts : Bool} {text : Text} {first left : Buffe
       within = omega (arith, h);
       count = omega (arith, l.going.count);
     }
-
--- the message that is told stands in its buffer
-pub refused_within : {o : Assigning} {vars work message : Text} {r : Assigned} {line number place len : ℕ} → Assigns o vars work message r
-    → r ≡ Refused line number place len → IsPrefixLen len message
-refused_within {o} {vars} {work} {message} s e = go (subst (Assigns o vars work message) e s)
-  where
-    go : {line number place len : ℕ} → Assigns o vars work message (Refused line number place len) → IsPrefixLen len message
-    go (stops q t) = t.within

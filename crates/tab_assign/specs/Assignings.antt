@@ -1,5 +1,5 @@
 -- Assignment lines one by one, by the stage: each sees what those before it left, and the first that is refused is told by its number and its answer.
-use Rattle.std.specs.Prelude.{ℕ, suc, ◌≡◌, Bool, true, false, List, [], ◌∷◌, eqb}
+use Rattle.std.specs.Prelude.{ℕ, suc, ◌≡◌, Bool, true, false, List, [], ◌∷◌, eqb, Result, Ok, Err}
 use Rattle.stages.specs.Numbers.{accepted}
 use Rattle.stages.specs.Bytes.{Text}
 use Rattle.stages.specs.Call.{assigner}
@@ -7,8 +7,7 @@ use Rattle.stages.specs.Call as stage
 use Rattle.stages.specs.Program.{lines_of}
 use Rattle.system.specs.Counts.{IsPrefixLen}
 use Rattle.call_check.specs.Calls.{given}
-use Rattle.tab_assign.specs.declared.Assigned.{Assigned}
-use Rattle.tab_assign.specs.declared.Assigned.TheVariants.{Done, Refused}
+use Rattle.tab_assign.specs.declared.RefusedLine.{RefusedLine}
 
 -- what lines change: the buffers with the bytes in them, and the variables' used length
 pub record Buffers : Type 0 where
@@ -60,8 +59,11 @@ pub record Tells (a : stage.Answer) (vars work message : Text) (number place len
   pub says : message ≡ a.message
   pub within : IsPrefixLen len message
 
+abbrev pub refused_line : ℕ → ℕ → ℕ → ℕ → RefusedLine
+refused_line line number place len = record { line = line; number = number; place = place; message_len = len }
+
 -- what comes of lines, and what they leave
-pub data Assigns (o : Assigning) (vars work message : Text) : Assigned → Type 0 where
-  passes : {used : ℕ} → o ≡ whole (buffers vars used work message) → IsPrefixLen used vars → Assigns o vars work message (Done used)
+pub data Assigns (o : Assigning) (vars work message : Text) : Result ℕ RefusedLine → Type 0 where
+  passes : {used : ℕ} → o ≡ whole (buffers vars used work message) → IsPrefixLen used vars → Assigns o vars work message (Ok used)
   stops : {line number place len : ℕ} {a : stage.Answer} → o ≡ fault line a → Tells a vars work message number place len
-      → Assigns o vars work message (Refused line number place len)
+      → Assigns o vars work message (Err (refused_line line number place len))

@@ -10,23 +10,17 @@ use text::numbers;
 
 const NEWLINE: u8 = b'\n';
 
+// The first line that is refused, counted from 1; its number, its place, and how many bytes of the message stand in the buffer.
 #[derive(Clone, Copy)]
-pub enum Assigned {
-    // All lines are applied: the variables' used length after them.
-    Done {
-        vars_used: usize,
-    },
-    // The first line that is refused, counted from 1; its number, its place, and how many bytes of the message stand in the buffer.
-    Refused {
-        line: usize,
-        number: u8,
-        place: usize,
-        message_len: usize,
-    },
+pub struct RefusedLine {
+    pub line: usize,
+    pub number: u8,
+    pub place: usize,
+    pub message_len: usize,
 }
 
 // Applies the lines of a text. The variables are an image in the first `vars_used` bytes of their buffer. At a line that is refused they are those after the
-// lines before it. Work area and message are as the job leaves them.
+// lines before it. Work area and message are as the job leaves them. Answers the used length after all lines.
 pub fn assign_lines(
     text: &[u8],
     vars: &mut [u8],
@@ -35,7 +29,7 @@ pub fn assign_lines(
     params: &[u8],
     work: &mut [u8],
     message: &mut [u8],
-) -> Assigned
+) -> Result<usize, RefusedLine>
     ensures { Assigns
         (assigning homes.now params.now asked.shouts 1
         (buffers vars.old asked.vars_used work.old message.old)
@@ -52,16 +46,16 @@ pub fn assign_lines(
         };
         let answer = drunquill::assign(&text[at..end], vars, now, homes, params, work, message);
         if answer.number != numbers::ACCEPTED {
-            return Assigned::Refused {
-                line: line,
+            return Err(RefusedLine {
+                line,
                 number: answer.number,
                 place: answer.place,
                 message_len: answer.message_len,
-            };
+            });
         }
         used = answer.vars_used;
         if text.len() <= end + 1 {
-            return Assigned::Done { vars_used: used };
+            return Ok(used);
         }
         at = end + 1;
         line += 1;

@@ -2,13 +2,12 @@
 use Prim.Native.Nat.{ℕ, ◌+◌}
 use native.Mathlib.Omega.{arith}
 use mathlib.Core.Path.{◌≡◌, refl, sym, ap, ◌∙◌}
-use mathlib.Core.List.{[]}
 use mathlib.Core.Option.{Option, none, some}
 use Rattle.std.specs.Prelude.{Option as Perhaps, Some, None, Result, Ok, Err}
 use Rattle.std.specs.Result.{result_ok}
 use lib.ListN.{length}
-use Rattle.stages.specs.Bytes.{Text, part}
-use Rattle.stages.specs.Images.{lookup, held, or_empty}
+use Rattle.stages.specs.Bytes.{Text}
+use Rattle.stages.specs.Images.{lookup, held}
 use Rattle.table.specs.Places.{place_of, spot_by, spot_in, found_by, found_in, Hole, Holds, Rooms, known, fresh, Placed, Shown, shown, absent, Looked}
 use Rattle.table.specs.declared.Record.{Record}
 use Rattle.table.specs.declared.Part.{Part}
@@ -47,12 +46,6 @@ module _ {t key : Text} {r : Perhaps Part} (s : Looked t key r) where
 
   pub is_absent : r ≡ None → lookup key (held t) ≡ none
   is_absent e = absent_of (rw e at s.shows)
-
-  pub shown_value : (p : Part) → r ≡ Some p → part t p.from p.to ≡ or_empty (lookup key (held t))
-  shown_value p e = sym (ap or_empty (is_shown p e).gets)
-
-  pub absent_value : r ≡ None → ◌≡◌ {A = Text} [] (or_empty (lookup key (held t)))
-  absent_value e = sym (ap or_empty (is_absent e))
 
 -- the value's part of a record
 abbrev pub value_part : Record → Part

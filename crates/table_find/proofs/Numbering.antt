@@ -7,7 +7,7 @@ use mathlib.Core.Option.{none, some}
 use lib.ListN.{length, take, drop, length-append, length-drop}
 use lib.Seq.{take_at, length-take-le}
 use Rattle.stages.specs.Bytes.{Text, part}
-use Rattle.stages.specs.Images.{held_texts, record_bytes, image_length, or_empty}
+use Rattle.stages.specs.Images.{held_texts, record_bytes, image_length}
 use Rattle.stages.specs.Params.{numbered}
 use Rattle.stages.proofs.Images.{record_bytes_append}
 use Rattle.std.specs.Prelude.{Option, Some, None, Ok, Err}
@@ -173,18 +173,6 @@ module _ {t : Text} {k at count : ℕ} (w : Seeking t k at count) {p : Piece} (s
 bears_of : {t : Text} {k : ℕ} {p : Part} → Shown t k (Some p) → Bears t k p.from p.to
 bears_of (shown h) = h
 
-absent_of : {t : Text} {k : ℕ} → Shown t k None → numbered k (held_texts t) ≡ none
-absent_of (absent h) = h
-
 module _ {t : Text} {k : ℕ} {r : Option Part} (s : Numbers t k r) where
   pub number_shown : (p : Part) → r ≡ Some p → Bears t k p.from p.to
   number_shown p e = bears_of (rw e at s.shows)
-
-  pub number_absent : r ≡ None → numbered k (held_texts t) ≡ none
-  number_absent e = absent_of (rw e at s.shows)
-
-  pub number_text : (p : Part) → r ≡ Some p → part t p.from p.to ≡ or_empty (numbered k (held_texts t))
-  number_text p e = sym (ap or_empty (number_shown p e).gets)
-
-  pub number_empty : r ≡ None → ◌≡◌ {A = Text} [] (or_empty (numbered k (held_texts t)))
-  number_empty e = sym (ap or_empty (number_absent e))

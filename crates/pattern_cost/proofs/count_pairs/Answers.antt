@@ -14,7 +14,8 @@ pub matched_by-set-requires : goal.matched_by-set-requires
 matched_by-set-requires c = piece_within (stands c.loop-at-test.true c.search_piece-piece.ensures refl)
 
 pub overflow_add-count : goal.overflow_add-count
-overflow_add-count c = omega (arith, count_fits _ _ c.loop-at.invariant (row_most c.walk_row-count.ensures), c.loop-at.auto.area, length-set c.args.area.now 0 1)
+overflow_add-count c =
+    omega (arith, count_fits _ _ c.loop-at.invariant (row_most c.walk_row-count.ensures), c.loop-at.auto.area, length-set c.args.area.now 0 1)
 
 pub behind-at-requires : goal.behind-at-requires
 behind-at-requires c = omega (arith, piece_inside (stands c.loop-at-test.true c.search_piece-piece.ensures refl))

@@ -11,8 +11,8 @@ returns-then-negative c =
     λ k h. in_others (signs_by a.width a.units.now) k (c.members-set.ensures k h) (c.others.ensures k h)
     ∙ ap (λ (b : Bool). in_set (sense_of b) (signs_by a.width a.units.now) k) (sym c.if-negative.true)
 
-pub returns : goal.returns
-returns c =
+pub returns-else-negative : goal.returns-else-negative
+returns-else-negative c =
     let a = c.args in
     λ k h. in_members (signs_by a.width a.units.now) k (c.members-set.ensures k h)
     ∙ ap (λ (b : Bool). in_set (sense_of b) (signs_by a.width a.units.now) k) (sym c.if-negative.false)

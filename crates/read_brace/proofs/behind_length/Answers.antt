@@ -15,6 +15,5 @@ returns-then-b-ne125 c =
 
 pub returns : goal.returns
 returns c =
-    let s = c in
-    let a = s.args in
-    length_close a.text.now a.from a.param (omega (arith, c.if-to-text.false)) s.requires.0 s.requires.1 c.if-b-ne125.false
+    let a = c.args in
+    length_close a.text.now a.from a.param (omega (arith, c.if-to-text.false)) c.requires.0 c.requires.1 c.if-b-ne125.false

@@ -1,6 +1,5 @@
 -- The byte after the backslash decides.
 use mathlib.Core.Path.{sym, ◌∙◌}
-use native.Mathlib.Omega.{arith}
 use Rattle.read_item.proofs.Class.{second, escape_end, escape_line, escape_byte, escape_plain}
 use Rattle.read_item.proofs.escaped_at.Goals as goal
 

@@ -1,6 +1,5 @@
 -- The byte after the `$` decides.
 use mathlib.Core.Path.{sym, ◌∙◌}
-use native.Mathlib.Omega.{arith}
 use Rattle.read_item.proofs.Class.{second}
 use Rattle.read_item.proofs.Dollars.{no_name, dollar_end, dollar_name, dollar_paren, dollar_brace, dollar_special}
 use Rattle.read_item.proofs.expansion_at.Goals as goal

@@ -10,6 +10,5 @@ returns-then-at-text c =
 
 pub returns : goal.returns
 returns c =
-    let e = c in
-    let a = e.args in
-    end_at_byte a.text.now a.at a.mode (omega (arith, e.if-at-text.false)) c.is_closer.ensures
+    let a = c.args in
+    end_at_byte a.text.now a.at a.mode (omega (arith, c.if-at-text.false)) c.is_closer.ensures

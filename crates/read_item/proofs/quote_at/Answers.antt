@@ -5,10 +5,8 @@ use Rattle.read_item.proofs.quote_at.Goals as goal
 
 pub returns-then-is_bare_text : goal.returns-then-is_bare_text
 returns-then-is_bare_text c =
-    let s = c in
-    quote_opens s.args.text.now s.args.from s.requires (sym c.is_bare_text.ensures ∙ c.if-is_bare_text.true)
+    quote_opens c.args.text.now c.args.from c.requires (sym c.is_bare_text.ensures ∙ c.if-is_bare_text.true)
 
 pub returns : goal.returns
 returns c =
-    let s = c in
-    quote_literal s.args.text.now s.args.from s.requires (sym c.is_bare_text.ensures ∙ c.if-is_bare_text.false)
+    quote_literal c.args.text.now c.args.from c.requires (sym c.is_bare_text.ensures ∙ c.if-is_bare_text.false)

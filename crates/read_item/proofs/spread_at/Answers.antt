@@ -6,8 +6,7 @@ use Rattle.read_item.proofs.spread_at.Goals as goal
 
 pub returns-then-lists_in : goal.returns-then-lists_in
 returns-then-lists_in c =
-    let s = c in
-    spread_served s.args.text.now s.args.from s.requires
+    spread_served c.args.text.now c.args.from c.requires
     (sym c.lists_in.ensures ∙ ap lists_of c.if-lists_in.true) c.is_apart.result
     c.is_apart.ensures
 

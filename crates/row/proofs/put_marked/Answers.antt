@@ -11,4 +11,4 @@ pub loop-at-preserved : goal.loop-at-preserved
 loop-at-preserved c = units_next c.loop-at.at _ c.args.text.now c.args.area.now (omega arith) (omega arith) c.loop-at.invariant
 
 pub returns : goal.returns
-returns c = units_all c.loop-at.at _ _ c.args.text.now c.args.area.now (omega arith) c.mark_byte-m.ensures c.loop-at.invariant
+returns c = units_all c.loop-at.at _ _ c.args.text.now c.args.area.now (omega arith) c.into-m.ensures c.loop-at.invariant
