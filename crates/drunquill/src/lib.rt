@@ -16,8 +16,8 @@ use call_check::{Asked, Job};
 use call_cost::Costed;
 use call_deliver::Answer;
 use call_update::Updated;
-use quote::Quoted;
 use text::numbers;
+use text::refusal::Refusal;
 
 // The quoter's answer: "The quoter has neither variables nor work area." Laid out as C lays it out.
 #[repr(C)]
@@ -100,20 +100,14 @@ pub fn assign(
 pub fn quote(fields: &[u8], out: &mut [u8]) -> QuoteAnswer
     ensures { Quotes (quoter fields.now out.old) result out.new }
 {
-    let quoted = quote::quote_fields(fields, out);
-    match quoted {
-        Quoted::Len(n) => QuoteAnswer {
+    match quote::quote_fields(fields, out) {
+        Ok(out_len) => QuoteAnswer {
             number: numbers::ACCEPTED,
             place: 0,
-            out_len: n,
+            out_len,
         },
-        Quoted::Malformed => QuoteAnswer {
-            number: numbers::REFUSED_FIELDS,
-            place: 0,
-            out_len: 0,
-        },
-        Quoted::NoRoom => QuoteAnswer {
-            number: numbers::REFUSED_OUTPUT,
+        Err(error) => QuoteAnswer {
+            number: Refusal::from(error).number(),
             place: 0,
             out_len: 0,
         },

@@ -39,10 +39,7 @@ pub extern "C" fn drunquill_expand(
         (expander (given line.now vars.old vars_used shouts homes.now params.now paths.now
         work.old out.old message.old)) result vars.new work.new out.new message.new }
 {
-    let asked = Asked {
-        vars_used: vars_used,
-        shouts: shouts,
-    };
+    let asked = Asked { vars_used, shouts };
     drunquill::expand(line, vars, asked, homes, params, paths, work, out, message)
 }
 
@@ -64,10 +61,7 @@ pub extern "C" fn drunquill_normalise(
         (normaliser (given line.now vars.old vars_used shouts homes.now params.now paths.now
         work.old out.old message.old)) result vars.new work.new out.new message.new }
 {
-    let asked = Asked {
-        vars_used: vars_used,
-        shouts: shouts,
-    };
+    let asked = Asked { vars_used, shouts };
     drunquill::normalise(line, vars, asked, homes, params, paths, work, out, message)
 }
 
@@ -89,10 +83,7 @@ pub extern "C" fn drunquill_assign(
         (assigner (given line.now vars.old vars_used shouts homes.now params.now [] work.old []
         message.old)) result vars.new work.new [] message.new }
 {
-    let asked = Asked {
-        vars_used: vars_used,
-        shouts: shouts,
-    };
+    let asked = Asked { vars_used, shouts };
     drunquill::assign(line, vars, asked, homes, params, work, message)
 }
 
