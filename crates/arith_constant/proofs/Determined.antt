@@ -26,6 +26,7 @@ same_count (Ok n) (Err m) e = cc
 same_count (Err n) (Ok m) e = cc
 same_count (Err n) (Err m) e = ap Err (refusal_same n m (let k : refusal_number n ≡ refusal_number m = cc in k))
 
-pub in_base_determined : (base limit : ℕ) (t : Text) (r s : Result ℕ Refusal) → counted r ≡ within limit (in_base base 0 t) → counted s ≡ within limit (in_base base 0 t)
+pub in_base_determined : (base limit : ℕ) (t : Text) (r s : Result ℕ Refusal) → counted r ≡ within limit (in_base base 0 t) → counted s ≡ within limit
+    (in_base base 0 t)
     → r ≡ s
 in_base_determined base limit t r s e f = same_count r s (one_answer e f)

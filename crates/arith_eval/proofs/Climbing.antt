@@ -180,7 +180,8 @@ module _ (lent : Lent) (text : Text) (vars : Text) (used : ℕ) (counts : Bool) 
               → Says lent text next vars used (b && is_none u) (expression grow d (level_of o + 1) (drop next text)) left (Ok (climbed z n now))
               → (e : Refusal) → Joins o y z b (Err e) → Turns lent text at vars used counts d k y left (Err e)
           joined_fails true none q i c e s =
-              both_fails high true none q i left z n now c q (λ v l w. both_done lent v (op_of o) l c.0.tree y before (w q) i z (inside left now) (c.0.worth refl)) e
+              both_fails high true none q i left z n now c q (λ v l w. both_done lent v (op_of o) l c.0.tree y before (w q) i z (inside left now)
+              (c.0.worth refl)) e
               (sym (s ∙ ap (λ (e : Option ℤ). unless_decided e (apply (op_of o) y z)) i))
           joined_fails true (some x) q i c e s =
               absurd (never (s ∙ ap (λ (e : Option ℤ). unless_decided e (apply (op_of o) y z)) i))
@@ -192,7 +193,8 @@ module _ (lent : Lent) (text : Text) (vars : Text) (used : ℕ) (counts : Bool) 
           turn_says true none q i c x s =
               let a : apply (op_of o) y z ≡ done x = sym (s ∙ ap (λ (e : Option ℤ). unless_decided e (apply (op_of o) y z)) i) in
               next_turns high true none q i left z n now c x (subst (λ (b : Bool). Kept lent vars used b left now) (sym q) c.1)
-              (λ v l w _. both_done lent v (op_of o) l c.0.tree y before (w q) i z (inside left now) (c.0.worth refl) ∙ ap (with_variables (inside left now)) a)
+              (λ v l w _. both_done lent v (op_of o) l c.0.tree y before (w q) i z (inside left now) (c.0.worth refl) ∙ ap
+              (with_variables (inside left now)) a)
           turn_says true (some x') q i c x s =
               let a : x' ≡ x = done_same (sym (s ∙ ap (λ (e : Option ℤ). unless_decided e (apply (op_of o) y z)) i)) in
               subst (λ (w : ℤ). Turns lent text at vars used counts d k y left (Ok (Some (climbed w n now)))) a

@@ -39,7 +39,8 @@ token_shown {text} {at} h e = subst (TokenAt text at) e h
 
 -- Further on in the text, with the variables and the room for places as they are then.
 
-pub ready_with : {lent : Lent} {text : Text} {at i : ℕ} {vars mid : Text} {used now : ℕ} {places others : List ℕ} → Ready lent text at vars used places → at ≤ i
+pub ready_with : {lent : Lent} {text : Text} {at i : ℕ} {vars mid : Text} {used now : ℕ} {places others : List ℕ} → Ready lent text at vars used places →
+    at ≤ i
     → i ≤ length text → Holds lent.room mid now → length others ≡ length places → Ready lent text i mid now others
 ready_with r l w h e = let d = r.deep in record { start = w; few = r.few; holds = h; deep = omega arith }
 
@@ -124,7 +125,8 @@ pub kept_all : (lent : Lent) (vars : Text) (used : ℕ) (counts : Bool) → Hold
 kept_all lent vars used counts h = record { holds = h; bytes = λ _. refl; length = λ _. refl }
 
 -- those of a part that follows another
-pub kept_on : {lent : Lent} {vars mid left : Text} {used now last : ℕ} {counts : Bool} → Kept lent vars used counts mid now → Kept lent mid now counts left last
+pub kept_on : {lent : Lent} {vars mid left : Text} {used now last : ℕ} {counts : Bool} → Kept lent vars used counts mid now → Kept lent mid now counts
+    left last
     → Kept lent vars used counts left last
 kept_on k m = record { holds = m.holds; bytes = λ c. m.bytes c ∙ k.bytes c; length = λ c. m.length c ∙ k.length c }
 

@@ -95,7 +95,8 @@ module _ (text : Text) (at k : ℕ) (y : ℤ) where
       onward = p.onward;
       within = p.within;
       goes = λ lent vars used d w.
-          going_last lent text vars used true at d k y z i vars used (p.going lent vars used d w) vars (last_none lent text vars used true i d k z h code.Stop t (λ o n. not_stop o n));
+          going_last lent text vars used true at d k y z i vars used (p.going lent vars used d w) vars
+          (last_none lent text vars used true i d k z h code.Stop t (λ o n. not_stop o n));
     }
 
     module _ {o : Op} {next : ℕ} (b : Between text i o next) where

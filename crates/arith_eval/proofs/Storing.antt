@@ -51,7 +51,8 @@ module _ (room : ℕ) (x : Text) (z : ℤ) {t : Text} (e : t ≡ signed z) (v : 
 -- ONE NAME
 
 -- what stands at a place is one thing
-same_target : (text : Text) (p : ℕ) (g : maybe.Option Op × Text) {from to : ℕ} {setting : Option code-op.Op} {next : ℕ} → IsTarget text p from to setting next → SetsAt text p g
+same_target : (text : Text) (p : ℕ) (g : maybe.Option Op × Text) {from to : ℕ} {setting : Option code-op.Op} {next : ℕ} → IsTarget text p from to setting
+    next → SetsAt text p g
     → (g.0 ≡ setting_of setting) × (g.1 ≡ part text from to)
 same_target text p g {from} {to} {setting} {next} h s = (operator, named)
   where

@@ -151,7 +151,8 @@ pub record SetsAt (text : Text) (p : ℕ) (g : maybe.Option Op × Text) : Type 0
 -- the first places are theirs, the last one that of the innermost
 pub data Stacked (text : Text) (places : List ℕ) : ℕ → Waiting → Type 0 where
   bottom : Stacked text places 0 []
-  above : {k : ℕ} {g : maybe.Option Op × Text} {gs : Waiting} → SetsAt text (get_or places k 0) g → Stacked text places k gs → Stacked text places (suc k) (g ∷ gs)
+  above : {k : ℕ} {g : maybe.Option Op × Text} {gs : Waiting} → SetsAt text (get_or places k 0) g → Stacked text places k gs → Stacked text places
+      (suc k) (g ∷ gs)
 
 -- places in the text, and variables to store in
 pub record Storable (lent : Lent) (text : Text) (waiting : ℕ) (places : List ℕ) (vars : Text) (used : ℕ) : Type 0 where

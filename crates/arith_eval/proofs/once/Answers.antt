@@ -16,7 +16,8 @@ pub returns-in_err-ended : goal.returns-in_err-ended
 returns-in_err-ended c =
     let a = c.args in
     let p = err_from_is_err_and c.from_residual-in_err-ended.result c.from_residual-in_err-ended.ensures.1 in
-    rw (p.1, p.2) (once_ends (alone a.vars_room a.shouts) a.text.now a.vars.now a.vars_used a.counts c.whole.new.vars c.in_ok-got.got.value c.in_ok-got.got.next
+    rw (p.1, p.2) (once_ends (alone a.vars_room a.shouts) a.text.now a.vars.now a.vars_used a.counts c.whole.new.vars c.in_ok-got.got.value
+    c.in_ok-got.got.next
     c.in_ok-got.got.vars_used c.in_ok-got.ensures
     c.in_err-ended.field-0.0 c.in_err-ended.ensures)
 

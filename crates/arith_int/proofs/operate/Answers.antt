@@ -59,15 +59,18 @@ returns-in-Ne c = rw c.in-Ne.is (told _ _ (c.truth-in-Ne.ensures ∙ rw (same_bi
 
 pub returns-in-BitAnd : goal.returns-in-BitAnd
 unfolding apply
-returns-in-BitAnd c = rw c.in-BitAnd.is (ap done (kept c.bits_and.result c.bits_and.type_inv ∙ c.bits_and.ensures ∙ rw (held c.args.a c.ranges.a, held c.args.b c.ranges.b)))
+returns-in-BitAnd c = rw c.in-BitAnd.is (ap done (kept c.bits_and.result c.bits_and.type_inv ∙ c.bits_and.ensures ∙ rw
+    (held c.args.a c.ranges.a, held c.args.b c.ranges.b)))
 
 pub returns-in-BitXor : goal.returns-in-BitXor
 unfolding apply
-returns-in-BitXor c = rw c.in-BitXor.is (ap done (kept c.bits_xor.result c.bits_xor.type_inv ∙ c.bits_xor.ensures ∙ rw (held c.args.a c.ranges.a, held c.args.b c.ranges.b)))
+returns-in-BitXor c = rw c.in-BitXor.is (ap done (kept c.bits_xor.result c.bits_xor.type_inv ∙ c.bits_xor.ensures ∙ rw
+    (held c.args.a c.ranges.a, held c.args.b c.ranges.b)))
 
 pub returns-in-BitOr : goal.returns-in-BitOr
 unfolding apply
-returns-in-BitOr c = rw c.in-BitOr.is (ap done (kept c.bits_or.result c.bits_or.type_inv ∙ c.bits_or.ensures ∙ rw (held c.args.a c.ranges.a, held c.args.b c.ranges.b)))
+returns-in-BitOr c = rw c.in-BitOr.is (ap done (kept c.bits_or.result c.bits_or.type_inv ∙ c.bits_or.ensures ∙ rw
+    (held c.args.a c.ranges.a, held c.args.b c.ranges.b)))
 
 pub returns-in-LogAnd : goal.returns-in-LogAnd
 unfolding apply

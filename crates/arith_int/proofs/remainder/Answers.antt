@@ -8,4 +8,5 @@ use Rattle.arith_int.proofs.remainder.Goals as goal
 pub returns : goal.returns
 returns c =
     let fine : Divides c.args.a c.args.b (Ok tt) = divides_shown c.ranges.a c.ranges.b c.can_divide.ensures c.in_ok-can_divide.was in
-    rw (held c.args.a c.ranges.a, held c.args.b c.ranges.b, held (rem_z c.args.a c.args.b) (rem_fits c.args.a c.args.b c.ranges.a)) (divided_is rem_z c.args.a c.args.b fine.0 fine.1)
+    rw (held c.args.a c.ranges.a, held c.args.b c.ranges.b, held (rem_z c.args.a c.args.b) (rem_fits c.args.a c.args.b c.ranges.a))
+    (divided_is rem_z c.args.a c.args.b fine.0 fine.1)

@@ -11,11 +11,13 @@ use Rattle.arith_int.proofs.Shifts.{count_lt, shift_served, shift_refused, power
 use Rattle.arith_int.proofs.shift_left.Goals as goal
 
 pub returns-then-not-is_count : goal.returns-then-not-is_count
-returns-then-not-is_count c = shift_refused _ c.args.a c.args.b (sym (c.is_count.ensures ∙ rw (held c.args.b c.ranges.b)) ∙ not-true c.is_count.result c.if-not-is_count.true-raw)
+returns-then-not-is_count c = shift_refused _ c.args.a c.args.b
+    (sym (c.is_count.ensures ∙ rw (held c.args.b c.ranges.b)) ∙ not-true c.is_count.result c.if-not-is_count.true-raw)
 
 pub returns : goal.returns
 returns c =
-    let served : is_count c.args.b ≡ true = sym (c.is_count.ensures ∙ rw (held c.args.b c.ranges.b)) ∙ not-false c.is_count.result c.if-not-is_count.false-raw in
+    let served : is_count c.args.b ≡ true = sym (c.is_count.ensures ∙ rw (held c.args.b c.ranges.b)) ∙ not-false c.is_count.result
+    c.if-not-is_count.false-raw in
     c.multiplied.ensures
     ∙ rw (
       c.magnitude.ensures,

@@ -12,11 +12,13 @@ use Rattle.arith_int.proofs.Shifts.{count_bits, shift_served, shift_refused, shr
 use Rattle.arith_int.proofs.shift_right.Goals as goal
 
 pub returns-then-not-is_count : goal.returns-then-not-is_count
-returns-then-not-is_count c = shift_refused _ c.args.a c.args.b (sym (c.is_count.ensures ∙ rw (held c.args.b c.ranges.b)) ∙ not-true c.is_count.result c.if-not-is_count.true-raw)
+returns-then-not-is_count c = shift_refused _ c.args.a c.args.b
+    (sym (c.is_count.ensures ∙ rw (held c.args.b c.ranges.b)) ∙ not-true c.is_count.result c.if-not-is_count.true-raw)
 
 pub returns : goal.returns
 returns c =
-    let served : is_count c.args.b ≡ true = sym (c.is_count.ensures ∙ rw (held c.args.b c.ranges.b)) ∙ not-false c.is_count.result c.if-not-is_count.false-raw in
+    let served : is_count c.args.b ≡ true = sym (c.is_count.ensures ∙ rw (held c.args.b c.ranges.b)) ∙ not-false c.is_count.result
+    c.if-not-is_count.false-raw in
     rw (
       held c.args.a c.ranges.a,
       count_bits c.args.b served,
