@@ -32,7 +32,8 @@ checks_once job g (Ok u) (Err e) p q = absurd (q.early p)
 checks_once job g (Err e) (Ok u) p q = absurd (p.early q)
 checks_once job g (Err e) (Err f) p q = let k = same_placed p.is q.is in same_refusal k.0 k.1
 
-pub check_determined : (job : Job) (g : Bool → Text → Given) (r s : Result (Unit {0}) Refused) → ((shouts : Bool) (message : Text) → Checks job (g shouts message) r)
+pub check_determined : (job : Job) (g : Bool → Text → Given) (r s : Result (Unit {0}) Refused) → ((shouts : Bool) (message : Text)
+    → Checks job (g shouts message) r)
     → ((shouts : Bool) (message : Text) → Checks job (g shouts message) s) → r ≡ s
 check_determined job g r s p q = checks_once job (g false []) r s (p false []) (q false [])
 
@@ -42,6 +43,7 @@ assign_checks_once g (Ok u) (Err e) p q = absurd (q.early p)
 assign_checks_once g (Err e) (Ok u) p q = absurd (p.early q)
 assign_checks_once g (Err e) (Err f) p q = let k = same_placed p.is q.is in same_refusal k.0 k.1
 
-pub check_assignments_determined : (g : Bool → Text → Given) (r s : Result (Unit {0}) Refused) → ((shouts : Bool) (message : Text) → AssignChecks (g shouts message) r)
+pub check_assignments_determined : (g : Bool → Text → Given) (r s : Result (Unit {0}) Refused) → ((shouts : Bool) (message : Text)
+    → AssignChecks (g shouts message) r)
     → ((shouts : Bool) (message : Text) → AssignChecks (g shouts message) s) → r ≡ s
 check_assignments_determined g r s p q = assign_checks_once (g false []) r s (p false []) (q false [])

@@ -126,13 +126,15 @@ module _ {text vars : Text} {vars_used room : ℕ} {houses params paths work out
           WordSays (among room shouts houses params paths n) (parts (words fresh) depth_limit (drop place text)) text place len
           (held (take left vars')) vars₂ out' out₂ work₂ got
 
-      stopped : (vars₂ out₂ work₂ : Text) (stop : Stop) → WordOf a (word_outcome a own.tree len (held (take left vars'))) own.rest text place len vars₂ out' out₂ work₂ (Err stop)
+      stopped : (vars₂ out₂ work₂ : Text) (stop : Stop) → WordOf a (word_outcome a own.tree len (held (take left vars'))) own.rest text place len
+          vars₂ out' out₂ work₂ (Err stop)
           → LineStops outside work₂ stop place
       stopped vars₂ out₂ work₂ (Refused e) h = both ∙ goes_refused s.goes p h
       stopped vars₂ out₂ work₂ (Demanded from n) d = record { message = d.message; is = both ∙ goes_demanded s.goes p d.is; waits = d.waits }
 
       module _ {vars₂ out₂ work₂ : Text} where
-        word_of : {got : Result WordDone Stop} → Says (length out') vars₂ out₂ work₂ got → WordOf a (word_outcome a own.tree len (held (take left vars'))) own.rest text place len
+        word_of : {got : Result WordDone Stop} → Says (length out') vars₂ out₂ work₂ got → WordOf a (word_outcome a own.tree len (held (take left vars')))
+            own.rest text place len
             vars₂ out' out₂ work₂ got
         word_of {got} h = (subst (λ (n : ℕ). Says n vars₂ out₂ work₂ got) s.same h).says (own.tree, own.rest) own.read
 

@@ -16,13 +16,18 @@ returns-in_err-row c =
     rw (p.1, p.2) (value_stopped c.args.extent.shouts c.requires c.expand_text.new.work c.expand_text.new.vars c.in_err-row.field-0.0 c.in_err-row.ensures)
 
 pub store_operand-requires : goal.store_operand-requires
-store_operand-requires c =
-    (value_storable c.args.extent.shouts c.requires c.expand_text.new.work c.expand_text.new.vars c.in_ok-row.row c.in_ok-row.ensures, (there c.args.extent.shouts c.requires c.expand_text.new.work c.expand_text.new.vars c.in_ok-row.row c.in_ok-row.ensures).holds)
+store_operand-requires c = (
+  value_storable c.args.extent.shouts c.requires c.expand_text.new.work c.expand_text.new.vars c.in_ok-row.row c.in_ok-row.ensures,
+  (there
+      c.args.extent.shouts c.requires c.expand_text.new.work c.expand_text.new.vars c.in_ok-row.row c.in_ok-row.ensures).holds,
+)
 
 pub returns-in-Ok : goal.returns-in-Ok
 returns-in-Ok c =
-    value_stored c.args.extent.shouts c.requires c.expand_text.new.work c.expand_text.new.vars c.in_ok-row.row c.in_ok-row.ensures c.store_operand.new.vars c.in-Ok.vars_used c.in-Ok.ensures
+    value_stored c.args.extent.shouts c.requires c.expand_text.new.work c.expand_text.new.vars c.in_ok-row.row c.in_ok-row.ensures
+    c.store_operand.new.vars c.in-Ok.vars_used c.in-Ok.ensures
 
 pub returns-in-Err : goal.returns-in-Err
 returns-in-Err c =
-    value_full c.args.extent.shouts c.requires c.expand_text.new.work c.expand_text.new.vars c.in_ok-row.row c.in_ok-row.ensures c.store_operand.new.vars c.in-Err.field-0 c.in-Err.ensures
+    value_full c.args.extent.shouts c.requires c.expand_text.new.work c.expand_text.new.vars c.in_ok-row.row c.in_ok-row.ensures
+    c.store_operand.new.vars c.in-Err.field-0 c.in-Err.ensures

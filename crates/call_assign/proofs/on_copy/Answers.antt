@@ -27,17 +27,21 @@ assign_line-requires c =
 pub returns-in-Err : goal.returns-in-Err
 returns-in-Err c =
     awaits_as _ c.stop.ensures (call_stopped c.args.line.now c.args.vars.now _ _ c.args.homes.now c.args.params.now c.args.work.now
-    c.requires.assign_passed c.requires.vars_room_value.0 c.args.copy.now c.requires.vars_room_value.1 c.copy_in.new.to c.copy_in.ensures c.assign_line.new.vars c.assign_line.new.work c.in-Err.stop c.in-Err.ensures)
+    c.requires.assign_passed c.requires.vars_room_value.0 c.args.copy.now c.requires.vars_room_value.1 c.copy_in.new.to c.copy_in.ensures
+    c.assign_line.new.vars c.assign_line.new.work c.in-Err.stop c.in-Err.ensures)
 
 pub slice_bounds-accept-end : goal.slice_bounds-accept-end
 slice_bounds-accept-end c =
-    left_within (c.requires.assign_passed []) c.requires.vars_room_value.0 c.args.copy.now c.requires.vars_room_value.1 c.copy_in.new.to c.copy_in.ensures c.assign_line.new.vars c.assign_line.new.work c.in-Ok.ensures
+    left_within (c.requires.assign_passed []) c.requires.vars_room_value.0 c.args.copy.now c.requires.vars_room_value.1 c.copy_in.new.to
+    c.copy_in.ensures c.assign_line.new.vars c.assign_line.new.work c.in-Ok.ensures
 
 pub accept-requires : goal.accept-requires
 accept-requires c =
-    accept_ready (c.requires.assign_passed []) c.requires.vars_room_value.0 c.args.copy.now c.requires.vars_room_value.1 c.copy_in.new.to c.copy_in.ensures c.assign_line.new.vars c.assign_line.new.work c.in-Ok.ensures
+    accept_ready (c.requires.assign_passed []) c.requires.vars_room_value.0 c.args.copy.now c.requires.vars_room_value.1 c.copy_in.new.to
+    c.copy_in.ensures c.assign_line.new.vars c.assign_line.new.work c.in-Ok.ensures
 
 pub returns-in-Ok : goal.returns-in-Ok
 returns-in-Ok c =
     untold_awaits (ap (λ (x : Answer). x.message_len) c.accept.ensures.is) c.assign_line.new.work _ λ m.
-    call_accepted (c.requires.assign_passed m) c.requires.vars_room_value.0 c.args.copy.now c.requires.vars_room_value.1 c.copy_in.new.to c.copy_in.ensures c.assign_line.new.vars c.assign_line.new.work c.in-Ok.ensures (λ i. (c.slice_known-5-1.given i).fits) c.accept.ensures
+    call_accepted (c.requires.assign_passed m) c.requires.vars_room_value.0 c.args.copy.now c.requires.vars_room_value.1 c.copy_in.new.to
+    c.copy_in.ensures c.assign_line.new.vars c.assign_line.new.work c.in-Ok.ensures (λ i. (c.slice_known-5-1.given i).fits) c.accept.ensures

@@ -16,7 +16,8 @@ returns-then-not-well_formed c b m =
 
 pub returns-then-not-well_formed-2 : goal.returns-then-not-well_formed-2
 returns-then-not-well_formed-2 c b m =
-    rw c.refuse-then-not-well_formed-2.ensures (parameters_bad _ _ c.in_ok-check_lent.ensures (sym c.if-not-well_formed.ensures) (sym c.if-not-well_formed-2.ensures))
+    rw c.refuse-then-not-well_formed-2.ensures (parameters_bad _ _ c.in_ok-check_lent.ensures (sym c.if-not-well_formed.ensures) (sym
+    c.if-not-well_formed-2.ensures))
 
 pub returns-in_err-check_bytes : goal.returns-in_err-check_bytes
 returns-in_err-check_bytes c b m =
@@ -28,15 +29,18 @@ pub returns-in_err-read_line : goal.returns-in_err-read_line
 returns-in_err-read_line c b m =
     let p = err_from_is_err_and c.from_residual-in_err-read_line.result c.from_residual-in_err-read_line.ensures.1 in
     let t = tables_fine c.args.job _ c.in_ok-check_lent.ensures (sym c.if-not-well_formed.ensures) (sym c.if-not-well_formed-2.ensures) in
-    rw (p.1, p.2) (line_refused _ _ t c.in_ok-check_bytes.ensures.short c.in_ok-check_bytes.ensures.whole _ _ (refused_line _ _ _ c.in_err-read_line.ensures))
+    rw (p.1, p.2) (line_refused _ _ t c.in_ok-check_bytes.ensures.short c.in_ok-check_bytes.ensures.whole _ _ (refused_line _ _ _
+    c.in_err-read_line.ensures))
 
 pub returns-then-room-eq0 : goal.returns-then-room-eq0
 returns-then-room-eq0 c b m =
     let t = tables_fine c.args.job _ c.in_ok-check_lent.ensures (sym c.if-not-well_formed.ensures) (sym c.if-not-well_formed-2.ensures) in
     rw c.refuse-then-room-eq0.ensures
-    (room_none _ _ t c.in_ok-check_bytes.ensures.short c.in_ok-check_bytes.ensures.whole (accepted _ c.in_ok-read_line.ensures) (sym c.room.ensures ∙ c.if-room-eq0.true))
+    (room_none _ _ t c.in_ok-check_bytes.ensures.short c.in_ok-check_bytes.ensures.whole (accepted _ c.in_ok-read_line.ensures) (sym c.room.ensures ∙
+    c.if-room-eq0.true))
 
 pub returns : goal.returns
 returns c b m =
     let t = tables_fine c.args.job _ c.in_ok-check_lent.ensures (sym c.if-not-well_formed.ensures) (sym c.if-not-well_formed-2.ensures) in
-    room_some _ _ t c.in_ok-check_bytes.ensures.short c.in_ok-check_bytes.ensures.whole (accepted _ c.in_ok-read_line.ensures) (λ e. c.if-room-eq0.false (c.room.ensures ∙ e))
+    room_some _ _ t c.in_ok-check_bytes.ensures.short c.in_ok-check_bytes.ensures.whole (accepted _ c.in_ok-read_line.ensures) (λ e.
+    c.if-room-eq0.false (c.room.ensures ∙ e))

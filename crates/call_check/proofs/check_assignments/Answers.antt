@@ -20,4 +20,5 @@ returns-in_err-check_bytes c b m =
 
 pub returns : goal.returns
 returns c b m =
-    assign_read _ c.in_ok-check_lent.ensures (sym c.well_formed-numbered.ensures ∙ c.if-not-numbered.false) c.in_ok-check_bytes.ensures c.read_assignments.result c.read_assignments.ensures
+    assign_read _ c.in_ok-check_lent.ensures (sym c.well_formed-numbered.ensures ∙ c.if-not-numbered.false) c.in_ok-check_bytes.ensures
+    c.read_assignments.result c.read_assignments.ensures

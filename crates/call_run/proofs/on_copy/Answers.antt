@@ -25,18 +25,23 @@ with_image-requires c =
 
 pub returns-in-Err : goal.returns-in-Err
 returns-in-Err c =
-    awaits_as _ c.stop.ensures (call_stopped c.args.line.now c.args.vars.now _ _ c.args.homes.now c.args.params.now c.args.paths.now c.args.work.now c.args.out.now
-    c.requires.passed c.requires.vars_room_value.0 c.args.copy.now c.copy_in.new.to c.requires.vars_room_value.1 c.copy_in.ensures c.with_image.new.copy c.with_image.new.work c.with_image.new.out c.in-Err.stop c.in-Err.ensures)
+    awaits_as _ c.stop.ensures (call_stopped c.args.line.now c.args.vars.now _ _ c.args.homes.now c.args.params.now c.args.paths.now c.args.work.now
+    c.args.out.now
+    c.requires.passed c.requires.vars_room_value.0 c.args.copy.now c.copy_in.new.to c.requires.vars_room_value.1 c.copy_in.ensures
+    c.with_image.new.copy c.with_image.new.work c.with_image.new.out c.in-Err.stop c.in-Err.ensures)
 
 pub slice_bounds-accept-end : goal.slice_bounds-accept-end
 slice_bounds-accept-end c =
-    left_within (c.requires.passed []) c.requires.vars_room_value.0 c.args.copy.now c.copy_in.new.to c.requires.vars_room_value.1 c.copy_in.ensures c.with_image.new.copy c.with_image.new.work c.with_image.new.out c.in-Ok.ensures
+    left_within (c.requires.passed []) c.requires.vars_room_value.0 c.args.copy.now c.copy_in.new.to c.requires.vars_room_value.1 c.copy_in.ensures
+    c.with_image.new.copy c.with_image.new.work c.with_image.new.out c.in-Ok.ensures
 
 pub accept-requires : goal.accept-requires
 accept-requires c =
-    accept_ready (c.requires.passed []) c.requires.vars_room_value.0 c.args.copy.now c.copy_in.new.to c.requires.vars_room_value.1 c.copy_in.ensures c.with_image.new.copy c.with_image.new.work c.with_image.new.out c.in-Ok.ensures
+    accept_ready (c.requires.passed []) c.requires.vars_room_value.0 c.args.copy.now c.copy_in.new.to c.requires.vars_room_value.1 c.copy_in.ensures
+    c.with_image.new.copy c.with_image.new.work c.with_image.new.out c.in-Ok.ensures
 
 pub returns-in-Ok : goal.returns-in-Ok
 returns-in-Ok c =
     untold_awaits (ap (λ (x : Answer). x.message_len) c.accept.ensures.is) c.with_image.new.work _ λ m.
-    call_accepted (c.requires.passed m) c.requires.vars_room_value.0 c.args.copy.now c.copy_in.new.to c.requires.vars_room_value.1 c.copy_in.ensures c.with_image.new.copy c.with_image.new.work c.with_image.new.out c.in-Ok.ensures (λ i. (c.slice_known-6-1.given i).fits) c.accept.ensures
+    call_accepted (c.requires.passed m) c.requires.vars_room_value.0 c.args.copy.now c.copy_in.new.to c.requires.vars_room_value.1 c.copy_in.ensures
+    c.with_image.new.copy c.with_image.new.work c.with_image.new.out c.in-Ok.ensures (λ i. (c.slice_known-6-1.given i).fits) c.accept.ensures

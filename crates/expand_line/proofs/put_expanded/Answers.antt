@@ -34,8 +34,10 @@ returns-in-Ok c =
 
 pub returns-in-Err-BadClass : goal.returns-in-Err-BadClass
 returns-in-Err-BadClass c =
-    word_class c.args.extent.shouts c.requires c.expand_text.new.work c.expand_text.new.vars c.in_ok-row.row c.in_ok-row.ensures (rw c.in-Err-BadClass.field-0-is at c.in-Err-BadClass.ensures)
+    word_class c.args.extent.shouts c.requires c.expand_text.new.work c.expand_text.new.vars c.in_ok-row.row c.in_ok-row.ensures (rw
+    c.in-Err-BadClass.field-0-is at c.in-Err-BadClass.ensures)
 
 pub returns-in-Err-NoRoom : goal.returns-in-Err-NoRoom
 returns-in-Err-NoRoom c =
-    word_full c.args.extent.shouts c.requires c.expand_text.new.work c.expand_text.new.vars c.in_ok-row.row c.in_ok-row.ensures (rw c.in-Err-NoRoom.field-0-is at c.in-Err-NoRoom.ensures)
+    word_full c.args.extent.shouts c.requires c.expand_text.new.work c.expand_text.new.vars c.in_ok-row.row c.in_ok-row.ensures (rw
+    c.in-Err-NoRoom.field-0-is at c.in-Err-NoRoom.ensures)

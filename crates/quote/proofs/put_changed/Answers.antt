@@ -18,23 +18,43 @@ bounds-out-0 c = omega (arith, ap length (field_dollared c.args.field.now c.way_
 
 pub slice_bounds-put_enclosed-count : goal.slice_bounds-put_enclosed-count
 slice_bounds-put_enclosed-count c =
-    let b = dollar_first (enclosed (way_is c.way_of-way.result) c.args.field.now) c.args.out.now (omega (arith, ap length (field_dollared c.args.field.now c.way_of-way.ensures c.in-Dollared.is), c.requires.field_in_bounds)) in
+    let b = dollar_first (enclosed (way_is c.way_of-way.result) c.args.field.now) c.args.out.now (omega (
+      arith,
+      ap length (field_dollared
+          c.args.field.now c.way_of-way.ensures c.in-Dollared.is),
+      c.requires.field_in_bounds,
+    )) in
     omega (arith, fill_room b, fill_length b)
 
 pub slice_bounds-put_enclosed-start : goal.slice_bounds-put_enclosed-start
 slice_bounds-put_enclosed-start c =
-    let b = dollar_first (enclosed (way_is c.way_of-way.result) c.args.field.now) c.args.out.now (omega (arith, ap length (field_dollared c.args.field.now c.way_of-way.ensures c.in-Dollared.is), c.requires.field_in_bounds)) in
+    let b = dollar_first (enclosed (way_is c.way_of-way.result) c.args.field.now) c.args.out.now (omega (
+      arith,
+      ap length (field_dollared
+          c.args.field.now c.way_of-way.ensures c.in-Dollared.is),
+      c.requires.field_in_bounds,
+    )) in
     omega (arith, fill_room b, fill_length b)
 
 pub put_enclosed-n-requires : goal.put_enclosed-n-requires
 put_enclosed-n-requires c =
     let t = enclosed (way_is c.way_of-way.result) c.args.field.now in
-    let b = dollar_first (enclosed (way_is c.way_of-way.result) c.args.field.now) c.args.out.now (omega (arith, ap length (field_dollared c.args.field.now c.way_of-way.ensures c.in-Dollared.is), c.requires.field_in_bounds)) in
+    let b = dollar_first (enclosed (way_is c.way_of-way.result) c.args.field.now) c.args.out.now (omega (
+      arith,
+      ap length (field_dollared
+          c.args.field.now c.way_of-way.ensures c.in-Dollared.is),
+      c.requires.field_in_bounds,
+    )) in
     fill_fits b t [] (sym (append-nil t))
 
 pub overflow_add-result : goal.overflow_add-result
 overflow_add-result c =
-    let e = dollar_filled (enclosed (way_is c.way_of-way.result) c.args.field.now) c.args.out.now (omega (arith, ap length (field_dollared c.args.field.now c.way_of-way.ensures c.in-Dollared.is), c.requires.field_in_bounds)) c.put_enclosed-n.new.out _ c.put_enclosed-n.ensures in
+    let e = dollar_filled (enclosed (way_is c.way_of-way.result) c.args.field.now) c.args.out.now (omega (
+      arith,
+      ap length (field_dollared
+          c.args.field.now c.way_of-way.ensures c.in-Dollared.is),
+      c.requires.field_in_bounds,
+    )) c.put_enclosed-n.new.out _ c.put_enclosed-n.ensures in
     omega (arith, fill_room e)
 
 pub returns-in-Singled : goal.returns-in-Singled
@@ -42,5 +62,10 @@ returns-in-Singled c = same_put _ _ _ _ _ (field_singled c.args.field.now c.way_
 
 pub returns-in-Dollared : goal.returns-in-Dollared
 returns-in-Dollared c =
-    let e = dollar_filled (enclosed (way_is c.way_of-way.result) c.args.field.now) c.args.out.now (omega (arith, ap length (field_dollared c.args.field.now c.way_of-way.ensures c.in-Dollared.is), c.requires.field_in_bounds)) c.put_enclosed-n.new.out _ c.put_enclosed-n.ensures in
+    let e = dollar_filled (enclosed (way_is c.way_of-way.result) c.args.field.now) c.args.out.now (omega (
+      arith,
+      ap length (field_dollared
+          c.args.field.now c.way_of-way.ensures c.in-Dollared.is),
+      c.requires.field_in_bounds,
+    )) c.put_enclosed-n.new.out _ c.put_enclosed-n.ensures in
     same_put _ _ _ _ _ (field_dollared c.args.field.now c.way_of-way.ensures c.in-Dollared.is) (fill_ends e refl)
