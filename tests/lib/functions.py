@@ -11,7 +11,7 @@ import crates
 LITERAL = re.compile(r"""b?"(?:\\.|[^"\\])*"|b?'(?:\\[^']+|\\'|[^'\\])'""")
 CLAUSE = re.compile(r"(?m)^\s*(?:requires|ensures)\b[^{]*")
 GHOST = re.compile(r"(?m)^\s*ghost use [^;]*;")
-CALL = re.compile(r"(?<![\w:.])((?:\w+::)*)([a-z_]\w*)\s*\(")
+CALL = re.compile(r"(?<![\w:.])((?:\w+::)*)([a-z_]\w*)(?:::<[^<>()]*>)?\s*\(")
 METHOD = re.compile(r"\.\s*([a-z_]\w*)\s*\(")
 
 

@@ -21,10 +21,10 @@ pub record Between (text : Text) (at : ℕ) (o : Op) (next : ℕ) : Type 0 where
   pub token : TokenAt text at (code.Op o next)
   pub both : (y : ℤ) → early (op_of o) y ≡ none
 
-abbrev pub Signs : Text → ℕ → Sign → Type 0
-Signs text at sign.Other = Unit {0}
-Signs text at sign.Stop = TokenAt text at code.Stop
-Signs text at (sign.Op o next) = Between text at o next
+abbrev pub Signs : Text → ℕ → Option Sign → Type 0
+Signs text at None = Unit {0}
+Signs text at (Some sign.Stop) = TokenAt text at code.Stop
+Signs text at (Some (sign.Op o next)) = Between text at o next
 
 abbrev pub IsConstant : Text → ℕ → Option Plain → Type 0
 IsConstant text at None = Unit {0}

@@ -18,7 +18,7 @@ use text::refusal::Refusal;
 const TOO_DEEP: Refusal = Refusal::TooDeep;
 
 // The lowest level of an operator between two operands.
-const LOWEST: usize = 3;
+pub const LOWEST: usize = 3;
 
 // An operand: a constant, a name, one in parentheses or behind a sign.
 #[cycle(enclosed_expression_further_operand_operator_signed_skip_stepped_whole_worked)]

@@ -49,7 +49,8 @@ pub fn mark_at(text: &[u8], at: usize) -> Result<Mark, Refusal>
     }
 }
 
-// The place behind the `:` behind the side of a `?` that is not needed.
+// The place behind the `:` behind the side of a `?` that is not needed. No twin of `closed`: what refuses a side and what refuses a parenthesis are two
+// rules of the grammar, and one function for both would state each of them for a token that it is handed.
 pub fn beyond(text: &[u8], at: usize) -> Result<usize, Refusal>
     requires { at ≤ length text.now }
     ensures { Beyond text.now at result }

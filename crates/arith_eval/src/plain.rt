@@ -4,6 +4,7 @@ ghost use Rattle.std.specs.Prelude.{◌≤◌, length};
 ghost use Rattle.stages.proofs.Storeys.{lowest};
 ghost use Rattle.arith_eval.specs.Plains.{Signs, IsConstant, PlainFrom, PlainText};
 
+use super::climb::LOWEST;
 use arith_int::Op;
 use arith_token::level;
 use text::Class;
@@ -15,43 +16,40 @@ pub struct Plain {
     pub next: usize,
 }
 
-// What stands behind a value: nothing, one of the five operators and the place behind it, or something else.
+// What stands behind a value: nothing, or one of the five operators and the place behind it.
 #[derive(Clone, Copy)]
 pub enum Sign {
-    Other,
     Stop,
     Op(Op, usize),
 }
 
-// The lowest level of an operator between two operands.
-const LOWEST: usize = 3;
-
 // A number up to this one is in range with any digit more behind it.
 const ENOUGH: u64 = 100_000_000_000_000_000;
 
-// One of the five operators at a place or behind the blanks there, with no `=` behind it, or the end. An operator that ends the text is left to the climber.
-fn sign_at(text: &[u8], at: usize) -> Sign
+// One of the five operators at a place or behind the blanks there, with no `=` behind it, or the end; else nothing that is known. An operator that
+// ends the text is left to the climber.
+fn sign_at(text: &[u8], at: usize) -> Option<Sign>
     requires { at ≤ length text.now }
     ensures { Signs text.now at result }
 {
     let i = text::run_end(text, at, Class::Blank);
     if i == text.len() {
-        return Sign::Stop;
+        return Some(Sign::Stop);
     }
     let next = i + 1;
     if next == text.len() {
-        return Sign::Other;
+        return None;
     }
     if text[next] == b'=' {
-        return Sign::Other;
+        return None;
     }
     match text[i] {
-        b'*' => Sign::Op(Op::Mul, next),
-        b'/' => Sign::Op(Op::Div, next),
-        b'%' => Sign::Op(Op::Rem, next),
-        b'+' => Sign::Op(Op::Add, next),
-        b'-' => Sign::Op(Op::Sub, next),
-        _ => Sign::Other,
+        b'*' => Some(Sign::Op(Op::Mul, next)),
+        b'/' => Some(Sign::Op(Op::Div, next)),
+        b'%' => Some(Sign::Op(Op::Rem, next)),
+        b'+' => Some(Sign::Op(Op::Add, next)),
+        b'-' => Some(Sign::Op(Op::Sub, next)),
+        _ => None,
     }
 }
 
@@ -102,11 +100,8 @@ fn plain_from(text: &[u8], at: usize, least: usize, left: i64) -> Option<Plain>
     let mut value = left;
     let mut i = at;
     loop {
-        let sign = sign_at(text, i);
+        let sign = sign_at(text, i)?;
         match sign {
-            Sign::Other => {
-                return None;
-            }
             Sign::Stop => {
                 return Some(Plain { value, next: i });
             }

@@ -1,5 +1,5 @@
 -- The answers of the job, case by case: what refuses is what the stage refuses by, and what is counted is what it counts.
-use Prim.Native.Nat.{ℕ, zero, suc, ◌+◌, ◌*◌, ◌≤◌, ◌<◌}
+use Prim.Native.Nat.{ℕ, suc, ◌+◌, ◌*◌, ◌≤◌, ◌<◌}
 use native.Mathlib.Omega.{arith}
 use native.Mathlib.Nat.{mul-le-mul}
 use mathlib.Core.Path.{◌≡◌, refl, sym, ap, ◌∙◌}
@@ -20,18 +20,13 @@ use Rattle.stages.specs.Cost as stage
 use Rattle.stages.proofs.Bools.{no as never, and_both}
 use Rattle.stages.proofs.CostCalls.{work_small, class_met, too_large, pairs_counted}
 use Rattle.pattern_unit.proofs.Units.{plain_signs_lem}
-use Rattle.pattern_cost.specs.Areas.{Clear, Room, Marked}
+use Rattle.pattern_cost.specs.Areas.{Clear, Marked}
 use Rattle.text.specs.Refusals.{refusal_number}
 use Rattle.text.specs.declared.refusal.Refusal.{Refusal}
 use Rattle.text.specs.declared.refusal.Refusal.TheVariants.{WorkTooSmall, BracketClass, TooManyUnits}
 use Rattle.pattern_cost.specs.Counts.{elements_of, class_in}
 use Rattle.call_cost.specs.Hands.{costing, placed, answer_as, Hands}
 use Rattle.call_cost.specs.declared.Costed.{Costed}
-
-zeros : (n k : ℕ) → ◌≡◌ {A = ℕ} (get_or (replicate n 0) k 0) 0
-zeros zero k = refl
-zeros (suc n) zero = refl
-zeros (suc n) (suc k) = zeros n k
 
 zeros_of : (l : Text) → ((k : ℕ) → get_or l k 0 ≡ 0) → l ≡ replicate (length l) 0
 zeros_of [] h = refl
@@ -99,13 +94,6 @@ module _ (p t work : Text) where
         -- the marks of at most 66 rows of at most 257 flags
         marks_few : (m : ℕ) → m ≤ elements_limit + 2 → m * (length t + 1) ≤ 66 * 257
         marks_few m l = let one : length t + 1 ≤ 257 = omega arith in mul-le-mul l one
-
-        -- the cleared work area has room for the rows
-        pub room_there : work ≡ replicate (length work) 0 → Room (length (elements_of p)) (length t) work
-        room_there i = record {
-          room = omega (arith, h, marks_few (length (elements_of p) + 2) (omega (arith, c.1)));
-          clear = λ k b. rw i (ap (λ (v : ℕ). not (eqb v 0)) (zeros (length work) k));
-        }
 
         -- the marks are cleared, which stand in its first 65,536 bytes
         pub marks_cleared : work ≡ replicate (length work) 0 → {area zeroed : Text} {m : ℕ} → Marked (elements_of p) t work area m

@@ -10,13 +10,14 @@ use Rattle.stages.specs.Syntax.{Param}
 use Rattle.stages.specs.Units.{Mark, Row}
 use Rattle.table.specs.Around.{lent_of}
 use Rattle.table_store.specs.Holding.{StoresIn}
-use Rattle.table_store.specs.declared.Stored.{Stored}
+use Rattle.std.specs.Prelude.{Result}
+use Rattle.table_store.specs.declared.NoRoom.{NoRoom}
 use Rattle.table_store.proofs.Determined.{store_within_determined}
 use Rattle.expand_add.specs.Added.{Adds}
 use Rattle.expand_add.specs.Steps.{placed, summed}
 use Rattle.expand_add.specs.Answers.{Finishes}
 use Rattle.expand_add.specs.declared.answers.Onward.{Onward}
-use Rattle.expand_add.specs.declared.answers.Expanded.{Expanded}
+use Rattle.expand_add.specs.Expanded.{Expanded}
 use Rattle.expand_add.proofs.Determined.{OneAnswer, adds_determined, finishes_determined}
 use Rattle.expand_form.specs.Plans.{settled, finished}
 use Rattle.expand_form.specs.declared.Unused.{Unused}
@@ -44,6 +45,6 @@ pub finish_determined : (u : Used) (varsRoom units : ℕ) (shouts : Bool) (param
 finish_determined u varsRoom units shouts params x m given next area vars area' vars' r s h k =
     finishes_determined varsRoom units (placed units (finished u (lent_of varsRoom shouts [] params) x m given)) area vars area' vars' next r s (h []) (k [])
 
-pub store_operand_determined : (varsRoom : ℕ) (x t : Text) (v : Pairs) (vars vars' : Text) (r s : Stored) → StoresIn varsRoom x t v vars r
+pub store_operand_determined : (varsRoom : ℕ) (x t : Text) (v : Pairs) (vars vars' : Text) (r s : Result ℕ NoRoom) → StoresIn varsRoom x t v vars r
     → StoresIn varsRoom x t v vars' s → r ≡ s
 store_operand_determined varsRoom x t v vars vars' = store_within_determined varsRoom x t v vars vars'

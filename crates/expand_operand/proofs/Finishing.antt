@@ -1,7 +1,7 @@
 -- What is given without the operand's row, and of it.
 use Prim.Native.Nat.{ℕ, ◌+◌, ◌*◌, ◌≤◌}
 use native.Mathlib.Omega.{arith}
-use mathlib.Core.Path.{◌≡◌, refl, sym, ap, ◌∙◌}
+use mathlib.Core.Path.{◌≡◌, refl, sym, ap, ◌∙◌, subst}
 use mathlib.Core.Bool.{Bool, true, false}
 use mathlib.Core.List.{[], ◌++◌}
 use borrow.Author.Tests.{leb-true, leb-false}
@@ -26,8 +26,10 @@ use Rattle.expand_add.specs.Steps.{beside, placed}
 use Rattle.table_store.specs.Holding.{Holds}
 use Rattle.expand_add.specs.Answers.{Finishes}
 use Rattle.expand_add.specs.declared.answers.Onward.{Onward}
-use Rattle.expand_add.specs.declared.answers.Expanded.{Expanded}
-use Rattle.expand_add.specs.declared.answers.Expanded.TheVariants as answer
+use Rattle.std.specs.Prelude.{Ok, Err}
+use Rattle.expand_add.specs.declared.answers.Stop.{Stop}
+use Rattle.expand_add.specs.Expanded.{Expanded, row_on}
+use Rattle.expand_add.specs.declared.answers.Stop.TheVariants as stop
 use Rattle.expand_add.proofs.Fitting.{measured_full, adds_text}
 use Rattle.expand_add.proofs.Steps.{placed_demands}
 use Rattle.expand_add.proofs.Holding.{adds_finishes, finishes_same}
@@ -35,6 +37,7 @@ use Rattle.expand_param.specs.Holding.{holding_in}
 use Rattle.expand_param.proofs.Holding.{value_held}
 use Rattle.expand_form.specs.Plans.{settled, finished}
 use Rattle.expand_form.specs.declared.Unused.TheVariants.{Value}
+use Rattle.expand_form.specs.declared.Used.{Used}
 use Rattle.expand_form.specs.declared.Used.TheVariants as used
 use Rattle.expand_operand.specs.Operands.{Storable, row_at, cut_of, Demands}
 use Rattle.expand_operand.proofs.Removing.{cut_beside}
@@ -48,7 +51,7 @@ settle_value a vars params e units on x m area r h =
     adds_text units on (expanded_mark m) area r (sym (value_held a (held_texts params) e (held vars) x)) h
 
 pub adds_none : (units : ℕ) (on : Onward) (area : Text) → units ≤ row_limit
-    → Adds units on (done []) area (answer.Row 0 on.next on.vars_used on.of_none)
+    → Adds units on (done []) area (Ok (row_on on 0))
 unfolding row_bytes
 adds_none units on area l =
     record {
@@ -119,10 +122,14 @@ module _ (a : Lent) (units : ℕ) (on : Onward) (count : ℕ) (x : Param) (m : M
       (adds_finishes a.room units on _ left vars r h w)
 
 -- the operand's bytes are the message
-pub finish_demanded : (a : Lent) (units : ℕ) (x : Param) (m : Mark) (p : Row × Pairs × Bool) (next : ℕ) (area vars : Text) (r : Expanded)
-    → Demands (bytes p.0) area r → Finishes a.room units (placed units (finished used.Demanded a x m p)) next area vars r
-unfolding finished demand
-finish_demanded a units x m p next area vars (answer.Row count after vars_used of_none) h = absurd h
-finish_demanded a units x m p next area vars (answer.Refused e) h = absurd h
-finish_demanded a units x m p next area vars (answer.Demanded at len) h =
-    record { message = bytes p.0; is = placed_demands units (demands (bytes p.0)) (bytes p.0) refl; waits = h }
+module _ (a : Lent) (units : ℕ) (x : Param) (m : Mark) (p : Row × Pairs × Bool) (next : ℕ) (area vars : Text) where
+  demanded : (r : Stop) → Demands (bytes p.0) area r
+      → Finishes a.room units (placed units (finished used.Demanded a x m p)) next area vars (Err r)
+  unfolding finished demand
+  demanded (stop.Refused e) h = absurd h
+  demanded (stop.Demanded at len) h =
+      record { message = bytes p.0; is = placed_demands units (demands (bytes p.0)) (bytes p.0) refl; waits = h }
+
+  pub finish_demanded : {u : Used} → u ≡ used.Demanded → (r : Stop) → Demands (bytes p.0) area r
+      → Finishes a.room units (placed units (finished u a x m p)) next area vars (Err r)
+  finish_demanded e r h = subst (λ (k : Used). Finishes a.room units (placed units (finished k a x m p)) next area vars (Err r)) (sym e) (demanded r h)

@@ -20,7 +20,7 @@ use Rattle.pattern_row.proofs.Keeping.{kept_pattern, full_refused, full_done}
 use Rattle.expand_add.specs.Added.{EndsExpanded, Adds, measured}
 use Rattle.expand_add.specs.Steps.{beside}
 use Rattle.expand_add.specs.declared.answers.Onward.{Onward}
-use Rattle.expand_add.specs.declared.answers.Expanded.{Expanded}
+use Rattle.expand_add.specs.Expanded.{Expanded}
 use Rattle.expand_add.proofs.Fitting.{adds_same, adds_expanded}
 use Rattle.expand_param.specs.Holding.{holding_in}
 use Rattle.expand_operand.specs.Operands.{cut_of}

@@ -14,14 +14,15 @@ use Rattle.stages.specs.Expand.{assigned}
 use Rattle.stages.proofs.Items.{IsParam}
 use Rattle.read_brace.specs.Shows.{called}
 use Rattle.table_store.specs.Holding.{Settable, StoresIn}
-use Rattle.table_store.specs.declared.Stored.{Stored}
-use Rattle.table_store.specs.declared.Stored.TheVariants as stored
+use Rattle.std.specs.Prelude.{Result, Ok, Err}
+use Rattle.text.specs.declared.refusal.Refusal.TheVariants.{VariableRoom}
+use Rattle.table_store.specs.declared.NoRoom.{NoRoom}
 use Rattle.expand_add.specs.Added.{Adds}
 use Rattle.expand_add.specs.Steps.{placed}
 use Rattle.expand_add.specs.Answers.{Finishes}
 use Rattle.expand_add.specs.declared.answers.Onward.{Onward}
-use Rattle.expand_add.specs.declared.answers.Expanded.{Expanded}
-use Rattle.expand_add.specs.declared.answers.Expanded.TheVariants as answer
+use Rattle.expand_add.specs.Expanded.{Expanded}
+use Rattle.expand_add.specs.declared.answers.Stop.TheVariants as stop
 use Rattle.expand_add.proofs.Steps.{placed_refused}
 use Rattle.expand_add.proofs.Holding.{adds_finishes, finishes_same}
 use Rattle.expand_form.specs.Plans.{finished}
@@ -33,18 +34,18 @@ module _ (varsRoom : ℕ) (x area : Text) (units : ℕ) (p : Storable (var x) ar
   pub operand_settable : Settable x t
   operand_settable = record { named = p.named; clean = ap (all not_zero) e ∙ p.clean }
 
-  pub operand_stored : (v : Pairs) (left : Text) (r : Stored) → StoresIn varsRoom x t v left r → StoresIn varsRoom x (bytes (row_at area units)) v left r
+  pub operand_stored : (v : Pairs) (left : Text) (r : Result ℕ NoRoom) → StoresIn varsRoom x t v left r → StoresIn varsRoom x (bytes (row_at area units)) v left r
   operand_stored v left r s = subst (λ (u : Text). StoresIn varsRoom x u v left r) e s
 
 -- the value after the store
 module _ (varsRoom units : ℕ) (x : Text) (m : Mark) (row : Row) (v : Pairs) where
   pub assign_full : (next : ℕ) (area vars : Text) → store varsRoom x (bytes row) v ≡ refused variable_room
-      → Finishes varsRoom units (placed units (storing varsRoom x m row v)) next area vars (answer.Refused variable_room)
+      → Finishes varsRoom units (placed units (storing varsRoom x m row v)) next area vars (Err (stop.Refused VariableRoom))
   unfolding storing
   assign_full next area vars h = placed_refused units _ variable_room (rw h)
 
   pub assign_given : (on : Onward) → on.of_none ≡ false → (area vars : Text) (r : Expanded)
-      → StoresIn varsRoom x (bytes row) v vars (stored.Used on.vars_used)
+      → StoresIn varsRoom x (bytes row) v vars (Ok on.vars_used)
       → {t : Text} → t ≡ or_empty (lookup x (held (take on.vars_used vars))) → Adds units on (done (marked (expanded_mark m) t)) area r
       → Finishes varsRoom units (placed units (storing varsRoom x m row v)) on.next area vars r
   unfolding storing

@@ -18,14 +18,15 @@ use Rattle.row.specs.Stands.{Stripped}
 use Rattle.row.proofs.Laws.{bytes_half}
 use Rattle.arith_eval.specs.Answers.{comes_to, ComesTo}
 use Rattle.arith_eval.specs.declared.Worked.{Worked}
-use Rattle.arith_eval.specs.declared.Worked.TheVariants as worked
+use Rattle.std.specs.Prelude.{Result, Ok, Err}
+use Rattle.text.specs.Refusals.{refusal_number}
+use Rattle.text.specs.declared.refusal.Refusal.{Refusal}
 use Rattle.arith_eval.proofs.Texts.{arithmetic_is}
 use Rattle.expand_add.specs.Added.{Adds}
 use Rattle.expand_add.specs.Steps.{beside, placed, summed}
 use Rattle.expand_add.specs.Answers.{Finishes}
-use Rattle.expand_add.specs.declared.answers.Onward.{Onward}
-use Rattle.expand_add.specs.declared.answers.Expanded.{Expanded}
-use Rattle.expand_add.specs.declared.answers.Expanded.TheVariants as answer
+use Rattle.expand_add.specs.Expanded.{Expanded}
+use Rattle.expand_add.specs.declared.answers.Stop.TheVariants as stop
 use Rattle.expand_add.proofs.Steps.{placed_refused}
 use Rattle.expand_add.proofs.Holding.{adds_finishes, finishes_same}
 use Rattle.expand_operand.proofs.Fronts.{stripped_length}
@@ -57,21 +58,21 @@ module _ (a : Lent) (m : Mark) (row : Row) (came : Bool) {t : Text} (e : t ≡ b
       twice (done p) = refl
 
   module _ (units : ℕ) where
-    pub sum_refuses : (next : ℕ) (area : Text) {k : ℕ} → ComesTo a t vars used left (worked.Refused k)
-        → Finishes a.room units (placed units (summed a m (row, before, came))) next area left (answer.Refused k)
-    sum_refuses next area {k} h = placed_refused units (summed a m (row, before, came)) k (sum_by ∙ ap (λ (o : Evaluated). o >>= given) h)
+    pub sum_refuses : (next : ℕ) (area : Text) (k : Refusal) → ComesTo a t vars used left (Err k)
+        → Finishes a.room units (placed units (summed a m (row, before, came))) next area left (Err (stop.Refused k))
+    sum_refuses next area k h =
+        placed_refused units (summed a m (row, before, came)) (refusal_number k) (sum_by ∙ ap (λ (o : Evaluated). o >>= given) h)
 
-    pub sum_gives : (on : Onward) → on.of_none ≡ false → (area : Text) (r : Expanded) {z : ℤ}
-        → ComesTo a t vars used left (worked.Value z on.vars_used) → {y : ℤ} → y ≡ z
-        → Adds units on (done (marked (expanded_mark m) (signed y))) area r
-        → Finishes a.room units (placed units (summed a m (row, before, came))) on.next area left r
-    sum_gives on f area r {z} h {y} i g =
-        finishes_same a.room units on.next area left r (ap (placed units) (sym made)) (adds_finishes a.room units on _ area left r g h.1)
+    pub sum_gives : (next : ℕ) (area : Text) (r : Expanded) {w : Worked} → ComesTo a t vars used left (Ok w) → {y : ℤ} → y ≡ w.value
+        → Adds units (record { next = next; vars_used = w.vars_used; of_none = false }) (done (marked (expanded_mark m) (signed y))) area r
+        → Finishes a.room units (placed units (summed a m (row, before, came))) next area left r
+    sum_gives next area r {w} h {y} i g =
+        finishes_same a.room units next area left r (ap (placed units) (sym made))
+        (adds_finishes a.room units (record { next = next; vars_used = w.vars_used; of_none = false }) _ area left r g h.1)
       where
-        made : summed a m (row, before, came)
-            ≡ beside (held (take on.vars_used left)) on.of_none (done (marked (expanded_mark m) (signed y)))
-        made = sum_by ∙ ap (λ (o : Evaluated). o >>= given) h.0 ∙ rw (i, f)
+        made : summed a m (row, before, came) ≡ beside (held (take w.vars_used left)) false (done (marked (expanded_mark m) (signed y)))
+        made = sum_by ∙ ap (λ (o : Evaluated). o >>= given) h.0 ∙ rw i
 
 -- what the text comes to, once its case is known
-pub comes_known : (a : Lent) (t vars : Text) (used : ℕ) (left : Text) {r k : Worked} → ComesTo a t vars used left r → r ≡ k → ComesTo a t vars used left k
+pub comes_known : (a : Lent) (t vars : Text) (used : ℕ) (left : Text) {r k : Result Worked Refusal} → ComesTo a t vars used left r → r ≡ k → ComesTo a t vars used left k
 comes_known a t vars used left h e = subst (ComesTo a t vars used left) e h

@@ -1,5 +1,5 @@
 -- An operand's row where it stands, for what is done with it.
-use Rattle.std.specs.Prelude.{ℕ, ◌*◌, ◌≤◌, ◌<◌, ◌≡◌, true, false, length, take}
+use Rattle.std.specs.Prelude.{ℕ, ◌*◌, ◌≤◌, ◌<◌, ◌≡◌, true, false, length, take, Option, Some, None}
 use Rattle.stages.specs.Bytes.{Text, all, not_zero}
 use Rattle.stages.specs.Outcome.{Outcome, done, ◌>>=◌}
 use Rattle.stages.specs.Images.{Pairs, is_name, lookup, or_empty}
@@ -13,12 +13,11 @@ use Rattle.stages.specs.Numbers.{row_limit}
 use Rattle.expand_add.specs.Added.{Adds}
 use Rattle.expand_add.specs.Answers.{Waits}
 use Rattle.expand_add.specs.declared.answers.Onward.{Onward}
-use Rattle.expand_add.specs.declared.answers.Expanded.{Expanded}
-use Rattle.expand_add.specs.declared.answers.Expanded.TheVariants as expanded
+use Rattle.expand_add.specs.declared.answers.Stop.{Stop}
+use Rattle.expand_add.specs.declared.answers.Stop.TheVariants.{Refused, Demanded}
+use Rattle.expand_add.specs.Expanded.{Expanded}
 use Rattle.text.specs.Rows.{row_bytes, row_of}
 use Rattle.pattern_row.specs.Kept.{NoEmpty}
-use Rattle.expand_operand.specs.declared.Tried.{Tried}
-use Rattle.expand_operand.specs.declared.Tried.TheVariants.{Done, TooManySets}
 
 -- the row of so many units at the front of the area
 abbrev pub row_at : Text → ℕ → Row
@@ -55,12 +54,11 @@ cut_of side reach own m row = pattern for_removal row >>= λ es. done (marked (e
 
 -- what comes of a removal whose pattern of so many bytes is settled in a table of so many words: the row is added, or they are too many, and all is as
 -- it was
-abbrev pub TriedSays : ℕ → Onward → Outcome Row → ℕ → Text → Text → ℕ → Tried → Type 0
-TriedSays units on o end area left words (Done r) = Adds units on o left r
-TriedSays units on o end area left words TooManySets = (left ≡ area) × (3 * (2 * words) < 4 * end)
+abbrev pub TriedSays : ℕ → Onward → Outcome Row → ℕ → Text → Text → ℕ → Option Expanded → Type 0
+TriedSays units on o end area left words (Some r) = Adds units on o left r
+TriedSays units on o end area left words None = (left ≡ area) × (3 * (2 * words) < 4 * end)
 
 -- E7: the text is the message of a demand, and waits in the area
-abbrev pub Demands : Text → Text → Expanded → Type 0
-Demands t area (expanded.Row count next vars_used of_none) = ⊥
-Demands t area (expanded.Refused e) = ⊥
-Demands t area (expanded.Demanded at len) = Waits t area at len
+abbrev pub Demands : Text → Text → Stop → Type 0
+Demands t area (Refused e) = ⊥
+Demands t area (Demanded at len) = Waits t area at len

@@ -22,15 +22,15 @@ ghost use Rattle.expand_operand.specs.Operands.{Storable, row_at, storing, cut_o
 ghost use Rattle.table_store.specs.Holding.{Holds, StoresIn};
 ghost use Rattle.expand_add.specs.Answers.{Finishes};
 
-use arith_eval::Worked;
-use expand_add::answers::{Expanded, Extent, Onward};
+use expand_add::answers::{Extent, Onward, Row, Stop};
 use expand_form::{Unused, Used};
-use pattern_settle::Settled;
+use pattern_settle::{FEW_SETS, SETS_ROOM, SettleError};
 use pattern_unit::Width;
 use read_brace::Param;
 use row::RowEnd;
-use table_store::Stored;
-use text::numbers;
+use table_store::NoRoom;
+use text::numbers::ROW_LIMIT;
+use text::refusal::Refusal;
 
 // The cells of a short pattern: few patterns have more units, and a small table is quickly made.
 const FEW_CELLS: usize = 64;
@@ -51,28 +51,15 @@ struct Removal {
     end: usize,
 }
 
-// What comes of a removal whose pattern is settled in one table of sets: it is done or refused; or the sets are too many for the table, and nothing is
-// touched.
-#[derive(Clone, Copy)]
-enum Tried {
-    Done(Expanded),
-    TooManySets,
-}
-
 // A row of so many units is added after those before it, if they are not too many.
-fn admit(units: usize, row: RowEnd, on: Onward) -> Expanded
+fn admit(units: usize, row: RowEnd, on: Onward) -> Result<Row, Stop>
     requires { row.units ≤ row_limit }
     ensures { result ≡ admitted row.units on units }
 {
-    if units > numbers::ROW_LIMIT - row.units {
-        return Expanded::Refused(numbers::REFUSED_UNITS);
+    if units > ROW_LIMIT - row.units {
+        return Err(Stop::Refused(Refusal::TooManyUnits));
     }
-    Expanded::Row {
-        units: units,
-        next: on.next,
-        vars_used: on.vars_used,
-        of_none: on.of_none,
-    }
+    Ok(on.row(units))
 }
 
 // Stores the bytes without marks of the row at the front of the area under the name: the row of an operand, or of an assignment's value.
@@ -82,7 +69,7 @@ pub fn store_operand(
     vars: &mut [u8],
     extent: Extent,
     work: &mut [u8],
-) -> Stored
+) -> Result<usize, NoRoom>
     requires { Storable (var name.now) work.old units × Holds extent.vars_room vars.old extent.vars_used }
     ensures { StoresIn extent.vars_room name.now (bytes (row_at work.old units))
         (held (take extent.vars_used vars.old)) vars.new result }
@@ -100,33 +87,26 @@ fn assign(
     vars: &mut [u8],
     extent: Extent,
     work: &mut [u8],
-) -> Expanded
+) -> Result<Row, Stop>
     requires { Storable (var name.now) work.old operand.units × Holds extent.vars_room vars.old extent.vars_used ×
         (row.units ≤ row_limit) × (2 * row_limit ≤ length work.old) }
     ensures { Finishes extent.vars_room row.units
         (placed row.units (storing extent.vars_room name.now (mark_of row.mark) (row_at work.old operand.units)
         (held (take extent.vars_used vars.old)))) operand.next work.new vars.new result }
 {
-    let kept = store_operand(name, operand.units, vars, extent, work);
-    match kept {
-        Stored::Full => Expanded::Refused(numbers::REFUSED_STORE),
-        Stored::Used(vars_used) => {
-            let value = table_find::value_of(&vars[..vars_used], name);
-            expand_add::give_expanded(
-                value,
-                row,
-                Onward {
-                    next: operand.next,
-                    vars_used: vars_used,
-                    of_none: false,
-                },
-                work,
-            )
-        }
-    }
+    let Ok(vars_used) = store_operand(name, operand.units, vars, extent, work) else {
+        return Err(Stop::Refused(Refusal::VariableRoom));
+    };
+    let value = table_find::value_of(&vars[..vars_used], name);
+    let on = Onward {
+        next: operand.next,
+        vars_used,
+        of_none: false,
+    };
+    expand_add::give_expanded(value, row, on, work)
 }
 
-// What is left of a value by a removal, whose pattern is settled in lent tables.
+// What is left of a value by a removal, whose pattern is settled in lent tables. Where its sets are too many for the table, nothing is done.
 fn cut_settled(
     value: &[u8],
     removal: Removal,
@@ -135,7 +115,7 @@ fn cut_settled(
     work: &mut [u8],
     cells: &mut [u16],
     sets: &mut [u64],
-) -> Tried
+) -> Option<Result<Row, Stop>>
     requires { Pattern work.old removal.end × (row.units ≤ row_limit) × (2 * row_limit ≤ length work.old) ×
         (removal.end ≤ 2 * length cells.old) × (length cells.old ≤ row_limit) }
     ensures { TriedSays row.units on
@@ -143,103 +123,87 @@ fn cut_settled(
         removal.end work.old
         work.new (length sets.old) result }
 {
-    let end = removal.end;
-    match pattern_settle::settle(&work[..end], false, Width::Marked, cells, sets) {
-        Settled::Class => Tried::Done(Expanded::Refused(numbers::REFUSED_CLASS)),
-        Settled::NoRoom => Tried::TooManySets,
-        Settled::Cells { count, special: _ } => {
-            let left = pattern_remove::removed(
-                value,
-                &cells[..count],
-                sets,
-                removal.suffix,
-                removal.long,
-            );
-            Tried::Done(expand_add::give_text(left, expand_add::expanded_end(row), on, work))
+    match pattern_settle::settle(&work[..removal.end], false, Width::Marked, cells, sets) {
+        Err(SettleError::BadClass) => Some(Err(Stop::Refused(Refusal::BracketClass))),
+        Err(SettleError::NoRoom) => None,
+        Ok(settled) => {
+            let cells = &cells[..settled.count];
+            let left = pattern_remove::removed(value, cells, sets, removal.suffix, removal.long);
+            Some(expand_add::give_text(left, expand_add::expanded_end(row), on, work))
         }
     }
 }
 
-// Holds the cells of a short pattern, and a table of a few sets.
-fn with_few_cells(value: &[u8], removal: Removal, row: RowEnd, on: Onward, work: &mut [u8]) -> Tried
-    requires { Pattern work.old removal.end × (row.units ≤ row_limit) × (2 * row_limit ≤ length work.old) × (removal.end ≤ 128) }
+// The same with so many cells and words for sets.
+fn cut_with<const CELLS: usize, const SETS: usize>(
+    value: &[u8],
+    removal: Removal,
+    row: RowEnd,
+    on: Onward,
+    work: &mut [u8],
+) -> Option<Result<Row, Stop>>
+    requires { Pattern work.old removal.end × (row.units ≤ row_limit) × (2 * row_limit ≤ length work.old) × (removal.end ≤ 2 * CELLS) ×
+        (CELLS ≤ row_limit) × (SETS ≤ SETS_ROOM) }
     ensures { TriedSays row.units on
         (cut_of (side_of removal.suffix) (reach_of removal.long) value.now (mark_of row.mark) (row_of (take removal.end work.old)))
         removal.end work.old
-        work.new 64 result }
+        work.new SETS result }
 {
-    let mut cells = [0u16; FEW_CELLS];
-    let mut sets = [0u64; pattern_settle::FEW_SETS];
+    let mut cells = [0u16; CELLS];
+    let mut sets = [0u64; SETS];
     cut_settled(value, removal, row, on, work, &mut cells, &mut sets)
 }
 
-// Holds the cells of every pattern, and a table of a few sets.
-fn with_all_cells(value: &[u8], removal: Removal, row: RowEnd, on: Onward, work: &mut [u8]) -> Tried
+// The same with a table of a few sets, and as many cells as the pattern asks for.
+fn cut_by_few(
+    value: &[u8],
+    removal: Removal,
+    row: RowEnd,
+    on: Onward,
+    work: &mut [u8],
+) -> Option<Result<Row, Stop>>
     requires { Pattern work.old removal.end × (row.units ≤ row_limit) × (2 * row_limit ≤ length work.old) }
     ensures { TriedSays row.units on
         (cut_of (side_of removal.suffix) (reach_of removal.long) value.now (mark_of row.mark) (row_of (take removal.end work.old)))
         removal.end work.old
-        work.new 64 result }
-{
-    let mut cells = [0u16; numbers::ROW_LIMIT];
-    let mut sets = [0u64; pattern_settle::FEW_SETS];
-    cut_settled(value, removal, row, on, work, &mut cells, &mut sets)
-}
-
-// The same with as many cells as the pattern asks for.
-fn with_few_sets(value: &[u8], removal: Removal, row: RowEnd, on: Onward, work: &mut [u8]) -> Tried
-    requires { Pattern work.old removal.end × (row.units ≤ row_limit) × (2 * row_limit ≤ length work.old) }
-    ensures { TriedSays row.units on
-        (cut_of (side_of removal.suffix) (reach_of removal.long) value.now (mark_of row.mark) (row_of (take removal.end work.old)))
-        removal.end work.old
-        work.new 64 result }
+        work.new FEW_SETS result }
 {
     if removal.end <= 2 * FEW_CELLS {
-        return with_few_cells(value, removal, row, on, work);
+        return cut_with::<FEW_CELLS, FEW_SETS>(value, removal, row, on, work);
     }
-    with_all_cells(value, removal, row, on, work)
+    cut_with::<ROW_LIMIT, FEW_SETS>(value, removal, row, on, work)
 }
 
-// Holds the cells, and a table with room for the sets of every row.
-fn with_all_sets(value: &[u8], removal: Removal, row: RowEnd, on: Onward, work: &mut [u8]) -> Tried
-    requires { Pattern work.old removal.end × (row.units ≤ row_limit) × (2 * row_limit ≤ length work.old) }
-    ensures { TriedSays row.units on
-        (cut_of (side_of removal.suffix) (reach_of removal.long) value.now (mark_of row.mark) (row_of (take removal.end work.old)))
-        removal.end work.old
-        work.new 2732 result }
-{
-    let mut cells = [0u16; numbers::ROW_LIMIT];
-    let mut sets = [0u64; pattern_settle::SETS_ROOM];
-    cut_settled(value, removal, row, on, work, &mut cells, &mut sets)
-}
-
-// The same without tables. The second one is never too small: a set has three units at the least.
-fn cut_value(value: &[u8], removal: Removal, row: RowEnd, on: Onward, work: &mut [u8]) -> Expanded
+// The same without tables. The second one, with room for the sets of every row, is never too small: a set has three units at the least.
+fn cut_value(
+    value: &[u8],
+    removal: Removal,
+    row: RowEnd,
+    on: Onward,
+    work: &mut [u8],
+) -> Result<Row, Stop>
     requires { Pattern work.old removal.end × (row.units ≤ row_limit) × (2 * row_limit ≤ length work.old) }
     ensures { Adds row.units on
         (cut_of (side_of removal.suffix) (reach_of removal.long) value.now (mark_of row.mark) (row_of (take removal.end work.old)))
         work.new result }
 {
-    match with_few_sets(value, removal, row, on, work) {
-        Tried::Done(answer) => answer,
-        Tried::TooManySets => match with_all_sets(value, removal, row, on, work) {
-            Tried::Done(answer) => answer,
-            Tried::TooManySets => Expanded::Refused(numbers::REFUSED_CLASS),
-        },
+    if let Some(answer) = cut_by_few(value, removal, row, on, work) {
+        return answer;
     }
+    cut_with::<ROW_LIMIT, SETS_ROOM>(value, removal, row, on, work).unwrap()
 }
 
 // What is left of a parameter's value by a removal whose pattern the operand's row is. The value is read after the operand's own stores.
-fn cut<'a>(
+fn cut(
     text: &[u8],
     param: Param,
     removal: Removal,
     row: RowEnd,
     on: Onward,
-    vars: &'a [u8],
-    params: &'a [u8],
+    vars: &[u8],
+    params: &[u8],
     work: &mut [u8],
-) -> Expanded
+) -> Result<Row, Stop>
     requires { Name text.now param.from param.to × Table vars.now × Listed params.now × (removal.end ≤ 2 * row_limit) ×
         (row.units ≤ row_limit) × (2 * row_limit ≤ length work.old) }
     ensures { Adds row.units on
@@ -248,13 +212,8 @@ fn cut<'a>(
         (mark_of row.mark) (row_of (take removal.end work.old)))
         work.new result }
 {
-    let end = removal.end;
-    let n = pattern_row::drop_empty(&mut work[..end]);
-    let full = Removal {
-        suffix: removal.suffix,
-        long: removal.long,
-        end: n,
-    };
+    let end = pattern_row::drop_empty(&mut work[..removal.end]);
+    let full = Removal { end, ..removal };
     let value = expand_param::value_of(text, param, vars, params);
     cut_value(value, full, row, on, work)
 }
@@ -267,7 +226,7 @@ pub fn sum_up(
     vars: &mut [u8],
     extent: Extent,
     work: &mut [u8],
-) -> Expanded
+) -> Result<Row, Stop>
     requires { Holds extent.vars_room vars.old extent.vars_used × (units ≤ row_limit) × (row.units ≤ row_limit) ×
         (2 * row_limit ≤ length work.old) }
     ensures { (homes params : Text) → Finishes extent.vars_room row.units
@@ -277,50 +236,42 @@ pub fn sum_up(
 {
     let end = 2 * units;
     let n = row::strip_marks(&mut work[..end]);
-    let got = arith_eval::evaluate_text(
+    let worked = arith_eval::evaluate_text(
         &work[..n],
         vars,
         extent.vars_used,
         extent.vars_room,
         extent.shouts,
-    );
-    match got {
-        Worked::Refused(e) => Expanded::Refused(e),
-        Worked::Value {
-            value,
-            vars_used: left,
-        } => {
-            let on = Onward {
-                next: next,
-                vars_used: left,
-                of_none: false,
-            };
-            expand_add::give_number(value, row, on, work)
-        }
-    }
+    )?;
+    let on = Onward {
+        next,
+        vars_used: worked.vars_used,
+        of_none: false,
+    };
+    expand_add::give_number(worked.value, row, on, work)
 }
 
 // The operand's bytes without marks are the message, where its row stood.
-fn demand(units: usize, work: &mut [u8]) -> Expanded
+fn demand(units: usize, work: &mut [u8]) -> Stop
     requires { 2 * units ≤ length work.old }
     ensures { Demands (bytes (row_at work.old units)) work.new result }
 {
     let end = 2 * units;
     let n = row::strip_marks(&mut work[..end]);
-    Expanded::Demanded { at: 0, len: n }
+    Stop::Demanded { at: 0, len: n }
 }
 
 // What is given where the operand is not used.
-pub fn settle<'a>(
+pub fn settle(
     unused: Unused,
     text: &[u8],
     param: Param,
     row: RowEnd,
     on: Onward,
-    vars: &'a [u8],
-    params: &'a [u8],
+    vars: &[u8],
+    params: &[u8],
     work: &mut [u8],
-) -> Expanded
+) -> Result<Row, Stop>
     requires { Name text.now param.from param.to × Table vars.now × Listed params.now × (row.units ≤ row_limit) ×
         (2 * row_limit ≤ length work.old) }
     ensures { (room : ℕ) (shouts : Bool) (homes : Text) → Adds row.units on
@@ -329,12 +280,7 @@ pub fn settle<'a>(
 {
     match unused {
         Unused::Value => expand_item::give_value(text, param, row, on, vars, params, work),
-        Unused::Nothing => Expanded::Row {
-            units: 0,
-            next: on.next,
-            vars_used: on.vars_used,
-            of_none: on.of_none,
-        },
+        Unused::Nothing => Ok(on.row(0)),
     }
 }
 
@@ -349,7 +295,7 @@ pub fn finish(
     extent: Extent,
     params: &[u8],
     work: &mut [u8],
-) -> Expanded
+) -> Result<Row, Stop>
     requires { Name text.now param.from param.to × Listed params.now × Storable (param_of text.now param) work.old operand.units ×
         Holds extent.vars_room vars.old extent.vars_used × (row.units ≤ row_limit) × (2 * row_limit ≤ length work.old) }
     ensures { (homes : Text) → Finishes extent.vars_room row.units
@@ -358,33 +304,33 @@ pub fn finish(
         operand.next work.new vars.new result }
 {
     let vars_used = extent.vars_used;
+    let on = Onward {
+        next: operand.next,
+        vars_used,
+        of_none: operand.of_none,
+    };
     match used {
-        Used::Given => {
-            let on = Onward {
-                next: operand.next,
-                vars_used: vars_used,
-                of_none: operand.of_none,
-            };
-            admit(operand.units, row, on)
-        }
+        Used::Given => admit(operand.units, row, on),
+        Used::Stored if param.numbered => Err(Stop::Refused(Refusal::Unserved)),
         Used::Stored => {
-            if param.numbered {
-                return Expanded::Refused(numbers::REFUSED_UNSERVED);
-            }
-            let from = param.from;
-            let to = param.to;
-            assign(&text[from..to], operand, row, vars, extent, work)
+            assign(
+                &text[param.from..param.to],
+                operand,
+                row,
+                vars,
+                extent,
+                work,
+            )
         }
         Used::Removed { suffix, long } => {
             let removal = Removal {
-                suffix: suffix,
-                long: long,
+                suffix,
+                long,
                 end: 2 * operand.units,
             };
             let on = Onward {
-                next: operand.next,
-                vars_used: vars_used,
                 of_none: false,
+                ..on
             };
             cut(
                 text,
@@ -397,6 +343,6 @@ pub fn finish(
                 work,
             )
         }
-        Used::Demanded => demand(operand.units, work),
+        Used::Demanded => Err(demand(operand.units, work)),
     }
 }

@@ -180,9 +180,6 @@ module _ (p t : Text) where
             same_place : {a b : ℕ} → a < suc b → b ≤ a → a ≡ b
             same_place l m = omega arith
 
-    pub row_room : base + (length t + 1) + (length t + 1) < length area
-    row_room = omega (arith, c.room)
-
     pub count_fits : {more : ℕ} → more ≤ length t + 1 → count + more < length area
     count_fits l = omega (arith, c.room, c.fits)
 

@@ -1,6 +1,6 @@
 -- The walk that counts the elements of a pattern: no class that is not served was met, and so many elements stand before the place.
 use Prim.Native.Nat.{ℕ, ◌+◌, ◌≤◌, ◌<◌}
-use mathlib.Core.Path.{◌≡◌, refl, ◌∙◌, ap}
+use mathlib.Core.Path.{◌≡◌, ◌∙◌, ap}
 use mathlib.Core.Bool.{true, false}
 use mathlib.Core.List.{List}
 use native.Mathlib.Omega.{arith}
@@ -25,9 +25,6 @@ pub record Tallied (p : Text) (at count : ℕ) : Type 0 where
   pub fits : count ≤ at
   pub served : class_in p ≡ class_from Plain false p at
   pub long : length (elements_of p) ≡ count + length (from Plain false p at)
-
-pub tallied_start : (p : Text) → Tallied p 0 0
-tallied_start p = record { within = omega arith; fits = omega arith; served = refl; long = omega arith }
 
 module _ {p : Text} {at count : ℕ} (t : Tallied p at count) where
   module _ {q : Piece} {n : ℕ} (s : Standing Plain false p at q n) where

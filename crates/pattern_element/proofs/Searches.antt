@@ -22,9 +22,8 @@ use Rattle.pattern_member.specs.declared.Member.{Member}
 use Rattle.pattern_member.specs.declared.Member.TheVariants.{Single, Range, Class}
 use Rattle.pattern_member.proofs.Members.{member_first, member_units}
 use Rattle.pattern_element.specs.Ends.{refusing_entry, unclosed_entry, End, end_of, sought_from, entry_of}
-use Rattle.pattern_element.specs.declared.Piece.{Piece}
 use Rattle.pattern_element.specs.Pieces.{set_from, bracket_at, piece_at}
-use Rattle.pattern_element.specs.declared.Piece.TheVariants.{Star, One, Byte, Refusing, Set}
+use Rattle.pattern_element.specs.declared.Piece.TheVariants.{Star, One, Byte}
 
 -- UNITS THAT THE SEARCH PASSES
 
@@ -191,23 +190,6 @@ module _ (w : Width) (from : ℕ) {e : ℕ} where
   met_none refusing b i h = absurd (omega (arith, i, h))
   met_none unclosed b i h = refl
   met_none (closed_after n) b i h = absurd (omega (arith, i, h, b n refl))
-
-  pub met_end : (f : Found) → e ≡ entry_of w from f → (e ≡ refusing_entry → ⊥) → (e ≡ unclosed_entry → ⊥) → Ok (Some e) ≡ end_of w from f
-  met_end refusing i r u = absurd (r i)
-  met_end unclosed i r u = absurd (u i)
-  met_end (closed_after n) i r u = ap (λ (n : ℕ). Ok (Some n)) i
-
--- and as the answer for the bracket
-module _ (w : Width) (negative : Bool) (from : ℕ) where
-  abbrev pub set_of : End → Piece
-  set_of (Err e) = Refusing
-  set_of (Ok None) = Byte 91
-  set_of (Ok (Some to)) = Set negative from to
-
-  pub set_found : (f : Found) {e : End} → e ≡ end_of w from f → set_of e ≡ set_from w negative from f
-  set_found refusing h = ap set_of h
-  set_found unclosed h = ap set_of h
-  set_found (closed_after n) h = ap set_of h
 
 -- the piece at a place, by the active byte that stands there
 module _ (w : Width) (path : Bool) (p : Text) (at : ℕ) (h : at + size w ≤ length p) where

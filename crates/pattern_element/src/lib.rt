@@ -234,8 +234,7 @@ pub fn search_piece(pattern: &[u8], at: usize, path: bool, width: Width) -> Piec
     requires { at + size width ≤ length pattern.now }
     ensures { result ≡ piece_at width path at (signs_by width (drop at pattern.now)) }
 {
-    let none = [0u16; 0];
-    piece_at(pattern, at, path, width, &none)
+    piece_at(pattern, at, path, width, &[])
 }
 
 // The place behind the element at a place.

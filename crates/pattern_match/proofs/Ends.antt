@@ -138,16 +138,6 @@ rest_missed path sets cells t at k head first p {r = Whole} m n es s = absurd (n
 rest_missed path sets cells t at k head first p {r = Fails} m n es s = m es s
 rest_missed path sets cells t at k head first p {r = Star next j starts} m n es s = absurd (none_met path sets cells t at k head first p m)
 
-pub trails_on : {cells : List ℕ} {last at : ℕ} → Trails cells last → last ≤ at → at ≤ length cells → Trails cells at
-trails_on p h l = record { inside = l; plain = λ i m n. p.plain i (omega arith) n }
-
--- a test of two, whose second is looked at only if the first passes
-pub both_tests : (x y : Bool) {b : Bool} → (x ≡ true) × (b ≡ y) → b ≡ (x && y)
-both_tests x y (e, f) = f ∙ rw e
-
-pub first_test : (x y : Bool) {b : Bool} → (x ≡ false) × (b ≡ x) → b ≡ (x && y)
-first_test x y (e, f) = f ∙ e ∙ rw e
-
 -- what a star must take before that end, byte for byte
 module _ (path first : Bool) (t : Text) (k : ℕ) where
   pub gap_over : length t ≤ k → all_pass path first (drop k t) ≡ true

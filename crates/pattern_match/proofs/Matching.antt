@@ -30,9 +30,7 @@ use Rattle.pattern_match.proofs.Stars.{
   inside_part,
   some_inside,
 }
-use Rattle.pattern_match.specs.Steps.{is_star, is_slash, takes_one, Lies, behind_star, Skips, MeetsStar, RunSays}
-use Rattle.pattern_match.specs.declared.Run.{Run}
-use Rattle.pattern_match.specs.declared.Run.TheVariants.{Whole, Fails, Star}
+use Rattle.pattern_match.specs.Steps.{is_star, is_slash, takes_one, Lies, behind_star, Skips, MeetsStar}
 
 -- a pattern by whether it is for paths
 pub matches_is : (path : Bool) (es : List Element) (t : Text) → matches_from path es true true t ≡ matches (purpose_of path) es t
@@ -331,9 +329,6 @@ module _ (path : Bool) (rest : List Element) (first : Bool) (t : Text) (k : ℕ)
 
 -- a byte that differs is skipped
 module _ (path first : Bool) (cell : ℕ) (t : Text) (since : ℕ) where
-  pub skip_none : since ≤ length t → Skips path first cell t since since
-  skip_none h = record { reach = λ f n. refl; beyond = omega arith; within = h }
-
   pub skip_on : {k : ℕ} → Skips path first cell t since k → first ≡ false → cell < one_cell → k < length t → eqb cell (get_or t k 0) ≡ false
       → passes path first (get_or t k 0) ≡ true → Skips path first cell t since (k + 1)
   skip_on {k} j e h l n y = record { reach = reached; beyond = omega (arith, j.beyond); within = omega arith }
@@ -351,17 +346,6 @@ pub star_there : (cells : List ℕ) (at : ℕ) → is_star_cell (get_or cells at
 star_there cells at y =
     let e : at + 1 - 1 ≡ at = omega arith in
     ap (λ (i : ℕ). is_star_cell (get_or cells i 0)) e ∙ y
-
--- what a run that ended so says
-module _ (path : Bool) (sets cells t : List ℕ) (at k : ℕ) (head first : Bool) {r : Run} (s : RunSays path sets cells t at k head first r) where
-  pub says_whole : r ≡ Whole → (es : List Element) → Shows sets cells es → matches_from path (drop at es) head first (drop k t) ≡ true
-  says_whole e = rw e at s
-
-  pub says_fails : r ≡ Fails → (es : List Element) → Shows sets cells es → matches_from path (drop at es) head first (drop k t) ≡ false
-  says_fails e = rw e at s
-
-  pub says_star : {next j : ℕ} {starts : Bool} → r ≡ Star next j starts → MeetsStar path sets cells t at k head first next j starts
-  says_star e = rw e at s
 
 -- a star behind a star becomes the last one
 pub last_star : (path : Bool) (sets cells t : List ℕ) (at k : ℕ) (first : Bool) {next j : ℕ} {starts : Bool}

@@ -1,17 +1,16 @@
 -- The cuts of a value one after the other, for the four removals at once.
 use Prim.Native.Nat.{ℕ, suc, ◌+◌, ◌-◌, ◌≤◌, ◌<◌}
 use mathlib.Core.Path.{◌≡◌, refl, sym, ◌∙◌, ap}
-use mathlib.Core.Bool.{Bool, true, false, not}
+use mathlib.Core.Bool.{Bool, true, false}
 use native.Mathlib.Omega.{arith}
 use native.Mathlib.Numerals.{add-one}
 use mathlib.Core.List.{List}
 use lib.ListN.{length}
 use Rattle.stages.specs.Outcome.{pick}
 use Rattle.stages.specs.Bytes.{Text}
-use Rattle.stages.specs.Syntax.{Side, suffix, prefix, Reach}
+use Rattle.stages.specs.Syntax.{Side, Reach}
 use Rattle.stages.specs.Pattern.{Element}
 use Rattle.stages.specs.Removal.{first_cut, cut_at, keep_all, from_end, cut}
-use Rattle.text.specs.Cases.{reach_of}
 use Rattle.pattern_remove.specs.Cuts.{matched_at, CutsAt}
 
 -- the first of some cuts, by whether the first one tried passes
@@ -59,15 +58,6 @@ module _ (side : Side) (down : Bool) (p : List Element) (v : Text) where
 
   pub cuts_at : {k : ℕ} → k ≡ cut_from 0 → k ≤ length v → CutsAt side down p v k
   cuts_at e h = let d : suc (length v) - 0 ≡ suc (length v) = omega arith in record { first = e ∙ rw d; within = h }
-
--- the end from which the cuts of a suffix are tried, and of a prefix
-pub from_suffix : (long : Bool) → not long ≡ from_end suffix (reach_of long)
-from_suffix true = refl
-from_suffix false = refl
-
-pub from_prefix : (long : Bool) → long ≡ from_end prefix (reach_of long)
-from_prefix true = refl
-from_prefix false = refl
 
 -- the cut that the walk finds is the stage's
 pub cut_is : (side : Side) (reach : Reach) (p : List Element) (v : Text) {down : Bool} {k : ℕ} → down ≡ from_end side reach → CutsAt side down p v k

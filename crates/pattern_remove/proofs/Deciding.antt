@@ -12,12 +12,12 @@ use Rattle.stages.specs.Syntax.{Side, suffix, prefix}
 use Rattle.stages.specs.Pattern.{Element, star}
 use Rattle.stages.proofs.Bools.{no}
 use Rattle.text.specs.Cases.{side_of}
-use Rattle.pattern_cell.specs.Cells.{Shows, Shown, Trails}
+use Rattle.pattern_cell.specs.Cells.{Shows, Shown}
 use Rattle.pattern_remove.specs.Cuts.{matched_at}
 use Rattle.pattern_remove.specs.Bounds.{stands_at, ShortestAt, NoneMatches, Shortest, starred, StarsAt, Bounds}
 use Rattle.std.specs.Prelude.{Option, Some, None}
 use Rattle.pattern_remove.specs.declared.Bound.{Bound}
-use Rattle.pattern_remove.specs.declared.Bound.TheVariants.{Free, Nothing, Within}
+use Rattle.pattern_remove.specs.declared.Bound.TheVariants.{Nothing, Within}
 use Rattle.pattern_remove.proofs.Bounding.{suffix_beyond, suffix_none, prefix_beyond, prefix_bounded, prefix_none}
 use Rattle.pattern_remove.proofs.Stars.{
   star_shown,
@@ -94,20 +94,9 @@ module _ {sets cells : List ℕ} {v : Text} where
     bound_in_prefix {z = false} t y e n f p s =
         prefix_in s t.stars k t.inside (t.shortest p s) (leb-true (place + (length cells - last)) k (sym e ∙ n)) f
 
-    -- the elements behind the last star have room before the cut
-    pub bound_room : {z : Bool} → Bounded sets cells v z k first last place → {r : Bool} → r ≡ leb (place + (length cells - last)) k → r ≡ true
-        → length cells - last ≤ k
-    bound_room t e n = omega (arith, leb-true (place + (length cells - last)) k (sym e ∙ n))
-
 -- what a case of a bound says
 module _ {sets cells : List ℕ} (v : Text) (z : Bool) {bound : Bound}
     (b : (p : List Element) → Shows sets cells p → Bounds (side_of z) cells p v bound) where
-  pub bound_free : Shown sets cells → bound ≡ Free → Trails cells 0
-  bound_free k e = rw e at (b k.es k.shows)
-
-  pub bound_nothing : bound ≡ Nothing → (k : ℕ) → k ≤ length v → (p : List Element) → Shows sets cells p → false ≡ matched_at (side_of z) p v k
-  bound_nothing e k h p s = let n : Bounds (side_of z) cells p v Nothing = rw e at (b p s) in sym (n.none k h)
-
   pub bound_within : {first last place : ℕ} → bound ≡ Within first last place → Shown sets cells → (k : ℕ) → k ≤ length v
       → Bounded sets cells v z k first last place
   bound_within {first} {last} {place} e h k i = record { inside = i; stars = (within h.es h.shows).0; shortest = λ p s. (within p s).1 }

@@ -13,7 +13,7 @@ use Rattle.stages.specs.Bytes.{Text}
 use Rattle.stages.specs.Syntax.{prefix}
 use Rattle.stages.specs.Pattern.{Element, star}
 use Rattle.stages.proofs.Bools.{apart, either}
-use Rattle.pattern_cell.specs.Cells.{Shows, Shown, is_star_cell, Trails, FirstStar}
+use Rattle.pattern_cell.specs.Cells.{Shows, Shown, is_star_cell, FirstStar}
 use Rattle.pattern_cell.proofs.Showing.{shown_length, shown_take, shown_drop}
 use Rattle.pattern_remove.specs.Shapes.{Plain}
 use Rattle.pattern_remove.specs.Bounds.{stands_at, FirstAt, NoneFrom, First, ShortestAt, NoneMatches, StarsAt}
@@ -107,9 +107,6 @@ module _ {sets cells : List ℕ} {v : Text} {first last from low count : ℕ} (t
   lent : from + count - from ≡ count
   lent = omega arith
 
-  pub next_plain : Trails (take (from + count - from) (drop from cells)) 0
-  next_plain = subst (λ (n : ℕ). Trails (take n (drop from cells)) 0) (sym lent) (plain_before next)
-
   module _ {p : List Element} (s : Shows sets cells p) where
     part_shows : Shows sets (take (from + count - from) (drop from cells)) (take count (drop from p))
     part_shows = subst (λ (n : ℕ). Shows sets (take n (drop from cells)) (take count (drop from p))) (sym lent) (shown_take (shown_drop s from) count)
@@ -166,8 +163,3 @@ module _ {sets cells : List ℕ} {v : Text} {first last from low count : ℕ} (t
         (subst (λ (l : List Element). NoneMatches prefix l v) (sym (longer s))
         (prefix_more_none (part_plain s) (take (from - 1) p) (before s)
         (first_none (take count (drop from p)) v low (g (take count (drop from p)) (part_shows s)) e)))
-
-pub low_end : {sets cells : List ℕ} {v : Text} {from last low : ℕ} → Lowered sets cells v from last low → last ≤ from → (p : List Element)
-    → Shows sets cells p → ShortestAt prefix (take last p) v low
-low_end {sets} {cells} {v} {from} {last} {low} t h p s =
-    let e : from ≡ last = omega (arith, t.order) in subst (λ (n : ℕ). ShortestAt prefix (take n p) v low) e (t.shortest p s)

@@ -46,9 +46,6 @@ trails_shown s t = plain_shown s λ i h. t.plain i (omega arith) h
 pub cells_end : (cells : List ℕ) (k : ℕ) → take (length cells - k) (drop k cells) ≡ drop k cells
 cells_end cells k = take_all (length cells - k) (drop k cells) (simp length-drop (omega arith))
 
-pub end_count : (cells : List ℕ) (k : ℕ) → length (take (length cells - k) (drop k cells)) ≡ length cells - k
-end_count cells k = ap length (cells_end cells k) ∙ length-drop k cells
-
 module _ {A : Type 0} (l : List A) where
   pub drop_parted : (a b : ℕ) → a ≤ b → drop a l ≡ take (b - a) (drop a l) ++ drop b l
   drop_parted a b h =
@@ -102,9 +99,6 @@ stars_at {cells} {first} {last} f l n = record { leads = f; ends = l; order = or
 -- the elements from a place on, as the code lends their cells
 pub shown_end : {sets cells : List ℕ} {p : List Element} → Shows sets cells p → (k : ℕ) → Shows sets (take (length cells - k) (drop k cells)) (drop k p)
 shown_end {sets} {cells} {p} s k = subst (λ (l : List ℕ). Shows sets l (drop k p)) (sym (cells_end cells k)) (shown_drop s k)
-
-pub trails_end : {cells : List ℕ} {last : ℕ} → Trails cells last → Trails (take (length cells - last) (drop last cells)) 0
-trails_end {cells} {last} t = subst (λ (l : List ℕ). Trails l 0) (sym (cells_end cells last)) (plain_behind t)
 
 pub end_length : {sets cells : List ℕ} {p : List Element} → Shows sets cells p → (k : ℕ) → length (drop k p) ≡ length cells - k
 end_length {sets} {cells} s k = shown_length (shown_drop s k) ∙ length-drop k cells

@@ -156,8 +156,3 @@ module _ {sets cells : List ℕ} {v : Text} {first last at top from : ℕ} (t : 
         (subst (λ (z : List Element). NoneMatches suffix z v) (sym (whole s))
         (suffix_more_none (trails_shown (shows s) segment_plain) (drop (suc at) p) (behind s)
         (last_none (take (at - from) (drop from p)) v top (f (take (at - from) (drop from p)) (shows s)) e)))
-
-pub top_end : {sets cells : List ℕ} {v : Text} {first at top : ℕ} → Topped sets cells v first at top → at ≤ first → (p : List Element) → Shows sets cells p
-    → ShortestAt suffix (drop first p) v top
-top_end {sets} {cells} {v} {first} {at} {top} t h p s =
-    let e : at ≡ first = omega (arith, t.order) in subst (λ (n : ℕ). ShortestAt suffix (drop n p) v top) e (t.shortest p s)

@@ -26,9 +26,6 @@ pub record Seeking (t : Text) (at : ℕ) : Type 0 where
   pub within : at ≤ length t
   pub same : plain t ≡ plain (drop at t)
 
-pub seek_start : (t : Text) → Seeking t 0
-seek_start t = record { within = omega arith; same = refl }
-
 plain_few : (t : Text) → length t ≤ 1 → plain t ≡ true
 unfolding plain
 plain_few [] h = refl

@@ -4,16 +4,34 @@ use mathlib.Core.Path.{◌≡◌, refl, sym, ◌∙◌, ap}
 use mathlib.Core.Bool.{Bool, true, false, not, ◌||◌}
 use mathlib.Core.List.{[], ◌∷◌}
 use Rattle.std.proofs.Common.{Result, Err, arith}
-use lib.ListN.{length, drop}
-use Rattle.stages.specs.Bytes.{Text}
+use lib.ListN.{length, drop, get_or}
+use Rattle.stages.specs.Bytes.{Text, between}
 use Rattle.stages.specs.Pattern.{Signs, these, all_others, member_length, member_holds, listed, in_set}
 use Rattle.pattern_unit.specs.Widths.{size, signs_by}
 use Rattle.pattern_unit.specs.declared.Width.{Width}
 use Rattle.pattern_unit.proofs.Units.{scale_zero, scale_suc, unit_at, none_at}
+use Rattle.pattern_class.specs.Table.{in_runs}
 use Rattle.pattern_member.specs.Members.{first_member, read_of, Says, behind_read}
 use Rattle.pattern_member.specs.declared.BadClass.{BadClass}
 use Rattle.pattern_member.specs.declared.Member.{Member}
 use Rattle.pattern_member.proofs.Members.{member_first, member_units}
+
+-- four runs added one after the other are all that is in one of them
+pub four_runs : (r : Text) (k : ℕ) (a : Bool) {b c d e : Bool} →
+    b ≡ (between (get_or r 6 0) k (get_or r 7 0) || a) →
+    c ≡ (between (get_or r 4 0) k (get_or r 5 0) || b) →
+    d ≡ (between (get_or r 2 0) k (get_or r 3 0) || c) →
+    e ≡ (between (get_or r 0 0) k (get_or r 1 0) || d) → e ≡ (in_runs r k || a)
+four_runs r k a g h i j =
+    rw (j, i, h, g)
+    (turned (between (get_or r 0 0) k (get_or r 1 0)) (between (get_or r 2 0) k (get_or r 3 0)) (between (get_or r 4 0) k (get_or r 5 0))
+    (between (get_or r 6 0) k (get_or r 7 0)) a)
+  where
+    turned : (w x y z a : Bool) → (w || (x || (y || (z || a)))) ≡ ((w || (x || (y || z))) || a)
+    turned true x y z a = refl
+    turned false true y z a = refl
+    turned false false true z a = refl
+    turned false false false z a = refl
 
 -- skipping units is dropping them
 listed_skip : (n : ℕ) (r : Signs) (b : ℕ) → listed n r b ≡ listed 0 (drop n r) b

@@ -162,16 +162,6 @@ module _ {w : Width} {path : Bool} {p : Text} {cells sets : List ℕ} {at count 
       let f = fits w (unit_of w at) (length cells) (omega (arith, e, s.inside, s.ended.roomy.room)) in
       omega (arith, f, s.few)
 
-  pub settling_sets : used ≤ 2048
-  settling_sets = small w (length p) used (omega (arith, s.long, s.inside)) (omega (arith, roomy_limit))
-    where
-      roomy_limit : length p ≤ size w * 2048
-      roomy_limit = limit w (length cells) s.ended.roomy.room s.ended.roomy.few
-        where
-          limit : (v : Width) (n : ℕ) → length p ≤ size v * n → n ≤ 2048 → length p ≤ size v * 2048
-          limit Plain n h k = omega arith
-          limit Marked n h k = omega arith
-
   -- at its end
   pub settling_end : length p < at + size w → Settles w path p cells sets count special
   unfolding active

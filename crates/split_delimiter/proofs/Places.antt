@@ -194,9 +194,6 @@ module _ (ifs : Text) where
     pub within : to ≤ length row
     pub same : drop_white ifs (ahead row at) ≡ drop_white ifs (ahead row to)
 
-  pub skip_start : (row : Text) (at : ℕ) → at ≤ length row → Skipping row at at
-  skip_start row at l = record { passed = 0; far = omega arith; within = l; same = refl }
-
   module _ {row : Text} {at to : ℕ} (s : Skipping row at to) where
     pub skip_fits : (d : Kind) → d ≡ White → delimiter_of d ≡ first ifs (ahead row to) → to + 2 ≤ length row
     skip_fits d f e = (white_more row to (sym e ∙ ap delimiter_of f)).0

@@ -148,7 +148,8 @@ module _ (paths : List Text) (r : Row) (p : List Element) {used : ℕ} {old afte
       unfolding written
       untouched = d.filled.is ∙ ap (λ (l : List Text). placed used (written l) old) (sym (done_same d.gives) ∙ none) ∙ placed_none used old
 
-      pub own_instead : {last : Text} {v : Result ℕ WriteError} → Says (done (bytes r ∷ [])) used after last v → Says (done (paths_for paths r p)) used old last v
+      pub own_instead : {last : Text} {v : Result ℕ WriteError} → Says (done (bytes r ∷ [])) used after last v
+          → Says (done (paths_for paths r p)) used old last v
       own_instead t = rw (paths_none paths r p e none, ← untouched) t
 
     pub paths_written : {n : ℕ} → w ≡ Ok n → (n ≡ used → ⊥) → Says (done (paths_for paths r p)) used old after (Ok n)
@@ -188,10 +189,6 @@ module _ (paths : List Text) {field : Text} (f : NoEmpty field) {used : ℕ} {ol
       (own_only paths (row_of field) (elements true 0 (signs_of field)) (plain_still true field e) s)
 
 -- `put_pattern`: a try that touched nothing is as none
-
-pub says_again : (paths : List Text) {field spent : Text} {used : ℕ} {old left after : Text} {r : Result ℕ WriteError} → left ≡ old → spent ≡ field
-    → Says (field_texts paths (row_of spent)) used left after r → Says (field_texts paths (row_of field)) used old after r
-says_again paths e f s = rw (← e, ← f) s
 
 -- `put_field`: N vanishes, which neither patterns nor a field's bytes see
 

@@ -34,7 +34,8 @@ written_one (Err NoRoom) (Err BadClass) e = absurd (other_number (sym e))
 written_one (Err NoRoom) (Err NoRoom) e = refl
 
 -- every writer of fields
-module _ {o : Outcome (List Text)} {used : ℕ} {old left left' : Text} {r s : Result ℕ WriteError} (p : Says o used old left r) (q : Says o used old left' s) where
+module _ {o : Outcome (List Text)} {used : ℕ} {old left left' : Text} {r s : Result ℕ WriteError} (p : Says o used old left r)
+    (q : Says o used old left' s) where
   pub says_determined : r ≡ s
   says_determined = written_one r s (says_answers p ∙ sym (says_answers q))
 
@@ -60,7 +61,8 @@ pub put_own_determined : {o : Outcome (List Text)} {used : ℕ} {old left left' 
 put_own_determined = put_text_determined
 
 -- one field: of the output also where a class refuses it
-module _ {o : Outcome (List Text)} {used : ℕ} {old left left' : Text} {r s : Result ℕ WriteError} (p : PutsOne o used old left r) (q : PutsOne o used old left' s) where
+module _ {o : Outcome (List Text)} {used : ℕ} {old left left' : Text} {r s : Result ℕ WriteError}
+    (p : PutsOne o used old left r) (q : PutsOne o used old left' s) where
   pub put_field_determined : r ≡ s
   put_field_determined = says_determined p.puts.says q.puts.says
 

@@ -131,13 +131,3 @@ puts_says h = record { answers = says_answers h; says = h }
 module _ {field left : Text} {n : ℕ} (s : Stripped field left n) where
   left_length : length left ≡ length field
   left_length = ap length s.leaves ∙ length-append (bytes (row_of field)) _ ∙ simp length-drop (omega (arith, bytes_half field))
-
-  pub own_within : n ≤ length left
-  own_within = omega (arith, bytes_half field, s.counts, left_length)
-
-  own_is : take n left ≡ bytes (row_of field)
-  own_is = ap (take n) s.leaves ∙ take_at (bytes (row_of field)) _ n (sym s.counts)
-
-  pub own_put : {used : ℕ} {old after : Text} {r : Result ℕ WriteError} → Says (done (take n left ∷ [])) used old after r → Says
-      (done (bytes (row_of field) ∷ [])) used old after r
-  own_put h = rw (← own_is) h

@@ -10,7 +10,8 @@ use Rattle.std.specs.Prelude.{Result, Ok}
 use Rattle.split_field.specs.declared.WriteError.{WriteError}
 use Rattle.split_field.proofs.Determined.{says_determined, says_output}
 
-module _ (o : Outcome (List Text)) (used : ℕ) (old left left' : Text) (r s : Result ℕ WriteError) (p : Puts o used old left r) (q : Puts o used old left' s) where
+module _ (o : Outcome (List Text)) (used : ℕ) (old left left' : Text) (r s : Result ℕ WriteError) (p : Puts o used old left r)
+    (q : Puts o used old left' s) where
   pub put_word_fields_determined : r ≡ s
   put_word_fields_determined = says_determined p.says q.says
 

@@ -48,9 +48,6 @@ module _ (ifs : Text) where
     pub within : end ≤ length row
     pub whole : other_run ifs (ahead row at) ≡ (passed ++ (other_run ifs (ahead row end)).0, (other_run ifs (ahead row end)).1)
 
-  pub run_start : (row : Text) (at : ℕ) → at ≤ length row → Run row at at
-  run_start row at l = record { passed = []; long = omega arith; within = l; whole = refl }
-
   -- one unit more
   record More (row : Text) (at : ℕ) : Type 0 where
     unit : Cell

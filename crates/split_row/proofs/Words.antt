@@ -29,7 +29,8 @@ fields_are : (v : Pairs) (row : Row) → fields_of_row v row ≡ split_parts (if
 unfolding fields_of_row ifs_now
 fields_are v row = refl
 
-pub word_puts : (v : Pairs) (paths : List Text) (row : Row) {ifs : Text} {used : ℕ} {old left : Text} {w : Result ℕ WriteError} → ifs ≡ ifs_or (lookup (text "IFS") v)
+pub word_puts : (v : Pairs) (paths : List Text) (row : Row) {ifs : Text} {used : ℕ} {old left : Text} {w : Result ℕ WriteError}
+    → ifs ≡ ifs_or (lookup (text "IFS") v)
     → Says (texts_of_fields paths (split_parts ifs (broken row))) used old left w → Puts (texts_of_fields paths (fields_of_row v row)) used old left w
 word_puts v paths row {ifs} {used} {old} {left} {w} e s =
     let t : Says (texts_of_fields paths (fields_of_row v row)) used old left w = rw (fields_are v row, ← e) s in

@@ -6,7 +6,6 @@ use native.Mathlib.Omega.{arith}
 use borrow.Author.Rules.{rules}
 use lib.Dec.{eqb}
 use lib.ListN.{length}
-use Rattle.pattern_match.proofs.Matching.{says_whole}
 use Rattle.pattern_match.proofs.Ends.{rest_short, rest_matches, rest_fails, rest_missed}
 use Rattle.pattern_match.proofs.behind_last_star.Goals as goal
 
@@ -21,7 +20,7 @@ returns c es s =
     let end = length a.text.now - (length a.cells.now - a.at) in
     let begun : c.if-first.begins ≡ (a.first && eqb a.k end) = search rules in
     c.gap_passes.ensures ∙ sym (rest_matches s a.at c.requires.trails a.path a.first a.text.now a.k end (omega arith) (omega arith) begun
-    (says_whole a.path a.sets.now a.cells.now a.text.now a.at end false _ c.run_to_star.ensures c.in-Whole.is es s))
+    (c.in-Whole.ensures es s))
 
 pub returns-in_default : goal.returns-in_default
 returns-in_default c es s =

@@ -7,8 +7,8 @@ use Rattle.arith_eval.proofs.plain.+plain_from.Given as goal
 abbrev pub decreases-plain_from : goal.decreases-plain_from
 decreases-plain_from l = length l.text.now - l.at
 
-abbrev pub invariant-loop-op : goal.invariant-loop-op
-invariant-loop-op l = Plods l.text l.at l.least l.left l.value l.i
+abbrev pub invariant-loop-sign : goal.invariant-loop-sign
+invariant-loop-sign l = Plods l.text l.at l.least l.left l.value l.i
 
-abbrev pub decreases-loop-op : goal.decreases-loop-op
-decreases-loop-op l = length l.text - l.i
+abbrev pub decreases-loop-sign : goal.decreases-loop-sign
+decreases-loop-sign l = length l.text - l.i
