@@ -63,10 +63,10 @@ pub further-loop-more-preserved : goal.further-loop-more-preserved
 further-loop-more-preserved t c =
     let a = c.args in
     let m = c.in-Some.more in
-    rw (kept m.value (omega arith))
-    (going_next (lent_in a.scope) a.text.now a.vars.now a.scope.vars_used a.scope.counts a.at a.scope.room a.least (to_z w64 (of_z w64 a.left))
-    (to_z w64 c.loop-more.value-bits) c.loop-more.next c.loop-more.vars
-    c.loop-more.vars_used c.loop-more.invariant c.operator.new.vars m.value m.next m.vars_used (rw c.in-Some.is at c.in_ok-more.ensures))
+    let l = c.loop-more in
+    going_next (lent_in a.scope) a.text.now a.vars.now a.scope.vars_used a.scope.counts a.at a.scope.room a.least (to_z w64 (of_z w64 a.left))
+    l.so_far.value l.so_far.next l.vars l.so_far.vars_used l.invariant c.operator.new.vars m.value m.next m.vars_used
+    (rw (kept l.so_far.value (omega arith)) at (rw c.in-Some.is at c.in_ok-more.ensures))
 
 pub operand-returns-in_err-token : goal.operand-returns-in_err-token
 operand-returns-in_err-token t c =
