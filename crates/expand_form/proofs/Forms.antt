@@ -68,7 +68,8 @@ module _ (a : Lent) (operand : Mark → Pairs → Made) (x : Param) (m : Mark) (
   unfolding sought missing value
   sought_plan = shout_plan a.shouts (holding a v x)
 
-  plain_plan : (b : Bool) → (pick b (refused unset_name) (done (value a v x)) >>= λ t. plainly t m v) ≡ by_plan (pick b (Err UnsetName) (Ok (plan.Unused Value)))
+  plain_plan : (b : Bool) → (pick b (refused unset_name) (done (value a v x)) >>= λ t. plainly t m v) ≡ by_plan
+      (pick b (Err UnsetName) (Ok (plan.Unused Value)))
   unfolding settled
   plain_plan true = refl
   plain_plan false = refl

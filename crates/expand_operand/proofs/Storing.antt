@@ -34,7 +34,8 @@ module _ (varsRoom : ℕ) (x area : Text) (units : ℕ) (p : Storable (var x) ar
   pub operand_settable : Settable x t
   operand_settable = record { named = p.named; clean = ap (all not_zero) e ∙ p.clean }
 
-  pub operand_stored : (v : Pairs) (left : Text) (r : Result ℕ NoRoom) → StoresIn varsRoom x t v left r → StoresIn varsRoom x (bytes (row_at area units)) v left r
+  pub operand_stored : (v : Pairs) (left : Text) (r : Result ℕ NoRoom) → StoresIn varsRoom x t v left r → StoresIn varsRoom x (bytes (row_at area units)) v
+      left r
   operand_stored v left r s = subst (λ (u : Text). StoresIn varsRoom x u v left r) e s
 
 -- the value after the store

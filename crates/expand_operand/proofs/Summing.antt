@@ -74,5 +74,6 @@ module _ (a : Lent) (m : Mark) (row : Row) (came : Bool) {t : Text} (e : t ≡ b
         made = sum_by ∙ ap (λ (o : Evaluated). o >>= given) h.0 ∙ rw i
 
 -- what the text comes to, once its case is known
-pub comes_known : (a : Lent) (t vars : Text) (used : ℕ) (left : Text) {r k : Result Worked Refusal} → ComesTo a t vars used left r → r ≡ k → ComesTo a t vars used left k
+pub comes_known : (a : Lent) (t vars : Text) (used : ℕ) (left : Text) {r k : Result Worked Refusal} → ComesTo a t vars used left r → r ≡ k → ComesTo a t vars
+    used left k
 comes_known a t vars used left h e = subst (ComesTo a t vars used left) e h

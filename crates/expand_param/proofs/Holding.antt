@@ -61,7 +61,8 @@ shout_given true (some t) e = refl
 
 -- "missing", by where the value was found
 
-missing_part : (u : Text) (c : Colon) (from to : ℕ) → length u ≡ to - from → from ≤ to → missing_in (Some (record { from = from; to = to })) c ≡ stage.absent c (some u)
+missing_part : (u : Text) (c : Colon) (from to : ℕ) → length u ≡ to - from → from ≤ to → missing_in (Some (record { from = from; to = to })) c ≡ stage.absent
+    c (some u)
 unfolding stage.absent
 missing_part [] with_colon from to e l = eq-eqb from to (omega arith)
 missing_part [] no_colon from to e l = refl

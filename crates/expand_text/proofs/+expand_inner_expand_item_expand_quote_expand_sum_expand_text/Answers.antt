@@ -10,12 +10,14 @@ use Rattle.read_mode.specs.Modes.{form_of}
 use Rattle.read_brace.specs.Shows.{param_of}
 use Rattle.expand_add.proofs.Standing.{empty_front}
 use Rattle.expand_text.proofs.Inside.{lending, quote_full, quote_expanded, quote_stopped, quote_waiting, quote_row, plan_refused, unused_given}
-use Rattle.expand_text.proofs.Inside.{operand_expanded, used_stopped, used_ready, used_holds, used_given, sum_expanded, sum_stopped, sum_holds, sum_few, sum_given}
+use Rattle.expand_text.proofs.Inside.{operand_expanded, used_stopped, used_ready, used_holds, used_given, sum_expanded, sum_stopped, sum_holds}
+use Rattle.expand_text.proofs.Inside.{sum_few, sum_given}
 use Rattle.expand_text.proofs.Items.{here_at, item_stop, item_byte, item_paren, item_value, item_count, item_total, item_spread, item_home}
 use Rattle.expand_text.proofs.Items.{item_quote, item_inner, item_sum, value_name, count_name, quote_place, quote_ready}
 use Rattle.expand_text.proofs.Items.{inner_place, inner_places, inner_ready, inner_name, sum_place, sum_ready}
 use Rattle.expand_text.proofs.Looping.{run_full, run_refused, going_start, going_room, going_ready, going_put, going_fault, expanding_item}
-use Rattle.expand_text.proofs.Looping.{going_close, going_close_within, going_stopped, going_waiting, going_fits, going_end, moved, going_row, came_before, came_now}
+use Rattle.expand_text.proofs.Looping.{going_close, going_close_within, going_stopped, going_waiting, going_fits, going_end, moved, going_row}
+use Rattle.expand_text.proofs.Looping.{came_before, came_now}
 use Rattle.expand_text.proofs.+expand_inner_expand_item_expand_quote_expand_sum_expand_text.Goals as goal
 use Rattle.expand_text.proofs.+expand_inner_expand_item_expand_quote_expand_sum_expand_text.Goals.{
   expand_text-then-of_none,
@@ -42,7 +44,8 @@ pub expand_inner-returns-in_ok-next-in-Unused : goal.expand_inner-returns-in_ok-
 expand_inner-returns-in_ok-next-in-Unused t c =
     let a = c.args in
     unused_given a.row.units a.params.now (param_of a.text.now a.named.param) (form_of a.named.form) (mark_of a.row.mark) c.requires.0
-    (lending {shouts = a.extent.shouts} a.params.now c.requires.1 c.requires.2 c.requires.3) refl c.in_ok-what.ensures (ap Ok c.in-Unused.is) c.in_ok-next-in-Unused.ensures c.settle.new.work c.settle.result
+    (lending {shouts = a.extent.shouts} a.params.now c.requires.1 c.requires.2 c.requires.3) refl c.in_ok-what.ensures (ap Ok c.in-Unused.is)
+        c.in_ok-next-in-Unused.ensures c.settle.new.work c.settle.result
     (c.settle.ensures a.extent.vars_room a.extent.shouts a.homes.now)
 
 pub expand_inner-returns-in_err-given-in-Used : goal.expand_inner-returns-in_err-given-in-Used
@@ -225,7 +228,8 @@ expand_quote-behind-requires t c =
     let x = quote_expanded c.requires.0 (lending {shouts = a.extent.shouts} a.params.now c.requires.1 c.requires.2 c.requires.3) l c.expand_text.new.work
     c.expand_text.new.vars c.expand_text.result c.expand_text.ensures in
     let w = c.put_empty.new.area in
-    omega (arith, quote_waiting x c.in-Err.stop c.in-Err.is, c.expand_text.auto.work, mid_len 2 (length w) w (omega arith), c.put_empty.auto.area, c.well_formed)
+    omega (arith, quote_waiting x c.in-Err.stop c.in-Err.is, c.expand_text.auto.work, mid_len 2 (length w) w (omega arith), c.put_empty.auto.area,
+        c.well_formed)
 
 pub expand_quote-returns-in-Err : goal.expand_quote-returns-in-Err
 expand_quote-returns-in-Err t c =
