@@ -115,7 +115,8 @@ goes_starts homes paths params block line vars said k h = record {
   same_said = refl;
   reached = λ first read w r. record {
     wrote = w;
-    reaches = subst (λ (x : Text). Reaches homes paths params first x w line k.carried.kept k.carried.line (variables vars k.carried.vars_used k.carried.shouts))
+    reaches = subst (λ (x : Text). Reaches homes paths params first x w line k.carried.kept k.carried.line
+        (variables vars k.carried.vars_used k.carried.shouts))
         (sym (append-nil read)) r;
   };
 }
@@ -201,7 +202,8 @@ module _ {homes paths params block line vars said : Text} {k : Run} {line' vars'
       → Follows homes paths params block line vars said k line' vars' said' r i
   follows_end e f = subst (Follows homes paths params block line vars said k line' vars' said' r) (sym e) (finishes f)
 
-  pub follows_failure : {e : Unread} → i ≡ Err e → Fails line vars said k line' vars' said' r → Follows homes paths params block line vars said k line' vars' said' r i
+  pub follows_failure : {e : Unread} → i ≡ Err e → Fails line vars said k line' vars' said' r
+      → Follows homes paths params block line vars said k line' vars' said' r i
   follows_failure e f = subst (Follows homes paths params block line vars said k line' vars' said' r) (sym e) (fails f)
 
 -- ALL BLOCKS
@@ -275,5 +277,6 @@ module _ {homes paths params vars₀ : Text} {used₀ : ℕ} {shouts₀ : Bool} 
       stopped (finishes p) e = answers_ran (run_ran homes paths params g.reached.reaches p.says)
       stopped (fails p) e =
           answers_ran (subst (Ran homes paths params (variables vars₀ used₀ shouts₀) g.read)
-          (sym (ap (λ (x : Text). variables x r.carried.vars_used k.carried.shouts) p.same_vars ∙ ap (λ (n : ℕ). variables vars n k.carried.shouts) p.same_used))
+          (sym (ap (λ (x : Text). variables x r.carried.vars_used k.carried.shouts) p.same_vars
+          ∙ ap (λ (n : ℕ). variables vars n k.carried.shouts) p.same_used))
           (reaches_ran homes paths params g.reached.reaches))

@@ -1,6 +1,7 @@
 -- What the contracts of the program's loop cite. What the system read stands in the block; what it was given to write stood at the front of the words'
 -- buffer: the words of an answer, and right behind them what is told of its line.
-use Rattle.std.specs.Prelude.{ℕ, zero, suc, ◌<◌, min, ◌≡◌, Bool, true, false, List, [], ◌++◌, Option as Perhaps, Some, None, Result, Ok, Err, length, take, drop, replicate}
+use Rattle.std.specs.Prelude.{ℕ, zero, suc, ◌<◌, min, ◌≡◌, Bool, true, false, List, [], ◌++◌, length, take, drop, replicate}
+use Rattle.std.specs.Prelude.{Option as Perhaps, Some, None, Result, Ok, Err}
 use Rattle.std.proofs.Math.Option.{Option}
 use Rattle.stages.specs.Numbers.{image_limit}
 use Rattle.stages.specs.Bytes.{Text}
@@ -70,7 +71,8 @@ pub record Finishes (homes paths params line vars said : Text) (k : Run) (vars' 
   pub stops : r.goes_on ≡ false
   pub len : ℕ
   pub told : ℕ
-  pub says : Says homes paths params (variables vars k.carried.vars_used k.carried.shouts) k.carried.line (last_line (take k.carried.kept line)) said said' vars'
+  pub says : Says homes paths params (variables vars k.carried.vars_used k.carried.shouts) k.carried.line
+      (last_line (take k.carried.kept line)) said said' vars'
       (record { len = len; told = told; vars_used = r.carried.vars_used })
 
 -- the input failed: nothing more is answered

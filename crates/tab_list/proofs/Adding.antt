@@ -99,7 +99,8 @@ module _ (line : Text) {area left : Text} {r : Result ℕ Fault} (s : Reads (rea
           let w : take n left ≡ t = ap (take n) p.leaves ∙ take_at t (drop (length t) area) n (sym p.counts) in
           record { is = x ∙ ap good (sym w); long = omega (arith, p.counts, ap length p.leaves, length-append t (drop (length t) area)) }
 
-module _ {line area : Text} {k : ℕ} (g : Got line area k) (used : ℕ) (old ys : Text) (r : Result ℕ NoRoom) (h : used ≤ length old) (small : length old ≤ image_limit)
+module _ {line area : Text} {k : ℕ} (g : Got line area k) (used : ℕ) (old ys : Text) (r : Result ℕ NoRoom) (h : used ≤ length old)
+    (small : length old ≤ image_limit)
     (w : Writes (record_in (length (mid_of used (length old - used) old)) (take k area)) (mid_of used (length old - used) old) ys (put_outcome r)) where
   abbrev t : Text
   t = take k area

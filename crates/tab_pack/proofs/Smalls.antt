@@ -59,7 +59,8 @@ escape_lesser n c h l =
     by_pick Lesser (ltb n 2) _ _ (λ _. tt)
     (λ _. by_pick Lesser (eqb c 110) _ _ (λ _. refl)
     (λ _. by_pick Lesser (eqb c 92) _ _ (λ _. refl)
-    (λ _. by_pick Lesser (eqb c 120) _ _ (λ _. by_pick Lesser (ltb n 4) _ _ (λ _. tt) (λ _. hex_lesser (hex_value h) (hex_value l) (digit_small h) (digit_small l))) (λ _. tt))))
+    (λ _. by_pick Lesser (eqb c 120) _ _
+    (λ _. by_pick Lesser (ltb n 4) _ _ (λ _. tt) (λ _. hex_lesser (hex_value h) (hex_value l) (digit_small h) (digit_small l))) (λ _. tt))))
 
 byte_lesser : (b : ℕ) (t : Text) → is_byte b ≡ true → Lesser (byte_at (b ∷ t) 0)
 unfolding byte_at

@@ -20,8 +20,8 @@ pub struct BadLine {
 
 const NEWLINE: u8 = b'\n';
 
-// Packs the lines of a text into an image of the kind at the front of a buffer, and answers its length. The bytes behind it stay. At a line that is no record the image of those
-// before it is left. The work area has room for a line.
+// Packs the lines of a text into an image of the kind at the front of a buffer, and answers its length. The bytes behind it stay. At a line that is no record
+// the image of those before it is left. The work area has room for a line.
 pub fn pack(kind: Kind, text: &[u8], image: &mut [u8], work: &mut [u8]) -> Result<usize, BadLine>
     requires { (limit_by (in_twos kind) ≤ length image.old) × (length text.now ≤ length work.old) }
     ensures { Packs (in_twos kind) (packed kind 1 [] (lines_of text.now)) image.old image.new result }

@@ -13,7 +13,8 @@ pub enum Job {
     Coster,
 }
 
-// Has the case an image where it is accepted, as long as told, and none where it is refused? Its number, the image's length and its bytes stand at these places.
+// Has the case an image where it is accepted, as long as told, and none where it is refused? Its number, the image's length and its bytes stand at these
+// places.
 fn has_image(case: &[u8], number: usize, length: usize, bytes: usize) -> bool {
     if words::number(words::word(case, number)) == 0 {
         words::agrees(case, length, bytes)

@@ -13,7 +13,8 @@ pub returns-then-answer-ne-ACCEPTED : goal.returns-then-answer-ne-ACCEPTED
 returns-then-answer-ne-ACCEPTED c = going_stops (line_there c.loop-asked.invariant.0 c.find.ensures) c.assign-answer.ensures c.if-answer-ne-ACCEPTED.true
 
 pub returns-then-text-end : goal.returns-then-text-end
-returns-then-text-end c = going_passes (line_there c.loop-asked.invariant.0 c.find.ensures) c.assign-answer.ensures c.if-answer-ne-ACCEPTED.false c.if-text-end.true
+returns-then-text-end c =
+    going_passes (line_there c.loop-asked.invariant.0 c.find.ensures) c.assign-answer.ensures c.if-answer-ne-ACCEPTED.false c.if-text-end.true
 
 pub loop-asked-preserved : goal.loop-asked-preserved
 loop-asked-preserved c =

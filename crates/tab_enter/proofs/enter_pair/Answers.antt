@@ -21,7 +21,9 @@ pub slice_bounds-enter-end-2 : goal.slice_bounds-enter-end-2
 slice_bounds-enter-end-2 c = (read_good (keyed c.find-end.ensures c.if-line-end.false (sym c.if-not-key_fits.ensures)) c.read_text.ensures _ c.in_ok-n.was).long
 
 pub slice_bounds-enter-end-3 : goal.slice_bounds-enter-end-3
-slice_bounds-enter-end-3 c = sym (length-take-le _ _ (read_good (keyed c.find-end.ensures c.if-line-end.false (sym c.if-not-key_fits.ensures)) c.read_text.ensures _ c.in_ok-n.was).long)
+slice_bounds-enter-end-3 c =
+    let g = read_good (keyed c.find-end.ensures c.if-line-end.false (sym c.if-not-key_fits.ensures)) c.read_text.ensures _ c.in_ok-n.was in
+    sym (length-take-le _ _ g.long)
 
 pub returns : goal.returns
 returns c =

@@ -31,8 +31,8 @@ overflow_add-result c =
     let k : put_as c.put_record.result ≡ c.map_err.result = search rules in
     omega (
       arith,
-      line_fits (line_good c.args.line.now c.read_text.ensures _ c.in_ok-n.was) c.args.used c.args.out.now c.put_record.new.out c.put_record.result c.requires.0 c.requires.1
-          c.put_record.ensures (put_ok (k ∙ c.in_ok-m.was)),
+      line_fits (line_good c.args.line.now c.read_text.ensures _ c.in_ok-n.was) c.args.used c.args.out.now c.put_record.new.out
+          c.put_record.result c.requires.0 c.requires.1 c.put_record.ensures (put_ok (k ∙ c.in_ok-m.was)),
     )
 
 pub returns : goal.returns

@@ -18,12 +18,14 @@ pub returns-in_err-used : goal.returns-in_err-used
 returns-in_err-used c =
     let k : told_as c.loop-at.line c.add_line.result ≡ c.map_err.result = search rules in
     let p = err_from_is_err_and c.from_residual.result c.from_residual.ensures.1 in
-    rw (p.1, p.2) (lists_for c.args.text.now c.args.out.now (going_bad (line_there c.loop-at.invariant.0 c.loop-at-test.true c.find.ensures) c.add_line.ensures (k ∙ c.in_err-used.was)))
+    let l = line_there c.loop-at.invariant.0 c.loop-at-test.true c.find.ensures in
+    rw (p.1, p.2) (lists_for c.args.text.now c.args.out.now (going_bad l c.add_line.ensures (k ∙ c.in_err-used.was)))
 
 pub loop-at-preserved : goal.loop-at-preserved
 loop-at-preserved c =
     let k : told_as c.loop-at.line c.add_line.result ≡ c.map_err.result = search rules in
-    (going_more (line_there c.loop-at.invariant.0 c.loop-at-test.true c.find.ensures) c.add_line.ensures (k ∙ c.in_ok-used.was), c.add_line.auto.work ∙ c.loop-at.invariant.1)
+    let l = line_there c.loop-at.invariant.0 c.loop-at-test.true c.find.ensures in
+    (going_more l c.add_line.ensures (k ∙ c.in_ok-used.was), c.add_line.auto.work ∙ c.loop-at.invariant.1)
 
 pub returns : goal.returns
 returns c = lists_for c.args.text.now c.args.out.now (going_ends c.loop-at.invariant.0 c.loop-at-test.false)

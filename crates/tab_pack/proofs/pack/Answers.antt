@@ -35,7 +35,8 @@ returns-in_err-used c =
 pub loop-at-preserved : goal.loop-at-preserved
 loop-at-preserved c =
     let k : told_as c.loop-at.line c.enter_line.result ≡ c.map_err.result = search rules in
-    (going_more (line_there c.loop-at.invariant.0 c.loop-at-test.true c.find.ensures) c.enter_line.ensures (k ∙ c.in_ok-used.was), c.enter_line.auto.work ∙ c.loop-at.invariant.1)
+    let l = line_there c.loop-at.invariant.0 c.loop-at-test.true c.find.ensures in
+    (going_more l c.enter_line.ensures (k ∙ c.in_ok-used.was), c.enter_line.auto.work ∙ c.loop-at.invariant.1)
 
 pub returns : goal.returns
 returns c = packs_from (going_ends c.loop-at.invariant.0 c.loop-at-test.false)
