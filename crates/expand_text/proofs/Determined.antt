@@ -2,7 +2,6 @@
 -- and the variables' image. Open is what crates/expand_add/proofs/Determined.antt names.
 use Prim.Native.Nat.{ℕ, ◌*◌}
 use mathlib.Core.Path.{◌≡◌}
-use mathlib.Core.Bool.{Bool}
 use lib.ListN.{take, drop}
 use Rattle.stages.specs.Bytes.{Text}
 use Rattle.stages.specs.Outcome.{done}
@@ -14,8 +13,9 @@ use Rattle.stages.specs.Units.{Mark}
 use Rattle.stages.specs.Expand.{expand}
 use Rattle.stages.proofs.Images.{Bytes}
 use Rattle.expand_add.specs.Answers.{Says}
-use Rattle.expand_add.specs.declared.answers.Expanded.{Expanded}
-use Rattle.expand_add.specs.declared.answers.Expanded.TheVariants.{Row}
+use Rattle.std.specs.Prelude.{Ok}
+use Rattle.expand_add.specs.declared.answers.Row.{Row}
+use Rattle.expand_add.specs.Expanded.{Expanded}
 use Rattle.expand_add.proofs.Determined.{OneAnswer, determined, determined_row, determined_image}
 
 module _ (a : Lent) (text : Text) (at : ℕ) (mode : Mode) (depth units : ℕ) (m : Mark) (v : Pairs) {p : Parts × Text}
@@ -25,10 +25,9 @@ module _ (a : Lent) (text : Text) (at : ℕ) (mode : Mode) (depth units : ℕ) (
   pub expand_text_determined : OneAnswer area r area' r'
   expand_text_determined = determined a.room text at units (λ t. expand a t m units v) e area vars area' vars' r r' s s'
 
-  pub expand_text_determined_row : {n next used n' next' used' : ℕ} {g g' : Bool} → r ≡ Row n next used g → r' ≡ Row n' next' used' g'
-      → take (2 * n) area ≡ take (2 * n') area'
+  pub expand_text_determined_row : {g g' : Row} → r ≡ Ok g → r' ≡ Ok g' → take (2 * g.units) area ≡ take (2 * g'.units) area'
   expand_text_determined_row = determined_row a.room text at units (λ t. expand a t m units v) e area vars area' vars' r r' s s'
 
-  pub expand_text_determined_image : {n next used n' next' used' : ℕ} {g g' : Bool} → r ≡ Row n next used g → r' ≡ Row n' next' used' g'
-      → Bytes (take used vars) → Bytes (take used' vars') → take used vars ≡ take used' vars'
+  pub expand_text_determined_image : {g g' : Row} → r ≡ Ok g → r' ≡ Ok g' → Bytes (take g.vars_used vars) → Bytes (take g'.vars_used vars')
+      → take g.vars_used vars ≡ take g'.vars_used vars'
   expand_text_determined_image = determined_image a.room text at units (λ t. expand a t m units v) e area vars area' vars' r r' s s'

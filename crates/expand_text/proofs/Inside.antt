@@ -9,7 +9,7 @@ use borrow.Author.Tests.{ne_eqb}
 use lib.Dec.{eqb}
 use lib.ListN.{length, take, drop}
 use lib.Seq.{length-take-le}
-use Rattle.stages.specs.Numbers.{row_limit, too_many_units, unset_name}
+use Rattle.stages.specs.Numbers.{row_limit}
 use Rattle.stages.specs.Bytes.{Text, all, not_zero}
 use Rattle.stages.specs.Outcome.{refused, demands, done, ◌>>=◌, pick}
 use Rattle.stages.specs.Images.{Pairs, texts, is_name, flat, held, held_texts}
@@ -32,23 +32,28 @@ use Rattle.read_mode.specs.Modes.{mode_of}
 use Rattle.read_mode.specs.declared.Mode.{Mode}
 use Rattle.read_mode.specs.declared.Mode.TheVariants.{Arith}
 use Rattle.read_line.specs.Says.{ReadTo, ReadSays}
-use Rattle.read_line.specs.declared.Reading.{Reading}
 use Rattle.table.specs.Places as places
 use Rattle.table.specs.Around.{lent_of}
 use Rattle.expand_add.specs.Added.{Adds}
 use Rattle.expand_form.specs.Plans.{missing_held, plan_of, operand_mark, settled, finished}
 use Rattle.expand_add.specs.Steps.{placed, quoted, summed, summing}
 use Rattle.expand_operand.specs.Operands.{IsNamed, Storable}
-use Rattle.expand_text.specs.Items.{units_in_quotes}
+use Rattle.expand_text.specs.Items.{message_at, behind, units_in_quotes}
 use Rattle.table_store.specs.Holding.{Holds}
 use Rattle.expand_add.specs.Answers.{Ready, IsRow, IsDemand, Ends, Answers, Says, Finishes}
-use Rattle.expand_add.specs.declared.answers.Expanded.{Expanded}
-use Rattle.expand_add.specs.declared.answers.Expanded.TheVariants as answer
+use Rattle.std.specs.Prelude.{Result, Ok, Err}
+use Rattle.text.specs.Refusals.{refusal_number}
+use Rattle.text.specs.declared.refusal.Refusal.{Refusal}
+use Rattle.text.specs.declared.refusal.Refusal.TheVariants.{TooManyUnits}
+use Rattle.expand_add.specs.declared.answers.Row as answer
+use Rattle.expand_add.specs.declared.answers.Stop.{Stop}
+use Rattle.expand_add.specs.declared.answers.Stop.TheVariants as stop
+use Rattle.expand_add.specs.Expanded.{Expanded}
 use Rattle.expand_form.specs.declared.Plan.{Plan}
 use Rattle.expand_form.specs.declared.Plan.TheVariants as plan
 use Rattle.expand_form.specs.declared.Unused.{Unused}
 use Rattle.expand_form.specs.declared.Used.{Used}
-use Rattle.expand_form.proofs.Forms.{unused_operand, used_operand, shouted_operand}
+use Rattle.expand_form.proofs.Forms.{unused_operand, used_operand, refused_operand}
 use Rattle.expand_add.proofs.Steps.{placed_refused, placed_demands}
 use Rattle.table_store.proofs.Holding.{vars_held}
 use Rattle.expand_add.proofs.Holding.{says_known, answers_known, adds_finishes, finishes_same, finishes_answers}
@@ -111,8 +116,8 @@ module _ {lent : Lent} {text : Text} {at : ℕ} {mode : Mode} {d units size : �
       }
 
 -- what a reader answers, once its case is known
-pub reading_known : (text : Text) (at : ℕ) (o : Taken) {r k : Reading} → ReadSays text at o r → r ≡ k → ReadSays text at o k
-reading_known text at o h e = subst (λ (k : Reading). ReadSays text at o k) e h
+pub reading_known : (text : Text) (at : ℕ) (o : Taken) {r k : Result ℕ Refusal} → ReadSays text at o r → r ≡ k → ReadSays text at o k
+reading_known text at o h e = subst (λ (k : Result ℕ Refusal). ReadSays text at o k) e h
 
 -- A quote.
 
@@ -156,7 +161,7 @@ module _ {lent : Lent} {text : Text} {at : ℕ} {mode : Mode} {d units size : �
   Quoted area vars g =
       Says lent.room text at units (λ q. quoted lent q units (held (take vars_used vars₀))) (parts (mode_of mode) d (drop at text)) area vars g
 
-  pub quote_full : (area vars : Text) → row_limit ≤ units → Quoted area vars (answer.Refused too_many_units)
+  pub quote_full : (area vars : Text) → row_limit ≤ units → Quoted area vars (Err (stop.Refused TooManyUnits))
   unfolding quoted
   quote_full area vars l = rw y.is (rw (fit_full units 1 (omega arith)))
 
@@ -174,6 +179,12 @@ pub record QuoteExpanded (lent : Lent) (text : Text) (at : ℕ) (mode : Mode) (d
   pub says : Says lent.room text at (units + 1) (λ t. expand lent t Q (units + 1) (held (take vars_used vars₀)))
       (parts (mode_of mode) d (drop at text)) ys us g
 
+pub quote_expanded : {lent : Lent} {text : Text} {at : ℕ} {mode : Mode} {d units size : ℕ} {vars₀ : Text} {vars_used : ℕ}
+    → Ready text at mode d units size → Lends lent vars₀ vars_used → units < row_limit → (ys us : Text) (g : Expanded)
+    → Says lent.room text at (units + 1) (λ t. expand lent t Q (units + 1) (held (take vars_used vars₀))) (parts (mode_of mode) d (drop at text)) ys us g
+    → QuoteExpanded lent text at mode d units size vars₀ vars_used ys us g
+quote_expanded y w l ys us g s = record { ready = y; lends = w; room = l; says = s }
+
 module _ {lent : Lent} {text : Text} {at : ℕ} {mode : Mode} {d units size : ℕ} {vars₀ : Text} {vars_used : ℕ} {ys us : Text} {g : Expanded}
     (x : QuoteExpanded lent text at mode d units size vars₀ vars_used ys us g) where
   abbrev QuotedIn : Text → Text → Expanded → Type 0
@@ -187,45 +198,53 @@ module _ {lent : Lent} {text : Text} {at : ℕ} {mode : Mode} {d units size : �
   unfolding quoted
   quote_made o e = let l = x.room in rw (fit_ok units 1 (omega arith), e)
 
-  pub quote_refused : (area : Text) {e : ℕ} → g ≡ answer.Refused e → QuotedIn area us (answer.Refused e)
+  quote_refused : (area : Text) {e : Refusal} → g ≡ Err (stop.Refused e) → QuotedIn area us (Err (stop.Refused e))
   quote_refused area {e} q =
-      let b : expand lent x.ready.tree Q (units + 1) (held (take vars_used vars₀)) ≡ refused e =
+      let b : expand lent x.ready.tree Q (units + 1) (held (take vars_used vars₀)) ≡ refused (refusal_number e) =
       answers_known lent.room text at (units + 1) _ x.ready.rest ys us inside q in
-      rw x.ready.is (quote_made (refused e) b)
+      rw x.ready.is (quote_made (refused (refusal_number e)) b)
 
-  module _ {from len : ℕ} (q : g ≡ answer.Demanded from len) where
+  module _ {from len : ℕ} (q : g ≡ Err (stop.Demanded from len)) where
     demand_inside : IsDemand (expand lent x.ready.tree Q (units + 1) (held (take vars_used vars₀))) ys from len
     demand_inside = answers_known lent.room text at (units + 1) _ x.ready.rest ys us inside q
 
-    pub quote_waits : from + len ≤ length ys
+    quote_waits : from + len ≤ length ys
     quote_waits = demand_inside.waits.fits
 
-    pub quote_demanded : (a z : Text) → 2 ≤ length a → QuotedIn (take 2 a ++ (ys ++ z)) us (answer.Demanded (2 + from) len)
+    quote_demanded : (a z : Text) → 2 ≤ length a → QuotedIn (take 2 a ++ (ys ++ z)) us (Err (stop.Demanded (2 + from) len))
     quote_demanded a z l =
         let i = demand_inside in
         rw x.ready.is
         (record { message = i.message; is = quote_made (demands i.message) i.is; waits = waits_nest (take 2 a) z (length-take-le 2 a l) i.waits })
 
-  module _ {count next left : ℕ} {came : Bool} (q : g ≡ answer.Row count next left came) where
-    row_inside : IsRow lent.room (units + 1) (expand lent x.ready.tree Q (units + 1) (held (take vars_used vars₀))) ys us count left came
-        × Ends text at next x.ready.rest
+  pub quote_stopped : (s : Stop) → g ≡ Err s → (a z : Text) → 2 ≤ length a → QuotedIn (take 2 a ++ (ys ++ z)) us (Err (behind 2 s))
+  quote_stopped (stop.Refused e) q a z l = quote_refused (take 2 a ++ (ys ++ z)) q
+  quote_stopped (stop.Demanded from len) q a z l = quote_demanded q a z l
+
+  pub quote_waiting : (s : Stop) → g ≡ Err s → message_at s ≤ length ys
+  quote_waiting (stop.Refused e) q = omega arith
+  quote_waiting (stop.Demanded from len) q = omega (arith, quote_waits q)
+
+  module _ {r : answer.Row} (q : g ≡ Ok r) where
+    row_inside : IsRow lent.room (units + 1) (expand lent x.ready.tree Q (units + 1) (held (take vars_used vars₀))) ys us r.units r.vars_used r.of_none
+        × Ends text at r.next x.ready.rest
     row_inside = answers_known lent.room text at (units + 1) _ x.ready.rest ys us inside q
 
-    pub quote_fits : units + 1 + count ≤ row_limit
+    pub quote_fits : units + 1 + r.units ≤ row_limit
     quote_fits = row_inside.0.fits
 
-    pub quote_row : {k : ℕ} → k ≡ units_in_quotes came count → (a b z : Text) → a ≡ 0 ∷ 0 ∷ b
-        → QuotedIn (take 2 a ++ (ys ++ z)) us (answer.Row k next left false)
+    pub quote_row : {k : ℕ} → k ≡ units_in_quotes r.of_none r.units → (a b z : Text) → a ≡ 0 ∷ 0 ∷ b
+        → QuotedIn (take 2 a ++ (ys ++ z)) us (Ok (record { units = k; next = r.next; vars_used = r.vars_used; of_none = false }))
     quote_row {k} o a b z e =
         let i = row_inside.0 in
         let f = i.fits in
-        let l = quotes_short came count in
+        let l = quotes_short r.of_none r.units in
         rw x.ready.is (
           record {
-            row = in_quotes came i.row;
-            is = quote_made (done (i.row, held (take left us), came)) i.is;
-            counts = quotes_length came i.row ∙ ap (units_in_quotes came) i.counts ∙ sym o;
-            stands = subst (λ (p : Text). Stands (in_quotes came i.row) (take 2 p ++ (ys ++ z))) (sym e) (quotes_stand came i.row ys z i.stands);
+            row = in_quotes r.of_none i.row;
+            is = quote_made (done (i.row, held (take r.vars_used us), r.of_none)) i.is;
+            counts = quotes_length r.of_none i.row ∙ ap (units_in_quotes r.of_none) i.counts ∙ sym o;
+            stands = subst (λ (p : Text). Stands (in_quotes r.of_none i.row) (take 2 p ++ (ys ++ z))) (sym e) (quotes_stand r.of_none i.row ys z i.stands);
             fits = omega arith;
             holds = i.holds;
           },
@@ -236,7 +255,7 @@ module _ {lent : Lent} {text : Text} {at : ℕ} {mode : Mode} {d units size : �
 
 module _ {lent : Lent} {text : Text} {at : ℕ} {mode : Mode} {d size : ℕ} {vars₀ : Text} {vars_used : ℕ}
     (units : ℕ) (params : Text) (x : Param) (form : Form) (m : Mark) (y : Ready text at mode d 0 size) (w : Lends lent vars₀ vars_used)
-    (l : lent.params ≡ held_texts params) {own : Plan} (e : own ≡ plan_of form (missing_held (take vars_used vars₀) params x) lent.shouts) where
+    (l : lent.params ≡ held_texts params) {own : Result Plan Refusal} (e : own ≡ plan_of form (missing_held (take vars_used vars₀) params x) lent.shouts) where
   abbrev v : Pairs
   v = held (take vars_used vars₀)
 
@@ -261,13 +280,13 @@ module _ {lent : Lent} {text : Text} {at : ℕ} {mode : Mode} {d size : ℕ} {va
       absurd (omega arith)
 
   -- E14: refused before the operand is looked at
-  pub shouted : own ≡ plan.Shout → (area vars : Text) → Given area vars (answer.Refused unset_name)
-  shouted n area vars =
+  pub plan_refused : {b : Refusal} → own ≡ Err b → (area vars : Text) → Given area vars (Err (stop.Refused b))
+  plan_refused {b} n area vars =
       rw y.is
-      (ap (placed units) (shouted_operand lent (λ k u. expand lent y.tree k 0 u) x m (take vars_used vars₀) params l form e n)
-      ∙ placed_refused units (refused unset_name) unset_name refl)
+      (ap (placed units) (refused_operand lent (λ k u. expand lent y.tree k 0 u) x m (take vars_used vars₀) params l form e n)
+      ∙ placed_refused units (refused (refusal_number b)) (refusal_number b) refl)
 
-  pub unused_given : {what : Unused} → own ≡ plan.Unused what → {next : ℕ} → ReadTo text at (parts (mode_of mode) d (drop at text)) next
+  pub unused_given : {what : Unused} → own ≡ Ok (plan.Unused what) → {next : ℕ} → ReadTo text at (parts (mode_of mode) d (drop at text)) next
       → (area : Text) (g : Expanded) → Adds units (record { next = next; vars_used = vars_used; of_none = false }) (settled what lent x m v) area g
       → Given area vars₀ g
   unused_given {what} n {next} r area g h =
@@ -285,12 +304,21 @@ pub record OperandExpanded (lent : Lent) (text : Text) (at : ℕ) (mode : Mode) 
   pub ready : Ready text at mode d 0 size
   pub lends : Lends lent vars₀ vars_used
   pub listed : lent.params ≡ held_texts params
-  pub own : Plan
-  pub known : own ≡ plan.Used what
+  pub own : Result Plan Refusal
+  pub known : own ≡ Ok (plan.Used what)
   pub planned : own ≡ plan_of form (missing_held (take vars_used vars₀) params x) lent.shouts
   pub mark : Mark
   pub is : mark ≡ operand_mark what m
   pub says : Says lent.room text at 0 (λ p. expand lent p mark 0 (held (take vars_used vars₀))) (parts (mode_of mode) d (drop at text)) ys us g
+
+pub operand_expanded : {lent : Lent} {text : Text} {at : ℕ} {mode : Mode} {d size : ℕ} {vars₀ : Text} {vars_used : ℕ} (params : Text) (x : Param)
+    (units : ℕ) (form : Form) (m : Mark) (what : Used) → Ready text at mode d 0 size → Lends lent vars₀ vars_used → lent.params ≡ held_texts params
+    → Ok (plan.Used what) ≡ plan_of form (missing_held (take vars_used vars₀) params x) lent.shouts → {mark : Mark} → mark ≡ operand_mark what m
+    → (ys us : Text) (g : Expanded)
+    → Says lent.room text at 0 (λ p. expand lent p mark 0 (held (take vars_used vars₀))) (parts (mode_of mode) d (drop at text)) ys us g
+    → OperandExpanded lent text at mode d size vars₀ vars_used params x units form m what ys us g
+operand_expanded params x units form m what y w l e {mark} i ys us g s =
+    record { ready = y; lends = w; listed = l; own = Ok (plan.Used what); known = refl; planned = e; mark = mark; is = i; says = s }
 
 module _ {lent : Lent} {text : Text} {at : ℕ} {mode : Mode} {d size : ℕ} {vars₀ : Text} {vars_used : ℕ} {params : Text}
     {p : Param} {units : ℕ} {form : Form} {m : Mark} {what : Used} {ys us : Text} {g : Expanded}
@@ -313,41 +341,45 @@ module _ {lent : Lent} {text : Text} {at : ℕ} {mode : Mode} {d size : ℕ} {va
       ∙ ap (λ (j : Mark). expand lent x.ready.tree j 0 (held (take vars_used vars₀)) >>= λ r. finished what lent p m r) (sym x.is)
       ∙ ap (λ (o : Made). o >>= λ r. finished what lent p m r) h)
 
-  pub used_refused : (area : Text) {b : ℕ} → g ≡ answer.Refused b → GivenIn area us (answer.Refused b)
+  used_refused : (area : Text) {b : Refusal} → g ≡ Err (stop.Refused b) → GivenIn area us (Err (stop.Refused b))
   used_refused area {b} q =
-      let h : expand lent x.ready.tree x.mark 0 (held (take vars_used vars₀)) ≡ refused b =
+      let h : expand lent x.ready.tree x.mark 0 (held (take vars_used vars₀)) ≡ refused (refusal_number b) =
       answers_known lent.room text at 0 _ x.ready.rest ys us operand_answer q in
-      rw x.ready.is (withal (refused b) h ∙ placed_refused units (refused b) b refl)
+      rw x.ready.is (withal (refused (refusal_number b)) h ∙ placed_refused units (refused (refusal_number b)) (refusal_number b) refl)
 
   -- an operand that demands a message has it where it stands
-  pub used_demanded : {from len : ℕ} → g ≡ answer.Demanded from len → GivenIn ys us (answer.Demanded from len)
+  used_demanded : {from len : ℕ} → g ≡ Err (stop.Demanded from len) → GivenIn ys us (Err (stop.Demanded from len))
   used_demanded {from} {len} q =
       let h : IsDemand (expand lent x.ready.tree x.mark 0 (held (take vars_used vars₀))) ys from len =
       answers_known lent.room text at 0 _ x.ready.rest ys us operand_answer q in
       rw x.ready.is
       (record { message = h.message; is = withal (demands h.message) h.is ∙ placed_demands units _ h.message refl; waits = h.waits })
 
-  module _ {count next left : ℕ} {came : Bool} (q : g ≡ answer.Row count next left came) where
-    operand_row : IsRow lent.room 0 (expand lent x.ready.tree x.mark 0 (held (take vars_used vars₀))) ys us count left came
-        × Ends text at next x.ready.rest
+  pub used_stopped : (s : Stop) → g ≡ Err s → GivenIn ys us (Err s)
+  used_stopped (stop.Refused b) q = used_refused ys q
+  used_stopped (stop.Demanded from len) q = used_demanded q
+
+  module _ {r : answer.Row} (q : g ≡ Ok r) where
+    operand_row : IsRow lent.room 0 (expand lent x.ready.tree x.mark 0 (held (take vars_used vars₀))) ys us r.units r.vars_used r.of_none
+        × Ends text at r.next x.ready.rest
     operand_row = answers_known lent.room text at 0 _ x.ready.rest ys us operand_answer q
 
-    pub used_holds : Holds lent.room us left
+    pub used_holds : Holds lent.room us r.vars_used
     used_holds = operand_row.0.holds
 
-    at_front : row_of (take (2 * count) ys) ≡ operand_row.0.row
-    at_front = row_at_lem operand_row.0.row ys count operand_row.0.stands operand_row.0.counts
+    at_front : row_of (take (2 * r.units) ys) ≡ operand_row.0.row
+    at_front = row_at_lem operand_row.0.row ys r.units operand_row.0.stands operand_row.0.counts
 
-    pub used_ready : IsNamed p → Storable p ys count
+    pub used_ready : IsNamed p → Storable p ys r.units
     used_ready i = row_storable x.ready x.lends x.mark operand_row.0 p i
 
     pub used_given : (area vars : Text) (f : Expanded) → Finishes lent.room units
-        (placed units (finished what lent p m (row_of (take (2 * count) ys), held (take left us), came))) next area vars f
+        (placed units (finished what lent p m (row_of (take (2 * r.units) ys), held (take r.vars_used us), r.of_none))) r.next area vars f
         → GivenIn area vars f
     used_given area vars f h =
-        finished_given units params p form m x.ready x.lends x.listed x.planned next operand_row.1
-        (withal (done (operand_row.0.row, held (take left us), came)) operand_row.0.is
-        ∙ ap (λ (r : Row). placed units (finished what lent p m (r, held (take left us), came))) (sym at_front))
+        finished_given units params p form m x.ready x.lends x.listed x.planned r.next operand_row.1
+        (withal (done (operand_row.0.row, held (take r.vars_used us), r.of_none)) operand_row.0.is
+        ∙ ap (λ (k : Row). placed units (finished what lent p m (k, held (take r.vars_used us), r.of_none))) (sym at_front))
         area vars f h
 
 -- An arithmetic text.
@@ -358,6 +390,12 @@ pub record SumExpanded (lent : Lent) (text : Text) (at d size : ℕ) (vars₀ : 
   pub ready : Ready text at (Arith 0) d 0 size
   pub says : Says lent.room text at 0 (λ p. expand lent p Q 0 (held (take vars_used vars₀))) (parts (sums 0) d (drop at text)) ys us g
 
+pub sum_expanded : (lent : Lent) {text : Text} {at d size : ℕ} (vars₀ : Text) (vars_used units : ℕ) (m : Mark) → Ready text at (Arith 0) d 0 size
+    → (ys us : Text) (g : Expanded)
+    → Says lent.room text at 0 (λ p. expand lent p Q 0 (held (take vars_used vars₀))) (parts (sums 0) d (drop at text)) ys us g
+    → SumExpanded lent text at d size vars₀ vars_used units m ys us g
+sum_expanded lent vars₀ vars_used units m y ys us g s = record { ready = y; says = s }
+
 module _ {lent : Lent} {text : Text} {at d size : ℕ} {vars₀ : Text} {vars_used units : ℕ} {m : Mark} {ys us : Text} {g : Expanded}
     (x : SumExpanded lent text at d size vars₀ vars_used units m ys us g) where
   abbrev Summed : Text → Text → Expanded → Type 0
@@ -367,14 +405,14 @@ module _ {lent : Lent} {text : Text} {at d size : ℕ} {vars₀ : Text} {vars_us
   sum_answer : Answers lent.room text at 0 (expand lent x.ready.tree Q 0 (held (take vars_used vars₀))) x.ready.rest ys us g
   sum_answer = says_known lent.room text at 0 (λ p. expand lent p Q 0 (held (take vars_used vars₀))) ys us g x.says x.ready.is
 
-  pub sum_refused : (area : Text) {b : ℕ} → g ≡ answer.Refused b → Summed area us (answer.Refused b)
+  sum_refused : (area : Text) {b : Refusal} → g ≡ Err (stop.Refused b) → Summed area us (Err (stop.Refused b))
   unfolding summing
   sum_refused area {b} q =
-      let h : expand lent x.ready.tree Q 0 (held (take vars_used vars₀)) ≡ refused b =
+      let h : expand lent x.ready.tree Q 0 (held (take vars_used vars₀)) ≡ refused (refusal_number b) =
       answers_known lent.room text at 0 _ x.ready.rest ys us sum_answer q in
-      rw x.ready.is (placed_refused units _ b (ap (λ (o : Made). o >>= λ u. summed lent m u) h))
+      rw x.ready.is (placed_refused units _ (refusal_number b) (ap (λ (o : Made). o >>= λ u. summed lent m u) h))
 
-  pub sum_demanded : {from len : ℕ} → g ≡ answer.Demanded from len → Summed ys us (answer.Demanded from len)
+  sum_demanded : {from len : ℕ} → g ≡ Err (stop.Demanded from len) → Summed ys us (Err (stop.Demanded from len))
   unfolding summing
   sum_demanded {from} {len} q =
       let h : IsDemand (expand lent x.ready.tree Q 0 (held (take vars_used vars₀))) ys from len =
@@ -386,30 +424,34 @@ module _ {lent : Lent} {text : Text} {at d size : ℕ} {vars₀ : Text} {vars_us
         waits = h.waits;
       })
 
-  module _ {count next left : ℕ} {came : Bool} (q : g ≡ answer.Row count next left came) where
-    sum_row : IsRow lent.room 0 (expand lent x.ready.tree Q 0 (held (take vars_used vars₀))) ys us count left came
-        × Ends text at next x.ready.rest
+  pub sum_stopped : (s : Stop) → g ≡ Err s → Summed ys us (Err s)
+  sum_stopped (stop.Refused b) q = sum_refused ys q
+  sum_stopped (stop.Demanded from len) q = sum_demanded q
+
+  module _ {r : answer.Row} (q : g ≡ Ok r) where
+    sum_row : IsRow lent.room 0 (expand lent x.ready.tree Q 0 (held (take vars_used vars₀))) ys us r.units r.vars_used r.of_none
+        × Ends text at r.next x.ready.rest
     sum_row = answers_known lent.room text at 0 _ x.ready.rest ys us sum_answer q
 
-    pub sum_holds : Holds lent.room us left
+    pub sum_holds : Holds lent.room us r.vars_used
     sum_holds = sum_row.0.holds
 
-    pub sum_few : count ≤ row_limit
+    pub sum_few : r.units ≤ row_limit
     sum_few = omega (arith, sum_row.0.fits)
 
     pub sum_given : (area vars : Text) (f : Expanded)
-        → Finishes lent.room units (placed units (summed lent m (row_of (take (2 * count) ys), held (take left us), false))) next area vars f
+        → Finishes lent.room units (placed units (summed lent m (row_of (take (2 * r.units) ys), held (take r.vars_used us), false))) r.next area vars f
         → Summed area vars f
     unfolding summing
     sum_given area vars f h =
         rw x.ready.is
-        (finishes_answers lent.room text at units (placed units (summing lent x.ready.tree m (held (take vars_used vars₀)))) next
+        (finishes_answers lent.room text at units (placed units (summing lent x.ready.tree m (held (take vars_used vars₀)))) r.next
         x.ready.rest area vars f
-        (finishes_same lent.room units next area vars f (sym (ap (placed units) same)) h) sum_row.1)
+        (finishes_same lent.room units r.next area vars f (sym (ap (placed units) same)) h) sum_row.1)
       where
-        -- whether `$@` of no parameters came in the text is not asked
-        same : (summing lent x.ready.tree m (held (take vars_used vars₀))) ≡ summed lent m (row_of (take (2 * count) ys), held (take left us), false)
+        -- whether `$@` of no parameters r.of_none in the text is not asked
+        same : (summing lent x.ready.tree m (held (take vars_used vars₀))) ≡ summed lent m (row_of (take (2 * r.units) ys), held (take r.vars_used us), false)
         same =
             unfold summed in
             ap (λ (o : Made). o >>= λ u. summed lent m u) sum_row.0.is
-            ∙ ap (λ (r : Row). summed lent m (r, held (take left us), came)) (sym (row_at_lem sum_row.0.row ys count sum_row.0.stands sum_row.0.counts))
+            ∙ ap (λ (k : Row). summed lent m (k, held (take r.vars_used us), r.of_none)) (sym (row_at_lem sum_row.0.row ys r.units sum_row.0.stands sum_row.0.counts))

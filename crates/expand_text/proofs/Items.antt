@@ -13,7 +13,7 @@ use Rattle.stages.specs.Syntax.{unescaped, Parts, plain, end, lit, quo, par, len
 use Rattle.stages.specs.Syntax as syntax
 use Rattle.stages.specs.Items.{item, onward, behind_byte}
 use Rattle.stages.specs.Items as items
-use Rattle.stages.specs.Read.{Taken, parts, nest}
+use Rattle.stages.specs.Read.{parts, nest}
 use Rattle.stages.specs.Units.{Mark, cell, Row, marked, expanded_mark, lit_mark, decimal}
 use Rattle.stages.specs.Params.{Lent, sought}
 use Rattle.stages.specs.Expand.{Made, parameter, amount, list_row, of_none, directory, tilde_row, expand}
@@ -22,7 +22,7 @@ use Rattle.stages.proofs.Texts.{all_drop}
 use Rattle.stages.proofs.Outcomes.{safe_done}
 use Rattle.stages.proofs.Safe.{SafeParts, parts_safe}
 use Rattle.stages.proofs.Items.{IsParam}
-use Rattle.stages.proofs.Read.{at_fault, at_stop, at_byte, at_paren, at_value, at_count, at_spread, at_quote, at_inner, at_sum, at_home}
+use Rattle.stages.proofs.Read.{at_stop, at_byte, at_paren, at_value, at_count, at_spread, at_quote, at_inner, at_sum, at_home}
 use Rattle.stages.proofs.Read.{behind, Within, within}
 use Rattle.read_mode.specs.Modes.{mode_of, open_in, mode_onward, mode_behind, form_of}
 use Rattle.read_mode.proofs.GoingOn.{onward_mode, onward_open, behind_mode, behind_open}
@@ -33,15 +33,19 @@ use Rattle.text.specs.Places.{Behind}
 use Rattle.read_brace.specs.Shows.{Shows, Name, param_of}
 use Rattle.read_brace.specs.declared.Param.{Param}
 use Rattle.read_brace.specs.declared.Item.{Item}
-use Rattle.read_brace.specs.declared.Item.TheVariants.{Fault, Stop, Byte, Paren, Quote, Value, Count, Total, Spread, Inner, Sum, Home}
+use Rattle.read_brace.specs.declared.Item.TheVariants.{Stop, Byte, Paren, Quote, Value, Count, Total, Spread, Inner, Sum, Home}
 use Rattle.expand_add.specs.Added.{Adds}
 use Rattle.expand_add.specs.Steps.{beside, placed, quoted, summing, followed}
 use Rattle.read_item.specs.After.{mode_after, is_stop}
 use Rattle.expand_operand.specs.Operands.{IsNamed}
 use Rattle.expand_text.specs.Items.{ItemAnswers, ItemRead}
 use Rattle.expand_add.specs.Answers.{Ready, IsRow, IsDemand, Answers, Says, Finishes}
-use Rattle.expand_add.specs.declared.answers.Expanded.{Expanded}
-use Rattle.expand_add.specs.declared.answers.Expanded.TheVariants as answer
+use Rattle.std.specs.Prelude.{Ok, Err}
+use Rattle.text.specs.Refusals.{refusal_number}
+use Rattle.text.specs.declared.refusal.Refusal.{Refusal}
+use Rattle.expand_add.specs.declared.answers.Row as answer
+use Rattle.expand_add.specs.declared.answers.Stop.TheVariants as stop
+use Rattle.expand_add.specs.Expanded.{Expanded}
 use Rattle.expand_add.proofs.Steps.{expand_lit, expand_par, expand_len, expand_lst, expand_quo, expand_ari, expand_til}
 use Rattle.expand_add.proofs.Steps.{followed_refused, followed_demands, followed_row, plainly_beside}
 use Rattle.expand_add.proofs.Fitting.{adds_same}
@@ -82,26 +86,27 @@ module _ {lent : Lent} {text : Text} {at : ℕ} {mode : Mode} {d : ℕ} (m : Mar
 
   -- an item whose own row is `own`, and after it the parts p
   module _ (p : Parts) (own : Made) (is : expand lent y.tree m units v ≡ followed lent p m units own) where
-    own_refused : (after : Mode) (area vars : Text) {e : ℕ} → own ≡ refused e → Passed false after area vars (answer.Refused e)
-    own_refused after area vars {e} h = so false after area vars (answer.Refused e) (is ∙ followed_refused lent p m units own e h)
+    own_refused : (after : Mode) (area vars : Text) (e : Refusal) → own ≡ refused (refusal_number e) → Passed false after area vars (Err (stop.Refused e))
+    own_refused after area vars e h =
+        so false after area vars (Err (stop.Refused e)) (is ∙ followed_refused lent p m units own (refusal_number e) h)
 
     own_demanded : (after : Mode) (area vars : Text) {from count : ℕ} → IsDemand own area from count
-        → Passed false after area vars (answer.Demanded from count)
+        → Passed false after area vars (Err (stop.Demanded from count))
     own_demanded after area vars {from} {count} h =
-        so false after area vars (answer.Demanded from count)
+        so false after area vars (Err (stop.Demanded from count))
         (record { message = h.message; is = is ∙ followed_demands lent p m units own h.message h.is; waits = h.waits })
 
-    own_row : (after : Mode) (area vars : Text) (count next left : ℕ) (came : Bool) → IsRow lent.room units own area vars count left came
-        → parts (mode_of after) d (drop next text) ≡ done (p, y.rest) → open_in after ≤ next → at < next → next ≤ length text
-        → Passed false after area vars (answer.Row count next left came)
-    own_row after area vars count next left came i read o l k =
-        so false after area vars (answer.Row count next left came)
+    own_row : (after : Mode) (area vars : Text) (g : answer.Row) → IsRow lent.room units own area vars g.units g.vars_used g.of_none
+        → parts (mode_of after) d (drop g.next text) ≡ done (p, y.rest) → open_in after ≤ g.next → at < g.next → g.next ≤ length text
+        → Passed false after area vars (Ok g)
+    own_row after area vars g i read o l k =
+        so false after area vars (Ok g)
         (record {
           more = p;
           read = read;
           opens = o;
           row = i.row;
-          is = is ∙ followed_row lent p m units own i.row (held (take left vars)) came count i.is i.counts;
+          is = is ∙ followed_row lent p m units own i.row (held (take g.vars_used vars)) g.of_none g.units i.is i.counts;
           counts = i.counts;
           stands = i.stands;
           fits = i.fits;
@@ -113,21 +118,20 @@ module _ {lent : Lent} {text : Text} {at : ℕ} {mode : Mode} {d : ℕ} (m : Mar
     -- what a leaf finishes, after which the text goes on at `next`
     own_finished : (next : ℕ) (after : Mode) → parts (mode_of after) d (drop next text) ≡ done (p, y.rest) → open_in after ≤ next → at < next
         → next ≤ length text → (area vars : Text) (g : Expanded) → Finishes lent.room units own next area vars g → Passed false after area vars g
-    own_finished next after read o l k area vars (answer.Refused e) h = own_refused after area vars h
-    own_finished next after read o l k area vars (answer.Demanded from count) h = own_demanded after area vars h
-    own_finished next after read o l k area vars (answer.Row count next' left came) h =
-        rw h.0 (own_row after area vars count next left came h.1 read o l k)
+    own_finished next after read o l k area vars (Err (stop.Refused e)) h = own_refused after area vars e h
+    own_finished next after read o l k area vars (Err (stop.Demanded from count)) h = own_demanded after area vars h
+    own_finished next after read o l k area vars (Ok g) h =
+        own_row after area vars g h.1 (rw h.0 read) (rw h.0 o) (rw h.0 l) (rw h.0 k)
 
     -- what holds a text from `from` on, with `mid` after it
     own_text : (from : ℕ) (mid : Text) → parts (onward (mode_of mode)) d mid ≡ done (p, y.rest) → at < from → (area vars : Text) (g : Expanded)
         → Answers lent.room text from units own mid area vars g → Passed false (mode_onward mode) area vars g
-    own_text from mid read l area vars (answer.Refused e) h = own_refused (mode_onward mode) area vars h
-    own_text from mid read l area vars (answer.Demanded from' count) h = own_demanded (mode_onward mode) area vars h
-    own_text from mid read l area vars (answer.Row count next left came) h =
-        let k : at < next = omega (arith, h.1.onward) in
-        own_row (mode_onward mode) area vars count next left came h.0 (going (drop next text) (ap (parts (onward (mode_of mode)) d) h.1.ends ∙ read))
-        (going_open next k) k
-        h.1.within
+    own_text from mid read l area vars (Err (stop.Refused e)) h = own_refused (mode_onward mode) area vars e h
+    own_text from mid read l area vars (Err (stop.Demanded from' count)) h = own_demanded (mode_onward mode) area vars h
+    own_text from mid read l area vars (Ok g) h =
+        let k : at < g.next = omega (arith, h.1.onward) in
+        own_row (mode_onward mode) area vars g h.0 (going (drop g.next text) (ap (parts (onward (mode_of mode)) d) h.1.ends ∙ read))
+        (going_open g.next k) k h.1.within
 
   -- a row that is added at once, and whether `$@` of no parameters came in it
   own_added : (p : Parts) (came : Bool) (o : Outcome Row) → expand lent y.tree m units v ≡ followed lent p m units (placed units (beside v came o))
@@ -158,6 +162,11 @@ pub record Here (lent : Lent) (text : Text) (at : ℕ) (mode : Mode) (d : ℕ) (
   pub lends : Lends lent vars₀ vars_used
   pub shows : Shows text at d r (item (mode_of mode) d (drop at text))
 
+pub here_at : {lent : Lent} {text : Text} {at : ℕ} {mode : Mode} {d : ℕ} (m : Mark) {units size : ℕ} {vars₀ : Text} {vars_used : ℕ} (r : Item)
+    → Ready text at mode d units size → Lends lent vars₀ vars_used → Shows text at d r (item (mode_of mode) d (drop at text))
+    → Here lent text at mode d m units size vars₀ vars_used r
+here_at m r y w s = record { ready = y; lends = w; shows = s }
+
 module _ {lent : Lent} {text : Text} {at : ℕ} {mode : Mode} {d : ℕ} {m : Mark} {units size : ℕ} {vars₀ : Text} {vars_used : ℕ} {r : Item}
     (x : Here lent text at mode d m units size vars₀ vars_used r) where
   abbrev u : Pairs
@@ -166,19 +175,12 @@ module _ {lent : Lent} {text : Text} {at : ℕ} {mode : Mode} {d : ℕ} {m : Mar
   abbrev Said : Text → Text → Expanded → Type 0
   Said area vars g = Turned m x.ready x.lends r area vars g
 
-  pub item_fault : (area vars : Text) {e : ℕ} → r ≡ Fault e → Said area vars (answer.Refused e)
-  item_fault area vars {e} c =
-      let n : parts (mode_of mode) d (drop at text) ≡ refused e = at_fault text at (mode_of mode) d e (shown text at d _ x.shows c) in
-      let q : ◌≡◌ {A = Taken} (refused e) (done (x.ready.tree, x.ready.rest)) = sym n ∙ x.ready.is in
-      let z : ◌≡◌ {A = ℕ} 0 1 = cc in
-      absurd (omega arith)
-
-  pub item_stop : (area : Text) {next : ℕ} → r ≡ Stop next → Said area vars₀ (answer.Row 0 next vars_used false)
+  pub item_stop : (area : Text) {next : ℕ} → r ≡ Stop next → Said area vars₀ (Ok (record { units = 0; next = next; vars_used = vars_used; of_none = false }))
   unfolding expand
   item_stop area {next} c =
       let s = shown text at d _ x.shows c in
       let n : parts (mode_of mode) d (drop at text) ≡ done (end, drop next text) = at_stop text at (mode_of mode) d next s.0 s.1 in
-      known m x.ready x.lends c area vars₀ (answer.Row 0 next vars_used false)
+      known m x.ready x.lends c area vars₀ (Ok (record { units = 0; next = next; vars_used = vars_used; of_none = false }))
       (rw n (record { is = refl; none = refl; holds = x.lends.holds; ends = record { ends = refl; onward = s.1; within = s.2 } }))
 
   pub item_byte : {q : Bool} {b next : ℕ} → r ≡ Byte q b next → {k : Mark} → k ≡ lit_mark (escape_of q) m → (area : Text) (g : Expanded)

@@ -8,12 +8,13 @@ use mathlib.Core.List.{[], ◌++◌, append-nil}
 use borrow.Author.Tests.{leb-true, leb-false}
 use lib.ListN.{length, take, drop, length-append, take-append-drop}
 use lib.Seq.{length-take-le}
-use Rattle.stages.specs.Numbers.{row_limit, too_many_units}
+use borrow.Rule.Slice.PartMut.{put_mid, mid_of, post_of, same_len_mid}
+use Rattle.stages.specs.Numbers.{row_limit}
 use Rattle.stages.specs.Bytes.{Text, part, all, not_zero}
 use Rattle.stages.specs.Outcome.{refused, done}
 use Rattle.stages.specs.Images.{Pairs, held}
 use Rattle.stages.specs.Syntax.{Parts, end}
-use Rattle.stages.specs.Items.{closer_length}
+use Rattle.stages.specs.Items.{closer_length, item, fault}
 use Rattle.stages.specs.Read.{Taken, parts}
 use Rattle.stages.specs.Units.{Mark, Row, marked}
 use Rattle.stages.specs.Params.{Lent}
@@ -23,17 +24,24 @@ use Rattle.row.specs.Stands.{Stands, fronted}
 use Rattle.read_mode.specs.Modes.{mode_of, open_in}
 use Rattle.read_mode.specs.declared.Mode.{Mode}
 use Rattle.read_mode.specs.declared.Cursor.{Cursor}
+use Rattle.read_brace.specs.declared.Item.{Item}
 use Rattle.read_brace.specs.declared.Item.TheVariants.{Stop}
-use Rattle.read_item.specs.After.{ItemAt, is_end}
+use Rattle.read_item.specs.After.{ItemAt, is_end, is_stop, mode_after}
 use Rattle.read_item.proofs.Ending.{end_item}
 use Rattle.read_run.specs.Literals.{lits, Passed}
 use Rattle.read_run.proofs.Parts.{run_parts, run_open}
 use Rattle.table_store.specs.Holding.{Holds}
 use Rattle.expand_add.specs.Answers.{Ready, IsDemand, Says}
-use Rattle.expand_text.specs.Items.{PutsRun, Moves, Closes, Passes, ItemAnswers, ItemRead}
-use Rattle.expand_add.specs.declared.answers.Expanded.{Expanded}
-use Rattle.expand_add.specs.declared.answers.Expanded.TheVariants as answer
-use Rattle.stages.proofs.Read.{Behind, behind, at_stop}
+use Rattle.expand_text.specs.Items.{message_at, behind as move_behind, PutsRun, Moves, Closes, Passes, ItemAnswers, ItemRead}
+use Rattle.std.specs.Prelude.{Ok, Err}
+use Rattle.text.specs.Refusals.{refusal_number}
+use Rattle.text.specs.declared.refusal.Refusal.{Refusal}
+use Rattle.text.specs.declared.refusal.Refusal.TheVariants.{TooManyUnits}
+use Rattle.expand_add.specs.declared.answers.Row as answer
+use Rattle.expand_add.specs.declared.answers.Stop.{Stop as Stopped}
+use Rattle.expand_add.specs.declared.answers.Stop.TheVariants as stop
+use Rattle.expand_add.specs.Expanded.{Expanded}
+use Rattle.stages.proofs.Read.{Behind, behind, at_stop, at_fault}
 use Rattle.text.proofs.Parts.{part_length}
 use Rattle.expand_add.proofs.Fitting.{marked_count}
 use Rattle.expand_add.proofs.Steps.{onto_none, onto_onto}
@@ -158,7 +166,7 @@ module _ {lent : Lent} {text : Text} {at : ℕ} {mode₀ : Mode} {d : ℕ} {k : 
     held_now = held (take vars_used vars)
 
     pub run_refused : (z : Text) → row_limit < units + n + length run
-        → Says lent.room text at units (λ q. expand lent q k units v) (parts (mode_of mode₀) d (drop at text)) z vars (answer.Refused too_many_units)
+        → Says lent.room text at units (λ q. expand lent q k units v) (parts (mode_of mode₀) d (drop at text)) z vars (Err (stop.Refused TooManyUnits))
     run_refused z l =
         rw g.whole
         (g.is ∙ ap (onto g.row of_none)
@@ -198,29 +206,55 @@ module _ {lent : Lent} {text : Text} {at : ℕ} {mode₀ : Mode} {d : ℕ} {k : 
               ∙ ap (λ (j : ℕ). onto (g.row ++ marked k run) of_none (expand lent cut.next k j held_now)) s;
         }
 
+    -- the same, where it was put in what is lent behind the row
+    pub going_put : {ys : Text} {r : Bool} → PutsRun k (units + n) run (mid_of (2 * n) (length area - 2 * n) area) ys r → r ≡ true
+        → length ys ≡ length (mid_of (2 * n) (length area - 2 * n) area)
+        → Going lent text at mode₀ d k units v area₀ vars₀ (put_mid (2 * n) (length area - 2 * n) area ys) vars (n + (place.at - i)) place.at
+        place.mode vars_used of_none
+    going_put {ys} h e l =
+        let f = run_fits h e in
+        going_run f.0 _ f.1 (post_of (2 * n) (length area - 2 * n) area) (same_len_mid (2 * n) (length area - 2 * n) area ys l)
+
+  -- an item, expanded behind the row
+  pub expanding_item : (item : Item) (ys us : Text) (r : Expanded)
+      → Going lent text at mode₀ d k units v area₀ vars₀ area vars n i mode vars_used of_none
+      → ItemRead (is_stop item) (mode_after item mode) lent text i d k (units + n) (λ p. expand lent p k (units + n) (held (take vars_used vars)))
+      (parts (mode_of mode) d (drop i text)) ys us r
+      → Expanding lent text at mode₀ d k units v area₀ vars₀ area vars n i mode vars_used of_none (is_stop item) (mode_after item mode) ys us r
+  expanding_item item ys us r g s = record { going = g; says = s }
+
+  -- no item of a text that has been read is refused
+  pub going_fault : (g : Going lent text at mode₀ d k units v area₀ vars₀ area vars n i mode vars_used of_none) (e : Refusal)
+      → item (mode_of mode) d (drop i text) ≡ fault (refusal_number e) → (r : Expanded) (z us : Text)
+      → Says lent.room text at units (λ p. expand lent p k units v) (parts (mode_of mode₀) d (drop at text)) z us r
+  going_fault g e f r z us =
+      let q : ◌≡◌ {A = Taken} (refused (refusal_number e)) (done (g.left, g.rest)) = sym (at_fault text i (mode_of mode) d (refusal_number e) f) ∙ g.read in
+      let z : ◌≡◌ {A = ℕ} 0 1 = cc in
+      absurd (omega arith)
+
   module _ {stops : Bool} {after : Mode} {ys us : Text} {r : Expanded}
       (x : Expanding lent text at mode₀ d k units v area₀ vars₀ area vars n i mode vars_used of_none stops after ys us r) where
     abbrev g : Going lent text at mode₀ d k units v area₀ vars₀ area vars n i mode vars_used of_none
     g = x.going
 
-    pub going_refused : (z : Text) {e : ℕ} → r ≡ answer.Refused e
-        → Says lent.room text at units (λ p. expand lent p k units v) (parts (mode_of mode₀) d (drop at text)) z us (answer.Refused e)
+    going_refused : (z : Text) {e : Refusal} → r ≡ Err (stop.Refused e)
+        → Says lent.room text at units (λ p. expand lent p k units v) (parts (mode_of mode₀) d (drop at text)) z us (Err (stop.Refused e))
     going_refused z {e} q =
-        let h : expand lent g.left k (units + n) (held (take vars_used vars)) ≡ refused e =
+        let h : expand lent g.left k (units + n) (held (take vars_used vars)) ≡ refused (refusal_number e) =
         read_known stops after lent text i d k (units + n) _ ys us x.says g.read q in
         rw g.whole (g.is ∙ ap (onto g.row of_none) h)
 
-    module _ {from len : ℕ} (q : r ≡ answer.Demanded from len) where
+    module _ {from len : ℕ} (q : r ≡ Err (stop.Demanded from len)) where
       asked : IsDemand (expand lent g.left k (units + n) (held (take vars_used vars))) ys from len
       asked = read_known stops after lent text i d k (units + n) _ ys us x.says g.read q
 
-      pub going_waits : from + len ≤ length ys
+      going_waits : from + len ≤ length ys
       going_waits = asked.waits.fits
 
       -- the message waits behind the row
-      pub going_demanded : (z : Text)
+      going_demanded : (z : Text)
           → Says lent.room text at units (λ p. expand lent p k units v) (parts (mode_of mode₀) d (drop at text)) (take (2 * n) area ++ (ys ++ z)) us
-          (answer.Demanded (2 * n + from) len)
+          (Err (stop.Demanded (2 * n + from) len))
       going_demanded z =
           rw g.whole
           (record {
@@ -229,22 +263,32 @@ module _ {lent : Lent} {text : Text} {at : ℕ} {mode₀ : Mode} {d : ℕ} {k : 
             waits = waits_nest (take (2 * n) area) z (length-take-le (2 * n) area (going_room g)) asked.waits;
           })
 
-    module _ {count next left : ℕ} {came : Bool} (q : r ≡ answer.Row count next left came) where
+    pub going_stopped : (s : Stopped) → r ≡ Err s → (z : Text)
+        → Says lent.room text at units (λ p. expand lent p k units v) (parts (mode_of mode₀) d (drop at text)) (take (2 * n) area ++ (ys ++ z)) us
+        (Err (move_behind (2 * n) s))
+    going_stopped (stop.Refused e) q z = going_refused (take (2 * n) area ++ (ys ++ z)) q
+    going_stopped (stop.Demanded from len) q z = going_demanded q z
+
+    pub going_waiting : (s : Stopped) → r ≡ Err s → message_at s ≤ length ys
+    going_waiting (stop.Refused e) q = omega arith
+    going_waiting (stop.Demanded from len) q = omega (arith, going_waits q)
+
+    module _ {a : answer.Row} (q : r ≡ Ok a) where
       passed : Passes stops after lent text i d k (units + n) (expand lent g.left k (units + n) (held (take vars_used vars))) g.rest ys us
-          count next left came
+          a.units a.next a.vars_used a.of_none
       passed = read_known stops after lent text i d k (units + n) _ ys us x.says g.read q
 
-      pub going_fits : units + n + count ≤ row_limit
-      going_fits = passed_fits stops after lent text i d k (units + n) _ g.rest ys us count next left came g.fits passed
+      pub going_fits : units + n + a.units ≤ row_limit
+      going_fits = passed_fits stops after lent text i d k (units + n) _ g.rest ys us a.units a.next a.vars_used a.of_none g.fits passed
 
-      pub going_end : {flag : Bool} → flag ≡ (of_none || came) → stops ≡ true → (z : Text)
+      pub going_end : {flag : Bool} → flag ≡ (of_none || a.of_none) → stops ≡ true → (z : Text)
           → Says lent.room text at units (λ p. expand lent p k units v) (parts (mode_of mode₀) d (drop at text)) (take (2 * n) area ++ z) us
-          (answer.Row (n + count) next left flag)
+          (Ok (record { units = n + a.units; next = a.next; vars_used = a.vars_used; of_none = flag }))
       going_end o e z =
-          let h : Closes lent text i (expand lent g.left k (units + n) (held (take vars_used vars))) g.rest us count next left came =
+          let h : Closes lent text i (expand lent g.left k (units + n) (held (take vars_used vars))) g.rest us a.units a.next a.vars_used a.of_none =
           subst (λ (b : Bool). Passes b after lent text i d k (units + n) (expand lent g.left k (units + n) (held (take vars_used vars)))
-          g.rest ys us count next left came) e passed in
-          let a = g.onward in
+          g.rest ys us a.units a.next a.vars_used a.of_none) e passed in
+          let o₁ = g.onward in
           let b = h.ends.onward in
           let f = g.fits in
           let c = g.counts in
@@ -254,8 +298,8 @@ module _ {lent : Lent} {text : Text} {at : ℕ} {mode₀ : Mode} {d : ℕ} {k : 
               row = g.row;
               is =
                   g.is ∙ ap (onto g.row of_none) h.is
-                  ∙ ap (λ (p : Row). done (p, held (take left us), of_none || came)) (append-nil g.row)
-                  ∙ ap (λ (b : Bool). done (g.row, held (take left us), b)) (sym o);
+                  ∙ ap (λ (p : Row). done (p, held (take a.vars_used us), of_none || a.of_none)) (append-nil g.row)
+                  ∙ ap (λ (b : Bool). done (g.row, held (take a.vars_used us), b)) (sym o);
               counts = omega arith;
               stands = stands_kept g.row area z n g.stands g.counts;
               fits = omega arith;
@@ -266,19 +310,19 @@ module _ {lent : Lent} {text : Text} {at : ℕ} {mode₀ : Mode} {d : ℕ} {k : 
 
       module _ (e : stops ≡ false) where
         pub moved : Moves lent text i d after k (units + n) (expand lent g.left k (units + n) (held (take vars_used vars))) g.rest ys us
-            count next left came
+            a.units a.next a.vars_used a.of_none
         moved = subst (λ (b : Bool). Passes b after lent text i d k (units + n)
-            (expand lent g.left k (units + n) (held (take vars_used vars))) g.rest ys us count next left came) e passed
+            (expand lent g.left k (units + n) (held (take vars_used vars))) g.rest ys us a.units a.next a.vars_used a.of_none) e passed
 
-        pub going_row : {flag : Bool} → flag ≡ (of_none || came) → {next-mode : Mode} → next-mode ≡ after → (z : Text)
+        pub going_row : {flag : Bool} → flag ≡ (of_none || a.of_none) → {next-mode : Mode} → next-mode ≡ after → (z : Text)
             → length (take (2 * n) area ++ (ys ++ z)) ≡ length area → length us ≡ length vars
-            → Going lent text at mode₀ d k units v area₀ vars₀ (take (2 * n) area ++ (ys ++ z)) us (n + count) next next-mode left flag
+            → Going lent text at mode₀ d k units v area₀ vars₀ (take (2 * n) area ++ (ys ++ z)) us (n + a.units) a.next next-mode a.vars_used flag
         going_row f o z len wide =
             let h = moved in
-            let a = g.onward in
+            let o₁ = g.onward in
             let b = h.onward in
             let few = h.fits in
-            let s : units + n + count ≡ units + (n + count) = omega arith in
+            let s : units + n + a.units ≡ units + (n + a.units) = omega arith in
             rw (o, f) (record {
               tree = g.tree;
               rest = g.rest;
@@ -297,8 +341,8 @@ module _ {lent : Lent} {text : Text} {at : ℕ} {mode₀ : Mode} {d : ℕ} {k : 
               holds = h.holds;
               is =
                   g.is ∙ ap (onto g.row of_none) h.is
-                  ∙ onto_onto g.row h.row of_none came (expand lent h.more k (units + n + count) (held (take left us)))
-                  ∙ ap (λ (j : ℕ). onto (g.row ++ h.row) (of_none || came) (expand lent h.more k j (held (take left us)))) s;
+                  ∙ onto_onto g.row h.row of_none a.of_none (expand lent h.more k (units + n + a.units) (held (take a.vars_used us)))
+                  ∙ ap (λ (j : ℕ). onto (g.row ++ h.row) (of_none || a.of_none) (expand lent h.more k j (held (take a.vars_used us)))) s;
             })
 
 -- The next byte, or the line's end, says that the text ends here.
@@ -313,7 +357,7 @@ module _ {lent : Lent} {text : Text} {at : ℕ} {mode₀ : Mode} {d : ℕ} {k : 
   stop_there = end_item text (record { at = i; mode = mode; depth = d }) g.within e
 
   closing : Expanding lent text at mode₀ d k units v area₀ vars₀ area vars n i mode vars_used of_none true mode area vars
-      (answer.Row 0 behind_end vars_used false)
+      (Ok (record { units = 0; next = behind_end; vars_used = vars_used; of_none = false }))
   unfolding expand
   closing =
       let s = stop_there in
@@ -325,7 +369,8 @@ module _ {lent : Lent} {text : Text} {at : ℕ} {mode₀ : Mode} {d : ℕ} {k : 
 
   abbrev Closed : Text → ℕ → ℕ → Type 0
   Closed z count next =
-      Says lent.room text at units (λ p. expand lent p k units v) (parts (mode_of mode₀) d (drop at text)) z vars (answer.Row count next vars_used of_none)
+      Says lent.room text at units (λ p. expand lent p k units v) (parts (mode_of mode₀) d (drop at text)) z vars
+      (Ok (record { units = count; next = next; vars_used = vars_used; of_none = of_none }))
 
   pub going_close : {j : ℕ} → j ≡ closer_length (mode_of mode) → Closed area n (i + j)
   going_close {j} q =

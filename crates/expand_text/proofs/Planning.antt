@@ -8,6 +8,8 @@ use Rattle.read_mode.specs.Modes.{form_of}
 use Rattle.read_mode.specs.declared.Form.{Form}
 use Rattle.read_mode.specs.declared.Form.TheVariants as form
 use Rattle.expand_form.specs.Plans.{plan_of}
+use Rattle.std.specs.Prelude.{Result}
+use Rattle.text.specs.declared.refusal.Refusal.{Refusal}
 use Rattle.expand_form.specs.declared.Plan.{Plan}
 use Rattle.expand_form.proofs.Forms.{removal_plans}
 use Rattle.expand_text.specs.Items.{is_removal}
@@ -21,6 +23,6 @@ alike (form.Plus c) false g h r e = absurd (no r)
 alike (form.Suffix long) false g h r e = removal_plans suffix (reach_of long) g h
 alike (form.Prefix long) false g h r e = removal_plans prefix (reach_of long) g h
 
-pub unasked_plan : (f : Form) (s : Bool) (g h : Colon → Bool) {own : Plan} → is_removal f ≡ true → s ≡ false → own ≡ plan_of (form_of f) g s
+pub unasked_plan : (f : Form) (s : Bool) (g h : Colon → Bool) {own : Result Plan Refusal} → is_removal f ≡ true → s ≡ false → own ≡ plan_of (form_of f) g s
     → own ≡ plan_of (form_of f) h s
 unasked_plan f s g h r e q = q ∙ alike f s g h r e

@@ -1,5 +1,5 @@
 -- What the answer of one item says: its own row, and after it what is still to be expanded.
-use Rattle.std.specs.Prelude.{ℕ, suc, ◌+◌, ◌≤◌, ◌<◌, ◌≡◌, Bool, true, false, ◌&&◌, [], eqb, leb, length, take, drop}
+use Rattle.std.specs.Prelude.{ℕ, suc, ◌+◌, ◌≤◌, ◌<◌, ◌≡◌, Bool, true, false, ◌&&◌, [], eqb, leb, length, take, drop, Ok, Err}
 use Rattle.stages.specs.Numbers.{row_limit}
 use Rattle.stages.specs.Bytes.{Text}
 use Rattle.stages.specs.Outcome.{refused, demands, done, pick}
@@ -22,12 +22,23 @@ use Rattle.read_brace.specs.declared.Item.{Item}
 use Rattle.read_item.specs.After.{mode_after, is_stop}
 use Rattle.table_store.specs.Holding.{Holds}
 use Rattle.expand_add.specs.Answers.{IsDemand, Ends}
-use Rattle.expand_add.specs.declared.answers.Expanded.{Expanded}
-use Rattle.expand_add.specs.declared.answers.Expanded.TheVariants as expanded
+use Rattle.text.specs.Refusals.{refusal_number}
+use Rattle.expand_add.specs.declared.answers.Stop.{Stop}
+use Rattle.expand_add.specs.declared.answers.Stop.TheVariants.{Refused, Demanded}
+use Rattle.expand_add.specs.Expanded.{Expanded}
 
 -- how many units quotes give whose text gave so many, by whether `$@` of no parameters came in them
 abbrev pub units_in_quotes : Bool → ℕ → ℕ
 units_in_quotes of_none count = pick (of_none && eqb count 0) 0 (suc count)
+
+-- where a message that is demanded stands, and the same so many bytes further behind
+abbrev pub message_at : Stop → ℕ
+message_at (Refused e) = 0
+message_at (Demanded at len) = at
+
+abbrev pub behind : ℕ → Stop → Stop
+behind front (Refused e) = Refused e
+behind front (Demanded at len) = Demanded (front + at) len
 
 -- the form is a removal
 abbrev pub is_removal : Form → Bool
@@ -73,10 +84,10 @@ Passes false mode lent text at depth m units made rest area vars count next vars
     Moves lent text at depth mode m units made rest area vars count next vars_used of_none
 
 abbrev pub ItemAnswers : Bool → Mode → Lent → Text → ℕ → ℕ → Mark → ℕ → Made → Text → Text → Text → Expanded → Type 0
-ItemAnswers stops mode lent text at depth m units made rest area vars (expanded.Refused e) = made ≡ refused e
-ItemAnswers stops mode lent text at depth m units made rest area vars (expanded.Demanded from len) = IsDemand made area from len
-ItemAnswers stops mode lent text at depth m units made rest area vars (expanded.Row count next vars_used of_none) =
-    Passes stops mode lent text at depth m units made rest area vars count next vars_used of_none
+ItemAnswers stops mode lent text at depth m units made rest area vars (Err (Refused e)) = made ≡ refused (refusal_number e)
+ItemAnswers stops mode lent text at depth m units made rest area vars (Err (Demanded from len)) = IsDemand made area from len
+ItemAnswers stops mode lent text at depth m units made rest area vars (Ok r) =
+    Passes stops mode lent text at depth m units made rest area vars r.units r.next r.vars_used r.of_none
 
 -- the same by what the text is read as
 abbrev pub ItemRead : Bool → Mode → Lent → Text → ℕ → ℕ → Mark → ℕ → (Parts → Made) → Taken → Text → Text → Expanded → Type 0

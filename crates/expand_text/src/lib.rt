@@ -2,7 +2,7 @@
 // each operand and arithmetic text, so that there is room for each open row.
 #![tactic(auto)]
 
-ghost use Rattle.std.specs.Prelude.{◌≡◌, ◌+◌, ◌*◌, ◌≤◌, length, take, drop};
+ghost use Rattle.std.specs.Prelude.{◌≡◌, ◌+◌, ◌*◌, ◌^◌, ◌<◌, ◌≤◌, length, take, drop};
 ghost use Rattle.stages.specs.Numbers.{row_limit};
 ghost use Rattle.stages.specs.Images.{held};
 ghost use Rattle.stages.specs.Syntax.{arith};
@@ -19,31 +19,41 @@ ghost use Rattle.table_store.specs.Holding.{Holds};
 ghost use Rattle.expand_add.specs.Answers.{Ready, Says};
 ghost use Rattle.expand_form.specs.Plans.{plan_of, missing_held};
 ghost use Rattle.expand_operand.specs.Operands.{IsNamed};
-ghost use Rattle.expand_text.specs.Items.{ItemSays, PutsRun, is_removal, units_in_quotes};
+ghost use Rattle.expand_text.specs.Items.{ItemSays, PutsRun, is_removal, message_at, behind, units_in_quotes};
 
-use expand_add::answers::{Expanded, Extent, Onward};
+use expand_add::answers::{Extent, Onward, Row, Stop};
 use expand_form::{Plan, operand_mark, plan_of};
 use expand_item::{give_home, give_length, give_sought, give_total, give_unit};
 use expand_list::{give_list, is_of_none};
 use expand_operand::{Operand, finish, settle, sum_up};
 use read_brace::{Item, Param};
 use read_item::{end_length, is_end, is_stop, item_at, mode_after};
-use read_line::Reading;
 use read_mode::{Cursor, Form, Mode};
 use read_run::behind_literals;
 use row::{Mark, RowEnd};
-use table::Found;
-use text::numbers;
+use text::numbers::ROW_LIMIT;
+use text::refusal::Refusal;
 
 // How many units quotes give whose text gave so many: an N before them, but nothing at all where `$@` of no parameters came and no unit.
 fn units_in_quotes(count: usize, of_none: bool) -> usize
     requires { count ≤ row_limit }
     ensures { result ≡ units_in_quotes of_none count }
 {
-    if of_none && count == 0 {
-        return 0;
+    if of_none && count == 0 { 0 } else { count + 1 }
+}
+
+// Why expanding stopped, where a message that is demanded stands so many bytes further behind.
+fn behind(stop: Stop, front: usize) -> Stop
+    requires { front + message_at stop < 2 ^ 64 }
+    ensures { result ≡ behind front stop }
+{
+    if let Stop::Demanded { at, len } = stop {
+        return Stop::Demanded {
+            at: front + at,
+            len,
+        };
     }
-    count + 1
+    stop
 }
 
 // The text of a quote that is open: an N, and after it its bytes as Q. An N that is taken back stands behind the row. A message that the text demands
@@ -58,7 +68,7 @@ fn expand_quote(
     homes: &[u8],
     params: &[u8],
     work: &mut [u8],
-) -> Expanded
+) -> Result<Row, Stop>
     requires { Ready text.now from.at from.mode from.depth units (length work.old) ×
         Holds extent.vars_room vars.old extent.vars_used × Table homes.now × Listed params.now }
     ensures { Says extent.vars_room text.now from.at units
@@ -66,15 +76,15 @@ fn expand_quote(
         (held (take extent.vars_used vars.old)))
         (parts (mode_of from.mode) from.depth (drop from.at text.now)) work.new vars.new result }
 {
-    if units >= numbers::ROW_LIMIT {
-        return Expanded::Refused(numbers::REFUSED_UNITS);
+    if units >= ROW_LIMIT {
+        return Err(Stop::Refused(Refusal::TooManyUnits));
     }
     row::put_empty(work);
     let inside = RowEnd {
         mark: Mark::Q,
         units: units + 1,
     };
-    let got = expand_text(
+    match expand_text(
         text,
         from,
         inside,
@@ -83,28 +93,17 @@ fn expand_quote(
         homes,
         params,
         &mut work[2..],
-    );
-    match got {
-        Expanded::Refused(e) => Expanded::Refused(e),
-        Expanded::Demanded { at, len } => Expanded::Demanded {
-            at: 2 + at,
-            len: len,
-        },
-        Expanded::Row {
-            units: count,
-            next,
-            vars_used,
-            of_none: came,
-        } => {
+    ) {
+        Ok(given) => {
             // whether the N stays is settled, and quotes around these are not asked for it
             let of_none = false;
-            Expanded::Row {
-                units: units_in_quotes(count, came),
-                next: next,
-                vars_used: vars_used,
-                of_none: of_none,
-            }
+            Ok(Row {
+                units: units_in_quotes(given.units, given.of_none),
+                of_none,
+                ..given
+            })
         }
+        Err(stop) => Err(behind(stop, 2)),
     }
 }
 
@@ -119,26 +118,24 @@ struct Named {
 fn is_removal(form: Form) -> bool
     ensures { result ≡ is_removal form }
 {
-    match form {
-        Form::Minus(_) => false,
-        Form::Equals(_) => false,
-        Form::Query(_) => false,
-        Form::Plus(_) => false,
-        Form::Suffix(_) => true,
-        Form::Prefix(_) => true,
-    }
+    matches!(form, Form::Suffix(_) | Form::Prefix(_))
 }
 
 // What a parameter's form asks for. A removal's value is not looked up for that, unless the switch is on.
-fn plan_at(text: &[u8], named: Named, vars: &[u8], params: &[u8], shouts: bool) -> Plan
+fn plan_at(
+    text: &[u8],
+    named: Named,
+    vars: &[u8],
+    params: &[u8],
+    shouts: bool,
+) -> Result<Plan, Refusal>
     requires { Name text.now named.param.from named.param.to × Table vars.now × Listed params.now }
     ensures { result ≡ plan_of (form_of named.form)
         (missing_held vars.now params.now (param_of text.now named.param)) shouts }
 {
-    let param = named.param;
-    let form = named.form;
+    let Named { param, form } = named;
     if !shouts && is_removal(form) {
-        return plan_of(form, Found::Missing, shouts);
+        return plan_of(form, None, shouts);
     }
     let found = expand_param::look_up(text, param, vars, params);
     plan_of(form, found, shouts)
@@ -156,7 +153,7 @@ fn expand_inner(
     homes: &[u8],
     params: &[u8],
     work: &mut [u8],
-) -> Expanded
+) -> Result<Row, Stop>
     requires { Ready text.now from.at from.mode from.depth 0 (length work.old) ×
         Holds extent.vars_room vars.old extent.vars_used × Table homes.now × Listed params.now × (row.units ≤ row_limit) ×
         Name text.now named.param.from named.param.to × IsNamed (param_of text.now named.param) }
@@ -168,53 +165,33 @@ fn expand_inner(
 {
     let vars_used = extent.vars_used;
     let param = named.param;
-    let plan = plan_at(text, named, &vars[..vars_used], params, extent.shouts);
-    match plan {
+    match plan_at(text, named, &vars[..vars_used], params, extent.shouts)? {
         Plan::Unused(what) => {
-            let got = read_line::read_text(text, from);
-            match got {
-                Reading::Fault(e) => Expanded::Refused(e),
-                Reading::End(next) => {
-                    let on = Onward {
-                        next: next,
-                        vars_used: vars_used,
-                        of_none: false,
-                    };
-                    settle(what, text, param, row, on, &vars[..vars_used], params, work)
-                }
-            }
+            let next = read_line::read_text(text, from)?;
+            let on = Onward {
+                next,
+                vars_used,
+                of_none: false,
+            };
+            settle(what, text, param, row, on, &vars[..vars_used], params, work)
         }
         Plan::Used(what) => {
-            let mark = row.mark;
             let operand = RowEnd {
-                mark: operand_mark(what, mark),
+                mark: operand_mark(what, row.mark),
                 units: 0,
             };
-            let got = expand_text(text, from, operand, vars, extent, homes, params, work);
-            match got {
-                Expanded::Refused(e) => Expanded::Refused(e),
-                Expanded::Demanded { at, len } => Expanded::Demanded { at: at, len: len },
-                Expanded::Row {
-                    units,
-                    next,
-                    vars_used: left,
-                    of_none: came,
-                } => {
-                    let stands = Operand {
-                        units: units,
-                        next: next,
-                        of_none: came,
-                    };
-                    let stored = Extent {
-                        vars_used: left,
-                        vars_room: extent.vars_room,
-                        shouts: extent.shouts,
-                    };
-                    finish(what, text, param, stands, row, vars, stored, params, work)
-                }
-            }
+            let given = expand_text(text, from, operand, vars, extent, homes, params, work)?;
+            let stands = Operand {
+                units: given.units,
+                next: given.next,
+                of_none: given.of_none,
+            };
+            let stored = Extent {
+                vars_used: given.vars_used,
+                ..extent
+            };
+            finish(what, text, param, stands, row, vars, stored, params, work)
         }
-        Plan::Shout => Expanded::Refused(numbers::REFUSED_UNSET),
     }
 }
 
@@ -230,7 +207,7 @@ fn expand_sum(
     homes: &[u8],
     params: &[u8],
     work: &mut [u8],
-) -> Expanded
+) -> Result<Row, Stop>
     requires { Ready text.now at (Mode.Arith 0) depth 0 (length work.old) ×
         Holds extent.vars_room vars.old extent.vars_used × Table homes.now × Listed params.now × (row.units ≤ row_limit) }
     ensures { Says extent.vars_room text.now at row.units
@@ -239,35 +216,20 @@ fn expand_sum(
         (parts (arith 0) depth (drop at text.now)) work.new vars.new result }
 {
     let from = Cursor {
-        at: at,
+        at,
         mode: Mode::Arith(0),
-        depth: depth,
+        depth,
     };
     let inside = RowEnd {
         mark: Mark::Q,
         units: 0,
     };
-    let got = expand_text(text, from, inside, vars, extent, homes, params, work);
-    match got {
-        Expanded::Refused(e) => Expanded::Refused(e),
-        Expanded::Demanded { at: message, len } => Expanded::Demanded {
-            at: message,
-            len: len,
-        },
-        Expanded::Row {
-            units,
-            next,
-            vars_used,
-            of_none: _,
-        } => {
-            let after = Extent {
-                vars_used: vars_used,
-                vars_room: extent.vars_room,
-                shouts: extent.shouts,
-            };
-            sum_up(units, next, row, vars, after, work)
-        }
-    }
+    let summed = expand_text(text, from, inside, vars, extent, homes, params, work)?;
+    let after = Extent {
+        vars_used: summed.vars_used,
+        ..extent
+    };
+    sum_up(summed.units, summed.next, row, vars, after, work)
 }
 
 // The item that stands where the text is read: its own row.
@@ -282,7 +244,7 @@ fn expand_item(
     homes: &[u8],
     params: &[u8],
     work: &mut [u8],
-) -> Expanded
+) -> Result<Row, Stop>
     requires { ItemAt text.now from item × Ready text.now from.at from.mode from.depth row.units (length work.old) ×
         Holds extent.vars_room vars.old extent.vars_used × Table homes.now × Listed params.now }
     ensures { ItemSays (lent_of extent.vars_room extent.shouts homes.now params.now) text.now from row item
@@ -291,22 +253,20 @@ fn expand_item(
 {
     let vars_used = extent.vars_used;
     match item {
-        Item::Fault(e) => Expanded::Refused(e),
-        Item::Stop(next) => Expanded::Row {
+        Item::Stop(next) => Ok(Row {
             units: 0,
-            next: next,
-            vars_used: vars_used,
+            next,
+            vars_used,
             of_none: false,
-        },
+        }),
         Item::Byte { quoted, byte, next } => {
-            let mark = row.mark;
             let literal = RowEnd {
-                mark: row::literal_mark(quoted, mark),
-                units: row.units,
+                mark: row::literal_mark(quoted, row.mark),
+                ..row
             };
             let on = Onward {
-                next: next,
-                vars_used: vars_used,
+                next,
+                vars_used,
                 of_none: false,
             };
             give_unit(byte, literal, on, work)
@@ -314,7 +274,7 @@ fn expand_item(
         Item::Paren { byte, parens: _ } => {
             let on = Onward {
                 next: from.at + 1,
-                vars_used: vars_used,
+                vars_used,
                 of_none: false,
             };
             give_unit(byte, row, on, work)
@@ -322,18 +282,17 @@ fn expand_item(
         Item::Quote { mode, next } => {
             let inside = Cursor {
                 at: next,
-                mode: mode,
+                mode,
                 depth: from.depth,
             };
             expand_quote(text, inside, row.units, vars, extent, homes, params, work)
         }
         Item::Value { param, next } => {
             let on = Onward {
-                next: next,
-                vars_used: vars_used,
+                next,
+                vars_used,
                 of_none: false,
             };
-            let shouts = extent.shouts;
             give_sought(
                 text,
                 param,
@@ -342,16 +301,15 @@ fn expand_item(
                 &vars[..vars_used],
                 params,
                 work,
-                shouts,
+                extent.shouts,
             )
         }
         Item::Count { param, next } => {
             let on = Onward {
-                next: next,
-                vars_used: vars_used,
+                next,
+                vars_used,
                 of_none: false,
             };
-            let shouts = extent.shouts;
             give_length(
                 text,
                 param,
@@ -360,21 +318,21 @@ fn expand_item(
                 &vars[..vars_used],
                 params,
                 work,
-                shouts,
+                extent.shouts,
             )
         }
         Item::Total { next } => {
             let on = Onward {
-                next: next,
-                vars_used: vars_used,
+                next,
+                vars_used,
                 of_none: false,
             };
             give_total(row, on, params, work)
         }
         Item::Spread { apart, next } => {
             let on = Onward {
-                next: next,
-                vars_used: vars_used,
+                next,
+                vars_used,
                 of_none: is_of_none(apart, params),
             };
             give_list(apart, row, on, &vars[..vars_used], params, work)
@@ -387,13 +345,10 @@ fn expand_item(
         } => {
             let operand = Cursor {
                 at: next,
-                mode: mode,
+                mode,
                 depth: from.depth - 1,
             };
-            let named = Named {
-                param: param,
-                form: form,
-            };
+            let named = Named { param, form };
             expand_inner(text, named, operand, row, vars, extent, homes, params, work)
         }
         Item::Sum { next } => {
@@ -413,7 +368,7 @@ fn expand_item(
             let start = from.at + 1;
             let on = Onward {
                 next: to,
-                vars_used: vars_used,
+                vars_used,
                 of_none: false,
             };
             give_home(&text[start..to], row, on, &vars[..vars_used], homes, work)
@@ -426,12 +381,11 @@ fn put_run(run: &[u8], row: RowEnd, area: &mut [u8]) -> bool
     requires { (row.units ≤ row_limit) × (2 * row_limit ≤ length area.old + 2 * row.units) }
     ensures { PutsRun (mark_of row.mark) row.units run.now area.old area.new result }
 {
-    let room = numbers::ROW_LIMIT - row.units;
+    let room = ROW_LIMIT - row.units;
     if run.len() > room {
         return false;
     }
-    let mark = row.mark;
-    row::put_marked(run, mark, area);
+    row::put_marked(run, row.mark, area);
     true
 }
 
@@ -447,7 +401,7 @@ pub fn expand_text(
     homes: &[u8],
     params: &[u8],
     work: &mut [u8],
-) -> Expanded
+) -> Result<Row, Stop>
     requires { Ready text.now from.at from.mode from.depth row.units (length work.old) ×
         Holds extent.vars_room vars.old extent.vars_used × Table homes.now × Listed params.now }
     ensures { Says extent.vars_room text.now from.at row.units
@@ -462,7 +416,7 @@ pub fn expand_text(
     let mut left = extent.vars_used;
     let mut of_none = false;
     loop {
-        let behind = behind_literals(
+        let passed = behind_literals(
             text,
             Cursor {
                 at: i,
@@ -470,42 +424,41 @@ pub fn expand_text(
                 depth: from.depth,
             },
         );
-        let place = behind.at;
-        let mode = behind.mode;
+        let place = passed.at;
+        let mode = passed.mode;
         let here = Cursor {
             at: place,
-            mode: mode,
+            mode,
             depth: from.depth,
         };
         let before = RowEnd {
-            mark: mark,
+            mark,
             units: row.units + n,
         };
         let front = 2 * n;
         if !put_run(&text[i..place], before, &mut work[front..]) {
-            return Expanded::Refused(numbers::REFUSED_UNITS);
+            return Err(Stop::Refused(Refusal::TooManyUnits));
         }
         let ran = n + (place - i);
         if is_end(text, place, mode) {
-            return Expanded::Row {
+            return Ok(Row {
                 units: ran,
                 next: place + end_length(mode),
                 vars_used: left,
-                of_none: of_none,
-            };
+                of_none,
+            });
         }
-        let item = item_at(text, here);
+        let item = item_at(text, here)?;
         let end = RowEnd {
-            mark: mark,
+            mark,
             units: row.units + ran,
         };
         let held = Extent {
             vars_used: left,
-            vars_room: extent.vars_room,
-            shouts: extent.shouts,
+            ..extent
         };
         let start = 2 * ran;
-        let got = expand_item(
+        let given = match expand_item(
             item,
             text,
             here,
@@ -515,37 +468,22 @@ pub fn expand_text(
             homes,
             params,
             &mut work[start..],
-        );
-        match got {
-            Expanded::Refused(e) => {
-                return Expanded::Refused(e);
-            }
-            Expanded::Demanded { at, len } => {
-                return Expanded::Demanded {
-                    at: start + at,
-                    len: len,
-                };
-            }
-            Expanded::Row {
-                units,
-                next,
-                vars_used,
-                of_none: came,
-            } => {
-                n = ran + units;
-                i = next;
-                left = vars_used;
-                of_none = of_none || came;
-                if is_stop(item) {
-                    return Expanded::Row {
-                        units: n,
-                        next: i,
-                        vars_used: left,
-                        of_none: of_none,
-                    };
-                }
-                inside = mode_after(item, mode);
-            }
+        ) {
+            Ok(given) => given,
+            Err(stop) => return Err(behind(stop, start)),
+        };
+        n = ran + given.units;
+        i = given.next;
+        left = given.vars_used;
+        of_none = of_none || given.of_none;
+        if is_stop(item) {
+            return Ok(Row {
+                units: n,
+                next: i,
+                vars_used: left,
+                of_none,
+            });
         }
+        inside = mode_after(item, mode);
     }
 }

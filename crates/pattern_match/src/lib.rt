@@ -79,6 +79,7 @@ fn run_to_star(
 {
     let mut head = starts;
     let mut first = begins;
+    // A place beside the other, since a zip would end without saying which of the two is over.
     let mut k = since;
     for at in start..cells.len() {
         let cell = cells[at];

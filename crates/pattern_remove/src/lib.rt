@@ -245,6 +245,7 @@ fn cut_place(
     ensures { (p : List Element) → Shows sets.now cells.now p → CutsAt (side_of suffix) down p value.now result }
 {
     let n = value.len();
+    // There are n + 1 cuts.
     for i in 0..n + 1 {
         let k = cut_at(down, n, i);
         if drops_match(value, cells, sets, suffix, k, bound) {

@@ -34,13 +34,17 @@ fn put_fields(
     let top = split_delimiter::highest_of(ifs);
     let mut at = split_delimiter::skip_white(row, 0, ifs);
     let mut len = used;
+    // No Result of a length: where a field had no room the later ones are still tried from `len` on.
     let mut full = false;
     while row.len() - at > 1 {
         let mut end = at;
-        while split_delimiter::goes_on(row, end, ifs, top) {
+        // Document 01 names the form: the inner walk leaves by break with the next place.
+        let next = loop {
+            if !split_delimiter::goes_on(row, end, ifs, top) {
+                break split_delimiter::behind_field(row, end, ifs);
+            }
             end += 2;
-        }
-        let next = split_delimiter::behind_field(row, end, ifs);
+        };
         match split_field::put_field(&mut row[at..end], paths, out, len) {
             Ok(n) => len = n,
             Err(WriteError::BadClass) => return Err(WriteError::BadClass),
@@ -71,6 +75,7 @@ fn put_parts(
 {
     let mut at: usize = 0;
     let mut to = used;
+    // As `full` above.
     let mut short = false;
     while at + 1 < row.len() {
         let end = split_delimiter::part_end(row, at);

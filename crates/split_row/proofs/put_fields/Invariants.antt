@@ -10,11 +10,11 @@ use Rattle.split_row.proofs.Runs.{Run}
 use Rattle.split_row.proofs.Walking.{Walk}
 use Rattle.split_row.proofs.put_fields.Given as goal
 
-abbrev pub invariant-loop-end : goal.invariant-loop-end
-invariant-loop-end l = Run l.ifs l.row l.at l.end
+abbrev pub invariant-loop-row-2 : goal.invariant-loop-row-2
+invariant-loop-row-2 l = Run l.ifs l.row l.at l.end
 
-abbrev pub decreases-loop-end : goal.decreases-loop-end
-decreases-loop-end l = length l.row - l.end
+abbrev pub decreases-loop-row-2 : goal.decreases-loop-row-2
+decreases-loop-row-2 l = length l.row - l.end
 
 abbrev pub invariant-loop-row : goal.invariant-loop-row
 invariant-loop-row l =
