@@ -21,6 +21,7 @@ use Rattle.text.proofs.Filling.{puts_front}
 use Rattle.table_store.specs.Holding.{Holds, Settable, StoresIn}
 use Rattle.table_store.specs.declared.NoRoom.{NoRoom}
 use Rattle.arith_token.specs.Tokens.{setting_of}
+use Rattle.std.specs.Result.{result_or}
 use Rattle.std.specs.Prelude.{Option, None, Result, Ok, Err}
 use Rattle.text.specs.Refusals.{refusal_number}
 use Rattle.text.specs.declared.refusal.Refusal.{Refusal}
@@ -40,13 +41,10 @@ pub number_settable : (x : Text) (z : ℤ) {t : Text} → is_name x ≡ true →
 number_settable x z n e = record { named = n; clean = ap (all not_zero) e ∙ signed_safe z }
 
 module _ (room : ℕ) (x : Text) (z : ℤ) {t : Text} (e : t ≡ signed z) (v : Pairs) (left : Text) where
-  pub put_full : (e : NoRoom) → StoresIn room x t v left (Err e) → Puts room x z v left (Err VariableRoom)
+  pub put_kept : (r : Result ℕ NoRoom) → StoresIn room x t v left r → Puts room x z v left (result_or r (Err VariableRoom))
   unfolding keeping store_in
-  put_full q h = rw (← e) (rw h)
-
-  pub put_used : (n : ℕ) → StoresIn room x t v left (Ok n) → Puts room x z v left (Ok n)
-  unfolding keeping store_in
-  put_used n h = (rw (← e) (rw h.0), h.1)
+  put_kept (Ok n) h = (rw (← e) (rw h.0), h.1)
+  put_kept (Err q) h = rw (← e) (rw h)
 
 -- ONE NAME
 

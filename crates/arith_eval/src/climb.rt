@@ -331,21 +331,21 @@ fn further(
     ensures { Continues (lent_in scope) text.now at vars.old scope.vars_used scope.counts scope.room least left
         vars.new result }
 {
-    let mut value = left;
-    let mut next = at;
-    let mut vars_used = scope.vars_used;
+    let mut so_far = Climbed {
+        value: left,
+        next: at,
+        vars_used: scope.vars_used,
+    };
     loop {
-        let inner = Scope { vars_used, ..scope };
-        let Some(more) = operator(text, next, least, value, inner, vars, places)? else {
-            return Ok(Climbed {
-                value,
-                next,
-                vars_used,
-            });
+        let inner = Scope {
+            vars_used: so_far.vars_used,
+            ..scope
         };
-        value = more.value;
-        next = more.next;
-        vars_used = more.vars_used;
+        let Some(more) = operator(text, so_far.next, least, so_far.value, inner, vars, places)?
+        else {
+            return Ok(so_far);
+        };
+        so_far = more;
     }
 }
 

@@ -37,10 +37,7 @@ fn sign_at(text: &[u8], at: usize) -> Option<Sign>
         return Some(Sign::Stop);
     }
     let next = i + 1;
-    if next == text.len() {
-        return None;
-    }
-    if text[next] == b'=' {
+    if next == text.len() || text[next] == b'=' {
         return None;
     }
     match text[i] {
@@ -63,10 +60,7 @@ fn constant_at(text: &[u8], at: usize) -> Option<Plain>
         return None;
     }
     let first = text[from];
-    if first < b'1' {
-        return None;
-    }
-    if b'9' < first {
+    if first < b'1' || b'9' < first {
         return None;
     }
     let mut n = (first - b'0') as u64;

@@ -110,10 +110,7 @@ fn put_value(
 {
     let n = arith_decimal::put_signed(digits, value);
     let kept = table_store::store_within(name, &digits[..n], vars, vars_used, vars_room);
-    match kept {
-        Ok(used) => Ok(used),
-        Err(_) => Err(Refusal::VariableRoom),
-    }
+    kept.or(Err(Refusal::VariableRoom))
 }
 
 // "then the result is stored as its shortest decimal text; it is the value of the assignment".
@@ -168,16 +165,21 @@ pub fn stored_all(
     requires { Storable (lent_in scope) text.now waiting places.now vars.old scope.vars_used }
     ensures { Stores (lent_in scope) text.now value waiting places.now vars.old scope.vars_used vars.new result }
 {
-    let mut z = value;
-    let mut used = scope.vars_used;
+    let mut all = Worked {
+        value,
+        vars_used: scope.vars_used,
+    };
     for i in (0..waiting).rev() {
         let place = places[i] as usize;
-        let got = assigned(text, place, z, vars, used, scope.vars_room, scope.shouts)?;
-        z = got.value;
-        used = got.vars_used;
+        all = assigned(
+            text,
+            place,
+            all.value,
+            vars,
+            all.vars_used,
+            scope.vars_room,
+            scope.shouts,
+        )?;
     }
-    Ok(Worked {
-        value: z,
-        vars_used: used,
-    })
+    Ok(all)
 }

@@ -2,17 +2,18 @@
 #![tactic(auto)]
 
 ghost use Rattle.std.proofs.Math.Option.{none};
-ghost use Rattle.std.specs.Prelude.{◌∷◌, [], ◌+◌, ◌*◌, ◌≤◌, length};
+ghost use Rattle.std.specs.Prelude.{◌≡◌, MatchResult, ◌∷◌, [], ◌+◌, ◌*◌, ◌≤◌, length};
 ghost use Rattle.stages.specs.Numbers.{row_limit};
-ghost use Rattle.stages.specs.Outcome.{done};
+ghost use Rattle.stages.specs.Outcome.{refused, done};
 ghost use Rattle.stages.specs.Images.{held, held_texts, or_empty};
 ghost use Rattle.stages.specs.Expand.{directory, tilde_row};
 ghost use Rattle.stages.specs.Units.{Q, cell, N, marked, expanded_mark, decimal};
+ghost use Rattle.text.specs.Refusals.{refusal_number};
 ghost use Rattle.arith_decimal.specs.Digits.{most_digits};
 ghost use Rattle.row.specs.Marks.{mark_of};
 ghost use Rattle.table.specs.Places.{Listed, Table};
 ghost use Rattle.read_brace.specs.Shows.{Name, param_of};
-ghost use Rattle.expand_param.specs.Holding.{holding_in};
+ghost use Rattle.expand_param.specs.Holding.{holding_in, sought_in};
 ghost use Rattle.expand_add.specs.Added.{Adds};
 ghost use Rattle.expand_item.specs.Homes.{Inside, text_at};
 ghost use Rattle.expand_item.specs.Sought.{value_row, length_row};
@@ -36,7 +37,7 @@ pub fn give_unit(b: u8, row: RowEnd, on: Onward, area: &mut [u8]) -> Result<Row,
     Ok(on.row(1))
 }
 
-// Adds the decimal text of a count, which is worked out in `digits`.
+// Adds the decimal text of a count, which is worked out in `digits`: two lines as of expand_add's give_signed, with another writer and another stage.
 fn give_count(
     n: u64,
     row: RowEnd,
@@ -72,6 +73,25 @@ pub fn give_value(
     expand_add::give_expanded(value, row, on, area)
 }
 
+// The value of a parameter that is looked up: one that is unset is refused if the switch is on.
+fn sought<'a>(
+    text: &[u8],
+    param: Param,
+    vars: &'a [u8],
+    params: &'a [u8],
+    shouts: bool,
+) -> Result<&'a [u8], Refusal>
+    requires { Name text.now param.from param.to × Table vars.now × Listed params.now }
+    ensures { MatchResult result
+        (λ t. sought_in shouts (held_texts params.now) (held vars.now) (param_of text.now param) ≡ done t.now)
+        (λ e. sought_in shouts (held_texts params.now) (held vars.now) (param_of text.now param) ≡ refused (refusal_number e)) }
+{
+    if expand_param::must_shout(text, param, vars, params, shouts) {
+        return Err(Refusal::UnsetName);
+    }
+    Ok(expand_param::value_of(text, param, vars, params))
+}
+
 // Adds the value of a parameter in its plain form: one that is unset is refused if the switch is on.
 pub fn give_sought(
     text: &[u8],
@@ -89,10 +109,7 @@ pub fn give_sought(
         (value_row shouts (held_texts params.now) (held vars.now) (param_of text.now param) (mark_of row.mark))
         area.new result }
 {
-    if expand_param::must_shout(text, param, vars, params, shouts) {
-        return Err(Stop::Refused(Refusal::UnsetName));
-    }
-    give_value(text, param, row, on, vars, params, area)
+    expand_add::give_expanded(sought(text, param, vars, params, shouts)?, row, on, area)
 }
 
 // Adds the length in bytes of a parameter's value, 0 if it is unset. One that is unset is refused if the switch is on.
@@ -112,11 +129,7 @@ pub fn give_length(
         (length_row shouts (held_texts params.now) (held vars.now) (param_of text.now param) (mark_of row.mark))
         area.new result }
 {
-    let unset = expand_param::must_shout(text, param, vars, params, shouts);
-    if unset {
-        return Err(Stop::Refused(Refusal::UnsetName));
-    }
-    let value = expand_param::value_of(text, param, vars, params);
+    let value = sought(text, param, vars, params, shouts)?;
     let mut digits = [0u8; numbers::MOST_DIGITS];
     give_count(value.len() as u64, row, on, &mut digits, area)
 }
@@ -146,7 +159,7 @@ fn give_directory(directory: &[u8], row: RowEnd, on: Onward, area: &mut [u8]) ->
     Ok(on.row(directory.len() + 1))
 }
 
-// Adds a tilde and its login as they stand, each byte with the row's mark.
+// Adds a tilde and its login as they stand, each byte with the row's mark. One function with `give_directory` would take the first unit as a case.
 fn give_literal(login: &[u8], row: RowEnd, on: Onward, area: &mut [u8]) -> Result<Row, Stop>
     requires { (row.units ≤ row_limit) × (2 * row_limit ≤ length area.old + 2 * row.units) }
     ensures { Adds row.units on (done (tilde_row login.now (mark_of row.mark) none)) area.new result }

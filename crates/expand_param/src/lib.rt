@@ -44,7 +44,7 @@ pub fn must_shout(text: &[u8], param: Param, vars: &[u8], params: &[u8], shouts:
     shouts && look_up(text, param, vars, params).is_none()
 }
 
-// The value of a parameter, a part of the image itself; empty if it is unset.
+// The value of a parameter, a part of the image itself; empty if it is unset. Told apart as in `look_up`, since table_find gives the bytes of both images too.
 pub fn value_of<'a>(text: &[u8], param: Param, vars: &'a [u8], params: &'a [u8]) -> &'a [u8]
     requires { Name text.now param.from param.to × Table vars.now × Listed params.now }
     ensures { result.now ≡ or_empty (holding_in (held_texts params.now) (held vars.now) (param_of text.now param)) }

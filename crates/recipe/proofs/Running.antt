@@ -6,7 +6,7 @@ use mathlib.Core.Bool.{Bool, true, false}
 use mathlib.Core.List.{List, [], ◌∷◌, ◌++◌, append-nil}
 use lib.ListN.{length, take, drop}
 use lib.Seq.{take_all, take_at, drop_at, length-take-le}
-use Rattle.std.specs.Prelude.{Result, Ok, Err}
+use Rattle.std.specs.Prelude.{Option, Some, None, Result, Ok, Err}
 use Rattle.stages.specs.Bytes.{Text}
 use Rattle.stages.specs.Call.{normaliser}
 use Rattle.stages.specs.Program.{Variables, given_line, said, told, next_number, after_line, after_lines, said_of, told_of}
@@ -34,6 +34,8 @@ use Rattle.recipe_answer.proofs.Turns.{
   run_ran,
 }
 use Rattle.recipe.specs.Runs.{
+  Input,
+  unread,
   block_of,
   input_of,
   Comes,
@@ -49,9 +51,8 @@ use Rattle.recipe.specs.Runs.{
   fails,
   Answers,
 }
-use Rattle.recipe.specs.declared.answering.Input.{Input}
-use Rattle.recipe.specs.declared.answering.Input.TheVariants.{Block, Ended, Failed}
 use Rattle.recipe.specs.declared.answering.Run.{Run}
+use Rattle.recipe.specs.declared.answering.Unread.{Unread}
 
 -- WORDS
 
@@ -95,16 +96,16 @@ module _ {homes paths params block : Text} {k : Carried} {at : ℕ} {b c : Buffe
 
 -- on the way through a block, from the run k in its buffers: up to the place all is answered, whatever was read before
 pub record Goes (homes paths params block line₀ vars₀ said₀ : Text) (k : Run) (line vars said : Text) (r : Run) (at : ℕ) : Type 0 where
-  pub ready : Ready line said r.kept
+  pub ready : Ready line said r.carried.kept
   pub inside : at ≤ length block
   pub same_line : length line ≡ length line₀
   pub same_vars : length vars ≡ length vars₀
   pub same_said : length said ≡ length said₀
   pub reached : (first : Variables) (read : Text) (w : Wrote)
-      → Reaches homes paths params first read w line₀ k.kept k.line (variables vars₀ k.vars_used k.shouts)
-      → Reached homes paths params first (read ++ take at block) line r.kept r.line (variables vars r.vars_used r.shouts)
+      → Reaches homes paths params first read w line₀ k.carried.kept k.carried.line (variables vars₀ k.carried.vars_used k.carried.shouts)
+      → Reached homes paths params first (read ++ take at block) line r.carried.kept r.carried.line (variables vars r.carried.vars_used r.carried.shouts)
 
-pub goes_starts : (homes paths params block line vars said : Text) (k : Run) → Ready line said k.kept
+pub goes_starts : (homes paths params block line vars said : Text) (k : Run) → Ready line said k.carried.kept
     → Goes homes paths params block line vars said k line vars said k 0
 goes_starts homes paths params block line vars said k h = record {
   ready = h;
@@ -114,23 +115,19 @@ goes_starts homes paths params block line vars said k h = record {
   same_said = refl;
   reached = λ first read w r. record {
     wrote = w;
-    reaches = subst (λ (x : Text). Reaches homes paths params first x w line k.kept k.line (variables vars k.vars_used k.shouts))
+    reaches = subst (λ (x : Text). Reaches homes paths params first x w line k.carried.kept k.carried.line (variables vars k.carried.vars_used k.carried.shouts))
         (sym (append-nil read)) r;
   };
 }
 
 module _ {homes paths params block line₀ vars₀ said₀ : Text} {k : Run} {line vars said : Text} {r : Run} {at : ℕ}
     (g : Goes homes paths params block line₀ vars₀ said₀ k line vars said r at) where
-  -- what is carried into a turn
-  abbrev pub carried : Carried
-  carried = record { kept = r.kept; line = r.line; vars_used = r.vars_used; shouts = r.shouts }
-
   -- a line ended, is counted, and was written or not
   pub goes_line : {c : Buffers} {len told used next number : ℕ} (s : Bool)
-      → Tells homes paths params carried block at (buffers line vars said) c len told used next → number ≡ next_number r.line
+      → Tells homes paths params r.carried block at (buffers line vars said) c len told used next → number ≡ next_number r.carried.line
       → length c.line ≡ length line → length c.vars ≡ length vars → length c.said ≡ length said
       → Goes homes paths params block line₀ vars₀ said₀ k c.line c.vars c.said
-      (record { kept = 0; line = number; vars_used = used; shouts = r.shouts; goes_on = s }) next
+      (record { carried = record { kept = 0; line = number; vars_used = used; shouts = r.carried.shouts }; goes_on = s }) next
   goes_line {c = c} {len = len} {told = told} {used = used} {next = next} s t e l v w = record {
     ready = record { most = omega arith; room = omega (arith, g.ready.room); words = omega (arith, g.ready.words) };
     inside = (next_turn block at next t.ends g.inside).1;
@@ -146,13 +143,13 @@ module _ {homes paths params block line₀ vars₀ said₀ : Text} {k : Run} {li
   }
 
   -- the block ran out within a line
-  pub passes_open : {c : Buffers} {n : ℕ} → Stays r.kept block at (buffers line vars said) c n
+  pub passes_open : {c : Buffers} {n : ℕ} → Stays r.carried.kept block at (buffers line vars said) c n
       → Passes homes paths params block line₀ vars₀ k c.line c.vars
-      (record { kept = n; line = r.line; vars_used = r.vars_used; shouts = r.shouts; goes_on = true })
+      (record { carried = record { kept = n; line = r.carried.line; vars_used = r.carried.vars_used; shouts = r.carried.shouts }; goes_on = true })
   passes_open s = record {
     goes = λ e first read w h.
         let q = g.reached first read w h in
-        record { wrote = q.wrote; reaches = reaches_open homes paths params read block q.wrote at {k = carried} q.reaches s };
+        record { wrote = q.wrote; reaches = reaches_open homes paths params read block q.wrote at {k = r.carried} q.reaches s };
     stops = λ e. absurd (no (sym e));
   }
 
@@ -163,8 +160,8 @@ module _ {homes paths params block line₀ vars₀ said₀ : Text} {k : Run} {li
         let q = g.reached first read w h in
         record {
           wrote = q.wrote;
-          reaches = subst (λ (x : Text). Reaches homes paths params first (read ++ x) q.wrote line r.kept r.line
-              (variables vars r.vars_used r.shouts))
+          reaches = subst (λ (x : Text). Reaches homes paths params first (read ++ x) q.wrote line r.carried.kept r.carried.line
+              (variables vars r.carried.vars_used r.carried.shouts))
               (take_all at block (f e)) q.reaches;
         };
     stops = λ e first read w h. reaches_stopped homes paths params read block at (g.reached first read w h).reaches;
@@ -173,11 +170,11 @@ module _ {homes paths params block line₀ vars₀ said₀ : Text} {k : Run} {li
 -- WHAT A READ GAVE
 
 -- by the number of bytes
-pub given_block : (n : ℕ) → 0 < n → Block n ≡ block_of n
+pub given_block : (n : ℕ) → 0 < n → ◌≡◌ {A = Input} (Ok (Some n)) (block_of n)
 given_block zero h = absurd (omega arith)
 given_block (suc n) h = refl
 
-pub given_end : (n : ℕ) → n ≤ 0 → Ended ≡ block_of n
+pub given_end : (n : ℕ) → n ≤ 0 → ◌≡◌ {A = Input} (Ok None) (block_of n)
 given_end zero h = refl
 given_end (suc n) h = absurd (omega arith)
 
@@ -192,19 +189,19 @@ input_comes {E} block got i e = subst (Comes block) (sym e) (go got)
     go (Ok k) = within (min k (length block)) (omega arith)
     go (Err x) = tt
 
-pub comes_counts : (block : Text) {i : Input} {n : ℕ} → i ≡ Block n → Comes block i → IsPrefixLen n block
+pub comes_counts : (block : Text) {i : Input} {n : ℕ} → i ≡ Ok (Some n) → Comes block i → IsPrefixLen n block
 comes_counts block e h = (subst (Comes block) e h).1
 
 module _ {homes paths params block line vars said : Text} {k : Run} {line' vars' said' : Text} {r : Run} {i : Input} where
-  pub follows_block : {n : ℕ} → i ≡ Block n → Passes homes paths params (take n block) line vars k line' vars' r
+  pub follows_block : {n : ℕ} → i ≡ Ok (Some n) → Passes homes paths params (take n block) line vars k line' vars' r
       → Follows homes paths params block line vars said k line' vars' said' r i
   follows_block e p = subst (Follows homes paths params block line vars said k line' vars' said' r) (sym e) (passes p)
 
-  pub follows_end : i ≡ Ended → Finishes homes paths params line vars said k vars' said' r
+  pub follows_end : i ≡ Ok None → Finishes homes paths params line vars said k vars' said' r
       → Follows homes paths params block line vars said k line' vars' said' r i
   follows_end e f = subst (Follows homes paths params block line vars said k line' vars' said' r) (sym e) (finishes f)
 
-  pub follows_failure : i ≡ Failed → Fails line vars said k line' vars' said' r → Follows homes paths params block line vars said k line' vars' said' r i
+  pub follows_failure : {e : Unread} → i ≡ Err e → Fails line vars said k line' vars' said' r → Follows homes paths params block line vars said k line' vars' said' r i
   follows_failure e f = subst (Follows homes paths params block line vars said k line' vars' said' r) (sym e) (fails f)
 
 -- ALL BLOCKS
@@ -227,13 +224,13 @@ answers_ran {homes} {paths} {params} {vars} {vars'} {read} {used} {used'} {s} r 
 pub record Stands (homes paths params vars₀ : Text) (used₀ : ℕ) (shouts₀ : Bool) (line vars said : Text) (k : Run) : Type 0 where
   pub room : line_kept ≤ length line
   pub words : written_room ≤ length said
-  pub goes : k.goes_on ≡ true → Going homes paths params (variables vars₀ used₀ shouts₀) line k.kept k.line
-      (variables vars k.vars_used k.shouts)
-  pub stops : k.goes_on ≡ false → Answers homes paths params vars₀ used₀ shouts₀ vars k.vars_used
+  pub goes : k.goes_on ≡ true → Going homes paths params (variables vars₀ used₀ shouts₀) line k.carried.kept k.carried.line
+      (variables vars k.carried.vars_used k.carried.shouts)
+  pub stops : k.goes_on ≡ false → Answers homes paths params vars₀ used₀ shouts₀ vars k.carried.vars_used
 
 pub stands_starts : (homes paths params vars : Text) (used : ℕ) (shouts : Bool) (line said : Text) → Ready line said 0
     → Stands homes paths params vars used shouts line vars said
-    (record { kept = 0; line = 1; vars_used = used; shouts = shouts; goes_on = true })
+    (record { carried = record { kept = 0; line = 1; vars_used = used; shouts = shouts }; goes_on = true })
 stands_starts homes paths params vars used shouts line said h = record {
   room = h.room;
   words = h.words;
@@ -243,11 +240,11 @@ stands_starts homes paths params vars used shouts line said h = record {
 
 module _ {homes paths params vars₀ : Text} {used₀ : ℕ} {shouts₀ : Bool} {line vars said : Text} {k : Run}
     (s : Stands homes paths params vars₀ used₀ shouts₀ line vars said k) where
-  pub stands_ready : k.goes_on ≡ true → Ready line said k.kept
+  pub stands_ready : k.goes_on ≡ true → Ready line said k.carried.kept
   stands_ready e = record { most = kept_most (s.goes e).reached.reaches.holds; room = s.room; words = s.words }
 
   -- by either way out
-  pub stands_answers : Answers homes paths params vars₀ used₀ shouts₀ vars k.vars_used
+  pub stands_answers : Answers homes paths params vars₀ used₀ shouts₀ vars k.carried.vars_used
   stands_answers =
       either k.goes_on
       (λ e. answers_ran (reaches_ran homes paths params (s.goes e).reached.reaches))
@@ -263,20 +260,20 @@ module _ {homes paths params vars₀ : Text} {used₀ : ℕ} {shouts₀ : Bool} 
     stops = stopped f;
   }
     where
-      g : Going homes paths params (variables vars₀ used₀ shouts₀) line k.kept k.line (variables vars k.vars_used k.shouts)
+      g : Going homes paths params (variables vars₀ used₀ shouts₀) line k.carried.kept k.carried.line (variables vars k.carried.vars_used k.carried.shouts)
       g = s.goes q
 
       goes_on_lem : {block : Text} {i : Input} → Follows homes paths params block line vars said k line' vars' said' r i → r.goes_on ≡ true
-          → Going homes paths params (variables vars₀ used₀ shouts₀) line' r.kept r.line (variables vars' r.vars_used r.shouts)
+          → Going homes paths params (variables vars₀ used₀ shouts₀) line' r.carried.kept r.carried.line (variables vars' r.carried.vars_used r.carried.shouts)
       goes_on_lem (passes p) e = record { read = _; reached = p.goes e (variables vars₀ used₀ shouts₀) g.read g.reached.wrote g.reached.reaches }
       goes_on_lem (finishes p) e = absurd (apart p.stops e)
       goes_on_lem (fails p) e = absurd (apart p.stops e)
 
       stopped : {block : Text} {i : Input} → Follows homes paths params block line vars said k line' vars' said' r i → r.goes_on ≡ false
-          → Answers homes paths params vars₀ used₀ shouts₀ vars' r.vars_used
+          → Answers homes paths params vars₀ used₀ shouts₀ vars' r.carried.vars_used
       stopped (passes p) e = answers_ran (p.stops e (variables vars₀ used₀ shouts₀) g.read g.reached.wrote g.reached.reaches)
       stopped (finishes p) e = answers_ran (run_ran homes paths params g.reached.reaches p.says)
       stopped (fails p) e =
           answers_ran (subst (Ran homes paths params (variables vars₀ used₀ shouts₀) g.read)
-          (sym (ap (λ (x : Text). variables x r.vars_used k.shouts) p.same_vars ∙ ap (λ (n : ℕ). variables vars n k.shouts) p.same_used))
+          (sym (ap (λ (x : Text). variables x r.carried.vars_used k.carried.shouts) p.same_vars ∙ ap (λ (n : ℕ). variables vars n k.carried.shouts) p.same_used))
           (reaches_ran homes paths params g.reached.reaches))

@@ -10,56 +10,42 @@ use recipe_answer::{Begun, Carried, Turn};
 use std::io;
 use std::io::Read;
 
-// What a read gave.
+// The input cannot be read, and standard error says why.
 #[derive(Clone, Copy)]
-enum Input {
-    // So many bytes, at the front of the block.
-    Block(usize),
-    // None: the input is at its end.
-    Ended,
-    // It cannot be read, and standard error says why.
-    Failed,
-}
+struct Unread;
 
-// Where a run stands: the bytes kept of a line that has not ended, the line's number, the variables' used length, whether unset
-// names shout, and whether there is more to answer.
+// Where a run stands: what is carried to the next turn, and whether there is more to answer.
 #[derive(Clone, Copy)]
 struct Run {
-    kept: usize,
-    line: usize,
-    vars_used: usize,
-    shouts: bool,
+    carried: Carried,
     goes_on: bool,
 }
 
 // What a read gave, and where the run stood before it.
 #[derive(Clone, Copy)]
 struct Came {
-    input: Input,
+    input: Result<Option<usize>, Unread>,
     run: Run,
 }
 
-// What a read gave, by what it answered.
-fn input_of(rt: &HostRuntime, got: io::Result<usize>, block: &[u8]) -> Input
+// What a read gave, by what it answered: so many bytes at the front of the block, or none, where the input is at its end.
+fn input_of(rt: &HostRuntime, got: io::Result<usize>, block: &[u8]) -> Result<Option<usize>, Unread>
     ensures { result ≡ input_of got (length block.now) }
 {
     match got {
         Ok(count) => {
             let n = count.min(block.len());
-            if n > 0 {
-                return Input::Block(n);
-            }
-            Input::Ended
+            Ok(if n > 0 { Some(n) } else { None })
         }
         Err(error) => {
             system::fail(rt, b"standard input", error);
-            return Input::Failed;
+            Err(Unread)
         }
     }
 }
 
 // Reads a block.
-fn read_block(rt: &HostRuntime, block: &mut [u8]) -> Input
+fn read_block(rt: &HostRuntime, block: &mut [u8]) -> Result<Option<usize>, Unread>
     ensures { Comes block.new result }
 {
     let got = rt.stdin().read(block);
@@ -96,33 +82,22 @@ fn answer_block(
     work: &mut [u8],
     said: &mut [u8],
 ) -> Run
-    requires { Ready line.old said.old run.kept × (work_least ≡ length work.old) }
+    requires { Ready line.old said.old run.carried.kept × (work_least ≡ length work.old) }
     ensures { Passes homes.now paths.now params.now block.now line.old
         vars.old run line.new vars.new result }
 {
     let mut so_far = run;
     let mut at = 0;
     while so_far.goes_on && at < block.len() {
-        let carried = Carried {
-            kept: so_far.kept,
-            line: so_far.line,
-            vars_used: so_far.vars_used,
-            shouts: so_far.shouts,
-        };
-        let begun = Begun {
-            carried: carried,
-            at: at,
-        };
+        let carried = so_far.carried;
+        let begun = Begun { carried, at };
         let turn = recipe_answer::answer_next(
             begun, block, line, vars, homes, params, paths, work, said,
         );
         match turn {
             Turn::Open(kept) => {
                 return Run {
-                    kept: kept,
-                    line: so_far.line,
-                    vars_used: so_far.vars_used,
-                    shouts: so_far.shouts,
+                    carried: Carried { kept, ..carried },
                     goes_on: true,
                 };
             }
@@ -134,12 +109,13 @@ fn answer_block(
             } => {
                 let end = len + told;
                 let is_written = write_answer(rt, &said[..end], len);
-                let shouts = so_far.shouts;
                 so_far = Run {
-                    kept: 0,
-                    line: recipe_cut::next_number(so_far.line),
-                    vars_used: vars_used,
-                    shouts: shouts,
+                    carried: Carried {
+                        kept: 0,
+                        line: recipe_cut::next_number(carried.line),
+                        vars_used,
+                        ..carried
+                    },
                     goes_on: is_written,
                 };
                 at = next;
@@ -161,16 +137,11 @@ fn answer_end(
     work: &mut [u8],
     said: &mut [u8],
 ) -> Run
-    requires { Ready line.now said.old run.kept × (work_least ≡ length work.old) }
+    requires { Ready line.now said.old run.carried.kept × (work_least ≡ length work.old) }
     ensures { Finishes homes.now paths.now params.now line.now vars.old
         said.old run vars.new said.new result }
 {
-    let carried = Carried {
-        kept: run.kept,
-        line: run.line,
-        vars_used: run.vars_used,
-        shouts: run.shouts,
-    };
+    let carried = run.carried;
     let spoken = recipe_answer::answer_last(carried, line, vars, homes, params, paths, work, said);
     let len = spoken.len;
     if len > 0 {
@@ -178,10 +149,11 @@ fn answer_end(
         write_answer(rt, &said[..end], len);
     }
     Run {
-        kept: 0,
-        line: run.line,
-        vars_used: spoken.vars_used,
-        shouts: run.shouts,
+        carried: Carried {
+            kept: 0,
+            vars_used: spoken.vars_used,
+            ..carried
+        },
         goes_on: false,
     }
 }
@@ -199,14 +171,13 @@ fn answer_input(
     work: &mut [u8],
     said: &mut [u8],
 ) -> Run
-    requires { Ready line.old said.old came.run.kept × Comes block.now came.input × (work_least ≡ length work.old) }
+    requires { Ready line.old said.old came.run.carried.kept × Comes block.now came.input × (work_least ≡ length work.old) }
     ensures { Follows homes.now paths.now params.now block.now line.old
         vars.old said.old came.run line.new vars.new said.new result came.input }
 {
     let run = came.run;
-    let input = came.input;
-    match input {
-        Input::Block(n) => answer_block(
+    match came.input {
+        Ok(Some(n)) => answer_block(
             rt,
             run,
             &block[..n],
@@ -218,19 +189,19 @@ fn answer_input(
             work,
             said,
         ),
-        Input::Ended => answer_end(rt, run, line, vars, homes, params, paths, work, said),
-        Input::Failed => Run {
-            kept: 0,
-            line: run.line,
-            vars_used: run.vars_used,
-            shouts: run.shouts,
+        Ok(None) => answer_end(rt, run, line, vars, homes, params, paths, work, said),
+        Err(_) => Run {
+            carried: Carried {
+                kept: 0,
+                ..run.carried
+            },
             goes_on: false,
         },
     }
 }
 
 // Answers all lines, and gives the variables' used length after them. A proved loop has to end, and nothing says that the input does: so it counts its turns
-// down, from a number that no run uses up.
+// up to a number that no run reaches.
 pub fn answer_all(
     rt: &HostRuntime,
     asked: Asked,
@@ -247,24 +218,24 @@ pub fn answer_all(
     ensures { Answers homes.now paths.now params.now vars.old asked.vars_used asked.shouts
         vars.new result }
 {
-    let mut so_far = Run {
-        kept: 0,
-        line: 1,
-        vars_used: asked.vars_used,
-        shouts: asked.shouts,
+    let mut run = Run {
+        carried: Carried {
+            kept: 0,
+            line: 1,
+            vars_used: asked.vars_used,
+            shouts: asked.shouts,
+        },
         goes_on: true,
     };
-    let mut turns = u64::MAX;
-    while turns > 0 && so_far.goes_on {
+    for _turn in 0..u64::MAX {
+        if !run.goes_on {
+            break;
+        }
         let input = read_block(rt, block);
-        let came = Came {
-            input: input,
-            run: so_far,
-        };
-        so_far = answer_input(
+        let came = Came { input, run };
+        run = answer_input(
             rt, came, block, line, vars, homes, params, paths, work, said,
         );
-        turns -= 1;
     }
-    so_far.vars_used
+    run.carried.vars_used
 }

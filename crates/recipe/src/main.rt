@@ -57,10 +57,7 @@ fn answer_with(
     let mut block = system::buffer();
     let mut work = system::large_buffer();
     let mut said = said_room();
-    let asked = Asked {
-        vars_used,
-        shouts,
-    };
+    let asked = Asked { vars_used, shouts };
     answering::answer_all(
         rt, asked, &mut block, &mut line, vars, homes, params, paths, &mut work, &mut said,
     )

@@ -9,6 +9,7 @@ ghost use Rattle.recipe_cut.specs.Lines.{line_kept, kept_of, has_line, LineEnd, 
 ghost use Rattle.recipe_cut.specs.Said.{said_by, ok_text, no_text, answer_room, told_by, demand_text, told_room, line_in};
 
 use text::numbers;
+use text::refusal::Refusal;
 
 // What came of a line.
 #[derive(Clone, Copy)]
@@ -149,7 +150,8 @@ pub fn put_told(number: u8, line: usize, message: &[u8], out: &mut [u8]) -> usiz
     requires { length message.now + told_room ≤ length out.old }
     ensures { Puts (told_by number line message.now) out.old out.new result }
 {
-    if number == numbers::REFUSED_DEMAND {
+    let is_demand = number == Refusal::Demanded.number();
+    if is_demand {
         put_demand(line, message, out)
     } else {
         0

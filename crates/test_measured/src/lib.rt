@@ -12,10 +12,7 @@ ghost use Rattle.pattern_cell.specs.Cells.{Shows, Shown};
 ghost use Rattle.test_measured.specs.Numbers.{number_of};
 ghost use Rattle.test_measured.specs.Counts.{matching};
 
-use pattern_paths::Next;
-use pattern_settle::Settled;
 use pattern_unit::Width;
-use read_line::LineRead;
 use table::Kind;
 use text::numbers;
 
@@ -36,15 +33,11 @@ fn count_paths(cells: &[u16], sets: &[u64], paths: &[u8]) -> usize
     let last = pattern_cell::last_star(cells);
     let mut at: usize = 1;
     let mut count: usize = 0;
-    loop {
-        match pattern_paths::next_path(paths, at, cells, sets, last) {
-            Next::Nothing => return count,
-            Next::Path { from: _, to } => {
-                count += 1;
-                at = to;
-            }
-        }
+    while let Some(path) = pattern_paths::next_path(paths, at, cells, sets, last) {
+        count += 1;
+        at = path.to;
     }
+    count
 }
 
 // The same, the pattern settled in lent tables.
@@ -54,9 +47,8 @@ fn count_settled(pattern: &[u8], paths: &[u8], cells: &mut [u16], sets: &mut [u6
     ensures { result ≡ matching pattern.now (held_texts paths.now) }
 {
     match pattern_settle::settle(pattern, true, Width::Marked, cells, sets) {
-        Settled::Class => 0,
-        Settled::NoRoom => 0,
-        Settled::Cells { count, special: _ } => count_paths(&cells[..count], sets, paths),
+        Ok(settled) => count_paths(&cells[..settled.count], sets, paths),
+        Err(_) => 0,
     }
 }
 
@@ -76,9 +68,8 @@ pub extern "C" fn measured_matching(pattern: &[u8], paths: &[u8]) -> usize
 pub extern "C" fn measured_read(line: &[u8]) -> u8
     ensures { result ≡ number_of (read_line line.now) }
 {
-    let read = read_line::read_line(line);
-    match read {
-        LineRead::Read => 0,
-        LineRead::Refused { number, place: _ } => number,
+    match read_line::read_line(line) {
+        Ok(()) => 0,
+        Err(refused) => refused.why.number(),
     }
 }

@@ -1,6 +1,5 @@
 -- `arith_constant::behind_zero` meets its contract: each way is a law of `behind_zero`.
 use mathlib.Core.Path.{◌∙◌, ap}
-use borrow.Author.Tests.{eqb-false}
 use mathlib.Core.Logic.{inl, inr}
 use Rattle.stages.specs.Bytes.{Text}
 use Rattle.stages.specs.Constants.{in_base}
@@ -36,4 +35,4 @@ pub returns : goal.returns
 returns c =
     c.in_base-2.ensures ∙ ap (within c.args.limit)
     (octal c.args.text.now c.if-text-eq0.false c.if-text-eq120.false
-    (eqb-false _ _ c.if-text-eq88.false-raw))
+    c.if-text-eq88.false)

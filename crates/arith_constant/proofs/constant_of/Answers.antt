@@ -1,6 +1,5 @@
 -- `arith_constant::constant_of` meets its contract: each way is a law of `constant`.
 use mathlib.Core.Path.{◌∙◌, ap}
-use borrow.Author.Tests.{ltb-false}
 use mathlib.Core.Logic.{inl, inr}
 use Rattle.stages.specs.Bytes.{Text}
 use Rattle.stages.specs.Constants.{behind_zero}
@@ -32,4 +31,4 @@ returns c =
     c.in_base.ensures
     ∙ ap (within c.args.limit)
     (digit_first c.args.text.now c.if-text-eq0.false
-    c.if-text-eq48.false c.if-text-lt49.false (ltb-false _ _ c.if-text-gt57.false-raw))
+    c.if-text-eq48.false c.if-text-lt49.false c.if-text-gt57.false)

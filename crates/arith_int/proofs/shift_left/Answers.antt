@@ -3,7 +3,6 @@ use mathlib.Core.Path.{◌≡◌, sym, ◌∙◌}
 use mathlib.Core.Bool.{true}
 use Prim.Native.Nat.{◌^◌}
 use lib.IntN.{pos, nat_abs, ◌*ℤ◌}
-use borrow.Author.Tests.{not-true, not-false}
 use Rattle.stages.specs.Constants.{ranged}
 use Rattle.arith_int.specs.Answers.{is_count}
 use Rattle.arith_int.proofs.Ranges.{held}
@@ -12,12 +11,11 @@ use Rattle.arith_int.proofs.shift_left.Goals as goal
 
 pub returns-then-not-is_count : goal.returns-then-not-is_count
 returns-then-not-is_count c = shift_refused _ c.args.a c.args.b
-    (sym (c.is_count.ensures ∙ rw (held c.args.b c.ranges.b)) ∙ not-true c.is_count.result c.if-not-is_count.true-raw)
+    (sym (c.is_count.ensures ∙ rw (held c.args.b c.ranges.b)) ∙ c.if-not-is_count.true)
 
 pub returns : goal.returns
 returns c =
-    let served : is_count c.args.b ≡ true = sym (c.is_count.ensures ∙ rw (held c.args.b c.ranges.b)) ∙ not-false c.is_count.result
-    c.if-not-is_count.false-raw in
+    let served : is_count c.args.b ≡ true = sym (c.is_count.ensures ∙ rw (held c.args.b c.ranges.b)) ∙ c.if-not-is_count.false in
     c.multiplied.ensures
     ∙ rw (
       c.magnitude.ensures,

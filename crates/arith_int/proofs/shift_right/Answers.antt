@@ -4,7 +4,6 @@ use mathlib.Core.Bool.{true}
 use Prim.Native.Nat.{◌^◌}
 use lib.IntN.{nat_abs}
 use lib.Signed.{shr_z}
-use borrow.Author.Tests.{not-true, not-false}
 use Rattle.stages.specs.Outcome.{done}
 use Rattle.arith_int.specs.Answers.{is_count}
 use Rattle.arith_int.proofs.Ranges.{held}
@@ -13,12 +12,11 @@ use Rattle.arith_int.proofs.shift_right.Goals as goal
 
 pub returns-then-not-is_count : goal.returns-then-not-is_count
 returns-then-not-is_count c = shift_refused _ c.args.a c.args.b
-    (sym (c.is_count.ensures ∙ rw (held c.args.b c.ranges.b)) ∙ not-true c.is_count.result c.if-not-is_count.true-raw)
+    (sym (c.is_count.ensures ∙ rw (held c.args.b c.ranges.b)) ∙ c.if-not-is_count.true)
 
 pub returns : goal.returns
 returns c =
-    let served : is_count c.args.b ≡ true = sym (c.is_count.ensures ∙ rw (held c.args.b c.ranges.b)) ∙ not-false c.is_count.result
-    c.if-not-is_count.false-raw in
+    let served : is_count c.args.b ≡ true = sym (c.is_count.ensures ∙ rw (held c.args.b c.ranges.b)) ∙ c.if-not-is_count.false in
     rw (
       held c.args.a c.ranges.a,
       count_bits c.args.b served,

@@ -3,7 +3,6 @@ use native.Mathlib.Omega.{arith}
 use mathlib.Core.Path.{refl, sym, ap, ◌∙◌, subst}
 use lib.IntN.{pos}
 use mir.Facts.{sfits_lit}
-use borrow.Author.Tests.{not-true, not-false}
 use Rattle.std.proofs.lemmas.Result.{err_from_is_err_and}
 use Rattle.stages.specs.Arith.{is_true}
 use Rattle.table_store.proofs.Holding.{table_held}
@@ -64,10 +63,10 @@ pub further-loop-more-preserved : goal.further-loop-more-preserved
 further-loop-more-preserved t c =
     let a = c.args in
     let m = c.in-Some.more in
-    rw (kept m.value (omega arith))
-    (going_next (lent_in a.scope) a.text.now a.vars.now a.scope.vars_used a.scope.counts a.at a.scope.room a.least (to_z w64 (of_z w64 a.left))
-    (to_z w64 c.loop-more.value-bits) c.loop-more.next c.loop-more.vars
-    c.loop-more.vars_used c.loop-more.invariant c.operator.new.vars m.value m.next m.vars_used (rw c.in-Some.is at c.in_ok-more.ensures))
+    let l = c.loop-more in
+    going_next (lent_in a.scope) a.text.now a.vars.now a.scope.vars_used a.scope.counts a.at a.scope.room a.least (to_z w64 (of_z w64 a.left))
+    l.so_far.value l.so_far.next l.vars l.so_far.vars_used l.invariant c.operator.new.vars m.value m.next m.vars_used
+    (rw (kept l.so_far.value (omega arith)) at (rw c.in-Some.is at c.in_ok-more.ensures))
 
 pub operand-returns-in_err-token : goal.operand-returns-in_err-token
 operand-returns-in_err-token t c =
@@ -181,13 +180,13 @@ pub signed-returns-then-not-may : goal.signed-returns-then-not-may
 signed-returns-then-not-may t c =
     let a = c.args in
     no_sign (lent_in a.scope) a.text.now a.vars.now a.scope.vars_used a.scope.counts a.at a.scope.room a.op
-    (sym c.is_sign-may.ensures ∙ not-true c.is_sign-may.result c.if-not-may.true-raw)
+    (sym c.is_sign-may.ensures ∙ c.if-not-may.true)
 
 pub signed-returns-then-scope-eq0 : goal.signed-returns-then-scope-eq0
 signed-returns-then-scope-eq0 t c =
     let a = c.args in
     sign_deep (lent_in a.scope) a.text.now a.vars.now a.scope.vars_used a.scope.counts a.at a.scope.room a.op
-    (sym c.is_sign-may.ensures ∙ not-false c.is_sign-may.result c.if-not-may.false-raw) c.if-scope-eq0.true
+    (sym c.is_sign-may.ensures ∙ c.if-not-may.false) c.if-scope-eq0.true
 
 pub signed-returns-in_err-got : goal.signed-returns-in_err-got
 signed-returns-in_err-got t c =
@@ -195,7 +194,7 @@ signed-returns-in_err-got t c =
     let p = err_from_is_err_and c.from_residual.result c.from_residual.ensures.1 in
     rw (p.1, p.2)
     (sign_fails (lent_in a.scope) a.text.now a.vars.now a.scope.vars_used a.scope.counts a.at a.scope.room a.op
-    (sym c.is_sign-may.ensures ∙ not-false c.is_sign-may.result c.if-not-may.false-raw) c.if-scope-eq0.false _
+    (sym c.is_sign-may.ensures ∙ c.if-not-may.false) c.if-scope-eq0.false _
     c.in_err-got.ensures)
 
 pub signed-returns-in_err-value : goal.signed-returns-in_err-value
@@ -204,7 +203,7 @@ signed-returns-in_err-value t c =
     let p = err_from_is_err_and c.from_residual-in_err-value.result c.from_residual-in_err-value.ensures.1 in
     rw (p.1, p.2)
     (turn_fails (lent_in a.scope) a.text.now a.vars.now a.scope.vars_used a.scope.counts a.at a.scope.room a.op
-    (sym c.is_sign-may.ensures ∙ not-false c.is_sign-may.result c.if-not-may.false-raw) c.if-scope-eq0.false
+    (sym c.is_sign-may.ensures ∙ c.if-not-may.false) c.if-scope-eq0.false
     c.operand.new.vars c.in_ok-got.got.value c.in_ok-got.got.next c.in_ok-got.got.vars_used c.in_ok-got.ensures
     c.in_err-value.field-0.0 a.scope.counts refl (rw (kept c.in_ok-got.got.value (omega arith)) at c.in_err-value.ensures))
 
@@ -213,7 +212,7 @@ signed-returns t c =
     let a = c.args in
     rw (kept c.in_ok-value.value (omega arith))
     (sign_says (lent_in a.scope) a.text.now a.vars.now a.scope.vars_used a.scope.counts a.at a.scope.room a.op
-    (sym c.is_sign-may.ensures ∙ not-false c.is_sign-may.result c.if-not-may.false-raw) c.if-scope-eq0.false
+    (sym c.is_sign-may.ensures ∙ c.if-not-may.false) c.if-scope-eq0.false
     c.operand.new.vars c.in_ok-got.got.value c.in_ok-got.got.next c.in_ok-got.got.vars_used c.in_ok-got.ensures
     c.in_ok-value.value a.scope.counts refl (rw (kept c.in_ok-got.got.value (omega arith)) at c.in_ok-value.ensures))
 

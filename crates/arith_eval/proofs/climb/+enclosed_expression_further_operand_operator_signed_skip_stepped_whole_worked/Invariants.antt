@@ -41,10 +41,11 @@ decreases-worked l = 5 * (length l.text.now - l.at) + 2
 
 abbrev pub invariant-further-loop-more : goal.invariant-further-loop-more
 invariant-further-loop-more l =
-    Going (lent_in l.scope) l.text l.initial.vars l.scope.vars_used l.scope.counts l.at l.scope.room l.least l.left l.value l.next l.vars l.vars_used
+    Going (lent_in l.scope) l.text l.initial.vars l.scope.vars_used l.scope.counts l.at l.scope.room l.least l.left l.so_far.value l.so_far.next
+    l.vars l.so_far.vars_used
 
 abbrev pub decreases-further-loop-more : goal.decreases-further-loop-more
-decreases-further-loop-more l = length l.text - l.next
+decreases-further-loop-more l = length l.text - l.so_far.next
 
 abbrev pub invariant-skip-loop-target : goal.invariant-skip-loop-target
 invariant-skip-loop-target l = Skipping l.text l.at l.idle.room l.colons l.begins l.awaited l.i l.first × (l.vars ≡ l.initial.vars)

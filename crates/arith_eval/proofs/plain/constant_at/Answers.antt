@@ -6,7 +6,6 @@ use mathlib.Core.Bool.{true}
 use lib.ListN.{length, drop, get_or, drop_of_length-le}
 use mir.Syntax.{w64}
 use mir.Val.{to_z}
-use borrow.Author.Tests.{not-false}
 use Rattle.stages.specs.Bytes.{Text, is_digit, is_name_byte}
 use Rattle.stages.proofs.Texts.{Stops}
 use Rattle.text.specs.Classes.{Runs}
@@ -40,13 +39,13 @@ returns-then-not-in_class c =
 
 pub overflow_sub-n-in-loop-i : goal.overflow_sub-n-in-loop-i
 overflow_sub-n-in-loop-i c =
-    let d : is_digit (get_or c.args.text.now c.loop-i.i 0) ≡ true = sym c.in_class.ensures ∙ not-false c.in_class.result c.if-not-in_class.false-raw in
+    let d : is_digit (get_or c.args.text.now c.loop-i.i 0) ≡ true = sym c.in_class.ensures ∙ c.if-not-in_class.false in
     let w = digit_bounds _ d in omega (arith, w)
 
 pub loop-i-preserved : goal.loop-i-preserved
 loop-i-preserved c =
     tells_more c.args.text.now c.run_end-from.result c.loop-i.invariant c.loop-i-test.true
-    (sym c.in_class.ensures ∙ not-false c.in_class.result c.if-not-in_class.false-raw) c.if-n-gt-ENOUGH.false
+    (sym c.in_class.ensures ∙ c.if-not-in_class.false) c.if-n-gt-ENOUGH.false
 
 pub returns : goal.returns
 returns c =

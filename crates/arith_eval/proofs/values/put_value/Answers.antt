@@ -5,7 +5,7 @@ use mir.Syntax.{w64}
 use mir.ValLaws.{to_z-of_z}
 use Rattle.arith_decimal.proofs.Writing.{puts_inside}
 use Rattle.arith_eval.specs.Climbs.{inside}
-use Rattle.arith_eval.proofs.Storing.{number_told, number_settable, put_full, put_used}
+use Rattle.arith_eval.proofs.Storing.{number_told, number_settable, put_kept}
 use Rattle.arith_eval.proofs.values.put_value.Goals as goal
 
 pub slice_bounds-store_within-end : goal.slice_bounds-store_within-end
@@ -22,12 +22,8 @@ store_within-kept-requires c = (
   c.requires.1,
 )
 
-pub returns-in-Ok : goal.returns-in-Ok
-returns-in-Ok c =
-    put_used c.args.vars_room c.args.name.now c.args.value (number_told c.put_signed-n.ensures (to_z-of_z w64 c.args.value c.ranges.value))
-    (inside c.args.vars.now c.args.vars_used) _ _ c.in-Ok.ensures
-
-pub returns-in-Err : goal.returns-in-Err
-returns-in-Err c =
-    put_full c.args.vars_room c.args.name.now c.args.value (number_told c.put_signed-n.ensures (to_z-of_z w64 c.args.value c.ranges.value))
-    (inside c.args.vars.now c.args.vars_used) c.store_within-kept.new.vars _ c.in-Err.ensures
+pub returns : goal.returns
+returns c =
+    rw c.or.ensures
+    (put_kept c.args.vars_room c.args.name.now c.args.value (number_told c.put_signed-n.ensures (to_z-of_z w64 c.args.value c.ranges.value))
+    (inside c.args.vars.now c.args.vars_used) c.store_within-kept.new.vars c.store_within-kept.result c.store_within-kept.ensures)
