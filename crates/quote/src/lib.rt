@@ -1,7 +1,7 @@
 // The quoter: a fields image becomes one line, each field bare, in '...' or in $'...'. Nothing is written unless all of the line has room: it has if four
 // times the image has, and else the line is counted first; then it is written once. Counting and writing have a function for each stage of the quoted line:
-// a byte, a field's bytes, a field, the fields behind the first, the line. `look_at` alone tells which field needs no byte changed, and `way_of` the
-// quotes of any other.
+// a byte, a field's bytes, a field, the fields behind the first, the line: apart, since one over a sink that counts or writes would write runs byte by byte.
+// `look_at` alone tells which field needs no byte changed, and `way_of` the quotes of any other.
 #![tactic(auto)]
 
 ghost use Rattle.std.specs.Prelude.{◌≡◌, ◌≤◌, length, false};

@@ -85,7 +85,7 @@ fn dollared_length(b: u8) -> usize
     }
 }
 
-// How many bytes a byte of a field takes in its way.
+// How many bytes a byte of a field takes in its way: two arms by name, which a closure would make no plainer.
 pub fn byte_length(way: Way, b: u8) -> usize
     ensures { result ≡ length (quoted_byte (way_is way) b) }
 {
