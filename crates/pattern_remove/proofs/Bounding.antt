@@ -97,6 +97,16 @@ module _ {x : List Element} (p : Plain x) (r : List Element) {v : Text} {top : �
       never y =
           let d = front_apart p (star ∷ r) v k (length v) b (omega arith) y in omega (arith, reaches_suffix s (k + length x) d.room d.rest)
 
+  pub suffix_bounded : (k : ℕ) → k + length x ≤ top → matched_at suffix (x ++ (star ∷ r)) v k ≡ stands_at x v k
+  suffix_bounded k h =
+      same_tests (matched_at suffix (x ++ (star ∷ r)) v k) (stands_at x v k) (λ y. there (suffix_covers (x ++ (star ∷ r)) v k y))
+      λ y. covers_suffix (x ++ (star ∷ r)) v k
+      (covers_both x (star ∷ r) v k (k + length x) (length v) (omega arith) (omega (arith, s.inside)) y
+      (star_earlier r v (k + length x) top h s.inside (suffix_covers (star ∷ r) v top s.here)))
+    where
+      there : Covers (x ++ (star ∷ r)) v k (length v) → stands_at x v k ≡ true
+      there y = (front_apart p (star ∷ r) v k (length v) (omega (arith, s.inside)) (omega arith) y).stands
+
 -- no suffix is matched where none is from a later element on
 pub suffix_none : (y : List Element) {z : List Element} {v : Text} → NoneMatches suffix z v → NoneMatches suffix (y ++ z) v
 suffix_none y {z} {v} n = record { none = λ k b. not_passed (matched_at suffix (y ++ z) v k) λ e. never k b (suffix_covers (y ++ z) v k e) }
