@@ -88,9 +88,6 @@ pub record Read (base limit : ℕ) (t : Text) (n : Option ℕ) (i : ℕ) : Type 
   pub is : in_base base 0 t ≡ in_base base sum (drop i t)
   pub counts : Counts limit sum n
 
-pub read_start : (base limit : ℕ) (t : Text) → Read base limit t (Some 0) 0
-read_start base limit t = record { sum = 0; is = refl; counts = (refl, omega arith) }
-
 within_none : (limit : ℕ) {o : maybe.Option ℕ} → o ≡ none → refused numbers.not_number ≡ within limit o
 unfolding within
 within_none limit e = rw e

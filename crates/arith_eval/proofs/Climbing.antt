@@ -20,7 +20,6 @@ use Rattle.stages.proofs.Arith.{grow_eq}
 use Rattle.stages.proofs.Storeys.{lowest}
 use Rattle.stages.proofs.Sums.{unneeded_right}
 use Rattle.text.specs.Places.{Behind}
-use Rattle.table_store.specs.Holding.{Holds}
 use Rattle.std.specs.Prelude.{Some, None, Result, Ok, Err}
 use Rattle.text.specs.Refusals.{refusal_number}
 use Rattle.text.specs.declared.refusal.Refusal.{Refusal}
@@ -33,7 +32,7 @@ use Rattle.arith_token.proofs.Lexing.{level_is}
 use Rattle.arith_eval.specs.Climbs.{inside, climbed, unless_decided, Joins, is_none, Fails, Worth, Kept, Says, Continues, Turns}
 use Rattle.arith_eval.specs.declared.answers.Climbed.{Climbed}
 use Rattle.arith_eval.proofs.Trees.{never, bound, right_refused, both_done, left_fails}
-use Rattle.arith_eval.proofs.Operands.{fault, work_fault, fails_same, fails_first, kept_all, kept_on}
+use Rattle.arith_eval.proofs.Operands.{fault, work_fault, fails_same, fails_first, kept_on}
 
 module _ (lent : Lent) (text : Text) (vars : Text) (used : ℕ) (counts : Bool) where
   abbrev before : Pairs
@@ -218,14 +217,6 @@ module _ (lent : Lent) (text : Text) (vars : Text) (used : ℕ) (counts : Bool) 
     pub climbs : (v : Pairs) (l : Tree) → Worth lent v counts l y before → Climbs at d k v l z i (inside left now)
 
   module _ (at d k : ℕ) (y : ℤ) where
-    pub going_start : at ≤ length text → Holds lent.room vars used → Going at d k y y at vars used
-    going_start h m = record {
-      onward = omega arith;
-      within = h;
-      kept = kept_all lent vars used counts m;
-      climbs = λ v l w. record { tree = l; is = refl; worth = w };
-    }
-
     module _ (z : ℤ) (i : ℕ) (mid : Text) (now : ℕ) (g : Going at d k y z i mid now) where
       pub going_refused : (left : Text) (e : Refusal) → Turns lent text i mid now counts d k z left (Err e)
           → Continues lent text at vars used counts d k y left (Err e)

@@ -3,10 +3,9 @@ use Prim.Native.Nat.{ℕ, suc, ◌-◌, ◌≤◌}
 use native.Mathlib.Omega.{arith}
 use mathlib.Core.Path.{◌≡◌, refl, sym, ap, ◌∙◌, subst}
 use mathlib.Core.Bool.{Bool, true, false}
-use mathlib.Core.List.{List}
 use lib.Dec.{eqb}
 use lib.IntN.{ℤ}
-use lib.ListN.{length, drop}
+use lib.ListN.{drop}
 use Rattle.stages.specs.Numbers.{too_deep, arithmetic_syntax}
 use Rattle.stages.specs.Bytes.{Text, part}
 use Rattle.stages.specs.Outcome.{refused, demands, done, ◌>>=◌}
@@ -27,7 +26,7 @@ use Rattle.arith_int.specs.declared.Op.{Op}
 use Rattle.arith_token.specs.Tokens.{lexed, TokenAt}
 use Rattle.arith_token.specs.declared.Token.{Token}
 use Rattle.arith_token.specs.declared.Token.TheVariants as code
-use Rattle.arith_eval.specs.Climbs.{inside, Ready, climbed, Names, Turned, sign_of, Fails, Worth, Kept, Says}
+use Rattle.arith_eval.specs.Climbs.{inside, climbed, Names, Turned, sign_of, Fails, Worth, Kept, Says}
 use Rattle.arith_eval.specs.Wholes.{Closes}
 use Rattle.arith_eval.specs.declared.answers.Climbed.{Climbed}
 use Rattle.arith_eval.proofs.Trees.{never, bound, unary_refused, unary_done, name_is, constant_is}
@@ -36,13 +35,6 @@ use Rattle.arith_eval.proofs.Trees.{never, bound, unary_refused, unary_done, nam
 
 pub token_shown : {text : Text} {at : ℕ} {r s : Token} → TokenAt text at r → r ≡ s → TokenAt text at s
 token_shown {text} {at} h e = subst (TokenAt text at) e h
-
--- Further on in the text, with the variables and the room for places as they are then.
-
-pub ready_with : {lent : Lent} {text : Text} {at i : ℕ} {vars mid : Text} {used now : ℕ} {places others : List ℕ} → Ready lent text at vars used places →
-    at ≤ i
-    → i ≤ length text → Holds lent.room mid now → length others ≡ length places → Ready lent text i mid now others
-ready_with r l w h e = let d = r.deep in record { start = w; few = r.few; holds = h; deep = omega arith }
 
 -- What stands behind a value, by its token.
 

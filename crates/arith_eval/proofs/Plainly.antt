@@ -29,7 +29,7 @@ use Rattle.arith_eval.specs.Climbs.{climbed, unless_decided, Joins, Says}
 use Rattle.arith_eval.specs.Answers.{ComesTo}
 use Rattle.arith_eval.specs.Plains.{Between, Reaches}
 use Rattle.arith_eval.proofs.Operands.{ended_by, operand_number}
-use Rattle.arith_eval.proofs.Climbing.{expression_says, last_none, last_loose, turn_says, Going, going_start, going_last, going_next}
+use Rattle.arith_eval.proofs.Climbing.{expression_says, last_none, last_loose, turn_says, Going, going_last, going_next}
 use Rattle.arith_eval.proofs.Reading.{bare_up}
 use Rattle.arith_eval.proofs.Texts.{once_says, counted_says}
 
@@ -85,9 +85,6 @@ module _ (text : Text) (at k : ℕ) (y : ℤ) where
     pub onward : at ≤ i
     pub within : i ≤ length text
     pub going : (lent : Lent) (vars : Text) (used d : ℕ) → Holds lent.room vars used → Going lent text vars used true at d k y z i vars used
-
-  pub plods_start : at ≤ length text → Plods y at
-  plods_start h = record { onward = omega arith; within = h; going = λ lent vars used d w. going_start lent text vars used true at d k y h w }
 
   module _ {z : ℤ} {i : ℕ} (p : Plods z i) where
     pub plods_stop : lowest ≤ k → TokenAt text i code.Stop → Reaches text at k y z i

@@ -151,9 +151,6 @@ pub record Skipping (text : Text) (at d p : ℕ) (begins : Bool) (q i : ℕ) (fi
   pub few : q ≤ i
 
 module _ (text : Text) (at d p : ℕ) (begins : Bool) where
-  pub skipping_start : at ≤ length text → p ≤ at → Skipping text at d p begins p at begins
-  skipping_start h k = record { is = refl; onward = omega arith; within = h; few = k }
-
   -- a name and its `=` are passed
   pub skip_target : (q i : ℕ) (first : Bool) → Skipping text at d p begins q i first → {from to : ℕ} {setting : Option code-op.Op} {n : ℕ} → first ≡ true
       → IsTarget text i from to setting n → Skipping text at d p begins q n first

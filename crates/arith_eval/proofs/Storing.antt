@@ -143,9 +143,6 @@ pub record Unwinding (lent : Lent) (text : Text) (places : List ℕ) (waiting : 
   pub unwinds : (gs : Waiting) → Stacked text places waiting gs → Unwound lent text places (storing_all lent gs (done (y, v))) k z (inside vars used)
 
 module _ (lent : Lent) (text : Text) (places : List ℕ) (waiting : ℕ) (y : ℤ) (vars : Text) (used : ℕ) where
-  pub unwinding_start : Holds lent.room vars used → Unwinding lent text places waiting y (inside vars used) waiting y vars used
-  unwinding_start h = record { few = omega arith; holds = h; unwinds = λ gs s. record { names = gs; stacked = s; is = refl } }
-
   module _ (k : ℕ) (z : ℤ) (mid : Text) (now : ℕ) (u : Unwinding lent text places waiting y (inside vars used) k z mid now) where
     pub unwind_refused : (left : Text) (e : Refusal) → 0 < k → Assigns lent text (get_or places (k - 1) 0) z (inside mid now) left (Err e)
         → Stores lent text y waiting places vars used left (Err e)

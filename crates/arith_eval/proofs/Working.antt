@@ -11,7 +11,7 @@ use lib.Dec.{eqb}
 use lib.ListN.{length, take, drop, get_or, set}
 use lib.Seq.{get_or-take, get_or-set_same, get_or-set_other}
 use borrow.Author.Tests.{eqb-true, eqb-false}
-use borrow.Rule.Slice.PartMut.{mid_of, put_mid, mid_len, take_put, same_len_mid}
+use borrow.Rule.Slice.PartMut.{mid_of, put_mid, take_put, same_len_mid}
 use Rattle.stages.specs.Bytes.{Text, part}
 use Rattle.stages.specs.Outcome.{refused, done, ◌>>=◌}
 use Rattle.stages.specs.Images.{Pairs}
@@ -22,7 +22,6 @@ use Rattle.stages.proofs.Ended.{NoTarget}
 use Rattle.stages.proofs.Storeys.{lowest, upstairs}
 use Rattle.stages.proofs.Turns.{rest, other, pending, turn_query, turn_gets}
 use Rattle.stages.proofs.Works.{Waiting, storing_all, Works, works_all, works_as, works_done, works_gets, works_fails, works_first, works_second}
-use Rattle.table_store.specs.Holding.{Holds}
 use Rattle.arith_token.specs.Tokens.{setting_of}
 use Rattle.std.specs.Prelude.{Option, Ok, Err}
 use Rattle.text.specs.Refusals.{refusal_number}
@@ -274,12 +273,6 @@ module _ {lent : Lent} {text : Text} {at : ℕ} {vars : Text} {used : ℕ} {plac
     (d : at + 2 * waiting ≤ i) (w : i ≤ length text) (others : List ℕ) (e : length others ≡ length places) where
   pub waiting_fits : waiting ≤ length others
   waiting_fits = let p = r.deep in omega arith
-
-  pub part_ready : {mid : Text} {now : ℕ} → Holds lent.room mid now → Ready lent text i mid now (mid_of waiting (length others - waiting) others)
-  part_ready h =
-      let p = r.deep in
-      let f = waiting_fits in
-      record { start = w; few = r.few; holds = h; deep = omega (arith, mid_len waiting (length others) others (omega arith)) }
 
 pub working_lent : {lent : Lent} {text : Text} {v : Pairs} {at d p i : ℕ} {first : Bool} {waiting : ℕ} {places : List ℕ} {w : Pairs}
     → Working lent text v at d p i first waiting places w → waiting ≤ length places → (k : ℕ) (ys : List ℕ)

@@ -1,11 +1,11 @@
 -- The operations' laws: a result that fits is given, one that does not is refused, and each guard tells the two apart.
 use mathlib.Core.Path.{◌≡◌, refl, sym, ◌∙◌, ap, subst}
 use mathlib.Core.Bool.{Bool, true, false}
-use Prim.Native.Nat.{ℕ, zero, suc, ◌-◌, ◌*◌, ◌/◌, ◌≤◌, ◌<◌, ◌^◌}
+use Prim.Native.Nat.{ℕ, zero, suc, ◌-◌, ◌*◌, ◌≤◌, ◌<◌, ◌^◌}
 use native.Mathlib.Omega.{arith}
-use native.Mathlib.Nat.{div-le_self, div-lt_self, div-one, zero-add}
+use native.Mathlib.Nat.{zero-add}
 use lib.Dec.{eqb, leb, ltb}
-use lib.IntN.{ℤ, pos, negsuc, neg_ℤ, nat_abs, ◌-ℤ◌, ◌*ℤ◌}
+use lib.IntN.{ℤ, pos, negsuc, nat_abs, ◌-ℤ◌, ◌*ℤ◌}
 use lib.Signed.{mag, lt_z, le_z, quot_z, rem_z, mag_rem}
 use mir.Syntax.{w64}
 use mir.Val.{SFits, of_z, to_z}
@@ -62,24 +62,6 @@ bits_eq z y h k e = sym (held z h) ∙ ap (to_z w64) e ∙ held y k
 pub bits_ne : (z y : ℤ) → (of_z w64 z ≡ of_z w64 y → ⊥) → z ≡ y → ⊥
 bits_ne z y n e = n (ap (of_z w64) e)
 
--- a quotient fits but for the least number by -1
-neg_small : (r H : ℕ) → r ≤ H → 0 < H → mag (neg_ℤ (pos r)) < H
-neg_small zero H h k = k
-neg_small (suc r) H h k = h
-
-pub quot_fits : (a b : ℤ) → SFits w64 a → (b ≡ negsuc 0 → a ≡ least → ⊥) → SFits w64 (quot_z a b)
-quot_fits (pos a) (pos b) h n = record { sfits = let f = h.sfits in omega (arith, div-le_self a b) }
-quot_fits (pos a) (negsuc b) h n = record { sfits = let f = h.sfits in neg_small (a / suc b) (2 ^ 63) (omega (arith, div-le_self a (suc b))) (omega arith) }
-quot_fits (negsuc a) (pos b) h n = record { sfits = let f = h.sfits in neg_small (suc a / b) (2 ^ 63) (omega (arith, div-le_self (suc a) b)) (omega arith) }
-quot_fits (negsuc a) (negsuc zero) h n = record { sfits = let f = h.sfits in omega (arith, div-one (suc a), top) }
-  where
-    top : a ≡ 9223372036854775807 → ⊥
-    top e = n refl (ap negsuc e)
-quot_fits (negsuc a) (negsuc (suc b)) h n = record {
-  sfits = let f = h.sfits in
-      omega (arith, div-lt_self {n = suc a} {k = suc (suc b)} (omega arith) (omega arith));
-}
-
 pub rem_fits : (a b : ℤ) → SFits w64 a → SFits w64 (rem_z a b)
 rem_fits a b h = record { sfits = let f = h.sfits in omega (arith, mag_rem a b) }
 
@@ -106,9 +88,6 @@ least_divided f a b e h = rw (e, h)
 pub divides_shown : {a b : ℤ} {r s : Result Unit Refusal} → SFits w64 a → SFits w64 b → Divides (to_z w64 (of_z w64 a)) (to_z w64 (of_z w64 b)) r → r ≡ s
     → Divides a b s
 divides_shown {a} {b} h k d e = subst (Divides a b) e (rw (held a h, held b k) at d)
-
-pub some_bits : (z : ℤ) → SFits w64 z → (of_z w64 z ≡ 0 → ⊥) → 0 < of_z w64 z
-some_bits z h n = omega arith
 
 -- below zero, or not
 pub below_zero : (n : ℕ) → ltb n 0 ≡ true → ⊥

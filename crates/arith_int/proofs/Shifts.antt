@@ -4,10 +4,9 @@ use mathlib.Core.Bool.{Bool, true, false}
 use Prim.Native.Nat.{ℕ, ◌*◌, ◌%◌, ◌^◌, ◌<◌}
 use native.Mathlib.Omega.{arith}
 use native.Mathlib.Nat.{one-mul}
-use lib.Dec.{T}
 use lib.Pow.{shl_exact}
 use lib.IntN.{ℤ, pos, negsuc, nat_abs, ◌*ℤ◌}
-use lib.Signed.{lt_z, non_neg, shr_z, mag_shr}
+use lib.Signed.{lt_z, shr_z, mag_shr}
 use mir.Syntax.{w64}
 use mir.Val.{SFits, of_z}
 use mir.ValLaws.{sfits_le}
@@ -17,22 +16,9 @@ use Rattle.stages.specs.Outcome.{Outcome, refused}
 use Rattle.stages.specs.Arith.{shifted, xor}
 use Rattle.stages.proofs.Bools.{no}
 use Rattle.arith_int.specs.Answers.{is_count, of_sign}
-use Rattle.arith_int.proofs.Ranges.{signs, below_zero}
+use Rattle.arith_int.proofs.Ranges.{signs}
 
--- which counts are served
-pub count_below : (b : ℤ) → lt_z b (pos 0) ≡ true → false ≡ is_count b
-count_below (pos n) e = absurd (below_zero n e)
-count_below (negsuc n) e = refl
-
-pub count_from_zero : (b : ℤ) → lt_z b (pos 0) ≡ false → lt_z b (pos 64) ≡ is_count b
-count_from_zero (pos n) e = refl
-count_from_zero (negsuc n) e = absurd (no (sym e))
-
--- a count that is served: it is not below zero, is below 64 and is its own bits
-pub count_sign : (b : ℤ) → is_count b ≡ true → T (non_neg b)
-count_sign (pos n) e = tt
-count_sign (negsuc n) e = absurd (no e)
-
+-- a count that is served is below 64 and is its own bits
 pub count_lt : (b : ℤ) → is_count b ≡ true → nat_abs b < 64
 count_lt (pos n) e = ltb-true n 64 e
 count_lt (negsuc n) e = absurd (no e)
