@@ -1,4 +1,3 @@
-pub mod Hearing
 pub mod Packing
 pub mod Lists
 pub mod Determined

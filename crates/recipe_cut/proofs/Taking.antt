@@ -22,7 +22,7 @@ use Rattle.stages.proofs.Bools.{either}
 use Rattle.std.specs.List.{position_or_len}
 use Rattle.std.proofs.lemmas.List.Sums.{prefix_len-le-length}
 use Rattle.text.specs.Putting.{Puts}
-use Rattle.text.proofs.Filling.{Filling, fill_piece, fill_fits, fill_ends}
+use Rattle.text.proofs.Filling.{Filling, fill_piece, fill_ends}
 use Rattle.recipe_cut.specs.Lines.{not_newline, line_kept, kept_of, came, behind, next_place, LineEnd, Takes, has_line, any_line}
 use Rattle.recipe_cut.specs.declared.Taken.TheVariants.{Ended, Open}
 
@@ -89,9 +89,6 @@ module _ (line bytes : Text) (kept n : ℕ) (h : kept ≤ line_kept) (l : line_k
     is = sym (ap (λ (m : ℕ). take kept line ++ drop m line) front_length ∙ take-append-drop kept line);
     fits = omega (arith, length-append (take kept line) (take n bytes), front_length, copied_length);
   }
-
-  pub keep_fits : length (take n bytes) ≤ length (mid_of kept (length line - kept) line)
-  keep_fits = fill_fits keep_filling (take n bytes) [] (sym (append-nil (take n bytes)))
 
   pub keep_puts : (ys : Text) → ys ≡ take n bytes ++ drop (length (take n bytes)) (mid_of kept (length line - kept) line)
       → Puts (kept_of (take kept line ++ bytes)) line (put_mid kept (length line - kept) line ys) (kept + n)

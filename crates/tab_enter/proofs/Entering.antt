@@ -20,7 +20,7 @@ use Rattle.stages.proofs.Bools.{no, and_both, either}
 use Rattle.stages.proofs.Stores.{lookup_here, lookup_later, store_before, store_later}
 use Rattle.stages.proofs.PathLists.{added_before, added_later, there_here, there_later, not_there}
 use Rattle.table.specs.Kinds.{key_fits, in_twos}
-use Rattle.table.specs.Places.{Table, Looked}
+use Rattle.table.specs.Places.{Looked}
 use Rattle.table.specs.declared.Kind.{Kind}
 use Rattle.table.specs.declared.Kind.TheVariants.{Variables, Homes, Paths, Fields}
 use Rattle.std.specs.Prelude.{Option, Some, None, Result, Ok, Err}
@@ -31,10 +31,10 @@ use Rattle.table_store.specs.Answers.{stored_outcome, image_in, Writes}
 use Rattle.table_store.specs.declared.NoRoom.{NoRoom}
 use Rattle.table_store.proofs.Callers.{Grown, store_used, store_full}
 use Rattle.table_store.proofs.StoredImages.{store_by}
-use Rattle.table_insert.specs.Added.{Column, Adding, twice, full, holds, adding_by, adding, answer_of, left_of, Adds}
+use Rattle.table_insert.specs.Added.{Adding, twice, full, holds, adding_by, adding, answer_of, left_of, Adds}
 use Rattle.table_insert.specs.declared.AddError.{AddError}
 use Rattle.tab_escape.specs.Escapes.{Reading, good, read_text, Reads, reads, fails, up_to}
-use Rattle.tab_enter.specs.Records.{alone, records_by, limit_by, TableBy}
+use Rattle.tab_enter.specs.Records.{alone, records_by}
 use Rattle.tab_enter.specs.Entries.{Entry, entry, valued, pair_of, path_of, entry_of, fault_of_lem, Step, stop, go, entered_by, entered, Enters, takes, stops}
 use Rattle.tab_escape.specs.declared.Fault.{Fault}
 use Rattle.tab_escape.specs.declared.Fault.TheVariants.{NoEquals, NoKey, Twice, TooLong}
@@ -245,18 +245,6 @@ module _ {line left : Text} {n : ℕ} (p : Path line left n) where
       subst (λ (x : Entry). Enters false (entered false x (alone l)) old new a) (sym (path_entry z)) (path_adds (take n left) l old new d w a k)
 
 -- `enter_line`
-
-pub pair_ready : (kind : Kind) {n m a b : ℕ} {t : Text} → in_twos kind ≡ true → (n ≤ limit_by (in_twos kind)) × (limit_by (in_twos kind) ≤ m)
-    × (a ≤ b)
-    → TableBy (in_twos kind) t → ((n ≤ image_limit) × (image_limit ≤ m) × (a ≤ b)) × Table t
-pair_ready Variables e h w = (h, w)
-pair_ready Homes e h w = (h, w)
-pair_ready Paths e h w = absurd (no e)
-pair_ready Fields e h w = absurd (no e)
-
-pub path_ready : (kind : Kind) {n m a b : ℕ} {t : Text} → kind ≡ Paths → (n ≤ limit_by (in_twos kind)) × (limit_by (in_twos kind) ≤ m) × (a ≤ b)
-    → TableBy (in_twos kind) t → ((n ≤ paths_limit) × (paths_limit ≤ m) × (a ≤ b)) × Column t
-path_ready kind e h w = (rw e at h, rw e at w)
 
 pub line_pair : (kind : Kind) (line t : Text) {old left : Text} {r : Result ℕ Fault} → in_twos kind ≡ true
     → Enters true (entered true (pair_of kind line) (held t)) old left r

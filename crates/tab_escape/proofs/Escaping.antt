@@ -2,7 +2,6 @@
 use Rattle.std.specs.Prelude.{Option, Some, None, Ok, Err}
 use Prim.Native.Nat.{ℕ, zero, suc, ◌+◌, ◌-◌, ◌*◌, ◌≤◌, ◌<◌}
 use native.Mathlib.Omega.{arith}
-use native.Mathlib.Numerals.{add-one}
 use mathlib.Core.Path.{◌≡◌, refl, sym, ap, ◌∙◌}
 use mathlib.Core.Bool.{Bool, true, false}
 use mathlib.Core.List.{[], ◌∷◌, ◌++◌}
@@ -17,25 +16,7 @@ use Rattle.stages.specs.Outcome.{pick}
 use Rattle.stages.specs.Call.{over}
 use Rattle.text.specs.Putting.{Puts}
 use Rattle.text.proofs.Filling.{Filling, fill_byte, fill_ends}
-use Rattle.tab_escape.specs.Escapes.{
-  Got,
-  taking,
-  hex_value,
-  hex_byte,
-  escape_of,
-  byte_at,
-  Reading,
-  bad,
-  good,
-  before,
-  read_on,
-  read_from,
-  read_text,
-  Reads,
-  reads,
-  fails,
-  up_to,
-}
+use Rattle.tab_escape.specs.Escapes.{Got, taking, hex_value, hex_byte, escape_of, byte_at, Reading, bad, good, before, read_on, read_from, read_text, Reads, reads, fails}
 use Rattle.tab_escape.specs.declared.Fault.{Fault}
 use Rattle.tab_escape.specs.declared.Fault.TheVariants.{BadEscape}
 
@@ -220,29 +201,3 @@ module _ {t old out : Text} {used i : ℕ} (f : Front t old out used i) where
           is = f.puts.leaves;
           fits = rw (length-append f.front (b ∷ [])) (omega (arith, f.puts.counts, f.short, f.room));
         }
-
--- `find`
-
-pub record Passed (b : ℕ) (t : Text) (i : ℕ) : Type 0 where
-  pub within : i ≤ length t
-  pub is : up_to b t ≡ i + up_to b (drop i t)
-
-pub passed_starts : (b : ℕ) (t : Text) → Passed b t 0
-passed_starts b t = record { within = omega arith; is = omega arith }
-
-module _ {b : ℕ} {t : Text} {i : ℕ} (p : Passed b t i) where
-  pub passed_ends : length t ≤ i → i ≡ up_to b t
-  passed_ends h = let z : up_to b (drop i t) ≡ 0 = rw (drop_of_length-le t h) in omega (arith, p.is)
-
-  module _ (h : i < length t) where
-    here : up_to b (drop i t) ≡ pick (eqb (get_or t i 0) b) 0 (suc (up_to b (drop (suc i) t)))
-    here = ap (up_to b) (drop-cons t i 0 h)
-
-    pub passed_found : get_or t i 0 ≡ b → i ≡ up_to b t
-    passed_found e = let z : up_to b (drop i t) ≡ 0 = here ∙ rw (eq-eqb (get_or t i 0) b e) in omega (arith, p.is)
-
-    pub passed_more : (get_or t i 0 ≡ b → ⊥) → Passed b t (i + 1)
-    passed_more e = record { within = omega arith; is = rw (add-one i) (omega (arith, p.is, here ∙ next)) }
-      where
-        next : pick (eqb (get_or t i 0) b) 0 (suc (up_to b (drop (suc i) t))) ≡ suc (up_to b (drop (suc i) t))
-        next = rw (ne_eqb (get_or t i 0) b e)

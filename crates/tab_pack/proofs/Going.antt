@@ -16,7 +16,6 @@ use Rattle.stages.specs.Call.{over}
 use Rattle.stages.specs.Program.{longer_line, lines_of}
 use Rattle.stages.proofs.Bools.{either}
 use Rattle.stages.proofs.Images.{length_image, pairs_image, held_image, texts_image, held_texts_image, Fine}
-use Rattle.stages.proofs.Rooms.{over_length}
 use Rattle.tab_enter.proofs.Sounds.{none_texts, limit_some}
 use Rattle.table.specs.Kinds.{in_twos}
 use Rattle.table.specs.declared.Kind.{Kind}
@@ -75,9 +74,6 @@ module _ {kind : Kind} {v : Pairs} {old out : Text} {used : ℕ} (s : Stands kin
   abbrev bytes : Text
   bytes = image (texts_by (in_twos kind) v)
 
-  pub stands_small : used ≤ limit_by (in_twos kind)
-  stands_small = rw s.long s.sound.small
-
   pub stands_take : take used out ≡ bytes
   unfolding over
   stands_take = ap (take used) s.is ∙ take_at bytes (drop (length bytes) old) used (length_image (texts_by (in_twos kind) v) ∙ sym s.long)
@@ -87,9 +83,6 @@ module _ {kind : Kind} {v : Pairs} {old out : Text} {used : ℕ} (s : Stands kin
 
   pub stands_table : TableBy (in_twos kind) (take used out)
   stands_table = rw stands_take (table_by (in_twos kind) v s.sound.fine s.sound.rises)
-
-  pub stands_length : length out ≡ length old
-  stands_length = ap length s.is ∙ over_length bytes old (omega (arith, length_image (texts_by (in_twos kind) v), s.sound.small, s.room))
 
 -- the lines before `at` are packed
 pub record Going (kind : Kind) (text old out : Text) (used at line : ℕ) : Type 0 where

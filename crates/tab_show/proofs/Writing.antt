@@ -3,15 +3,14 @@ use Prim.Native.Nat.{ℕ, ◌+◌, ◌-◌, ◌*◌, ◌/◌, ◌%◌, ◌≤◌
 use native.Mathlib.Omega.{arith}
 use native.Mathlib.Numerals.{add-one}
 use mathlib.Core.Path.{◌≡◌, refl, ap, ◌∙◌}
-use mathlib.Core.Bool.{Bool, true, false, not}
+use mathlib.Core.Bool.{Bool, true, false}
 use mathlib.Core.List.{List, [], ◌∷◌, ◌++◌}
 use mathlib.Core.Option as o
 use Rattle.std.specs.Prelude.{Option, Some, Ok}
 use mathlib.Core.Option.{none, some}
-use lib.Dec.{eqb}
 use lib.ListN.{length, drop, get_or, set, length-append, drop_of_length-le}
 use lib.Seq.{drop-cons}
-use borrow.Author.Tests.{eq-eqb, ne_eqb, lt-ltb, le-ltb, lt-leb, le-leb}
+use borrow.Author.Tests.{eq-eqb, ne_eqb}
 use borrow.Rule.Slice.PartMut.{put_mid, mid_of}
 use Rattle.stages.specs.Bytes.{Text, text, part}
 use Rattle.stages.specs.Images.{held_texts, texts, record_bytes}
@@ -22,23 +21,6 @@ use Rattle.table.proofs.Writing.{Writing as Walk, Facing, writing_text}
 use Rattle.text.specs.Putting.{Puts}
 use Rattle.text.proofs.Filling.{Filling, fill_starts, fill_byte, fill_piece, fill_ends, fill_next, fill_fits}
 use Rattle.tab_show.specs.Lines.{hex_digit, is_plain, letter_of, escaped, shown_byte, shown_text, end_of, first_next, shown_texts}
-
--- a digit, and whether a byte stands for itself, by the tests
-
-pub digit_low : (n : ℕ) → n < 10 → 48 + n ≡ hex_digit n
-digit_low n h = rw (lt-ltb n 10 h)
-
-pub digit_high : (n : ℕ) → 10 ≤ n → 55 + n ≡ hex_digit n
-digit_high n h = rw (le-ltb n 10 h)
-
-pub below_plain : (b : ℕ) → b < 32 → false ≡ is_plain b
-below_plain b h = rw (lt-leb 32 b h)
-
-pub above_plain : (b : ℕ) → 32 ≤ b → 126 < b → false ≡ is_plain b
-above_plain b l h = rw (le-leb 32 b l, lt-leb b 126 h)
-
-pub within_plain : (b : ℕ) → 32 ≤ b → b ≤ 126 → not (eqb b 92) ≡ is_plain b
-within_plain b l h = rw (le-leb 32 b l, le-leb b 126 h)
 
 -- a byte, by the tests
 
