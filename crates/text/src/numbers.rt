@@ -1,82 +1,8 @@
-// The numbers and limits of documents 01 and 02, each under one name: what a call answers by, and what its texts, rows and images may come to.
+// The limits of documents 01 and 02, each under one name: what a call's texts, rows and images may come to; and the number of an acceptance. Those of the
+// refusals are refusal.rt's.
 
 // "accepted, place 0"
 pub const ACCEPTED: u8 = 0;
-
-// "work area below 65,536 bytes"
-pub const REFUSED_WORK: u8 = 1;
-
-// "variables malformed, too long, or used length beyond the buffer"
-pub const REFUSED_VARIABLES: u8 = 2;
-
-// "homes malformed or too long"
-pub const REFUSED_HOMES: u8 = 3;
-
-// "paths malformed or too long"
-pub const REFUSED_PATHS: u8 = 4;
-
-// "line above 2,048 bytes"
-pub const REFUSED_LENGTH: u8 = 5;
-
-// "zero byte in the line"
-pub const REFUSED_ZERO: u8 = 6;
-
-// "line ends inside a quote, brace or arithmetic, or after a backslash"
-pub const REFUSED_UNENDED: u8 = 7;
-
-// "bare operator"
-pub const REFUSED_OPERATOR: u8 = 8;
-
-// "command substitution"
-pub const REFUSED_SUBSTITUTION: u8 = 9;
-
-// "parameter not served"
-pub const REFUSED_UNSERVED: u8 = 10;
-
-// "other bad syntax"
-pub const REFUSED_SYNTAX: u8 = 11;
-
-// "too deep"
-pub const REFUSED_DEPTH: u8 = 12;
-
-// "`?` form on a missing value"
-pub const REFUSED_DEMAND: u8 = 13;
-
-// "above 2,048 units"
-pub const REFUSED_UNITS: u8 = 14;
-
-// "not a number"
-pub const REFUSED_NOT_NUMBER: u8 = 15;
-
-// "arithmetic syntax"
-pub const REFUSED_ARITHMETIC: u8 = 16;
-
-// "overflow"
-pub const REFUSED_OVERFLOW: u8 = 17;
-
-// "zero divisor"
-pub const REFUSED_ZERO_DIVISOR: u8 = 18;
-
-// "bracket class"
-pub const REFUSED_CLASS: u8 = 19;
-
-// "no room for a variable"
-pub const REFUSED_STORE: u8 = 20;
-
-// "no room for output"
-pub const REFUSED_OUTPUT: u8 = 21;
-
-// "fields image malformed or too long"
-pub const REFUSED_FIELDS: u8 = 22;
-
-// "A malformed or too long list" of positional parameters
-pub const REFUSED_PARAMETERS: u8 = 23;
-
-// "A path already there, or one not there to delete"
-pub const REFUSED_PATH: u8 = 24;
-
-// an unset parameter that is looked up, the switch being on
-pub const REFUSED_UNSET: u8 = 25;
 
 // "work area below 65,536 bytes"
 pub const WORK_LEAST: usize = 65536;
