@@ -16,7 +16,8 @@ use call_deliver::{Answer, Draft};
 use expand_add::answers::Extent;
 use text::numbers;
 
-// The call once it has passed the checks: the variables are copied, and their new image comes back if no assignment is refused.
+// The call once it has passed the checks: the variables are copied, and their new image comes back if no assignment is refused. Apart from `call_run`: other
+// buffers, other checks and another worker are lent, and one function over a closure that captures five buffers would be no plainer.
 fn on_copy(
     line: &[u8],
     vars: &mut [u8],

@@ -94,7 +94,7 @@ pub fn accept(out_len: usize, image: &[u8], vars: &mut [u8], vars_used: usize) -
     }
 }
 
-// Writes what the job gives of a fields image to the output, if it has room.
+// Writes what the job gives of a fields image to the output, if it has room. The job is a name and no closure, since the contracts of all callers name it.
 pub fn deliver(job: Job, image: &[u8], out: &mut [u8]) -> Result<usize, QuoteError>
     requires image_len_bound { length image.now ≤ room_of job (length out.old) }
     requires image_value { fields_of image.now ≡ some (held_texts image.now) }

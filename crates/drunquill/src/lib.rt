@@ -54,7 +54,7 @@ pub fn expand(
     )
 }
 
-// The normaliser: the line's fields as a quoted line to `out`, all else as in the expander.
+// The normaliser: the line's fields as a quoted line to `out`, all else as in the expander. Each job has its function, as the interface has.
 pub fn normalise(
     line: &[u8],
     vars: &mut [u8],
