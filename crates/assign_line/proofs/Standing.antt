@@ -1,7 +1,7 @@
 -- The loop over the assignments with the buffers that it works in: what holds whenever the next one is looked for.
 use Prim.Native.Nat.{ℕ, ◌≤◌, ◌<◌}
 use native.Mathlib.Omega.{arith}
-use mathlib.Core.Path.{◌≡◌, subst}
+use mathlib.Core.Path.{◌≡◌}
 use mathlib.Core.Bool.{Bool}
 use lib.ListN.{length, take, drop}
 use Rattle.stages.specs.Numbers.{work_least}
@@ -16,7 +16,6 @@ use Rattle.read_line.specs.Says.{NextAt, NextNone}
 use Rattle.table_store.specs.Holding.{Holds}
 use Rattle.assign_line.specs.Answers.{line_outcome, AssignmentReady, IsStored, AssignmentOf, AssignmentSays, LineReady, LineStops, LineSays}
 use Rattle.std.specs.Prelude.{Result, Ok, Err}
-use Rattle.text.specs.Refusals.{refusal_number}
 use Rattle.expand_add.specs.declared.answers.Stop.{Stop}
 use Rattle.expand_add.specs.declared.answers.Stop.TheVariants.{Refused, Demanded}
 use Rattle.assign_line.specs.declared.Assigned.{Assigned}

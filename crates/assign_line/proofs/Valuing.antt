@@ -4,7 +4,7 @@ use native.Mathlib.Omega.{arith}
 use mathlib.Core.Path.{◌≡◌, sym, ap, ◌∙◌, subst}
 use mathlib.Core.Bool.{Bool, false}
 use lib.ListN.{take, drop}
-use Rattle.stages.specs.Numbers.{depth_limit, variable_room}
+use Rattle.stages.specs.Numbers.{depth_limit}
 use Rattle.stages.specs.Bytes.{Text, part}
 use Rattle.stages.specs.Outcome.{Outcome, refused, demands, done, ◌>>=◌}
 use Rattle.stages.specs.Images.{Pairs, is_name, held}
@@ -23,8 +23,7 @@ use Rattle.table_store.specs.declared.NoRoom.{NoRoom}
 use Rattle.text.specs.declared.refusal.Refusal.TheVariants.{VariableRoom}
 use Rattle.read_line.specs.Says.{AssignmentTo}
 use Rattle.read_line.proofs.Naming.{named_as, reads_value}
-use Rattle.expand_add.specs.Answers.{IsRow, IsDemand, Answers, Says}
-use Rattle.text.specs.Refusals.{refusal_number}
+use Rattle.expand_add.specs.Answers.{IsRow, Answers, Says}
 use Rattle.expand_add.specs.declared.answers.Stop.{Stop}
 use Rattle.expand_add.specs.declared.answers.Stop.TheVariants.{Refused, Demanded}
 use Rattle.expand_add.specs.declared.answers.Row as code

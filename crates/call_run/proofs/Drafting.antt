@@ -9,7 +9,7 @@ use lib.Dec.{leb}
 use lib.ListN.{length, take, drop, length-append}
 use lib.Seq.{length-take-le, take-append-le}
 use borrow.Author.Tests.{leb-true, leb-false}
-use Rattle.stages.specs.Numbers.{image_limit, line_limit, output_room, bad_fields}
+use Rattle.stages.specs.Numbers.{image_limit, line_limit, output_room}
 use Rattle.stages.specs.Bytes.{Text}
 use Rattle.stages.specs.Outcome.{Placed, refused_at, demands_at, done_at, ◌then◌, pick}
 use Rattle.stages.specs.Images.{Pairs, held, held_texts, is_some, image, fields_of}
@@ -25,7 +25,6 @@ use Rattle.quote.specs.declared.QuoteError.TheVariants.{Malformed, NoRoom}
 use Rattle.table_store.specs.Holding.{Holds}
 use Rattle.table.specs.Around.{among}
 use Rattle.expand_line.specs.Answers.{line_outcome, LineReady, IsLine, LineStops}
-use Rattle.text.specs.Refusals.{refusal_number}
 use Rattle.expand_add.specs.declared.answers.Stop.{Stop}
 use Rattle.expand_add.specs.declared.answers.Stop.TheVariants.{Refused, Demanded}
 use Rattle.expand_add.specs.declared.answers.LineStop.{LineStop}

@@ -2,7 +2,6 @@
 use Prim.Native.Nat.{ℕ, suc, ◌+◌, ◌-◌, ◌≤◌, ◌<◌}
 use Prim.Native.Char.{code}
 use native.Mathlib.Omega.{arith}
-use native.Mathlib.Nat.{sub_self}
 use mathlib.Core.Path.{◌≡◌, refl, sym, ap, ◌∙◌, subst}
 use mathlib.Core.Bool.{Bool, true}
 use mathlib.Core.List.{[], ◌∷◌, ◌++◌}
@@ -36,7 +35,6 @@ use Rattle.table.specs.Around.{among}
 use Rattle.table_store.specs.Splice.{placed}
 use Rattle.std.specs.Prelude.{Result, Ok, Err}
 use Rattle.text.specs.declared.refusal.Refusal.TheVariants.{OutputRoom}
-use Rattle.text.specs.Refusals.{refusal_number}
 use Rattle.expand_add.specs.declared.answers.Stop.{Stop}
 use Rattle.expand_add.specs.declared.answers.Stop.TheVariants.{Refused, Demanded}
 use Rattle.split_field.specs.Answers.{Says}

@@ -23,7 +23,6 @@ use Rattle.table_store.specs.Splice.{placed}
 use Rattle.table.specs.Around.{among}
 use Rattle.expand_line.specs.Answers.{word_outcome, line_outcome, WordReady, IsFields, WordOf, WordSays, LineReady, LineStops, LineSays}
 use Rattle.std.specs.Prelude.{Result, Ok, Err}
-use Rattle.text.specs.Refusals.{refusal_number}
 use Rattle.expand_add.specs.declared.answers.Stop.{Stop}
 use Rattle.expand_add.specs.declared.answers.Stop.TheVariants.{Refused, Demanded}
 use Rattle.expand_line.specs.declared.WordDone.{WordDone}

@@ -19,8 +19,7 @@ use Rattle.stages.specs.Paths.{texts_of_fields}
 use Rattle.stages.specs.Line.{Around, Fields, word_fields, out_fits}
 use Rattle.text.specs.Rows.{row_bytes, row_of}
 use Rattle.text.proofs.Rows.{row_of_row_bytes, length_row_bytes}
-use Rattle.expand_add.specs.Answers.{IsRow, IsDemand, Answers as RowOf, Says as Expands}
-use Rattle.text.specs.Refusals.{refusal_number}
+use Rattle.expand_add.specs.Answers.{IsRow, Answers as RowOf, Says as Expands}
 use Rattle.expand_add.specs.declared.answers.Stop.{Stop}
 use Rattle.expand_add.specs.declared.answers.Stop.TheVariants.{Refused, Demanded}
 use Rattle.expand_add.specs.declared.answers.Row as code

@@ -1,5 +1,5 @@
 -- The fields so far stand after the version byte, and the words that are left give the rest. A word has a byte, so what is left of the line falls.
-use Rattle.std.proofs.Common.{length, take, ◌-◌, ◌≡◌}
+use Rattle.std.proofs.Common.{length, take, ◌-◌}
 use Rattle.stages.specs.Images.{held}
 use Rattle.table.specs.Around.{among}
 use Rattle.expand_line.specs.Answers.{line_outcome}
