@@ -455,4 +455,4 @@ module _ {lent : Lent} {text : Text} {at d size : ℕ} {vars₀ : Text} {vars_us
             unfold summed in
             ap (λ (o : Made). o >>= λ u. summed lent m u) sum_row.0.is
             ∙ ap (λ (k : Row). summed lent m (k, held (take r.vars_used us), r.of_none))
-                (sym (row_at_lem sum_row.0.row ys r.units sum_row.0.stands sum_row.0.counts))
+            (sym (row_at_lem sum_row.0.row ys r.units sum_row.0.stands sum_row.0.counts))

@@ -40,19 +40,19 @@ slice_bounds-put_marked-end c = (next c.loop-end.invariant c.text_at.ensures (c.
 pub slice_bounds-put_marked-count-in-Ok-Some : goal.slice_bounds-put_marked-count-in-Ok-Some
 slice_bounds-put_marked-count-in-Ok-Some c =
     let f = fronts_at (ap (λ n. c.loop-end.to + 2 * n) (sym c.gap_units.ensures))
-        (gap_put c.loop-end.invariant c.text_at.ensures (c.in-Ok-Some.is ∙ ap Ok c.in-Ok-Some.field-0-is) c.put_gap.ensures) in
+    (gap_put c.loop-end.invariant c.text_at.ensures (c.in-Ok-Some.is ∙ ap Ok c.in-Ok-Some.field-0-is) c.put_gap.ensures) in
     omega (arith, f.inside, fronts_length f)
 
 pub slice_bounds-put_marked-start-in-Ok-Some : goal.slice_bounds-put_marked-start-in-Ok-Some
 slice_bounds-put_marked-start-in-Ok-Some c =
     let f = fronts_at (ap (λ n. c.loop-end.to + 2 * n) (sym c.gap_units.ensures))
-        (gap_put c.loop-end.invariant c.text_at.ensures (c.in-Ok-Some.is ∙ ap Ok c.in-Ok-Some.field-0-is) c.put_gap.ensures) in
+    (gap_put c.loop-end.invariant c.text_at.ensures (c.in-Ok-Some.is ∙ ap Ok c.in-Ok-Some.field-0-is) c.put_gap.ensures) in
     omega (arith, f.inside, fronts_length f)
 
 pub put_marked-requires : goal.put_marked-requires
 put_marked-requires c =
     let f = fronts_at (ap (λ n. c.loop-end.to + 2 * n) (sym c.gap_units.ensures))
-        (gap_put c.loop-end.invariant c.text_at.ensures (c.in-Ok-Some.is ∙ ap Ok c.in-Ok-Some.field-0-is) c.put_gap.ensures) in
+    (gap_put c.loop-end.invariant c.text_at.ensures (c.in-Ok-Some.is ∙ ap Ok c.in-Ok-Some.field-0-is) c.put_gap.ensures) in
     let l = c.loop-end in
     omega (
       arith,
@@ -87,9 +87,9 @@ loop-end-smaller c =
 pub loop-end-preserved : goal.loop-end-preserved
 loop-end-preserved c =
     let f = fronts_at (ap (λ n. c.loop-end.to + 2 * n) (sym c.gap_units.ensures))
-        (gap_put c.loop-end.invariant c.text_at.ensures (c.in-Ok-Some.is ∙ ap Ok c.in-Ok-Some.field-0-is) c.put_gap.ensures) in
+    (gap_put c.loop-end.invariant c.text_at.ensures (c.in-Ok-Some.is ∙ ap Ok c.in-Ok-Some.field-0-is) c.put_gap.ensures) in
     putting_on c.loop-end.invariant c.text_at.ensures (c.in-Ok-Some.is ∙ ap Ok c.in-Ok-Some.field-0-is) f
-        (ap (λ n. c.loop-end.to + 2 * n) c.gap_units.ensures) c.put_marked.ensures
+    (ap (λ n. c.loop-end.to + 2 * n) c.gap_units.ensures) c.put_marked.ensures
 
 pub returns-in_default : goal.returns-in_default
 returns-in_default c =

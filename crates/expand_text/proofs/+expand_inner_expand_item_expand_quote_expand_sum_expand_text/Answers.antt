@@ -45,7 +45,7 @@ expand_inner-returns-in_ok-next-in-Unused t c =
     let a = c.args in
     unused_given a.row.units a.params.now (param_of a.text.now a.named.param) (form_of a.named.form) (mark_of a.row.mark) c.requires.0
     (lending {shouts = a.extent.shouts} a.params.now c.requires.1 c.requires.2 c.requires.3) refl c.in_ok-what.ensures (ap Ok c.in-Unused.is)
-        c.in_ok-next-in-Unused.ensures c.settle.new.work c.settle.result
+    c.in_ok-next-in-Unused.ensures c.settle.new.work c.settle.result
     (c.settle.ensures a.extent.vars_room a.extent.shouts a.homes.now)
 
 pub expand_inner-returns-in_err-given-in-Used : goal.expand_inner-returns-in_err-given-in-Used
@@ -228,8 +228,14 @@ expand_quote-behind-requires t c =
     let x = quote_expanded c.requires.0 (lending {shouts = a.extent.shouts} a.params.now c.requires.1 c.requires.2 c.requires.3) l c.expand_text.new.work
     c.expand_text.new.vars c.expand_text.result c.expand_text.ensures in
     let w = c.put_empty.new.area in
-    omega (arith, quote_waiting x c.in-Err.stop c.in-Err.is, c.expand_text.auto.work, mid_len 2 (length w) w (omega arith), c.put_empty.auto.area,
-        c.well_formed)
+    omega (
+      arith,
+      quote_waiting x c.in-Err.stop c.in-Err.is,
+      c.expand_text.auto.work,
+      mid_len 2 (length w) w (omega arith),
+      c.put_empty.auto.area,
+      c.well_formed,
+    )
 
 pub expand_quote-returns-in-Err : goal.expand_quote-returns-in-Err
 expand_quote-returns-in-Err t c =

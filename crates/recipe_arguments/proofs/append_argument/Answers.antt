@@ -4,8 +4,11 @@ use Rattle.recipe_arguments.proofs.Packing.{put_within, appends_put, appends_ful
 use Rattle.recipe_arguments.proofs.append_argument.Goals as goal
 
 pub overflow_add-result : goal.overflow_add-result
-overflow_add-result c = omega (arith, put_within c.args.argument.now c.args.used c.args.image.now c.put_record.new.out c.put_record.result
-    c.put_record.ensures c.in-Ok.is c.requires)
+overflow_add-result c = omega (
+  arith,
+  put_within c.args.argument.now c.args.used c.args.image.now c.put_record.new.out c.put_record.result
+      c.put_record.ensures c.in-Ok.is c.requires,
+)
 
 pub returns-in-Ok : goal.returns-in-Ok
 returns-in-Ok c = appends_put c.args.argument.now c.args.used c.args.image.now c.put_record.new.out c.put_record.result c.put_record.ensures c.in-Ok.is
