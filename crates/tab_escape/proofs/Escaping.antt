@@ -16,7 +16,8 @@ use Rattle.stages.specs.Outcome.{pick}
 use Rattle.stages.specs.Call.{over}
 use Rattle.text.specs.Putting.{Puts}
 use Rattle.text.proofs.Filling.{Filling, fill_byte, fill_ends}
-use Rattle.tab_escape.specs.Escapes.{Got, taking, hex_value, hex_byte, escape_of, byte_at, Reading, bad, good, before, read_on, read_from, read_text, Reads, reads, fails}
+use Rattle.tab_escape.specs.Escapes.{Got, taking, hex_value, hex_byte, escape_of, byte_at, Reading, bad, good, before, read_on, read_from, read_text}
+use Rattle.tab_escape.specs.Escapes.{Reads, reads, fails}
 use Rattle.tab_escape.specs.declared.Fault.{Fault}
 use Rattle.tab_escape.specs.declared.Fault.TheVariants.{BadEscape}
 
