@@ -1,8 +1,10 @@
 -- What each answer of a comparison says of the two texts.
-use Prim.Native.Nat.{ℕ}
-use native.Mathlib.Omega.{arith}
-use mathlib.Core.Path.{◌≡◌, refl}
-use mathlib.Core.Bool.{Bool, true, false}
+use Rattle.std.proofs.Common.{ℕ, arith, ◌≡◌, ◌∙◌, refl, ◌⊎◌, Bool, true, false, cond, ◌||◌, ◌+◌, ◌<◌, ◌≤◌, length, drop, nat_lt, nat_eq}
+use Rattle.std.specs.Ordering.{nat_cmp}
+use native.Mathlib.Numerals.{add-one}
+use lib.ListN.{get_or, drop_of_length-le}
+use lib.Seq.{drop-cons}
+use borrow.Author.Tests.{le-ltb, eq-eqb, ne_eqb, ltb-true, ltb-false, eqb-true, eqb-false}
 use Rattle.stages.specs.Bytes.{Text, eq_text, lt_text}
 use Rattle.stages.proofs.Texts.{lt_text_above}
 use Rattle.text.specs.Orders.{order_of, pick_order}
@@ -41,3 +43,48 @@ module _ (a b : Text) where
 
   pub above_not_below : order_of a b ≡ Greater → lt_text a b ≡ false
   above_not_below e = (more (lt_text a b) (eq_text a b) e).0
+
+-- two texts, the same so far
+pub record Alike (a b : Text) (i : ℕ) : Type 0 where
+  pub less : lt_text a b ≡ lt_text (drop i a) (drop i b)
+  pub same : eq_text a b ≡ eq_text (drop i a) (drop i b)
+
+module _ (a b : Text) (i : ℕ) (p : Alike a b i) where
+  module _ (h : i < length a) (k : i < length b) where
+    pub order_unlike : (get_or a i 0 ≡ get_or b i 0 → ⊥) → nat_cmp (get_or a i 0) (get_or b i 0) ≡ order_of a b
+    order_unlike n = rw (p.less, p.same, drop-cons a i 0, drop-cons b i 0, ne_eqb (get_or a i 0) (get_or b i 0) n) (go (nat_lt (get_or a i 0) (get_or b i 0)))
+      where
+        go : (l : Bool) → cond l Less Greater ≡ pick_order (l || false) false
+        go true = refl
+        go false = refl
+
+    pub order_again : get_or a i 0 ≡ get_or b i 0 → Alike a b (i + 1)
+    order_again e = record {
+      less = p.less ∙ rw (
+        drop-cons a i 0,
+        drop-cons b i 0,
+        le-ltb (get_or a i 0) (get_or b i 0) (omega arith),
+        eq-eqb (get_or a i 0) (get_or b i 0) e,
+        add-one i,
+      );
+      same = p.same ∙ rw (drop-cons a i 0, drop-cons b i 0, eq-eqb (get_or a i 0) (get_or b i 0) e, add-one i);
+    }
+
+  pub order_ends : length a ≤ i ⊎ length b ≤ i → i ≤ length a → i ≤ length b → nat_cmp (length a) (length b) ≡ order_of a b
+  order_ends g h k = rw (p.less, p.same) (go (nat_lt (length a) (length b)) (nat_eq (length a) (length b)) refl refl)
+    where
+      go : (l e : Bool) → nat_lt (length a) (length b) ≡ l → nat_eq (length a) (length b) ≡ e
+          → cond l Less (cond e Equal Greater) ≡ order_of (drop i a) (drop i b)
+      go true e x y = let m : length a < length b = ltb-true _ _ x in
+          let n : length a ≤ i = omega (arith, g) in
+          let o : i < length b = omega arith in
+          rw (drop_of_length-le a n, drop-cons b i 0 o) refl
+      go false true x y = let m : length a ≡ length b = eqb-true _ _ y in
+          let n : length a ≤ i = omega (arith, g) in
+          let o : length b ≤ i = omega arith in
+          rw (drop_of_length-le a n, drop_of_length-le b o) refl
+      go false false x y = let m : length b ≤ length a = ltb-false _ _ x in
+          let d : length a ≡ length b → ⊥ = eqb-false _ _ y in
+          let n : length b ≤ i = omega (arith, g) in
+          let o : i < length a = omega (arith, d) in
+          rw (drop_of_length-le b n, drop-cons a i 0 o) refl

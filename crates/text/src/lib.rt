@@ -67,14 +67,21 @@ pub fn has_bit(words: &[u64; 4], b: u8) -> bool
 pub fn in_class(class: Class, b: u8) -> bool
     ensures { result ≡ in_class class b }
 {
-    has_bit(&words_of(class), b)
+    let [low, high, upper, _] = words_of(class);
+    if b < 64 {
+        (low >> b) & 1 == 1
+    } else if b < 128 {
+        (high >> (b - 64)) & 1 == 1
+    } else {
+        upper & 1 == 1
+    }
 }
 
 // Is the byte one of the set's?
 pub fn is_in(b: u8, set: &[u8]) -> bool
     ensures { result ≡ is_in b set.now }
 {
-    set.contains(&b)
+    set.iter().any(|c| *c == b)
 }
 
 // Has the text no zero byte?
@@ -111,5 +118,10 @@ pub fn same(a: &[u8], b: &[u8]) -> bool
 pub fn compare(a: &[u8], b: &[u8]) -> Ordering
     ensures { result ≡ order_of a.now b.now }
 {
-    a.cmp(b)
+    for i in 0..a.len().min(b.len()) {
+        if a[i] != b[i] {
+            return a[i].cmp(&b[i]);
+        }
+    }
+    a.len().cmp(&b.len())
 }

@@ -1,5 +1,5 @@
 // Why a call is refused: document 01's table of numbers and those that document 02 adds to it, each under the name that the stages give it.
-ghost use Rattle.std.specs.Prelude.{◌≡◌};
+ghost use Rattle.std.specs.Prelude.{◌≡◌, ℕ};
 ghost use Rattle.text.specs.Refusals.{refusal_number};
 
 #[derive(Clone, Copy, PartialEq, Eq)]
@@ -62,6 +62,43 @@ impl Refusal {
         ensures { result ≡ refusal_number self }
     {
         self as u8
+    }
+}
+
+// What says why a call is refused: a refusal, or a number alone, which need not be one's.
+pub trait Reason: Copy {
+    ghost number_of: { Self → ℕ };
+
+    // The number that a call answers by.
+    fn as_number(self) -> u8
+        ensures { result ≡ number_of self };
+
+    // The same as this refusal.
+    fn of(why: Refusal) -> Self
+        ensures { number_of result ≡ refusal_number why };
+}
+
+impl Reason for Refusal {
+    ghost number_of = { refusal_number };
+
+    fn as_number(self) -> u8 {
+        self.number()
+    }
+
+    fn of(why: Refusal) -> Refusal {
+        why
+    }
+}
+
+impl Reason for u8 {
+    ghost number_of = { λ n. n };
+
+    fn as_number(self) -> u8 {
+        self
+    }
+
+    fn of(why: Refusal) -> u8 {
+        why.number()
     }
 }
 

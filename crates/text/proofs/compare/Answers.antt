@@ -1,5 +1,6 @@
-use Rattle.text.proofs.Library.{cmp_order}
+use Rattle.std.proofs.Common.{rules, arith}
+use Rattle.text.proofs.Orders.{order_ends}
 use Rattle.text.proofs.compare.Goals as goal
 
 pub returns : goal.returns
-returns c = rw c.cmp.ensures (cmp_order c.args.a.now c.args.b.now)
+returns c = rw c.cmp-2.ensures (order_ends _ _ _ c.loop-i.invariant (search rules) (omega (arith, c.min-i-end.ensures)) (omega (arith, c.min-i-end.ensures)))
