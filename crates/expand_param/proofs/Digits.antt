@@ -45,6 +45,12 @@ unfolding number_of
 number_capped n m [] e = capped_min n ∙ e ∙ sym (capped_min m)
 number_capped n m (b ∷ t) e = number_capped (n * 10 + (b - 48)) (m * 10 + (b - 48)) t (omega (arith, e))
 
+-- and at the limit no digit changes the number
+number_most : (t : Text) → capped (number_of number_limit t) ≡ number_limit
+unfolding number_of
+number_most [] = sym (capped_small number_limit (omega arith))
+number_most (b ∷ t) = number_capped (number_limit * 10 + (b - 48)) number_limit t (omega arith) ∙ number_most t
+
 -- the digits before place i come to n
 pub record Read (t : Text) (n i : ℕ) : Type 0 where
   pub is : capped (number_of n (drop i t)) ≡ capped (number_of 0 t)
@@ -64,6 +70,9 @@ read_more {t} {n} {i} {m} r h e =
 pub read_number : {t : Text} {n i : ℕ} → Read t n i → length t ≤ i → n ≡ capped (number_of 0 t)
 unfolding number_of
 read_number {t} {n} {i} r h = capped_small n r.small ∙ ap (λ (u : Text). capped (number_of n u)) (sym (drop_of_length-le t h)) ∙ r.is
+
+pub read_most : {t : Text} {n i : ℕ} → Read t n i → n ≡ number_limit → n ≡ capped (number_of 0 t)
+read_most {t} {n} {i} r e = e ∙ sym (number_most (drop i t)) ∙ ap (λ (k : ℕ). capped (number_of k (drop i t))) (sym e) ∙ r.is
 
 -- the texts of an image by numbers as the code counts
 

@@ -19,6 +19,9 @@ pub fn number_of(digits: &[u8]) -> usize
     for &digit in digits {
         let value = digit.saturating_sub(b'0') as usize;
         n = n.saturating_mul(10).saturating_add(value);
+        if n == usize::MAX {
+            break;
+        }
     }
     n
 }
