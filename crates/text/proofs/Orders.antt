@@ -1,10 +1,12 @@
 -- What each answer of a comparison says of the two texts.
-use Rattle.std.proofs.Common.{ℕ, arith, ◌≡◌, ◌∙◌, refl, ◌⊎◌, Bool, true, false, cond, ◌||◌, ◌+◌, ◌<◌, ◌≤◌, length, drop, nat_lt, nat_eq}
+use Rattle.std.proofs.Common.{ℕ, arith, ◌≡◌, ◌∙◌, refl, Bool, true, false, cond, ◌||◌, ◌+◌, ◌<◌, ◌-◌, length, take, drop, nat_lt}
 use Rattle.std.specs.Ordering.{nat_cmp}
+use Rattle.std.specs.Cmp.Lexicographic.{slice_cmp}
+use Rattle.text.proofs.Library.{cmp_order}
 use native.Mathlib.Numerals.{add-one}
-use lib.ListN.{get_or, drop_of_length-le}
-use lib.Seq.{drop-cons}
-use borrow.Author.Tests.{le-ltb, eq-eqb, ne_eqb, ltb-true, ltb-false, eqb-true, eqb-false}
+use lib.ListN.{get_or, length-drop}
+use lib.Seq.{drop-cons, take_all}
+use borrow.Author.Tests.{le-ltb, eq-eqb, ne_eqb}
 use Rattle.stages.specs.Bytes.{Text, eq_text, lt_text}
 use Rattle.stages.proofs.Texts.{lt_text_above}
 use Rattle.text.specs.Orders.{order_of, pick_order}
@@ -70,21 +72,8 @@ module _ (a b : Text) (i : ℕ) (p : Alike a b i) where
       same = p.same ∙ rw (drop-cons a i 0, drop-cons b i 0, eq-eqb (get_or a i 0) (get_or b i 0) e, add-one i);
     }
 
-  pub order_ends : length a ≤ i ⊎ length b ≤ i → i ≤ length a → i ≤ length b → nat_cmp (length a) (length b) ≡ order_of a b
-  order_ends g h k = rw (p.less, p.same) (go (nat_lt (length a) (length b)) (nat_eq (length a) (length b)) refl refl)
-    where
-      go : (l e : Bool) → nat_lt (length a) (length b) ≡ l → nat_eq (length a) (length b) ≡ e
-          → cond l Less (cond e Equal Greater) ≡ order_of (drop i a) (drop i b)
-      go true e x y = let m : length a < length b = ltb-true _ _ x in
-          let n : length a ≤ i = omega (arith, g) in
-          let o : i < length b = omega arith in
-          rw (drop_of_length-le a n, drop-cons b i 0 o) refl
-      go false true x y = let m : length a ≡ length b = eqb-true _ _ y in
-          let n : length a ≤ i = omega (arith, g) in
-          let o : length b ≤ i = omega arith in
-          rw (drop_of_length-le a n, drop_of_length-le b o) refl
-      go false false x y = let m : length b ≤ length a = ltb-false _ _ x in
-          let d : length a ≡ length b → ⊥ = eqb-false _ _ y in
-          let n : length b ≤ i = omega (arith, g) in
-          let o : i < length a = omega (arith, d) in
-          rw (drop_of_length-le b n, drop-cons a i 0 o) refl
+  -- and what is left is compared behind the place
+  pub order_rest : (m n : ℕ) → m ≡ length a - i → n ≡ length b - i → slice_cmp nat_cmp (take m (drop i a)) (take n (drop i b)) ≡ order_of a b
+  order_rest m n e f =
+      rw (take_all m (drop i a) (omega (arith, length-drop i a)), take_all n (drop i b) (omega (arith, length-drop i b)))
+      (cmp_order (drop i a) (drop i b) ∙ rw (p.less, p.same) refl)

@@ -114,14 +114,15 @@ pub fn same(a: &[u8], b: &[u8]) -> bool
     a == b
 }
 
-// How does the first text stand to the second?
+// How does the first text stand to the second? Most differ within their first bytes, and there a byte at a time takes less than the library's order does.
 pub fn compare(a: &[u8], b: &[u8]) -> Ordering
     ensures { result ≡ order_of a.now b.now }
 {
-    for i in 0..a.len().min(b.len()) {
+    let near = a.len().min(b.len()).min(8);
+    for i in 0..near {
         if a[i] != b[i] {
             return a[i].cmp(&b[i]);
         }
     }
-    a.len().cmp(&b.len())
+    a[near..].cmp(&b[near..])
 }
