@@ -52,7 +52,13 @@ pub fn refuse<R: Reason>(why: R, place: usize, vars_used: usize) -> Answer
 }
 
 // A refusal with a message: the work area's `len` bytes from `at` on.
-pub fn refuse_with<R: Reason>(why: R, place: usize, vars_used: usize, at: usize, len: usize) -> Draft
+pub fn refuse_with<R: Reason>(
+    why: R,
+    place: usize,
+    vars_used: usize,
+    at: usize,
+    len: usize,
+) -> Draft
     ensures { result ≡ refused_with (R.number_of why) place vars_used at len }
 {
     Draft {
