@@ -11,13 +11,12 @@ ghost use Rattle.quote.specs.Answers.{quoting_of};
 ghost use Rattle.call_check.specs.Calls.{room_of};
 ghost use Rattle.call_deliver.specs.Hands.{refused_as, writing_of, Accepts};
 ghost use Rattle.call_deliver.specs.Awaits.{refused_with, stopped_as, HandsOver};
-ghost use Rattle.text.specs.Refusals.{refusal_number};
 
 use call_check::Job;
 use expand_add::answers::{LineStop, Stop};
 use quote::QuoteError;
 use text::numbers;
-use text::refusal::Refusal;
+use text::refusal::{Reason, Refusal};
 
 // "The answer is a number, a place, the output length and the variables' used length."; E7: "the answer gives the length written" of the message. Laid out as
 // C lays it out, so that the jobs for C hand it on.
@@ -40,11 +39,11 @@ pub struct Draft {
 }
 
 // A refusal: "the output length is 0, the used length is the one given"; no message is written yet.
-pub fn refuse(why: Refusal, place: usize, vars_used: usize) -> Answer
-    ensures { result ≡ refused_as (refusal_number why) place vars_used }
+pub fn refuse<R: Reason>(why: R, place: usize, vars_used: usize) -> Answer
+    ensures { result ≡ refused_as (R.number_of why) place vars_used }
 {
     Answer {
-        number: why.number(),
+        number: why.as_number(),
         place,
         out_len: 0,
         vars_used,
@@ -53,8 +52,14 @@ pub fn refuse(why: Refusal, place: usize, vars_used: usize) -> Answer
 }
 
 // A refusal with a message: the work area's `len` bytes from `at` on.
-pub fn refuse_with(why: Refusal, place: usize, vars_used: usize, at: usize, len: usize) -> Draft
-    ensures { result ≡ refused_with (refusal_number why) place vars_used at len }
+pub fn refuse_with<R: Reason>(
+    why: R,
+    place: usize,
+    vars_used: usize,
+    at: usize,
+    len: usize,
+) -> Draft
+    ensures { result ≡ refused_with (R.number_of why) place vars_used at len }
 {
     Draft {
         answer: refuse(why, place, vars_used),

@@ -448,7 +448,8 @@ pub fn expand_text(
                 of_none,
             });
         }
-        let item = item_at(text, here)?;
+        let read = item_at(text, here);
+        let item = read?;
         let end = RowEnd {
             mark,
             units: row.units + ran,
@@ -476,7 +477,7 @@ pub fn expand_text(
         i = given.next;
         left = given.vars_used;
         of_none = of_none || given.of_none;
-        if is_stop(item) {
+        if is_stop(read) {
             return Ok(Row {
                 units: n,
                 next: i,
@@ -484,6 +485,6 @@ pub fn expand_text(
                 of_none,
             });
         }
-        inside = mode_after(item, mode);
+        inside = mode_after(read, mode);
     }
 }

@@ -66,7 +66,7 @@ fn step_at(
         return Ok(Step::Fails);
     }
     let member = pattern_member::member_at(pattern, at, path, width)?;
-    Ok(Step::On(pattern_member::behind(member, at, width)))
+    Ok(Step::On(pattern_member::behind(Ok(member), at, width)))
 }
 
 // What the search for a bracket's end finds that is at this place. Behind the member there the table tells it.

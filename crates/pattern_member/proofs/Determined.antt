@@ -13,7 +13,7 @@ use Rattle.pattern_unit.specs.Widths.{size, signs_by}
 use Rattle.pattern_unit.specs.declared.Width.{Width}
 use Rattle.pattern_class.specs.Rows.{row_class}
 use Rattle.pattern_class.proofs.Determined.{one_row}
-use Rattle.pattern_member.specs.Members.{first_member, member_of, read_of, is_row, row_read, Says, behind_of}
+use Rattle.pattern_member.specs.Members.{first_member, member_of, read_of, is_row, row_read, Says, behind_read}
 use Rattle.stages.specs.Pattern.{unserved}
 use Rattle.pattern_member.specs.declared.BadClass.{BadClass}
 use Rattle.pattern_member.specs.declared.Member.{Member}
@@ -51,5 +51,5 @@ pub member_at_determined : (units : Text) (at : ℕ) (path : Bool) (w : Width) (
     Says w units (at + size w) (first_member path (signs_by w (drop at units))) q → r ≡ q
 member_at_determined units at path w r q h g = one_read r q h.listed g.listed (h.says ∙ sym g.says)
 
-pub behind_determined : (m : Member) (at : ℕ) (w : Width) {r q : ℕ} → r ≡ behind_of m at w → q ≡ behind_of m at w → r ≡ q
+pub behind_determined : (m : Result Member BadClass) (at : ℕ) (w : Width) {r q : ℕ} → r ≡ behind_read m at w → q ≡ behind_read m at w → r ≡ q
 behind_determined m at w = one_answer

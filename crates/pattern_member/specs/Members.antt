@@ -58,6 +58,6 @@ abbrev pub behind_read : Result Member BadClass → ℕ → Width → ℕ
 behind_read r at w = at + size w * (member_length (read_of r) + 1)
 
 -- that place is a number of the code
-pub record Within (m : Member) (at : ℕ) (w : Width) : Type 0 where
-  pub listed : is_row m
-  pub fits : behind_of m at w < 2 ^ 64
+pub record Within (r : Result Member BadClass) (at : ℕ) (w : Width) : Type 0 where
+  pub listed : row_read r
+  pub fits : behind_read r at w < 2 ^ 64

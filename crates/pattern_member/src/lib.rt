@@ -6,7 +6,7 @@ ghost use Rattle.std.specs.Prelude.{◌≡◌, ◌&&◌, ◌+◌, ◌≤◌, ◌
 ghost use Rattle.stages.specs.Classes.{classes};
 ghost use Rattle.stages.specs.Pattern.{ranges, class_at, class_member, byte_member, member_length};
 ghost use Rattle.pattern_unit.specs.Widths.{size, signs_by};
-ghost use Rattle.pattern_member.specs.Members.{opens, first_member, member_of, is_row, Says, behind_of, Within};
+ghost use Rattle.pattern_member.specs.Members.{opens, first_member, member_of, is_row, Says, behind_read, Within};
 
 use pattern_unit::Width;
 
@@ -116,10 +116,15 @@ fn units_of(member: Member) -> usize
     }
 }
 
-// The place behind the member at a place.
-pub fn behind(member: Member, at: usize, width: Width) -> usize
-    requires { Within member at width }
-    ensures { result ≡ behind_of member at width }
+// The place behind what is read at a place: a member, or one unit, where it refuses the pattern.
+#[tactic(auto, unfolding(stages::specs::Pattern::member_length))]
+pub fn behind(read: Result<Member, BadClass>, at: usize, width: Width) -> usize
+    requires { Within read at width }
+    ensures { result ≡ behind_read read at width }
 {
-    at + pattern_unit::unit_size(width) * units_of(member)
+    let units = match read {
+        Ok(member) => units_of(member),
+        Err(BadClass) => 1,
+    };
+    at + pattern_unit::unit_size(width) * units
 }

@@ -3,13 +3,13 @@ use Prim.Native.Nat.{ℕ, zero, suc, ◌+◌, ◌≤◌, ◌<◌}
 use mathlib.Core.Path.{◌≡◌, refl, sym, ◌∙◌, ap}
 use mathlib.Core.Bool.{Bool, true, false, not, ◌||◌}
 use mathlib.Core.List.{[], ◌∷◌}
-use Rattle.std.proofs.Common.{Result, Err, arith}
+use Rattle.std.proofs.Common.{Result}
 use lib.ListN.{length, drop, get_or}
 use Rattle.stages.specs.Bytes.{Text, between}
 use Rattle.stages.specs.Pattern.{Signs, these, all_others, member_length, member_holds, listed, in_set}
 use Rattle.pattern_unit.specs.Widths.{size, signs_by}
 use Rattle.pattern_unit.specs.declared.Width.{Width}
-use Rattle.pattern_unit.proofs.Units.{scale_zero, scale_suc, unit_at, none_at}
+use Rattle.pattern_unit.proofs.Units.{unit_at, none_at}
 use Rattle.pattern_class.specs.Table.{in_runs}
 use Rattle.pattern_member.specs.Members.{first_member, read_of, Says, behind_read}
 use Rattle.pattern_member.specs.declared.BadClass.{BadClass}
@@ -51,12 +51,6 @@ module _ (w : Width) (p : Text) (k b : ℕ) where
       ap (λ (l : Signs). listed 0 l b) (unit_at w p k h)
       ∙ rw (sym (member_first k false h s))
       (ap (λ (x : Bool). member_holds (read_of r) b || x) (listed_skip n l b ∙ ap (λ (l : Signs). listed 0 l b) (member_units w p k r)))
-
-  -- .. and what refuses a pattern lists nothing, and has one unit
-  pub lists_past : k + size w ≤ length p → {e : BadClass} → Says w p (k + size w) (first_member false (signs_by w (drop k p))) (Err e) →
-      listed 0 (signs_by w (drop k p)) b ≡ listed 0 (signs_by w (drop (k + size w) p)) b
-  unfolding member_holds member_length
-  lists_past h s = lists_on h s ∙ ap (λ (i : ℕ). listed 0 (signs_by w (drop i p)) b) (omega (arith, scale_suc w 0, scale_zero w))
 
   pub lists_none : length p < k + size w → listed 0 (signs_by w (drop k p)) b ≡ false
   unfolding listed

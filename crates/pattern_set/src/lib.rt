@@ -9,7 +9,7 @@ ghost use Rattle.pattern_class.specs.Rows.{count, row_class};
 ghost use Rattle.pattern_member.specs.Members.{member_of, is_row};
 ghost use Rattle.pattern_set.specs.Sets.{has, PutsWords};
 
-use pattern_member::{BadClass, Member};
+use pattern_member::Member;
 use pattern_unit::Width;
 
 // A word with all its bits.
@@ -100,14 +100,12 @@ fn members(units: &[u8], width: Width) -> ByteSet
     let mut set = none();
     let mut at = 0;
     while at + size <= units.len() {
-        match pattern_member::member_at(units, at, false, width) {
-            Ok(member) => {
-                set = set.with_member(member);
-                at = pattern_member::behind(member, at, width);
-            }
-            // What refuses a pattern holds no byte, and has one unit.
-            Err(BadClass) => at += size,
+        let read = pattern_member::member_at(units, at, false, width);
+        // What refuses a pattern holds no byte.
+        if let Ok(member) = read {
+            set = set.with_member(member);
         }
+        at = pattern_member::behind(read, at, width);
     }
     set
 }

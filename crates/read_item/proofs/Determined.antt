@@ -14,15 +14,16 @@ use Rattle.read_mode.specs.declared.Mode.{Mode}
 use Rattle.read_brace.specs.Shows.{Finds}
 use Rattle.read_brace.specs.declared.Item.{Item}
 use Rattle.read_brace.proofs.Determined.{braced_at_determined}
-use Rattle.read_item.specs.After.{mode_after, is_stop, is_end}
+use Rattle.read_item.specs.After.{mode_after_read, stops_read, is_end}
 
 pub item_at_determined : (text : Text) (at d : ℕ) (i : items.Item) (r s : Result Item Refusal) → Finds text at d r i → Finds text at d s i → r ≡ s
 item_at_determined = braced_at_determined
 
-pub mode_after_determined : (i : Item) (m r s : Mode) → r ≡ mode_after i m → s ≡ mode_after i m → r ≡ s
+-- of what is read, by whatever says why it is refused
+pub mode_after_determined : {R : Type 0} (i : Result Item R) (m r s : Mode) → r ≡ mode_after_read i m → s ≡ mode_after_read i m → r ≡ s
 mode_after_determined i m r s = one_answer
 
-pub is_stop_determined : (i : Item) (r s : Bool) → r ≡ is_stop i → s ≡ is_stop i → r ≡ s
+pub is_stop_determined : {R : Type 0} (i : Result Item R) (r s : Bool) → r ≡ stops_read i → s ≡ stops_read i → r ≡ s
 is_stop_determined i r s = one_answer
 
 pub is_end_determined : (text : Text) (at : ℕ) (m : Mode) (r s : Bool) → r ≡ is_end m (drop at text) → s ≡ is_end m (drop at text) → r ≡ s

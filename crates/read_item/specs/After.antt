@@ -1,5 +1,5 @@
 -- The item where a text is read, and what comes after it.
-use Rattle.std.specs.Prelude.{ℕ, ◌-◌, Bool, true, false, ◌&&◌, [], ◌∷◌, eqb, drop, Result}
+use Rattle.std.specs.Prelude.{ℕ, ◌-◌, Bool, true, false, ◌&&◌, [], ◌∷◌, eqb, drop, Result, Ok, Err}
 use Prim.Native.Char.{code}
 use Rattle.stages.specs.Numbers.{unserved}
 use Rattle.stages.specs.Bytes.{Text, text, is_in}
@@ -67,6 +67,15 @@ is_stop (Spread a next) = false
 is_stop (Inner p f inner next) = false
 is_stop (Sum next) = false
 is_stop (Home to) = false
+
+-- .. and with what is read, which a fault doesn't end; behind one it would go on as behind its first item
+abbrev pub stops_read : {R : Type 0} → Result Item R → Bool
+stops_read (Ok i) = is_stop i
+stops_read (Err e) = false
+
+abbrev pub mode_after_read : {R : Type 0} → Result Item R → Mode → Mode
+mode_after_read (Ok i) m = mode_after i m
+mode_after_read (Err e) m = mode_onward m
 
 -- the text ends where it is read, as its next byte or the line's end says; never said of arithmetic, which two bytes end
 abbrev pub is_end : Mode → Text → Bool

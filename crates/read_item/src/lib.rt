@@ -9,12 +9,12 @@ ghost use Rattle.stages.specs.Items.{item, is_bare_text, behind_backslash, said_
 ghost use Rattle.stages.specs.Items.{closer_length};
 ghost use Rattle.read_mode.specs.Modes.{mode_of, open_in};
 ghost use Rattle.read_brace.specs.Shows.{Shows, Finds};
-ghost use Rattle.read_item.specs.After.{mode_after, is_stop, is_end, dollar_quote, special};
+ghost use Rattle.read_item.specs.After.{mode_after_read, stops_read, is_end, dollar_quote, special};
 
 use read_brace::{Item, Param};
 use read_mode::{Cursor, Mode, Sort};
 use text::Class;
-use text::refusal::Refusal;
+use text::refusal::{Reason, Refusal};
 
 // What a backslash is.
 fn escaped_at(text: &[u8], from: Cursor) -> Result<Item, Refusal>
@@ -297,20 +297,20 @@ pub fn end_length(mode: Mode) -> usize
     }
 }
 
-// The mode in which a text goes on after an item: a parenthesis changes it, a byte may let a tilde begin, and behind its first item a text has begun.
-pub fn mode_after(item: Item, mode: Mode) -> Mode
-    ensures { result ≡ mode_after item mode }
+// The mode in which a text goes on after what is read: a parenthesis changes it, a byte may let a tilde begin, and behind its first item a text has begun.
+pub fn mode_after<R: Reason>(read: Result<Item, R>, mode: Mode) -> Mode
+    ensures { result ≡ mode_after_read read mode }
 {
-    match item {
-        Item::Byte { quoted, byte, .. } => read_mode::behind_byte(mode, quoted, byte),
-        Item::Paren { parens, .. } => Mode::Arith(parens),
+    match read {
+        Ok(Item::Byte { quoted, byte, .. }) => read_mode::behind_byte(mode, quoted, byte),
+        Ok(Item::Paren { parens, .. }) => Mode::Arith(parens),
         _ => read_mode::onward(mode),
     }
 }
 
-// Does the text end with the item?
-pub fn is_stop(item: Item) -> bool
-    ensures { result ≡ is_stop item }
+// Does the text end with what is read?
+pub fn is_stop<R: Reason>(read: Result<Item, R>) -> bool
+    ensures { result ≡ stops_read read }
 {
-    matches!(item, Item::Stop(_))
+    matches!(read, Ok(Item::Stop(_)))
 }

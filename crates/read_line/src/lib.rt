@@ -77,14 +77,15 @@ pub fn read_text(text: &[u8], from: Cursor) -> Result<usize, Refusal>
         if read_item::is_end(text, place.at, place.mode) {
             return Ok(place.at + read_item::end_length(place.mode));
         }
-        let item = read_item::item_at(text, place)?;
+        let read = read_item::item_at(text, place);
+        let item = read?;
         let next = read_item(item, text, place)?;
-        if read_item::is_stop(item) {
+        if read_item::is_stop(read) {
             return Ok(next);
         }
         here = Cursor {
             at: next,
-            mode: read_item::mode_after(item, place.mode),
+            mode: read_item::mode_after(read, place.mode),
             depth: place.depth,
         };
     }

@@ -11,9 +11,6 @@ use Rattle.stages.specs.Syntax as syntax
 use Rattle.stages.specs.Items.{ended, quotable, not_served, lists_in, let_by, wrong, fault, sign_form, closer_length, ends_login, sort, is_closer}
 use Rattle.stages.specs.Items as items
 use Rattle.text.specs.Cases.{has_colon, is_longest, is_fresh, is_served, lists_of, has_escapes}
-use Rattle.text.specs.Refusals.{refusal_number}
-use Rattle.text.specs.declared.refusal.Refusal.{Refusal}
-use Rattle.text.proofs.Refusals.{refusal_same}
 use Rattle.text.proofs.Cases.{colon_back, reach_back, start_back, lists_back, escapes_back}
 use Rattle.text.proofs.Determined.{one_answer}
 use Rattle.read_mode.specs.Modes.{mode_of, mode_onward, mode_behind, form_of, sort_of, Carries, Sorted, Operands, ends_line}
@@ -155,8 +152,10 @@ is_closer_determined m b r s = one_answer
 pub ends_login_determined : (m : syntax.Mode) (b : ℕ) (r s : Bool) → r ≡ ends_login m (b ∷ []) → s ≡ ends_login m (b ∷ []) → r ≡ s
 ends_login_determined m b r s = one_answer
 
-pub wrong_byte_determined : (n b : ℕ) (r s : Refusal) → wrong n (b ∷ []) ≡ fault (refusal_number r) → wrong n (b ∷ []) ≡ fault (refusal_number s) → r ≡ s
-wrong_byte_determined n b r s p q = refusal_same r s cc
+-- of whatever says why, a number alone or a refusal, if its number tells it from the others
+pub wrong_byte_determined : {R : Type 0} (num : R → ℕ) → ((r s : R) → num r ≡ num s → r ≡ s) → (n b : ℕ) (r s : R)
+    → wrong n (b ∷ []) ≡ fault (num r) → wrong n (b ∷ []) ≡ fault (num s) → r ≡ s
+wrong_byte_determined num apart n b r s p q = apart r s cc
 
 pub sign_form_determined : (b : ℕ) (colon : Colon) (r s : Form) → form_of r ≡ sign_form b colon → form_of s ≡ sign_form b colon → r ≡ s
 sign_form_determined b colon r s p q = form_determined r s (one_answer p q)

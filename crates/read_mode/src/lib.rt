@@ -8,10 +8,9 @@ ghost use Rattle.stages.specs.Syntax.{word, bare, single, double, quoted_operand
 ghost use Rattle.text.specs.Cases.{colon_of, start_of, lists_of, escapes_of};
 ghost use Rattle.stages.specs.Items.{quotable, not_served, lists_in, let_by, ended, wrong, fault, sign_form, begins_tilde, login_ends, ends_login};
 ghost use Rattle.stages.specs.Items.{sort, is_closer};
-ghost use Rattle.text.specs.Refusals.{refusal_number};
 ghost use Rattle.read_mode.specs.Modes.{mode_of, form_of, mode_onward, opens_tilde, mode_behind, Operands, Sorted, Shared, quotes_sort, plain_sort, ends_line};
 
-use text::refusal::Refusal;
+use text::refusal::{Reason, Refusal};
 
 // Where a text stands.
 #[derive(Clone, Copy)]
@@ -331,11 +330,11 @@ pub fn ends_login(mode: Mode, b: u8) -> bool
 
 // Why a byte is refused that does not fit: as a backquote, else for the reason given.
 #[tactic(auto, unfolding(stages::specs::Items::wrong))]
-pub fn wrong_byte(why: Refusal, b: u8) -> Refusal
-    ensures { wrong (refusal_number why) (b ∷ []) ≡ fault (refusal_number result) }
+pub fn wrong_byte<R: Reason>(why: R, b: u8) -> R
+    ensures { wrong (R.number_of why) (b ∷ []) ≡ fault (R.number_of result) }
 {
     if b == b'`' {
-        Refusal::Substitution
+        R::of(Refusal::Substitution)
     } else {
         why
     }

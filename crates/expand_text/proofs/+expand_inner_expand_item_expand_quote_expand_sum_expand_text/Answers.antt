@@ -1,5 +1,6 @@
 -- What stands at each place is one part of the text's tree, and its own row stands after the rows before it.
 use Rattle.std.proofs.Common.{◌≡◌, ◌<◌, ◌≤◌, ◌+◌, ◌-◌, ◌*◌, ◌||◌, length, Ok, refl, sym, ap, ◌∙◌, arith}
+use Rattle.std.specs.Result.{result_from_control_flow}
 use Rattle.std.proofs.lemmas.Result.{err_from_is_err_and}
 use borrow.Rule.Slice.PartMut.{put_mid, mid_len, same_len_mid}
 use Rattle.stages.specs.Numbers.{row_limit}
@@ -8,6 +9,7 @@ use Rattle.table_store.proofs.Holding.{table_held}
 use Rattle.row.specs.Marks.{mark_of}
 use Rattle.read_mode.specs.Modes.{form_of}
 use Rattle.read_brace.specs.Shows.{param_of}
+use Rattle.read_item.specs.After.{mode_after_read, stops_read}
 use Rattle.expand_add.proofs.Standing.{empty_front}
 use Rattle.expand_text.proofs.Inside.{lending, quote_full, quote_expanded, quote_stopped, quote_waiting, quote_row, plan_refused, unused_given}
 use Rattle.expand_text.proofs.Inside.{operand_expanded, used_stopped, used_ready, used_holds, used_given, sum_expanded, sum_stopped, sum_holds}
@@ -324,13 +326,15 @@ expand_text-returns-then-is_stop t c =
       | expand_text-then-of_none w ↦ came_before c.loop-from.of_none _ (w.if-of_none.true, w.of_none-is)
       | expand_text-else-of_none w ↦ came_now c.loop-from.of_none _ (w.if-of_none.false, w.of_none-is)
     ] in
-    going_end x c.in-Ok.is flag (sym c.is_stop.ensures ∙ c.if-is_stop.true) _
+    let e : c.item_at-read.result ≡ Ok c.in_ok-item.item = c.branch-item.ensures ∙ ap result_from_control_flow c.in_ok-item.is in
+    going_end x c.in-Ok.is flag (sym (c.is_stop.ensures ∙ ap stops_read e) ∙ c.if-is_stop.true) _
 
 pub expand_text-loop-from-smaller : goal.expand_text-loop-from-smaller
 expand_text-loop-from-smaller t c =
     let r = going_put c.loop-from.invariant c.behind_literals-passed.ensures c.put_run.ensures c.if-not-put_run.false c.put_run.auto.area in
     let x = expanding_item c.in_ok-item.item c.expand_item.new.work c.expand_item.new.vars c.expand_item.result r c.expand_item.ensures in
-    let m = moved x c.in-Ok.is (sym c.is_stop.ensures ∙ c.if-is_stop.false) in
+    let e : c.item_at-read.result ≡ Ok c.in_ok-item.item = c.branch-item.ensures ∙ ap result_from_control_flow c.in_ok-item.is in
+    let m = moved x c.in-Ok.is (sym (c.is_stop.ensures ∙ ap stops_read e) ∙ c.if-is_stop.false) in
     omega (arith, c.behind_literals-passed.ensures.run.onward, m.onward, m.within)
 
 pub expand_text-loop-from-preserved : goal.expand_text-loop-from-preserved
@@ -344,7 +348,9 @@ expand_text-loop-from-preserved t c =
     let l = c.loop-from in
     let w = put_mid (2 * l.n) (length l.work - 2 * l.n) l.work c.put_run.new.area in
     let n = l.n + (c.behind_literals-passed.result.at - l.i) in
-    going_row x c.in-Ok.is (sym c.is_stop.ensures ∙ c.if-is_stop.false) flag c.mode_after-inside.ensures _
+    let e : c.item_at-read.result ≡ Ok c.in_ok-item.item = c.branch-item.ensures ∙ ap result_from_control_flow c.in_ok-item.is in
+    going_row x c.in-Ok.is (sym (c.is_stop.ensures ∙ ap stops_read e) ∙ c.if-is_stop.false) flag
+    (c.mode_after-inside.ensures ∙ ap (λ r. mode_after_read r c.behind_literals-passed.result.mode) e) _
     (same_len_mid (2 * n) (length w - 2 * n) w c.expand_item.new.work c.expand_item.auto.work) c.expand_item.auto.vars
 
 pub expand_text-behind-requires : goal.expand_text-behind-requires

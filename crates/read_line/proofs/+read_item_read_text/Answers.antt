@@ -1,6 +1,8 @@
 -- Each item is read as its case says; the loop passes a run, then reads the item behind it.
-use Rattle.std.proofs.Common.{arith, sym, ◌∙◌}
+use Rattle.std.proofs.Common.{◌≡◌, arith, ap, sym, ◌∙◌, Ok}
+use Rattle.std.specs.Result.{result_from_control_flow}
 use Rattle.std.proofs.lemmas.Result.{err_from_is_err_and}
+use Rattle.read_item.specs.After.{mode_after_read, stops_read}
 use Rattle.read_line.proofs.Items.{item_stop, item_byte, item_paren, item_value, item_count, item_total, item_spread, item_quote, item_inner, item_sum}
 use Rattle.read_line.proofs.Items.{item_home, fault_read, ends, goes_on, reads_start, reads_run, reads_fault, reads_end, reads_close, reads_next}
 use Rattle.read_line.proofs.+read_item_read_text.Goals as goal
@@ -66,10 +68,14 @@ read_text-returns-in_err-next t c =
 
 pub read_text-returns-then-is_stop : goal.read_text-returns-then-is_stop
 read_text-returns-then-is_stop t c =
+    let e : c.item_at-read.result ≡ Ok c.in_ok-item.item = c.branch-item.ensures ∙ ap result_from_control_flow c.in_ok-item.is in
     reads_end (reads_run c.loop-place.invariant c.behind_literals-place.ensures)
-    (ends c.in_ok-item.item _ c.behind_literals-place.result c.in_ok-next.ensures (sym c.is_stop.ensures ∙ c.if-is_stop.true))
+    (ends c.in_ok-item.item _ c.behind_literals-place.result c.in_ok-next.ensures (sym (c.is_stop.ensures ∙ ap stops_read e) ∙ c.if-is_stop.true))
 
 pub read_text-loop-place-preserved : goal.read_text-loop-place-preserved
 read_text-loop-place-preserved t c =
+    let e : c.item_at-read.result ≡ Ok c.in_ok-item.item = c.branch-item.ensures ∙ ap result_from_control_flow c.in_ok-item.is in
+    let p = c.behind_literals-place.result in
     reads_next (reads_run c.loop-place.invariant c.behind_literals-place.ensures)
-    (goes_on c.in_ok-item.item _ c.behind_literals-place.result c.in_ok-next.ensures (sym c.is_stop.ensures ∙ c.if-is_stop.false)) c.mode_after.ensures
+    (goes_on c.in_ok-item.item _ p c.in_ok-next.ensures (sym (c.is_stop.ensures ∙ ap stops_read e) ∙ c.if-is_stop.false))
+    (c.mode_after.ensures ∙ ap (λ r. mode_after_read r p.mode) e)
