@@ -127,8 +127,8 @@ fn put_expanded(
         out,
         from.used,
     ) {
-        Ok(used) => Ok(WordDone {
-            used,
+        Ok(longer) => Ok(WordDone {
+            used: longer,
             next: row.next,
             vars_used: row.vars_used,
         }),
