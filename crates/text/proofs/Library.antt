@@ -15,6 +15,9 @@ any_is_in b (c ∷ t) = rw (nat_eq_equiv.symm c b, any_is_in b t) refl
 pub any_not_zero : (t : Text) → not (list_any (λ y. nat_eq y 0) t) ≡ all not_zero t
 any_not_zero t = ap not (any_is_in 0 t) ∙ not_among t
 
+pub none_zero : (t : Text) (b : Bool) → b ≡ list_any (λ y. nat_eq y 0) t → not b ≡ all not_zero t
+none_zero t b e = ap not e ∙ any_not_zero t
+
 pub pointwise_eq : (a b : Text) → pointwise nat_eq a b ≡ eq_text a b
 pointwise_eq [] [] = refl
 pointwise_eq [] (c ∷ u) = refl

@@ -85,6 +85,7 @@ pub fn is_in(b: u8, set: &[u8]) -> bool
 }
 
 // Has the text no zero byte?
+#[tactic(auto, using(crate::proofs::Library::none_zero))]
 pub fn no_zero(text: &[u8]) -> bool
     ensures { result ≡ all not_zero text.now }
 {
