@@ -6,7 +6,8 @@ use native.Mathlib.Numerals.{add-one}
 use mathlib.Core.Path.{◌≡◌, refl, sym, ap, ◌∙◌}
 use mathlib.Core.List.{List, [], ◌∷◌, ◌++◌, append_assoc}
 use lib.ListN.{length, take, drop, get_or, set, length-set, length-drop, take-append-drop, get_or-append}
-use lib.Seq.{paste, paste-suc, length_paste_head, get_or-append-add, get_or-drop, get_or-take, length-take-le, set-append_left, take-suc-set, take-set-lt, drop-cons}
+use lib.Seq.{paste, paste-suc, length_paste_head, get_or-append-add, get_or-drop, get_or-take, length-take-le}
+use lib.Seq.{set-append_left, take-suc-set, take-set-lt, drop-cons}
 
 -- the bytes on the way up, j still to be moved
 unfoldable pub up_of : List ℕ → ℕ → ℕ → ℕ → ℕ → List ℕ
