@@ -50,6 +50,12 @@ pub checked : (r : Option ℤ) (z : ℤ) → SomeIff r (SFits w64 z) z → numbe
 checked (Some x) z h = rw h.1 (value z h.0)
 checked None z h = overflow z (omega (arith, λ (l : mag z < 2 ^ 63). h (record { sfits = l })))
 
+-- .. and what they are asked for are numbers that the code holds
+pub checked_held : (a b : ℤ) (r : Option ℤ) → SFits w64 a → SFits w64 b
+    → SomeIff r (SFits w64 (to_z w64 (of_z w64 a) *ℤ to_z w64 (of_z w64 b))) (to_z w64 (of_z w64 a) *ℤ to_z w64 (of_z w64 b))
+    → numbered (ok_or r Overflow) ≡ ranged (a *ℤ b)
+checked_held a b r h k e = checked r (a *ℤ b) (rw (held a h, held b k) at e)
+
 -- an answer of a test
 pub told : (t : ℤ) (b : Bool) → t ≡ truth b → done (to_z w64 (of_z w64 t)) ≡ done (truth b)
 told t true e = rw e

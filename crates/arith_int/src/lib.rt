@@ -129,6 +129,7 @@ fn multiplied(below: bool, x: u64, y: u64) -> Result<i64, Refusal>
 }
 
 // a * b.
+#[tactic(auto, using(crate::proofs::Ranges::checked_held))]
 fn product(a: i64, b: i64) -> Result<i64, Refusal>
     ensures { numbered result ≡ ranged (a *ℤ b) }
 {

@@ -301,7 +301,8 @@ pub fn is_closer(mode: Mode, b: u8) -> bool
     ensures { result ≡ is_closer (sort (mode_of mode) b) }
 {
     match mode {
-        Mode::Word(_) | Mode::Value(_) => text::in_class(text::Class::Blank, b),
+        Mode::Word(_) => text::in_class(text::Class::Blank, b),
+        Mode::Value(_) => text::in_class(text::Class::Blank, b),
         Mode::Bare { .. } | Mode::Operand(_) => b == b'}',
         Mode::Single(_) => b == b'\'',
         Mode::Double(_) => b == b'"',

@@ -81,8 +81,10 @@ pub fn still_end(line: &[u8], at: usize) -> Option<usize>
         if run >= line.len() || text::in_class(Class::Blank, line[run]) {
             return Some(run);
         }
-        let quoted = quoted_at(line, run)?;
-        i = quoted.next;
+        match quoted_at(line, run) {
+            None => return None,
+            Some(quoted) => i = quoted.next,
+        }
     }
 }
 

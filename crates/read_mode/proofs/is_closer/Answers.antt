@@ -4,11 +4,10 @@ use Rattle.read_mode.proofs.Closing.{closer_known}
 use Rattle.read_mode.proofs.is_closer.Goals as goal
 
 pub returns-in-Word : goal.returns-in-Word
-returns-in-Word c =
-    elim c.in-Word.is [
-      | inl w ↦ closer_known c.args.mode c.args.b w.1 c.in_class.ensures
-      | inr w ↦ closer_known c.args.mode c.args.b w.1 c.in_class.ensures
-    ]
+returns-in-Word c = closer_known c.args.mode c.args.b c.in-Word.is c.in_class.ensures
+
+pub returns-in-Value : goal.returns-in-Value
+returns-in-Value c = closer_known c.args.mode c.args.b c.in-Value.is c.in_class-in-Value.ensures
 
 pub returns-in-Bare : goal.returns-in-Bare
 returns-in-Bare c =

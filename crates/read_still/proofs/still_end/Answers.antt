@@ -13,14 +13,13 @@ returns-then-run-line c =
           end_blank i c.run_end-run.ensures w.if-run-line.false (sym w.in_class.ensures ∙ w.if-in_class.true)
     ]
 
-pub returns-in_err-quoted : goal.returns-in_err-quoted
-returns-in_err-quoted c =
-    rw c.from_residual.ensures
-    (walk_fails c.loop-at.invariant.walked c.run_end-run.ensures c.if-run-line.false (sym c.in_class.ensures ∙ c.if-in_class.false) c.in_err-quoted.ensures)
+pub returns-in-None : goal.returns-in-None
+returns-in-None c =
+    walk_fails c.loop-at.invariant.walked c.run_end-run.ensures c.if-run-line.false (sym c.in_class.ensures ∙ c.if-in_class.false) c.in-None.ensures
 
 pub loop-at-preserved : goal.loop-at-preserved
 loop-at-preserved c = record {
   said = _;
   walked = walk_goes c.loop-at.invariant.walked c.run_end-run.ensures c.if-run-line.false (sym c.in_class.ensures ∙ c.if-in_class.false)
-      c.in_ok-quoted.ensures;
+      c.in-Some.ensures;
 }
