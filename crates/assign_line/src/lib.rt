@@ -85,7 +85,6 @@ fn put_assignment(
 
 // Works out a line of assignments that has been read: "Assignments take effect left to right, each seen by the next". The image of the variables stands at
 // the front of `vars`; the answer is its length.
-#[tactic(auto, using(crate::proofs::Standing::state_stopped))]
 pub fn assign_line(
     line: &[u8],
     vars: &mut [u8],

@@ -175,7 +175,6 @@ fn put_word(
 
 // Expands a line that has been read, "left to right, first fault met": the image of its fields stands at the front of `out`, that of the variables at the
 // front of `vars`.
-#[tactic(auto, using(crate::proofs::Standing::state_stopped))]
 pub fn expand_line(
     line: &[u8],
     vars: &mut [u8],
